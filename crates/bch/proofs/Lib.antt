@@ -1,0 +1,15 @@
+pub mod Sum
+pub mod Polynomial
+pub mod Modulus
+pub mod Pigeonhole
+pub mod Field
+pub mod Primitive
+pub mod Powers
+pub mod Algebra
+pub mod Vandermonde
+pub mod Word
+pub mod Distance
+pub mod Bound
+pub mod Minimal
+pub mod Systematic
+pub mod Bch

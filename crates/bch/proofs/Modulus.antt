@@ -1,0 +1,83 @@
+-- x times a number modulo a polynomial f of degree d, written f / 2 ^ d ≡ 1.
+--   timesX-linear, timesX-small, timesX-below
+--   polyAt-one, polyAt-below   a number below 2^d is what it says as a polynomial in x
+--   polyAt-modulus             f is 0 modulo itself
+-- Assumes nothing.
+use mathlib.Core.Path.{_≡_, sym, ap, ap₂, _∙_, subst⁻¹}
+use Prim.Native.Nat.{ℕ, zero, suc, _*_, _/_, _%_, _^_, _≤_, _<_}
+use native.Mathlib.Nat.{zero-mul, one-mul, div-add-mod', not-suc-le-zero, mod-eq-of-lt, div-eq-of-lt, mul-one, div-lt-iff-lt-mul, pow-suc, div-le-self, lt-of-le-of-lt, zero-div, le-div-iff-mul-le, div-eq-of-lt-le}
+use native.Mathlib.Omega.{arith}
+use lib.Arith.{bin-ind}
+use lib.Pow.{pow-pos}
+use Rattle.bch.specs.Polynomial.{_⊕_, timesX, polyAt}
+use Rattle.bch.proofs.Sum.{mod2-bit, bit-ind, ⊕-assoc, ⊕-comm, ⊕-left-comm, ⊕-self, ⊕-zero-right, ⊕-scale, ⊕-double, ⊕-shift, ⊕-below}
+use Rattle.bch.proofs.Polynomial.{half-and-bit, polyAt-zero, polyAt-step, polyAt-horner}
+
+pow-even : (d : ℕ) → 0 < d → (h : ℕ) × (2 ^ d ≡ h * 2)
+pow-even zero pos = absurd (not-suc-le-zero pos)
+pow-even (suc e) pos = (2 ^ e, pow-suc 2 e)
+
+-- of a polynomial that has degree d
+module _ (f d : ℕ) where
+  pub timesX-linear : (a b : ℕ) → timesX f d (a ⊕ b) ≡ timesX f d a ⊕ timesX f d b
+  unfolding timesX
+  timesX-linear a b =
+      ap₂ _⊕_ (⊕-double a b)
+      (ap (λ (n : ℕ). n / 2 ^ d % 2 * f) (⊕-double a b) ∙ ap (λ (n : ℕ). n % 2 * f) (⊕-shift (a * 2) (b * 2) d)
+      ∙ ⊕-scale (a * 2 / 2 ^ d) (b * 2 / 2 ^ d) f)
+      ∙ simp (⊕-assoc, ⊕-left-comm)
+
+  -- nothing to take away
+  pub timesX-small : (v : ℕ) → v * 2 < 2 ^ d → timesX f d v ≡ v * 2
+  unfolding timesX
+  timesX-small v h = simp (div-eq-of-lt h, zero-mul, ⊕-zero-right)
+
+  pub below-of-quotient : (n : ℕ) → n / 2 ^ d ≡ 0 → n < 2 ^ d
+  below-of-quotient n e = let h : n / 2 ^ d < 1 = omega arith in rw one-mul at (div-lt-iff-lt-mul (pow-pos d) .0 h)
+
+  bit-below : (x v : ℕ) → x < 2 → v < 2 ^ d → x * v < 2 ^ d
+  bit-below x v hx h = bit-ind (λ (x : ℕ). x * v < 2 ^ d) (rw zero-mul (pow-pos d)) (rw one-mul h) x hx
+
+  module _ (deg : f / 2 ^ d ≡ 1) where
+    bit-div : (x : ℕ) → x < 2 → x * f / 2 ^ d ≡ x
+    bit-div = bit-ind (λ (x : ℕ). x * f / 2 ^ d ≡ x) (simp (zero-mul, zero-div)) (simp one-mul deg)
+
+    pub timesX-below : (v : ℕ) → v < 2 ^ d → timesX f d v < 2 ^ d
+    unfolding timesX
+    timesX-below v h =
+        below-of-quotient (timesX f d v)
+        (⊕-shift (v * 2) ((v * 2 / 2 ^ d % 2) * f) d
+        ∙ ap₂ _⊕_ (sym (mod-eq-of-lt (div-lt-iff-lt-mul (pow-pos d) .1 (omega arith)))) (bit-div (v * 2 / 2 ^ d % 2) (mod2-bit (v * 2 / 2 ^ d)))
+        ∙ ⊕-self (v * 2 / 2 ^ d % 2))
+
+    -- each number below 2^d is what it says as a polynomial in x
+    pub polyAt-one : (p : ℕ) → p < 2 ^ d → polyAt (timesX f d) p 1 ≡ p
+    polyAt-one =
+        bin-ind (λ (p : ℕ). p < 2 ^ d → polyAt (timesX f d) p 1 ≡ p) (λ h. polyAt-zero (timesX f d) 1)
+        (λ p ih h.
+        polyAt-horner (timesX f d) timesX-linear p 1
+        ∙ ap₂ _⊕_ (ap (timesX f d) (ih (lt-of-le-of-lt (div-le-self p 2) h)) ∙ timesX-small (p / 2) (omega (arith, div-add-mod' p 2))) (mul-one (p % 2))
+        ∙ half-and-bit p)
+
+    pub polyAt-below : (p v : ℕ) → v < 2 ^ d → polyAt (timesX f d) p v < 2 ^ d
+    polyAt-below = bin-ind (λ (p : ℕ). (v : ℕ) → v < 2 ^ d → polyAt (timesX f d) p v < 2 ^ d) (λ v h. subst⁻¹ (λ (n : ℕ). n < 2 ^ d) (polyAt-zero (timesX f d) v) (pow-pos d))
+        (λ p ih v h.
+        subst⁻¹ (λ (n : ℕ). n < 2 ^ d) (polyAt-step (timesX f d) p v)
+        (⊕-below d ((p % 2) * v) (polyAt (timesX f d) (p / 2) (timesX f d v)) (bit-below (p % 2) v (mod2-bit p) h) (ih (timesX f d v) (timesX-below v h))))
+
+    pub degree-high : f < 2 * 2 ^ d
+    degree-high = let h : f / 2 ^ d < 2 = omega arith in div-lt-iff-lt-mul (pow-pos d) .0 h
+
+    pub degree-low : 2 ^ d ≤ f
+    degree-low = let h : 1 ≤ f / 2 ^ d = omega arith in rw one-mul at (le-div-iff-mul-le (pow-pos d) .0 h)
+
+    -- a polynomial is 0 modulo itself
+    pub polyAt-modulus : 0 < d → polyAt (timesX f d) f 1 ≡ 0
+    unfolding timesX
+    polyAt-modulus pos =
+        let (e, even) = pow-even d pos in
+        let top : f / 2 * 2 / 2 ^ d ≡ 1 = div-eq-of-lt-le (2 ^ d) (omega (arith, degree-low)) (omega (arith, degree-high)) in
+        polyAt-horner (timesX f d) timesX-linear f 1
+        ∙ ap₂ _⊕_ (ap (timesX f d) (polyAt-one (f / 2) (omega (arith, degree-high)))) (mul-one (f % 2))
+        ∙ ap (λ (n : ℕ). f / 2 * 2 ⊕ (n % 2) * f ⊕ f % 2) top
+        ∙ simp (one-mul, ⊕-assoc) (simp (⊕-comm f (f % 2)) (sym (⊕-assoc (f / 2 * 2) (f % 2) f) ∙ ap (λ (n : ℕ). n ⊕ f) (half-and-bit f) ∙ ⊕-self f))

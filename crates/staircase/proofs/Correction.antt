@@ -1,0 +1,242 @@
+-- Correcting the words of a received frame: where all words of the sent frame are in the code and the received frame has at most t wrong bits
+-- in each word, a corrected word is the sent word, and a round leaves the sent frame. For any list of words over sites.
+--   CodeDistance s n      codewords of n bits that differ in at most 2t places are equal
+--   Sound s n f w         a word of the frame: n sites, no sent one twice, in the code
+--   Nearer f a b          b has the frame's bit or a's bit at each site
+--   correct-word          a corrected word is the sent word
+--   correctWords-restore  after a pass over some words these are the sent ones, and nothing has moved away from the frame
+--   round-restores, runRounds-restore, outside-none   any number of rounds but none leaves the frame, with no word outside
+-- Assumes of the code, as a parameter, that its distance is at least 2t + 1.
+use mathlib.Core.Path.{_≡_, refl, sym, ap, ap₂, _∙_, subst}
+use mathlib.Core.Bool.{Bool, true, false, cond}
+use mathlib.Core.Logic.{_⊎_, inl, inr}
+use mathlib.Core.List.{List, [], _∷_, map}
+use Prim.Native.Nat.{ℕ, zero, suc, _+_, _-_, _*_, _≤_, _<_, zero-le}
+use native.Mathlib.Nat.{le-trans}
+use native.Mathlib.Omega.{arith}
+use lib.Dec.{eqb}
+use lib.ListN.{length, getD, List·getD-map}
+use lib.Seq.{ext-getD}
+use Rattle.bch.specs.Polynomial.{Bits}
+use Rattle.bch.specs.Code.{isCodeword, unlike, distance}
+use Rattle.bch.proofs.Distance.{unlike-same, distance-self, distance-comm, distance-triangle}
+use Rattle.staircase.specs.Design.{Params}
+use Rattle.staircase.specs.Frame.{Frame, Site, bitAt, read, inCode, outsideAmong}
+use Rattle.staircase.specs.Frame.Site.{unsent, inInfo, inRed}
+use Rattle.staircase.specs.Decoder.{flipBits, errorPositions, allSent, correction, flipAll, Progress, correctWord, correctWords, round, Decoded, runRounds}
+use Rattle.staircase.proofs.Member.{In, map-in}
+use Rattle.staircase.proofs.Flip.{Sent, Within, Received, flipAll-received, flipAll-other, error-within, read-same, same-read, read-bits, read-length, Distinct, site-in, in?, read-flipAll}
+use Rattle.staircase.proofs.Errors.{flipBits-length, flipBits-bits, flipBits-distance, flipBits-here, Positions, positions-once, positions-below, errors, errors-positions, errors-flipped, errorPositions-found}
+
+all-sent : (w : List Site) (c : List ℕ) → ((j : ℕ) → In j c → Sent (getD w j unsent)) → allSent (map (λ j. getD w j unsent) c) ≡ true
+all-sent w [] h = refl
+all-sent w (j ∷ c) h = go (getD w j unsent) (h j (inl refl)) (all-sent w c (λ k i. h k (inr i)))
+  where
+    go : (x : Site) → Sent x → allSent (map (λ j. getD w j unsent) c) ≡ true → allSent (x ∷ map (λ j. getD w j unsent) c) ≡ true
+    go unsent s r = absurd s
+    go (inInfo k) s r = r
+    go (inRed k) s r = r
+
+-- The code's distance: words of n bits in the code that differ in at most 2t places are equal.
+abbrev pub CodeDistance : Params → ℕ → Type 0
+CodeDistance s n =
+    (u v : List ℕ) → length u ≡ n → length v ≡ n → Bits u → Bits v
+    → isCodeword (s .g) (s .r) u ≡ true → isCodeword (s .g) (s .r) v ≡ true → distance u v ≤ 2 * s .t → u ≡ v
+
+-- a word of the frame: n sites, none of them twice, in the code
+pub record Sound (s : Params) (n : ℕ) (f : Frame) (w : List Site) : Type 0 where
+  pub long : length w ≡ n
+  pub distinct : Distinct w
+  pub coded : inCode s f w ≡ true
+
+-- b has the frame's bit or a's bit at each site
+abbrev pub Nearer : Frame → Frame → Frame → Type 0
+Nearer f a b = (y : Site) → (bitAt b y ≡ bitAt f y) ⊎ (bitAt b y ≡ bitAt a y)
+
+nearer-trans : (f a b c : Frame) → Nearer f a b → Nearer f b c → Nearer f a c
+nearer-trans f a b c p q y = go (p y) (q y)
+  where
+    go : (bitAt b y ≡ bitAt f y) ⊎ (bitAt b y ≡ bitAt a y) → (bitAt c y ≡ bitAt f y) ⊎ (bitAt c y ≡ bitAt b y) → (bitAt c y ≡ bitAt f y) ⊎ (bitAt c y ≡ bitAt a y)
+    go p (inl e) = inl e
+    go (inl d) (inr e) = inl (e ∙ d)
+    go (inr d) (inr e) = inr (e ∙ d)
+
+nearer-distance : (f a b : Frame) → Nearer f a b → (w : List Site) → distance (read f w) (read b w) ≤ distance (read f w) (read a w)
+unfolding distance
+nearer-distance f a b p [] = zero-le
+nearer-distance f a b p (x ∷ w) = go (p x) (nearer-distance f a b p w)
+  where
+    go : (bitAt b x ≡ bitAt f x) ⊎ (bitAt b x ≡ bitAt a x) → distance (read f w) (read b w) ≤ distance (read f w) (read a w)
+        → unlike (bitAt f x) (bitAt b x) + distance (read f w) (read b w) ≤ unlike (bitAt f x) (bitAt a x) + distance (read f w) (read a w)
+    go (inl e) l = omega (arith, unlike-same {a = bitAt f x} {b = bitAt b x} (sym e), l)
+    go (inr e) l =
+        omega (arith, ap (unlike (bitAt f x)) e, l)
+
+nearer-same : (f a b : Frame) → Nearer f a b → (w : List Site) → read a w ≡ read f w → read b w ≡ read f w
+nearer-same f a b p w e = read-same w b f (λ y i. go y i (p y))
+  where
+    go : (y : Site) → In y w → (bitAt b y ≡ bitAt f y) ⊎ (bitAt b y ≡ bitAt a y) → bitAt b y ≡ bitAt f y
+    go y i (inl q) = q
+    go y i (inr q) = q ∙ same-read w a f e y i
+
+module _ (s : Params) (n : ℕ) (apart : CodeDistance s n) (f : Frame) (ff : Received f f) where
+  module _ (a : Frame) (g : Received f a) (w : List Site) (ok : Sound s n f w) (few : distance (read f w) (read a w) ≤ s .t) where
+    abbrev sent : List ℕ
+    sent = read f w
+
+    abbrev got : List ℕ
+    got = read a w
+
+    abbrev found : List ℕ
+    found = errorPositions s (read a w)
+
+    abbrev sites : List Site
+    sites = map (λ j. getD w j unsent) (errorPositions s (read a w))
+
+    long : length got ≡ n
+    long = read-length a w ∙ ok .long
+
+    same-length : length got ≡ length sent
+    same-length = read-length a w ∙ sym (read-length f w)
+
+    near : distance got sent ≤ s .t
+    near = omega (arith, distance-comm got sent, few)
+
+    good : Positions (length got) (s .t) found × (isCodeword (s .g) (s .r) (flipBits found got) ≡ true)
+    good =
+        errorPositions-found s got (errors got sent) (errors-positions got sent same-length (s .t) near)
+        (ap (isCodeword (s .g) (s .r)) (errors-flipped got sent (read-bits f a g w) (read-bits f f ff w) same-length) ∙ ok .coded)
+
+    -- the codeword that was found is the sent word
+    found-sent : flipBits found got ≡ sent
+    found-sent =
+        let b : List ℕ = flipBits found got in
+        let lb : length b ≡ length got = flipBits-length found got in
+        let far = flipBits-distance found got in
+        let size : length found ≤ s .t = good .0 .few in
+        let sum = distance-triangle b got sent lb same-length in
+        let swap = distance-comm b got in
+        apart b sent (lb ∙ long) (sym same-length ∙ long) (flipBits-bits found got (read-bits f a g w)) (read-bits f f ff w) (good .1) (ok .coded)
+        (omega (arith, far, size, sum, swap, near))
+
+    -- a position that was found is one at which the sent bit is the other one
+    at-position : (k : ℕ) (x : Frame) → getD (read x w) k 0 ≡ bitAt x (getD w k unsent)
+    at-position k x = List·getD-map (bitAt x) w k unsent
+
+    flipped : (j : ℕ) → In j found → bitAt f (getD w j unsent) ≡ 1 - bitAt a (getD w j unsent)
+    flipped j i =
+        sym (at-position j f) ∙ ap (λ (u : List ℕ). getD u j 0) (sym found-sent)
+        ∙ flipBits-here found got (positions-once (good .0)) j i (positions-below (good .0) j i) ∙ ap (λ (z : ℕ). 1 - z) (at-position j a)
+
+    inside : (j : ℕ) → In j found → (j < length w) × Within (getD w j unsent) a
+    inside j i = (
+      subst (λ (z : ℕ). j < z) (read-length a w) (positions-below (good .0) j i),
+      error-within f a g (getD w j unsent) (λ e. let d = flipped j i in let b = g .binary (getD w j unsent) in omega (arith, e, d, b)),
+    )
+
+    sent-site : (x : Site) → Within x a → Sent x
+    sent-site unsent h = h
+    sent-site (inInfo k) h = tt
+    sent-site (inRed k) h = tt
+
+    correction-sites : correction s a w ≡ sites
+    unfolding correction
+    correction-sites =
+        ap (λ (z : Bool). cond z sites []) (all-sent w found (λ j i. sent-site (getD w j unsent) (inside j i .1)))
+
+    itself : Received a a
+    itself = record { infoLength = refl; redLength = refl; binary = g .binary }
+
+    pub correct-word : read (flipAll (correction s a w) a) w ≡ read f w
+    correct-word = ap (λ (c : List Site). read (flipAll c a) w) correction-sites ∙ read-flipAll a itself w (ok .distinct) found inside ∙ found-sent
+
+    pub correct-nearer : Nearer f a (flipAll (correction s a w) a)
+    correct-nearer y = go (in? y (correction s a w))
+      where
+        among : In y (correction s a w) → In y w
+        among i =
+            let q = map-in (λ j. getD w j unsent) found y (subst (λ (c : List Site). In y c) correction-sites i) in
+            subst (λ (x : Site). In x w) (sym (q .2)) (site-in w (q .0) (inside (q .0) (q .1) .0))
+
+        go : In y (correction s a w) ⊎ (¬ In y (correction s a w)) → (bitAt (flipAll (correction s a w) a) y ≡ bitAt f y) ⊎ (bitAt (flipAll (correction s a w) a) y ≡ bitAt a y)
+        go (inl i) = inl (same-read w (flipAll (correction s a w) a) f correct-word y (among i))
+        go (inr d) = inr (flipAll-other (correction s a w) a y d)
+
+  abbrev pub Few : Frame → List (List Site) → Type 0
+  Few a ws = (w : List Site) → In w ws → distance (read f w) (read a w) ≤ s .t
+
+  abbrev pub AllSound : List (List Site) → Type 0
+  AllSound ws = (w : List Site) → In w ws → Sound s n f w
+
+  -- after a pass over some words these are the frame's, and nothing has moved away from the frame
+  pub correctWords-restore : (ws : List (List Site)) → AllSound ws → (x : Progress) → Received f (x .frame) → Few (x .frame) ws
+      → Received f ((correctWords s x ws) .frame) × Nearer f (x .frame) ((correctWords s x ws) .frame)
+      × ((w : List Site) → In w ws → read ((correctWords s x ws) .frame) w ≡ read f w)
+  unfolding correctWords correctWord
+  correctWords-restore [] ok x g few = (g, (λ y. inr refl), (λ w i. absurd i))
+  correctWords-restore (v ∷ ws) ok x g few =
+      let y : Progress = correctWord s x v in
+      let a : Frame = x .frame in
+      let few0 : distance (read f v) (read a v) ≤ s .t = few v (inl refl) in
+      let word : read (y .frame) v ≡ read f v = correct-word a g v (ok v (inl refl)) few0 in
+      let near : Nearer f a (y .frame) = correct-nearer a g v (ok v (inl refl)) few0 in
+      let like : Received f (y .frame) = flipAll-received (correction s a v) f a g in
+      let rest = correctWords-restore ws (λ w i. ok w (inr i)) y like (λ w i. le-trans (nearer-distance f a (y .frame) near w) (few w (inr i))) in
+      let z : Frame = (correctWords s y ws) .frame in
+      (rest .0, nearer-trans f a (y .frame) z near (rest .1), λ w i. go word (rest .1) (rest .2) w i)
+    where
+      go : read ((correctWord s x v) .frame) v ≡ read f v → Nearer f ((correctWord s x v) .frame) ((correctWords s (correctWord s x v) ws) .frame)
+          → ((w : List Site) → In w ws → read ((correctWords s (correctWord s x v) ws) .frame) w ≡ read f w)
+          → (w : List Site) → In w (v ∷ ws) → read ((correctWords s (correctWord s x v) ws) .frame) w ≡ read f w
+      go word near rest w (inl e) =
+          subst (λ (u : List Site). read ((correctWords s (correctWord s x v) ws) .frame) u ≡ read f u) (sym e)
+          (nearer-same f ((correctWord s x v) .frame) ((correctWords s (correctWord s x v) ws) .frame) near v word)
+      go word near rest w (inr i) = rest w i
+
+  -- every byte of the buffers is in some word
+  abbrev pub Covered : List (List Site) → Type 0
+  Covered ws =
+      ((k : ℕ) → k < length (f .info) → (w : List Site) × In w ws × In (inInfo k) w)
+      × ((k : ℕ) → k < length (f .red) → (w : List Site) × In w ws × In (inRed k) w)
+
+  module _ (ws : List (List Site)) (ok : AllSound ws) (all : Covered ws) where
+    pub round-restores : (a : Frame) → Received f a → Few a ws → (round s ws a) .frame ≡ f
+    unfolding round
+    round-restores a g few =
+        let x : Progress = record { frame = a; flips = 0 } in
+        let p = correctWords-restore ws ok x g few in
+        let b : Frame = (correctWords s x ws) .frame in
+        let info-same : b .info ≡ f .info =
+        ext-getD 0 (b .info) (f .info) (p .0 .infoLength)
+        (λ k h. let c = all .0 k (omega (arith, p .0 .infoLength)) in same-read (c .0) b f (p .2 (c .0) (c .1)) (inInfo k) (c .2)) in
+        let red-same : b .red ≡ f .red =
+        ext-getD 0 (b .red) (f .red) (p .0 .redLength)
+        (λ k h. let c = all .1 k (omega (arith, p .0 .redLength)) in same-read (c .0) b f (p .2 (c .0) (c .1)) (inRed k) (c .2)) in
+        λ i. record { info = info-same i; red = red-same i }
+
+    none-wrong : Few f ws
+    none-wrong w i = subst (λ (z : ℕ). z ≤ s .t) (sym (distance-self (read f w))) zero-le
+
+    frame-pick : (z : Bool) (p q : Decoded) → p .frame ≡ f → q .frame ≡ f → (cond z p q) .frame ≡ f
+    frame-pick true p q h k = h
+    frame-pick false p q h k = k
+
+    pub runRounds-keep : (k : ℕ) (a : Frame) → a ≡ f → (runRounds s ws k a) .frame ≡ f
+    unfolding runRounds
+    runRounds-keep zero a e = e
+    runRounds-keep (suc k) a e =
+        let one : (round s ws a) .frame ≡ f = ap (λ (z : Frame). (round s ws z) .frame) e ∙ round-restores f ff none-wrong in
+        frame-pick (eqb ((round s ws a) .flips) 0) _ _ one (runRounds-keep k ((round s ws a) .frame) one)
+
+    -- any number of rounds but none leaves the frame
+    pub runRounds-restore : (k : ℕ) (a : Frame) → Received f a → Few a ws → (runRounds s ws (suc k) a) .frame ≡ f
+    unfolding runRounds
+    runRounds-restore k a g few =
+        let one : (round s ws a) .frame ≡ f = round-restores a g few in
+        frame-pick (eqb ((round s ws a) .flips) 0) _ _ one (runRounds-keep k ((round s ws a) .frame) one)
+
+  pub outside-none : (ws : List (List Site)) → AllSound ws → outsideAmong s f ws ≡ 0
+  unfolding outsideAmong
+  outside-none [] ok = refl
+  outside-none (w ∷ ws) ok =
+      ap₂ (λ (x y : ℕ). x + y) (ap (λ (z : Bool). cond z 0 1) (ok w (inl refl) .coded)) (outside-none ws (λ v i. ok v (inr i)))

@@ -1,0 +1,97 @@
+-- Demand 2: of an allowed design, with slices of the right lengths, the kit checker accepts exactly the kits of the rule.
+--   kit-passes   rules 7 to 9 accept a kit exactly when it passes by the rule
+--   demand2      the theorem, over the kit checker's verdict
+-- Assumes nothing.
+use mathlib.Core.Path.{_≡_, refl}
+use mathlib.Core.Logic.{_↔_}
+use mathlib.Core.List.{List}
+use Prim.Native.Nat.{ℕ, _*_, _<_}
+use native.Mathlib.Nat.{mul-pos, le-trans, zero-lt-suc}
+use lib.ListN.{length}
+use Rattle.staircase.specs.Design.{Params, Interleavers, params, order}
+use Rattle.staircase.specs.System.{systemEntry, inverseEntry, rowBytes}
+use Rattle.staircase.specs.Rules.{Verdict, _then_, refuseFirst, designRules, lengthRule, listLengths, kitLengths, kitWork, interleavers, badEntry, listRule, spareRow, spareRule, wrongEntry, inverseRule, kitRules}
+use Rattle.staircase.specs.Rules.Verdict.{accepted}
+use Rattle.staircase.specs.Calls.{kitVerdict}
+use Rattle.staircase.specs.Demand2.{KitPasses, FitsOrder}
+use Rattle.staircase.proofs.Rules.{then-first, then-rest, then-accepted, refuseFirst-false, refuseFirst-accepted, length-accepted, Limits, design-limits, entries-permute, permute-entries, spare-zero, zero-spare, product-identity, identity-product}
+
+module _ (s : Params) (l : Interleavers) (w : List ℕ) where
+  abbrev n : ℕ
+  n = order s
+
+  abbrev selfRule : Verdict
+  selfRule = refuseFirst 7 0 n (badEntry n (l .self))
+
+  abbrev parityRule : Verdict
+  parityRule = refuseFirst 7 n n (badEntry n (l .parity))
+
+  abbrev leftRule : Verdict
+  leftRule = refuseFirst 9 0 (n * n) (wrongEntry n (systemEntry s l) (inverseEntry w n))
+
+  abbrev rightRule : Verdict
+  rightRule = refuseFirst 9 (n * n) (n * n) (wrongEntry n (inverseEntry w n) (systemEntry s l))
+
+  passes : kitRules s l w ≡ accepted → KitPasses s l w
+  unfolding kitRules listRule spareRule inverseRule
+  passes e =
+      let lists : (selfRule then parityRule) ≡ accepted = then-first (selfRule then parityRule) (spareRule s w then inverseRule s l w) e in
+      let rest : (spareRule s w then inverseRule s l w) ≡ accepted = then-rest (selfRule then parityRule) (spareRule s w then inverseRule s l w) e in
+      let products : (leftRule then rightRule) ≡ accepted = then-rest (spareRule s w) (inverseRule s l w) rest in
+      record {
+        self = entries-permute n (l .self) (refuseFirst-false 7 0 n (badEntry n (l .self)) (then-first selfRule parityRule lists));
+        parity = entries-permute n (l .parity) (refuseFirst-false 7 n n (badEntry n (l .parity)) (then-rest selfRule parityRule lists));
+        spare = λ i j hi. spare-zero w n i (refuseFirst-false 8 0 n (spareRow w n) (then-first (spareRule s w) (inverseRule s l w) rest) i hi) j;
+        rightInverse =
+            product-identity n (systemEntry s l) (inverseEntry w n)
+            (refuseFirst-false 9 0 (n * n) (wrongEntry n (systemEntry s l) (inverseEntry w n)) (then-first leftRule rightRule products));
+        leftInverse =
+            product-identity n (inverseEntry w n) (systemEntry s l)
+            (refuseFirst-false 9 (n * n) (n * n) (wrongEntry n (inverseEntry w n) (systemEntry s l)) (then-rest leftRule rightRule products));
+      }
+
+  accepts : 0 < n → KitPasses s l w → kitRules s l w ≡ accepted
+  unfolding kitRules listRule spareRule inverseRule
+  accepts pos k =
+      then-accepted
+      (then-accepted
+      (refuseFirst-accepted 7 0 n (badEntry n (l .self)) (permute-entries n (l .self) (k .self)))
+      (refuseFirst-accepted 7 n n (badEntry n (l .parity)) (permute-entries n (l .parity) (k .parity))))
+      (then-accepted
+      (refuseFirst-accepted 8 0 n (spareRow w n) (λ i hi. zero-spare w n i (λ j. k .spare i j hi)))
+      (then-accepted
+      (refuseFirst-accepted 9 0 (n * n) (wrongEntry n (systemEntry s l) (inverseEntry w n)) (identity-product n (systemEntry s l) (inverseEntry w n) pos (k .rightInverse)))
+      (refuseFirst-accepted 9 (n * n) (n * n) (wrongEntry n (inverseEntry w n) (systemEntry s l)) (identity-product n (inverseEntry w n) (systemEntry s l) pos (k .leftInverse)))))
+
+  pub kit-passes : 0 < order s → (kitRules s l w ≡ accepted) ↔ KitPasses s l w
+  kit-passes pos = (passes, accepts pos)
+
+pub order-positive : (m t M : ℕ) → designRules m t M ≡ accepted → 0 < order (params m t M)
+order-positive m t M d =
+    let z : Limits m t M = design-limits m t M d in
+    mul-pos (z .M-low) (mul-pos (le-trans (zero-lt-suc 3) (z .m-low)) (z .t-low))
+
+pub lengths-accepted : (s : Params) (self parity w : List ℕ) → FitsOrder (order s) self parity w → kitLengths s self parity w ≡ accepted
+unfolding kitLengths listLengths
+lengths-accepted s self parity w k =
+    then-accepted
+    (then-accepted (length-accepted 1 (length self) (2 * order s) (k .selfLength)) (length-accepted 2 (length parity) (2 * order s) (k .parityLength)))
+    (length-accepted 3 (length w) (order s * rowBytes (order s)) (k .inverseLength))
+
+module _ (m t M : ℕ) (self parity w : List ℕ) where
+  abbrev s : Params
+  s = params m t M
+
+  pub demand2 : designRules m t M ≡ accepted → FitsOrder (order (params m t M)) self parity w
+      → (kitVerdict m t M self parity w (kitWork (params m t M)) ≡ accepted) ↔ KitPasses (params m t M) (interleavers (params m t M) self parity) w
+  unfolding kitVerdict
+  demand2 d k =
+      let l : Interleavers = interleavers s self parity in
+      let v6 : Verdict = lengthRule 6 (kitWork s) (kitWork s) in
+      let both = kit-passes s l w (order-positive m t M d) in (
+        λ e. both .0
+            (then-rest v6 (kitRules s l w)
+            (then-rest (kitLengths s self parity w) (v6 then kitRules s l w) (then-rest (designRules m t M) (kitLengths s self parity w then v6 then kitRules s l w) e))),
+        λ q. then-accepted d
+            (then-accepted (lengths-accepted s self parity w k) (then-accepted (length-accepted 6 (kitWork s) (kitWork s) refl) (both .1 q))),
+      )

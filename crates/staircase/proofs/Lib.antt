@@ -1,0 +1,14 @@
+pub mod Matrix
+pub mod Parity
+pub mod Member
+pub mod Flip
+pub mod Errors
+pub mod Correction
+pub mod Permutation
+pub mod System
+pub mod Sites
+pub mod Redundancy
+pub mod Reach
+pub mod Rules
+pub mod Demand2
+pub mod Demand3

@@ -1,0 +1,197 @@
+-- Laws of the rules of the table: what an accepted rule says, and when a rule accepts.
+--   then-first, then-rest, then-accepted      one rule after another
+--   refuse-false, refuse-accepted             a rule by its test
+--   refuseFirst-false, refuseFirst-accepted   a rule by its first place
+--   outOfRange-false, inRange                 a range
+--   length-accepted                           rule 6
+--   design-limits                             rules 1 to 3
+--   entries-permute, permute-entries          rule 7
+--   spare-zero, zero-spare                    rule 8
+--   product-identity, identity-product        rule 9
+--   bits-accepted                             rule 10
+-- Assumes nothing.
+use mathlib.Core.Path.{_≡_, refl, sym, ap, ap₂, _∙_}
+use mathlib.Core.Bool.{Bool, true, false, not, _||_, cond, true≢false}
+use mathlib.Core.Logic.{_≢_, _⊎_, inl, inr}
+use mathlib.Core.List.{List}
+use Prim.Native.Nat.{ℕ, zero, suc, _+_, _-_, _*_, _/_, _%_, _^_, _≤_, _<_, zero-le, suc-le-suc}
+use native.Mathlib.Nat.{mod-lt, div-lt-iff-lt-mul}
+use native.Mathlib.Decide.{decLt}
+use native.Mathlib.Omega.{arith}
+use lib.Arith.{digits-lt, digits-div, digits-mod}
+use lib.Dec.{ltb, leb, eqb}
+use lib.ListN.{length, getD}
+use borrow.Author.Tests.{le-ltb, ltb-false, leb-false, lt-leb, eqb-true, eqb-false, eq-eqb, ne-eqb, not-false}
+use Rattle.bch.specs.Polynomial.{Bits}
+use Rattle.staircase.specs.Lists.{firstWhere}
+use Rattle.staircase.specs.Design.{params, wordLength}
+use Rattle.staircase.specs.System.{inverseEntry, rowBytes, product, identity}
+use Rattle.staircase.specs.Rules.{Verdict, _then_, refuse, refuseFirst, outOfRange, sizeRule, longRule, largeRule, designRules, lengthRule, badEntry, spareRow, wrongEntry, bitRule}
+use Rattle.staircase.specs.Rules.Verdict.{accepted, refused}
+use Rattle.staircase.specs.Demand2.{Permutes}
+use Rattle.staircase.proofs.Permutation.{firstWhere-found}
+
+-- ---- one rule after another
+
+pub then-first : (u v : Verdict) → (u then v) ≡ accepted → u ≡ accepted
+then-first accepted v e = refl
+then-first (refused n p) v e = e
+
+pub then-rest : (u v : Verdict) → (u then v) ≡ accepted → v ≡ accepted
+then-rest accepted v e = e
+then-rest (refused n p) v e = cc
+
+pub then-accepted : {u v : Verdict} → u ≡ accepted → v ≡ accepted → (u then v) ≡ accepted
+then-accepted {u} {v} e d = ap (λ (z : Verdict). z then v) e ∙ d
+
+pub refuse-false : (z : Bool) (n p : ℕ) → refuse z n p ≡ accepted → z ≡ false
+refuse-false true n p e = cc
+refuse-false false n p e = refl
+
+pub refuse-accepted : {z : Bool} (n p : ℕ) → z ≡ false → refuse z n p ≡ accepted
+refuse-accepted {z} n p e = ap (λ (y : Bool). refuse y n p) e
+
+-- ---- the first place
+
+bool? : (z : Bool) → (z ≡ true) ⊎ (z ≡ false)
+bool? true = inl refl
+bool? false = inr refl
+
+firstWhere-none : (n : ℕ) (f : ℕ → Bool) → ((k : ℕ) → k < n → f k ≡ false) → firstWhere n f ≡ n
+unfolding firstWhere
+firstWhere-none zero f h = refl
+firstWhere-none (suc n) f h =
+    ap (λ (z : Bool). cond z 0 (suc (firstWhere n (λ k. f (suc k))))) (h zero (suc-le-suc zero-le))
+    ∙ ap suc (firstWhere-none n (λ k. f (suc k)) (λ k l. h (suc k) (suc-le-suc l)))
+
+none-before : (n : ℕ) (f : ℕ → Bool) → ltb (firstWhere n f) n ≡ false → (k : ℕ) → k < n → f k ≡ false
+none-before n f e k l = go (bool? (f k))
+  where
+    go : (f k ≡ true) ⊎ (f k ≡ false) → f k ≡ false
+    go (inr d) = d
+    go (inl d) = absurd (omega (arith, firstWhere-found n f k l d .0, ltb-false (firstWhere n f) n e))
+
+none-found : (n : ℕ) (f : ℕ → Bool) → ((k : ℕ) → k < n → f k ≡ false) → ltb (firstWhere n f) n ≡ false
+none-found n f h = le-ltb (firstWhere n f) n (omega (arith, firstWhere-none n f h))
+
+pub refuseFirst-false : (rule base n : ℕ) (f : ℕ → Bool) → refuseFirst rule base n f ≡ accepted → (k : ℕ) → k < n → f k ≡ false
+unfolding refuseFirst
+refuseFirst-false rule base n f e = none-before n f (refuse-false (ltb (firstWhere n f) n) rule (base + firstWhere n f) e)
+
+pub refuseFirst-accepted : (rule base n : ℕ) (f : ℕ → Bool) → ((k : ℕ) → k < n → f k ≡ false) → refuseFirst rule base n f ≡ accepted
+unfolding refuseFirst
+refuseFirst-accepted rule base n f h = refuse-accepted rule (base + firstWhere n f) (none-found n f h)
+
+-- ---- rules 1 to 6
+
+or-false : (y z : Bool) → (y || z) ≡ false → (y ≡ false) × (z ≡ false)
+or-false true z e = absurd (true≢false e)
+or-false false z e = (refl, e)
+
+or-both : {y z : Bool} → y ≡ false → z ≡ false → (y || z) ≡ false
+or-both {y} {z} e d = ap (λ (x : Bool). x || z) e ∙ d
+
+pub outOfRange-false : (low high x : ℕ) → outOfRange low high x ≡ false → (low ≤ x) × (x ≤ high)
+outOfRange-false low high x e = let p = or-false (ltb x low) (ltb high x) e in (ltb-false x low (p .0), ltb-false high x (p .1))
+
+pub inRange : (low high x : ℕ) → low ≤ x → x ≤ high → outOfRange low high x ≡ false
+inRange low high x a b = or-both (le-ltb x low a) (le-ltb high x b)
+
+pub length-accepted : (p a b : ℕ) → a ≡ b → lengthRule p a b ≡ accepted
+length-accepted p a b e = refuse-accepted 6 p (ap not (eq-eqb a b e))
+
+-- the limits of an allowed design
+pub record Limits (m t M : ℕ) : Type 0 where
+  pub m-low : 4 ≤ m
+  pub m-high : m ≤ 10
+  pub t-low : 1 ≤ t
+  pub t-high : t ≤ 3
+  pub M-low : 1 ≤ M
+  pub fits : wordLength (params m t M) ≤ 2 ^ m - 1
+
+pub design-limits : (m t M : ℕ) → designRules m t M ≡ accepted → Limits m t M
+unfolding designRules sizeRule longRule
+design-limits m t M e =
+    let rm : Verdict = refuse (outOfRange 4 10 m) 1 1 in
+    let rt : Verdict = refuse (outOfRange 1 3 t) 1 2 in
+    let rM : Verdict = refuse (outOfRange 1 500 M) 1 3 in
+    let n : ℕ = wordLength (params m t M) in
+    let rn : Verdict = refuse (ltb (2 ^ m - 1) n) 2 n in
+    let rest : Verdict = rn then largeRule (params m t M) in
+    let sizes : (rm then rt then rM) ≡ accepted = then-first (rm then rt then rM) rest e in
+    let tM : (rt then rM) ≡ accepted = then-rest rm (rt then rM) sizes in
+    let a = outOfRange-false 4 10 m (refuse-false (outOfRange 4 10 m) 1 1 (then-first rm (rt then rM) sizes)) in
+    let b = outOfRange-false 1 3 t (refuse-false (outOfRange 1 3 t) 1 2 (then-first rt rM tM)) in
+    let c = outOfRange-false 1 500 M (refuse-false (outOfRange 1 500 M) 1 3 (then-rest rt rM tM)) in
+    let f = refuse-false (ltb (2 ^ m - 1) n) 2 n (then-first rn (largeRule (params m t M)) (then-rest (rm then rt then rM) rest e)) in
+    record { m-low = a .0; m-high = a .1; t-low = b .0; t-high = b .1; M-low = c .0; fits = ltb-false (2 ^ m - 1) n f }
+
+-- ---- rule 7
+
+module _ (n : ℕ) (l : List ℕ) where
+  entry-good : (p : ℕ) → badEntry n l p ≡ false → (getD l p 0 < n) × ((q : ℕ) → q < p → getD l q 0 ≢ getD l p 0)
+  unfolding badEntry
+  entry-good p e =
+      let f : ℕ → Bool = λ q. eqb (getD l q 0) (getD l p 0) in
+      let b = or-false (leb n (getD l p 0)) (ltb (firstWhere p f) p) e in
+      (leb-false n (getD l p 0) (b .0), λ q h. eqb-false (getD l q 0) (getD l p 0) (none-before p f (b .1) q h))
+
+  good-entry : (p : ℕ) → getD l p 0 < n → ((q : ℕ) → q < p → getD l q 0 ≢ getD l p 0) → badEntry n l p ≡ false
+  unfolding badEntry
+  good-entry p h d =
+      or-both (lt-leb n (getD l p 0) h) (none-found p (λ q. eqb (getD l q 0) (getD l p 0)) (λ q m. ne-eqb (getD l q 0) (getD l p 0) (d q m)))
+
+  pub entries-permute : ((p : ℕ) → p < n → badEntry n l p ≡ false) → Permutes n (λ p. getD l p 0)
+  entries-permute h = record { below = λ k m. entry-good k (h k m) .0; once = λ j k hj hk e. go j k hj hk e (decLt j k) (decLt k j) }
+    where
+      go : (j k : ℕ) → j < n → k < n → getD l j 0 ≡ getD l k 0 → Dec (j < k) → Dec (k < j) → j ≡ k
+      go j k hj hk e (yes a) b = absurd (entry-good k (h k hk) .1 j a e)
+      go j k hj hk e (no a) (yes b) = absurd (entry-good j (h j hj) .1 k b (sym e))
+      go j k hj hk e (no a) (no b) = omega arith
+
+  pub permute-entries : Permutes n (λ p. getD l p 0) → (p : ℕ) → p < n → badEntry n l p ≡ false
+  permute-entries P p h = good-entry p (P .below p h) (λ q m e. omega (arith, P .once q p (omega arith) h e, m))
+
+-- ---- rule 8
+
+module _ (w : List ℕ) (n : ℕ) where
+  bit-not-one : (i j : ℕ) → eqb (inverseEntry w n i j) 1 ≡ false → inverseEntry w n i j ≡ 0
+  unfolding inverseEntry
+  bit-not-one i j e = let d = eqb-false (inverseEntry w n i j) 1 e in omega (arith, d)
+
+  pub spare-zero : (i : ℕ) → spareRow w n i ≡ false → (j : ℕ) → n ≤ j → j < 8 * rowBytes n → inverseEntry w n i j ≡ 0
+  unfolding spareRow
+  spare-zero i e j h k =
+      let c : ℕ = j - n in
+      let d : n + c ≡ j = omega arith in
+      ap (inverseEntry w n i) (sym d)
+      ∙ bit-not-one i (n + c) (none-before (8 * rowBytes n - n) (λ j. eqb (inverseEntry w n i (n + j)) 1) e c (omega arith))
+
+  pub zero-spare : (i : ℕ) → ((j : ℕ) → n ≤ j → j < 8 * rowBytes n → inverseEntry w n i j ≡ 0) → spareRow w n i ≡ false
+  unfolding spareRow
+  zero-spare i h =
+      none-found (8 * rowBytes n - n) (λ j. eqb (inverseEntry w n i (n + j)) 1)
+      (λ j m. let z = h (n + j) (omega arith) (omega arith) in ne-eqb (inverseEntry w n i (n + j)) 1 (λ e. omega (arith, z, e)))
+
+-- ---- rule 9
+
+module _ (n : ℕ) (a b : ℕ → ℕ → ℕ) where
+  pub product-identity : ((e : ℕ) → e < n * n → wrongEntry n a b e ≡ false) → (i j : ℕ) → i < n → j < n → product n a b i j ≡ identity i j
+  unfolding wrongEntry
+  product-identity h i j hi hj =
+      let e : ℕ = i * n + j in
+      let z : product n a b (e / n) (e % n) ≡ identity (e / n) (e % n) =
+      eqb-true (product n a b (e / n) (e % n)) (identity (e / n) (e % n))
+      (not-false (eqb (product n a b (e / n) (e % n)) (identity (e / n) (e % n))) (h e (digits-lt {q = i} {m = n} {r = j} {c = n} hi hj))) in
+      sym (ap₂ (λ (x y : ℕ). product n a b x y) (digits-div i hj) (digits-mod i hj)) ∙ z ∙ ap₂ (λ (x y : ℕ). identity x y) (digits-div i hj) (digits-mod i hj)
+
+  pub identity-product : 0 < n → ((i j : ℕ) → i < n → j < n → product n a b i j ≡ identity i j) → (e : ℕ) → e < n * n → wrongEntry n a b e ≡ false
+  unfolding wrongEntry
+  identity-product pos h e m =
+      ap not (eq-eqb (product n a b (e / n) (e % n)) (identity (e / n) (e % n)) (h (e / n) (e % n) (div-lt-iff-lt-mul pos .1 m) (mod-lt e pos)))
+
+-- ---- rule 10
+
+pub bits-accepted : (base : ℕ) (b : List ℕ) → Bits b → bitRule base b ≡ accepted
+unfolding bitRule
+bits-accepted base b h = refuseFirst-accepted 10 base (length b) (λ k. ltb 1 (getD b k 0)) (λ k l. le-ltb 1 (getD b k 0) (omega (arith, h k)))

@@ -1,0 +1,99 @@
+-- Document 01, "Decoder": correcting a word, a round, the rounds and their counts. Any list of words over sites will do.
+--   choices                    every choice of at most t entries of a list
+--   flipBits                   a word with the bits at some positions flipped
+--   errorPositions             where the codeword within t changes differs from a word
+--   flipAll                    a frame with the bits at some sites flipped
+--   correction                 the sites that correcting a word flips
+--   correctWord, correctWords  words corrected one after the other, with the number of flips
+--   runRounds                  rounds until one is idle or all are made
+--   decoded                    the rounds of a frame
+-- Assumes nothing.
+use mathlib.Core.Bool.{Bool, true, false, cond}
+use mathlib.Core.List.{List, [], _∷_, _++_, map}
+use Prim.Native.Nat.{ℕ, zero, suc, _+_, _-_}
+use lib.Dec.{eqb}
+use lib.ListN.{length, getD, set}
+use Rattle.bch.specs.Code.{isCodeword}
+use Rattle.staircase.specs.Lists.{tabulate}
+use Rattle.staircase.specs.Design.{Params, Interleavers}
+use Rattle.staircase.specs.Frame.{Frame, Site, flip, words, read}
+use Rattle.staircase.specs.Frame.Site.{unsent, inInfo, inRed}
+
+-- in the list's order; the empty choice first
+unfoldable pub choices {ℓ} : {A : Type ℓ} → ℕ → List A → List (List A)
+choices zero w = [] ∷ []
+choices (suc t) [] = [] ∷ []
+choices (suc t) (x ∷ w) = choices (suc t) w ++ map (λ c. x ∷ c) (choices t w)
+
+unfoldable pub flipBits : List ℕ → List ℕ → List ℕ
+flipBits [] u = u
+flipBits (j ∷ c) u = set (flipBits c u) j (1 - getD (flipBits c u) j 0)
+
+-- the first of some choices of positions that makes the word u a codeword; the empty one where none does
+unfoldable pub firstCorrecting : Params → List ℕ → List (List ℕ) → List ℕ
+firstCorrecting s u [] = []
+firstCorrecting s u (c ∷ cs) = cond (isCodeword (s .g) (s .r) (flipBits c u)) c (firstCorrecting s u cs)
+
+-- "a codeword lies within t changes": there is at most one (the BCH bound), so the order of the search plays no part
+unfoldable pub errorPositions : Params → List ℕ → List ℕ
+errorPositions s u = firstCorrecting s u (choices (s .t) (tabulate (length u) (λ j. j)))
+
+-- "touches no bit of an unsent block"
+abbrev pub allSent : List Site → Bool
+allSent [] = true
+allSent (unsent ∷ c) = false
+allSent (inInfo k ∷ c) = allSent c
+allSent (inRed k ∷ c) = allSent c
+
+-- "if a codeword lies within t changes and touches no bit of an unsent block, the word becomes it, in both places of each redundancy bit;
+-- otherwise it stays". A redundancy bit is one site, so both its places change.
+unfoldable pub correction : Params → Frame → List Site → List Site
+correction s f w =
+    let c : List Site = map (λ j. getD w j unsent) (errorPositions s (read f w)) in
+    cond (allSent c) c []
+
+unfoldable pub flipAll : List Site → Frame → Frame
+flipAll [] f = f
+flipAll (x ∷ c) f = flip x (flipAll c f)
+
+-- a frame and how many bits were flipped to reach it: "each turn counted, also a turn back"
+pub record Progress : Type 0 where
+  pub frame : Frame
+  pub flips : ℕ
+
+unfoldable pub correctWord : Params → Progress → List Site → Progress
+correctWord s x w =
+    record {
+      frame = flipAll (correction s (x .frame) w) (x .frame);
+      flips = x .flips + length (correction s (x .frame) w);
+    }
+
+unfoldable pub correctWords : Params → Progress → List (List Site) → Progress
+correctWords s x [] = x
+correctWords s x (w ∷ ws) = correctWords s (correctWord s x w) ws
+
+unfoldable pub round : Params → List (List Site) → Frame → Progress
+round s ws f = correctWords s (record { frame = f; flips = 0 }) ws
+
+pub record Decoded : Type 0 where
+  pub frame : Frame
+  pub rounds : ℕ
+  pub flips : ℕ
+
+-- "Rounds end after one that turns no bit, or when all are made", "the idle last one counted"
+unfoldable pub runRounds : Params → List (List Site) → ℕ → Frame → Decoded
+runRounds s ws zero f = record { frame = f; rounds = 0; flips = 0 }
+runRounds s ws (suc k) f =
+    let x : Progress = round s ws f in
+    let rest : Decoded = runRounds s ws k (x .frame) in
+    cond (eqb (x .flips) 0)
+    (record { frame = x .frame; rounds = 1; flips = 0 })
+    (record { frame = rest .frame; rounds = 1 + rest .rounds; flips = x .flips + rest .flips })
+
+-- "0 stands for 7"
+abbrev pub roundsAllowed : ℕ → ℕ
+roundsAllowed zero = 7
+roundsAllowed (suc k) = suc k
+
+unfoldable pub decoded : Params → Interleavers → ℕ → ℕ → Frame → Decoded
+decoded s l L k f = runRounds s (words s l L) (roundsAllowed k) f

@@ -1,0 +1,54 @@
+-- Document 01, "Design and BCH words": the limits and the sizes of a design.
+--   leastM .. maxOrder   the limits of the table
+--   Params, params       what the words of a design need
+--   wordLength s         n
+--   order s              M × r: entries of a list, of Y and of P, rows of the system
+--   Interleavers         the two lists
+-- Assumes nothing.
+use mathlib.Core.List.{List}
+use Prim.Native.Nat.{ℕ, _+_, _*_}
+use Rattle.bch.specs.Code.{generator}
+
+-- "m (4 to 10), t (1 to 3) and M (1 to 500)"
+abbrev pub least-m : ℕ
+least-m = 4
+
+abbrev pub most-m : ℕ
+most-m = 10
+
+abbrev pub most-t : ℕ
+most-t = 3
+
+abbrev pub most-M : ℕ
+most-M = 500
+
+-- "M × r at most 4,096"
+abbrev pub most-order : ℕ
+most-order = 4096
+
+-- "L from 1 to 4,096"
+abbrev pub most-blocks : ℕ
+most-blocks = 4096
+
+-- Rows and columns M of a block, redundancy bits r of a word, errors t that are corrected, generator g.
+pub record Params : Type 0 where
+  pub M : ℕ
+  pub r : ℕ
+  pub t : ℕ
+  pub g : ℕ
+
+-- "r = m × t"
+abbrev pub params : ℕ → ℕ → ℕ → Params
+params m t M = record { M = M; r = m * t; t = t; g = generator m t }
+
+-- "n = 2M + 2r"
+abbrev pub wordLength : Params → ℕ
+wordLength s = 2 * s .M + 2 * s .r
+
+abbrev pub order : Params → ℕ
+order s = s .M * s .r
+
+-- "A list sends the bit at place p to place list[p]": the entries of the self list and of the parity list.
+pub record Interleavers : Type 0 where
+  pub self : List ℕ
+  pub parity : List ℕ

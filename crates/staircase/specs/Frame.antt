@@ -1,0 +1,95 @@
+-- Document 01, "Frame": a frame in its two buffers, its words, and its redundancy. Groups are counted from 0 here and blocks from 1, as in
+-- document 01: the group that i groups precede has blocks 2i, 2i + 1 and 2i + 2, and block 0 is B0.
+--   Frame, Site               the buffers, and where a bit of a word stands in them
+--   bitAt, flip               the bit at a site, and the frame with it turned
+--   blockAt, selfAt, parityAt the sites of a block, of Y and of P
+--   rowSites, columnSites     the sites of a row word and of a column word
+--   words                     all words in the order of a round
+--   read, inCode              the bits of a word, and the test whether it is a codeword
+--   outside                   how many words are outside the code
+--   redundancy                the redundancy of the information
+-- Assumes nothing.
+use mathlib.Core.Bool.{Bool, cond}
+use mathlib.Core.List.{List, [], _∷_, _++_, map}
+use Prim.Native.Nat.{ℕ, zero, suc, _+_, _-_, _*_, _/_}
+use lib.Dec.{ltb}
+use lib.ListN.{getD, set}
+use Rattle.bch.specs.Code.{isCodeword}
+use Rattle.staircase.specs.Lists.{tabulate, concat}
+use Rattle.staircase.specs.Design.{Params, Interleavers, order}
+use Rattle.staircase.specs.Word.{rowWord, columnWord}
+use Rattle.staircase.specs.System.{Contents, groupBits}
+
+-- "Buffers are one bit a byte": information and redundancy
+pub record Frame : Type 0 where
+  pub info : List ℕ
+  pub red : List ℕ
+
+-- a byte of one of the buffers, or nowhere where the block is not sent
+pub data Site : Type 0 where
+  unsent : Site
+  inInfo : ℕ → Site
+  inRed : ℕ → Site
+
+-- "Unsent blocks are zero"
+abbrev pub bitAt : Frame → Site → ℕ
+bitAt f unsent = 0
+bitAt f (inInfo k) = getD (f .info) k 0
+bitAt f (inRed k) = getD (f .red) k 0
+
+abbrev pub flip : Site → Frame → Frame
+flip unsent f = f
+flip (inInfo k) f = record { info = set (f .info) k (1 - getD (f .info) k 0); red = f .red }
+flip (inRed k) f = record { info = f .info; red = set (f .red) k (1 - getD (f .red) k 0) }
+
+-- "There are G groups, G = L / 2 rounded up"
+abbrev pub groups : ℕ → ℕ
+groups L = (L + 1) / 2
+
+-- "B0 is all zero and not sent. For odd L the block after the last is all zero and not sent."
+abbrev pub blockAt : Params → ℕ → ℕ → ℕ → Site
+blockAt s L zero k = unsent
+blockAt s L (suc b) k = cond (ltb b L) (inInfo (b * (s .M * s .M) + k)) unsent
+
+-- "Group i is Y (r × M), then P (r × M)"
+abbrev pub selfAt : Params → ℕ → ℕ → Site
+selfAt s i q = inRed (i * (2 * order s) + q)
+
+abbrev pub parityAt : Params → ℕ → ℕ → Site
+parityAt s i q = inRed (i * (2 * order s) + order s + q)
+
+-- "Row word a of group i: row a of B(2i-2), of B(2i-1), of X, of Q"
+unfoldable pub rowSites : Params → Interleavers → ℕ → ℕ → ℕ → List Site
+rowSites s l L i a = rowWord s l (blockAt s L (2 * i)) (blockAt s L (2 * i + 1)) (selfAt s i) (parityAt s i) a
+
+-- "Column word a: column a of B(2i-1), of B(2i), of Y, of P"
+unfoldable pub columnSites : Params → ℕ → ℕ → ℕ → List Site
+columnSites s L i a = columnWord s (blockAt s L (2 * i + 1)) (blockAt s L (2 * i + 2)) (selfAt s i) (parityAt s i) a
+
+-- "groups 1 to G, in each the row words 0 to M-1, then the column words"
+unfoldable pub words : Params → Interleavers → ℕ → List (List Site)
+words s l L = concat (groups L) (λ i. tabulate (s .M) (rowSites s l L i) ++ tabulate (s .M) (columnSites s L i))
+
+abbrev pub read : Frame → List Site → List ℕ
+read f w = map (bitAt f) w
+
+abbrev pub inCode : Params → Frame → List Site → Bool
+inCode s f w = isCodeword (s .g) (s .r) (read f w)
+
+unfoldable pub outsideAmong : Params → Frame → List (List Site) → ℕ
+outsideAmong s f [] = 0
+outsideAmong s f (w ∷ ws) = cond (inCode s f w) 0 1 + outsideAmong s f ws
+
+unfoldable pub outside : Params → Interleavers → ℕ → Frame → ℕ
+outside s l L f = outsideAmong s f (words s l L)
+
+-- the bits of block b
+abbrev pub block : Params → ℕ → List ℕ → ℕ → Contents
+block s L info b k = bitAt (record { info = info; red = [] }) (blockAt s L b k)
+
+unfoldable pub groupRedundancy : Params → Interleavers → List ℕ → ℕ → List ℕ → ℕ → List ℕ
+groupRedundancy s l w L info i = groupBits s l w (block s L info (2 * i)) (block s L info (2 * i + 1)) (block s L info (2 * i + 2))
+
+-- "in order of blocks or groups"
+unfoldable pub redundancy : Params → Interleavers → List ℕ → ℕ → List ℕ → List ℕ
+redundancy s l w L info = concat (groups L) (groupRedundancy s l w L info)

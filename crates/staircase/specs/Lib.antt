@@ -1,0 +1,10 @@
+pub mod Lists
+pub mod Design
+pub mod Word
+pub mod System
+pub mod Frame
+pub mod Decoder
+pub mod Rules
+pub mod Calls
+pub mod Demand2
+pub mod Demand3
