@@ -12,4 +12,5 @@ pub mod Distance
 pub mod Bound
 pub mod Minimal
 pub mod Systematic
+pub mod PowerSum
 pub mod Bch

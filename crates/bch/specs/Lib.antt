@@ -1,3 +1,5 @@
 pub mod Polynomial
 pub mod Field
 pub mod Code
+pub mod Powers
+pub mod Published

@@ -4,8 +4,11 @@ pub mod Member
 pub mod Flip
 pub mod Errors
 pub mod Correction
+pub mod Search
 pub mod Permutation
 pub mod System
+pub mod Fill
+pub mod Entries
 pub mod Sites
 pub mod Redundancy
 pub mod Reach

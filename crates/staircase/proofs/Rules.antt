@@ -11,10 +11,10 @@
 --   bits-accepted                             rule 10
 -- Assumes nothing.
 use mathlib.Core.Path.{_≡_, refl, sym, ap, ap₂, _∙_}
-use mathlib.Core.Bool.{Bool, true, false, not, _||_, cond, true≢false}
+use mathlib.Core.Bool.{Bool, true, false, not, _||_, true≢false}
 use mathlib.Core.Logic.{_≢_, _⊎_, inl, inr}
 use mathlib.Core.List.{List}
-use Prim.Native.Nat.{ℕ, zero, suc, _+_, _-_, _*_, _/_, _%_, _^_, _≤_, _<_, zero-le, suc-le-suc}
+use Prim.Native.Nat.{ℕ, _+_, _-_, _*_, _/_, _%_, _^_, _≤_, _<_}
 use native.Mathlib.Nat.{mod-lt, div-lt-iff-lt-mul}
 use native.Mathlib.Decide.{decLt}
 use native.Mathlib.Omega.{arith}
@@ -29,7 +29,7 @@ use Rattle.staircase.specs.System.{inverseEntry, rowBytes, product, iden
 use Rattle.staircase.specs.Rules.{Verdict, _then_, refuse, refuseFirst, outOfRange, sizeRule, longRule, largeRule, designRules, lengthRule, badEntry, spareRow, wrongEntry, bitRule}
 use Rattle.staircase.specs.Rules.Verdict.{accepted, refused}
 use Rattle.staircase.specs.Demand2.{Permutes}
-use Rattle.staircase.proofs.Permutation.{firstWhere-found}
+use Rattle.staircase.proofs.Search.{bool?, firstWhere-found, firstWhere-none}
 
 -- ---- one rule after another
 
@@ -52,17 +52,6 @@ pub refuse-accepted : {z : Bool} (n p : ℕ) → z ≡ false → refuse z n p �
 refuse-accepted {z} n p e = ap (λ (y : Bool). refuse y n p) e
 
 -- ---- the first place
-
-bool? : (z : Bool) → (z ≡ true) ⊎ (z ≡ false)
-bool? true = inl refl
-bool? false = inr refl
-
-firstWhere-none : (n : ℕ) (f : ℕ → Bool) → ((k : ℕ) → k < n → f k ≡ false) → firstWhere n f ≡ n
-unfolding firstWhere
-firstWhere-none zero f h = refl
-firstWhere-none (suc n) f h =
-    ap (λ (z : Bool). cond z 0 (suc (firstWhere n (λ k. f (suc k))))) (h zero (suc-le-suc zero-le))
-    ∙ ap suc (firstWhere-none n (λ k. f (suc k)) (λ k l. h (suc k) (suc-le-suc l)))
 
 none-before : (n : ℕ) (f : ℕ → Bool) → ltb (firstWhere n f) n ≡ false → (k : ℕ) → k < n → f k ≡ false
 none-before n f e k l = go (bool? (f k))

@@ -8,3 +8,5 @@ pub mod Rules
 pub mod Calls
 pub mod Demand2
 pub mod Demand3
+pub mod RowsK
+pub mod SecondKit

@@ -92,10 +92,9 @@ redLength s L = groups L * (2 * order s)
 unfoldable pub frameLengths : Params → ℕ → List ℕ → List ℕ → Verdict
 frameLengths s L info red = lengthRule 4 (length info) (infoLength s L) then lengthRule 5 (length red) (redLength s L)
 
--- "The team fixes working lengths in docs/": docs/WORKING.md. Of the kit checker and the encoder: a matrix packed like the inverse, and eight
--- bytes an entry of a list.
+-- "The team fixes working lengths in docs/": docs/WORKING.md. Of the kit checker and the encoder: a matrix packed like the inverse
 unfoldable pub kitWork : Params → ℕ
-kitWork s = order s * rowBytes (order s) + 8 * order s
+kitWork s = order s * rowBytes (order s)
 
 -- of the word checker and the decoder: a byte an entry of a list
 unfoldable pub wordWork : Params → ℕ

@@ -1,0 +1,4 @@
+pub mod Generators
+pub mod Tables
+pub mod Rows
+pub mod Bounds

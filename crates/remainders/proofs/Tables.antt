@@ -1,0 +1,69 @@
+-- Powers of x, sums of a table's entries, and tables that are written entry by entry. Laws that code meets speak of `bitXor`, which is ⊕.
+--   timesX-over         x times v, where the degree has come to d
+--   powerMod-none       x^0 is 1
+--   powerMod-next       x^(e + 1) is x times x^e
+--   bit-one, bit-none   a bit times a number
+--   xorSum-more         one term more
+--   set-each            what holds of each entry after a store
+--   Added               the entries before n have f added, the others are as they were
+--   added-more          one entry more
+-- Assumes nothing.
+use mathlib.Core.Path.{_≡_, sym, ap, ap₂, _∙_, subst⁻¹}
+use mathlib.Core.List.{List}
+use Prim.Native.Nat.{ℕ, suc, _+_, _*_, _/_, _%_, _^_, _≤_, _<_}
+use native.Mathlib.Nat.{zero-mul, one-mul, div-eq-of-lt-le}
+use native.Mathlib.Decide.{ℕ-discrete}
+use native.Mathlib.Numerals.{add-one}
+use native.Mathlib.Omega.{arith}
+use lib.Bits.{bitXor}
+use lib.ListN.{length, getD, set}
+use lib.Seq.{getD-set-same, getD-set-other}
+use Rattle.bch.specs.Polynomial.{_⊕_, timesX, iterate}
+use Rattle.bch.specs.Powers.{powerMod, xorSum}
+
+-- ---- powers
+pub timesX-over : (f d v : ℕ) → v < 2 ^ d → 2 ^ d ≤ v * 2 → bitXor (v * 2) f ≡ timesX f d v
+unfolding timesX _⊕_
+timesX-over f d v h l =
+    let e : v * 2 / 2 ^ d ≡ 1 = div-eq-of-lt-le (2 ^ d) (omega arith) (omega arith) in
+    sym (ap (λ (n : ℕ). bitXor (v * 2) ((n % 2) * f)) e ∙ ap (bitXor (v * 2)) (one-mul f))
+
+pub powerMod-none : (g r e : ℕ) → e ≡ 0 → 1 ≡ powerMod g r e
+unfolding powerMod iterate
+powerMod-none g r e h = ap (powerMod g r) (sym h)
+
+pub powerMod-next : (g r e k v : ℕ) → v ≡ powerMod g r e → k ≡ suc e → timesX g r v ≡ powerMod g r k
+unfolding powerMod iterate
+powerMod-next g r e k v h l = ap (timesX g r) h ∙ ap (powerMod g r) (sym l)
+
+-- ---- sums
+pub bit-one : (b v : ℕ) → b ≡ 1 → v ≡ b * v
+bit-one b v e = sym (ap (λ (n : ℕ). n * v) e ∙ one-mul v)
+
+pub bit-none : (b v : ℕ) → b < 2 → (b ≡ 1 → ⊥) → 0 ≡ b * v
+bit-none b v h d = let e : b ≡ 0 = omega arith in sym (ap (λ (n : ℕ). n * v) e ∙ zero-mul v)
+
+pub xorSum-more : (n s : ℕ) (f : ℕ → ℕ) → s ≡ xorSum n f → bitXor s (f n) ≡ xorSum (n + 1) f
+unfolding xorSum _⊕_
+xorSum-more n s f e = ap (λ (k : ℕ). bitXor k (f n)) e ∙ ap (λ (k : ℕ). xorSum k f) (sym (add-one n))
+
+-- ---- stores
+pub set-each : (P : ℕ → ℕ → Type 0) (l : List ℕ) (n v : ℕ) → n < length l → P n v → ((k : ℕ) → (k ≡ n → ⊥) → P k (getD l k 0))
+    → (k : ℕ) → P k (getD (set l n v) k 0)
+set-each P l n v h here else k = go (ℕ-discrete k n)
+  where
+    go : Dec (k ≡ n) → P k (getD (set l n v) k 0)
+    go (yes e) = subst⁻¹ (λ (z : ℕ). P z (getD (set l n v) z 0)) e (subst⁻¹ (P n) (getD-set-same l n v 0 h) here)
+    go (no d) = subst⁻¹ (P k) (getD-set-other l n k v 0 d) (else k d)
+
+-- ---- a list added to, entry by entry
+abbrev pub Added : List ℕ → (ℕ → ℕ) → ℕ → List ℕ → Type 0
+Added old f n new = (k : ℕ) → (k < n → getD new k 0 ≡ getD old k 0 ⊕ f k) × (n ≤ k → getD new k 0 ≡ getD old k 0)
+
+pub added-more : (old new : List ℕ) (f : ℕ → ℕ) (n x : ℕ) → n < length new → Added old f n new → x ≡ f n
+    → Added old f (n + 1) (set new n (bitXor (getD new n 0) x))
+unfolding _⊕_
+added-more old new f n x h a e =
+    set-each (λ k y. (k < n + 1 → y ≡ getD old k 0 ⊕ f k) × (n + 1 ≤ k → y ≡ getD old k 0)) new n (bitXor (getD new n 0) x) h
+    (λ l. ap₂ bitXor (a n .1 (omega arith)) e, λ l. absurd (omega arith))
+    (λ k d. (λ l. a k .0 (omega arith), λ l. a k .1 (omega arith)))

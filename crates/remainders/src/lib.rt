@@ -1,0 +1,125 @@
+// Remainders of words by a generator, from a table of powers of x.
+//   generator_of(m, t)                the generator of the code over field m that corrects t errors
+//   fill_positions(g, r, top, table)  entry j of the table is the power of x that position j of a word carries, modulo g
+//   dot(bits, part)                   the sum of the entries of `part` at the ones of `bits`
+//   add_bits(acc, bits, x)            adds x to `acc` wherever `bits` has a one
+//   add_rows(acc, block, part)        `dot` for every column of a block at once, row by row
+//   clear(acc)                        makes every entry 0
+//
+// The remainder of a word is a sum of powers of x modulo the generator, one for each of its ones (`remainder-powers` of the crate `bch`).
+// A polynomial is a number, bit i for x^i, and the sum is the exclusive or. So a table that is made once turns a remainder into a loop of
+// exclusive ors, with no division, and parts of a word that stand in several buffers are added one after the other. The words that run
+// across the rows of a block are added row by row, in the order in which the block stands in memory.
+//
+// The hot loops have no jump at a bit: `dot` multiplies the entry by the bit, and `add_bits` chooses the value before it adds it.
+ghost use mathlib.Core.Path.{_≡_};
+ghost use Prim.Native.Nat.{ℕ, _+_, _*_, _/_, _^_, _≤_, _<_};
+ghost use lib.ListN.{length, getD, replicate};
+ghost use Rattle.bch.specs.Polynomial.{_⊕_, timesX, Bits};
+ghost use Rattle.bch.specs.Code.{generator};
+ghost use Rattle.bch.specs.Powers.{xorSum, PositionPowers};
+
+// The generators for t = 1, 2, 3, of m = 4, then 5, .., 10. Three of them, for (4, 2), (4, 3) and (5, 3), belong to no design.
+const GENERATORS: [u32; 21] = [
+    0x13,
+    0x1d1,
+    0x537,
+    0x25,
+    0x769,
+    0x8faf,
+    0x43,
+    0x1539,
+    0x782cf,
+    0x89,
+    0x4377,
+    0x26d9e3,
+    0x11d,
+    0x16f63,
+    0x1bba1b5,
+    0x211,
+    0x495c9,
+    0xd612b79,
+    0x409,
+    0x101877,
+    0x50a91113,
+];
+
+// The generator of the code over field m that corrects t errors, for every m and t that a design may have. One entry of a small table.
+pub fn generator_of(m: usize, t: usize) -> u32
+    requires { ⌜ (4 ≤ m) × (m ≤ 10) × (1 ≤ t) × (t ≤ 3) × (2 * (m * t) + 2 < 2 ^ m) ⌝ }
+    ensures { λ a. ⌜ (a ≡ generator m t) × (a < 2 ^ 31) ⌝ }
+{
+    GENERATORS[3 * (m - 4) + (t - 1)]
+}
+
+// x times v modulo g, of degree r. `top` is 2^r.
+fn times_x(g: u32, r: usize, top: u32, v: u32) -> u32
+    requires { ⌜ (r ≤ 30) × (top ≡ 2 ^ r) × (v < top) ⌝ }
+    ensures { λ a. ⌜ a ≡ timesX g r v ⌝ }
+{
+    let w = v * 2;
+    if w < top { w } else { w ^ g }
+}
+
+// Fills the lent `table` with the powers of x modulo g that the positions of a word of as many bits carry: the last is 1, and each is x
+// times the one after it. g has degree r, and `top` is 2^r. One step for each entry.
+pub fn fill_positions(g: u32, r: usize, top: u32, table: &mut [u32])
+    requires { ⌜ (0 < r) × (r ≤ 30) × (top ≡ 2 ^ r) × (g / 2 ^ r ≡ 1) ⌝ }
+    ensures { λ a. ⌜ PositionPowers g r (now (table .exit)) × (length (now (table .exit)) ≡ length (now (table .entry))) ⌝ }
+{
+    let mut v: u32 = 1;
+    let mut i = table.len();
+    while 0 < i {
+        i -= 1;
+        table[i] = v;
+        v = times_x(g, r, top, v);
+    }
+}
+
+// The sum of the entries of `part` at the ones of `bits`, both lent to read. One step for each bit.
+pub fn dot(bits: &[u8], part: &[u32]) -> u32
+    requires { ⌜ (length (now bits) ≡ length (now part)) × Bits (now bits) ⌝ }
+    ensures { λ a. ⌜ a ≡ xorSum (length (now (bits .entry))) (λ j. getD (now (bits .entry)) j 0 * getD (now (part .entry)) j 0) ⌝ }
+{
+    let mut acc: u32 = 0;
+    for j in 0..bits.len() {
+        acc = acc ^ (bits[j] as u32) * part[j];
+    }
+    acc
+}
+
+// Adds x to the lent entries of `acc` at the ones of `bits`. One step for each bit.
+pub fn add_bits(acc: &mut [u32], bits: &[u8], x: u32)
+    requires { ⌜ (length (now bits) ≡ length (now acc)) × Bits (now bits) ⌝ }
+    ensures { λ r. ⌜ (length (now (acc .exit)) ≡ length (now (acc .entry)))
+        × ((a : ℕ) → a < length (now (acc .entry)) → getD (now (acc .exit)) a 0 ≡ getD (now (acc .entry)) a 0 ⊕ getD (now (bits .entry)) a 0 * x) ⌝ }
+{
+    for a in 0..acc.len() {
+        let v = if bits[a] == 1 { x } else { 0 };
+        acc[a] = acc[a] ^ v;
+    }
+}
+
+// Adds to each of the lent entries of `acc` the entries of `part` at the ones of its column of `block`. The block has a row for each entry
+// of `part`, one after the other, and a column for each entry of `acc`. One step for each bit of the block.
+pub fn add_rows(acc: &mut [u32], block: &[u8], part: &[u32])
+    requires { ⌜ (length (now block) ≡ length (now part) * length (now acc)) × Bits (now block) ⌝ }
+    ensures { λ r. ⌜ (length (now (acc .exit)) ≡ length (now (acc .entry)))
+        × ((a : ℕ) → a < length (now (acc .entry)) → getD (now (acc .exit)) a 0 ≡ getD (now (acc .entry)) a 0
+        ⊕ xorSum (length (now (part .entry))) (λ j. getD (now (block .entry)) (j * length (now (acc .entry)) + a) 0 * getD (now (part .entry)) j 0)) ⌝ }
+{
+    let w = acc.len();
+    for j in 0..part.len() {
+        let from = j * w;
+        add_bits(acc, &block[from..from + w], part[j]);
+    }
+}
+
+// Makes every entry of the lent `acc` 0. One step for each entry.
+pub fn clear(acc: &mut [u32])
+    ensures { λ r. ⌜ now (acc .exit) ≡ replicate (length (now (acc .entry))) 0 ⌝ }
+{
+    for a in 0..acc.len() {
+        acc[a] = 0;
+    }
+}

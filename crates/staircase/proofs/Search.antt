@@ -1,0 +1,82 @@
+-- The first place that passes a test.
+--   firstWhere-le       at most n
+--   firstWhere-found    a place that passes is found, at it or before it
+--   firstWhere-none     n where no place passes
+--   firstWhere-holds, firstWhere-before   what is found passes, and nothing before it does
+--   firstWhere-is       a place that passes, with none before it, is what is found
+-- Assumes nothing.
+use mathlib.Core.Path.{_≡_, refl, sym, ap, _∙_, subst}
+use mathlib.Core.Bool.{Bool, true, false, cond, true≢false}
+use mathlib.Core.Logic.{_⊎_, inl, inr}
+use Prim.Native.Nat.{ℕ, zero, suc, _≤_, _<_, zero-le, suc-le-suc}
+use native.Mathlib.Nat.{le-of-suc-le-suc, not-suc-le-zero, le-antisymm}
+use native.Mathlib.Decide.{decLt}
+use native.Mathlib.Omega.{arith}
+use Rattle.staircase.specs.Lists.{firstWhere}
+
+pub bool? : (z : Bool) → (z ≡ true) ⊎ (z ≡ false)
+bool? true = inl refl
+bool? false = inr refl
+
+-- a place that passes is found, at it or before it
+pub firstWhere-found : (n : ℕ) (f : ℕ → Bool) (k : ℕ) → k < n → f k ≡ true → (firstWhere n f ≤ k) × (f (firstWhere n f) ≡ true)
+unfolding firstWhere
+firstWhere-found zero f k l h = absurd (not-suc-le-zero l)
+firstWhere-found (suc n) f zero l h = (subst (λ (z : Bool). cond z 0 (suc (firstWhere n (λ j. f (suc j)))) ≤ 0) (sym h) zero-le, go (f zero) refl h)
+  where
+    go : (z : Bool) → f zero ≡ z → z ≡ true → f (cond z 0 (suc (firstWhere n (λ j. f (suc j))))) ≡ true
+    go true e h = e
+    go false e h = let z : _≡_ {A = ℕ} 0 1 = ap (λ (y : Bool). cond y 1 0) h in absurd (omega arith)
+firstWhere-found (suc n) f (suc k) l h = go (f zero) refl (firstWhere-found n (λ j. f (suc j)) k (le-of-suc-le-suc l) h)
+  where
+    go : (z : Bool) → f zero ≡ z → (firstWhere n (λ j. f (suc j)) ≤ k) × (f (suc (firstWhere n (λ j. f (suc j)))) ≡ true)
+        → (cond z 0 (suc (firstWhere n (λ j. f (suc j)))) ≤ suc k) × (f (cond z 0 (suc (firstWhere n (λ j. f (suc j))))) ≡ true)
+    go true e r = (zero-le, e)
+    go false e r = (suc-le-suc (r .0), r .1)
+
+pub firstWhere-none : (n : ℕ) (f : ℕ → Bool) → ((k : ℕ) → k < n → f k ≡ false) → firstWhere n f ≡ n
+unfolding firstWhere
+firstWhere-none zero f h = refl
+firstWhere-none (suc n) f h =
+    ap (λ (z : Bool). cond z 0 (suc (firstWhere n (λ k. f (suc k))))) (h zero (suc-le-suc zero-le))
+    ∙ ap suc (firstWhere-none n (λ k. f (suc k)) (λ k l. h (suc k) (suc-le-suc l)))
+
+pub firstWhere-le : (n : ℕ) (f : ℕ → Bool) → firstWhere n f ≤ n
+unfolding firstWhere
+firstWhere-le zero f = zero-le
+firstWhere-le (suc n) f = go (f zero) (firstWhere-le n (λ k. f (suc k)))
+  where
+    go : (z : Bool) → firstWhere n (λ k. f (suc k)) ≤ n → cond z 0 (suc (firstWhere n (λ k. f (suc k)))) ≤ suc n
+    go true h = zero-le
+    go false h = suc-le-suc h
+
+pub firstWhere-before : (n : ℕ) (f : ℕ → Bool) (k : ℕ) → k < firstWhere n f → f k ≡ false
+firstWhere-before n f k l = go (bool? (f k))
+  where
+    go : (f k ≡ true) ⊎ (f k ≡ false) → f k ≡ false
+    go (inr d) = d
+    go (inl d) = absurd (omega (arith, firstWhere-le n f, firstWhere-found n f k (omega (arith, firstWhere-le n f)) d .0))
+
+pub firstWhere-holds : (n : ℕ) (f : ℕ → Bool) → firstWhere n f < n → f (firstWhere n f) ≡ true
+firstWhere-holds n f h = go (bool? (f (firstWhere n f)))
+  where
+    all-false : f (firstWhere n f) ≡ false → (k : ℕ) → k < n → f k ≡ false
+    all-false e k l = pick (bool? (f k))
+      where
+        pick : (f k ≡ true) ⊎ (f k ≡ false) → f k ≡ false
+        pick (inr d) = d
+        pick (inl d) = absurd (true≢false (sym (firstWhere-found n f k l d .1) ∙ e))
+
+    go : (f (firstWhere n f) ≡ true) ⊎ (f (firstWhere n f) ≡ false) → f (firstWhere n f) ≡ true
+    go (inl d) = d
+    go (inr d) = absurd (omega (arith, h, firstWhere-none n f (all-false d)))
+
+pub firstWhere-is : (n : ℕ) (f : ℕ → Bool) (k : ℕ) → k < n → f k ≡ true → ((p : ℕ) → p < k → f p ≡ false) → firstWhere n f ≡ k
+firstWhere-is n f k l h none = le-antisymm (u .0) (at-least (decLt (firstWhere n f) k))
+  where
+    u : (firstWhere n f ≤ k) × (f (firstWhere n f) ≡ true)
+    u = firstWhere-found n f k l h
+
+    at-least : Dec (firstWhere n f < k) → k ≤ firstWhere n f
+    at-least (yes m) = absurd (true≢false (sym (u .1) ∙ none (firstWhere n f) m))
+    at-least (no m) = omega arith

@@ -1,0 +1,138 @@
+-- Document 01, "Rows to check under K": every starred row, and the row of the design limits, as equations about the definitions. Kit K is the one
+-- whose text document 01 prints whole: m 4, t 1, M 1, so that a block is one bit, a word has 10 bits and a list 4 entries.
+--   paramsK                    the sizes of K's design
+--   selfK, parityK, inverseK   K's slices
+--   plain                      the list 0 1 2 3
+--   matrix n a                 the rows of an n × n matrix
+--   kitK                       the kit checker's verdict on the slices of a kit of this design
+--   encodedK, decodedK         the encoder's call and the decoder's call under K
+--   RowsK, rowsK               the rows, and that they hold
+-- Assumes nothing.
+use mathlib.Core.Path.{_≡_, refl}
+use mathlib.Core.List.{List, [], _∷_}
+use Prim.Native.Nat.{ℕ}
+use lib.ListN.{replicate}
+use Rattle.bch.specs.Polynomial.{_⊕_, _⊗_, timesX, iterate, polyAtDigits, polyAt, horner, remainder, bitsOf}
+use Rattle.bch.specs.Field.{fieldPoly, valueAt}
+use Rattle.bch.specs.Code.{leastFrom, minimalPoly, generator, isCodeword, parity}
+use Rattle.staircase.specs.Lists.{sumBits, tabulate, concat, firstWhere}
+use Rattle.staircase.specs.Design.{Params, params}
+use Rattle.staircase.specs.Word.{rowInfo, rowWord, columnInfo, columnWord}
+use Rattle.staircase.specs.System.{preimage, columnParity, rowParity, residual, systemEntry, constantEntry, inverseEntry, product, identity, selfEntry, groupBits}
+use Rattle.staircase.specs.Frame.{rowSites, columnSites, words, outsideAmong, outside, groupRedundancy, redundancy}
+use Rattle.staircase.specs.Decoder.{choices, flipBits, firstCorrecting, errorPositions, correction, flipAll, correctWord, correctWords, round, runRounds, decoded}
+use Rattle.staircase.specs.Rules.{Verdict, refuseFirst, sizeRule, longRule, largeRule, designRules, countRule, roundsRule, listLengths, kitLengths, redLength, frameLengths, kitWork, wordWork, entries, interleavers, badEntry, listRule, spareRow, spareRule, wrongEntry, inverseRule, kitRules, bitRule, frameBits}
+use Rattle.staircase.specs.Rules.Verdict.{accepted, refused}
+use Rattle.staircase.specs.Calls.{kitVerdict, encodeVerdict, Encoded, encodeCall, decodeVerdict, Corrected, decodeCall}
+
+abbrev pub paramsK : Params
+paramsK = params 4 1 1
+
+-- "place self parity", two bytes an entry
+abbrev pub selfK : List ℕ
+selfK = 1 ∷ 0 ∷ 0 ∷ 0 ∷ 2 ∷ 0 ∷ 3 ∷ 0 ∷ []
+
+abbrev pub parityK : List ℕ
+parityK = 3 ∷ 0 ∷ 0 ∷ 0 ∷ 1 ∷ 0 ∷ 2 ∷ 0 ∷ []
+
+-- "row inverse": 1010, 0101, 1101, 0100, column 0 in the lowest bit
+abbrev pub inverseK : List ℕ
+inverseK = 5 ∷ 10 ∷ 11 ∷ 2 ∷ []
+
+abbrev pub plain : List ℕ
+plain = 0 ∷ 0 ∷ 1 ∷ 0 ∷ 2 ∷ 0 ∷ 3 ∷ 0 ∷ []
+
+abbrev pub matrix : ℕ → (ℕ → ℕ → ℕ) → List (List ℕ)
+matrix n a = tabulate n (λ i. tabulate n (a i))
+
+abbrev pub kitK : List ℕ → List ℕ → List ℕ → Verdict
+kitK self parity w = kitVerdict 4 1 1 self parity w (kitWork paramsK)
+
+-- L blocks; the redundancy buffer holds bytes 255 before the call
+abbrev pub encodedK : ℕ → List ℕ → Encoded
+encodedK L info = encodeCall 4 1 1 L selfK parityK inverseK info (replicate (redLength paramsK L) 255) (kitWork paramsK)
+
+-- L blocks and a number of rounds
+abbrev pub decodedK : ℕ → ℕ → List ℕ → List ℕ → Corrected
+decodedK L rounds info red = decodeCall 4 1 1 L rounds selfK parityK info red (wordWork paramsK)
+
+pub record RowsK : Type 0 where
+  -- "remainders: x^9 is 1010, x^8 is 0101", of information × x^4
+  pub x9 : parity (generator 4 1) 4 (1 ∷ 0 ∷ 0 ∷ 0 ∷ 0 ∷ 0 ∷ []) ≡ 1 ∷ 0 ∷ 1 ∷ 0 ∷ []
+  pub x8 : parity (generator 4 1) 4 (0 ∷ 1 ∷ 0 ∷ 0 ∷ 0 ∷ 0 ∷ []) ≡ 0 ∷ 1 ∷ 0 ∷ 1 ∷ []
+  -- "A has rows 0110, 0001, 1110, 0101"
+  pub system : matrix 4 (systemEntry paramsK (interleavers paramsK selfK parityK))
+      ≡ (0 ∷ 1 ∷ 1 ∷ 0 ∷ []) ∷ (0 ∷ 0 ∷ 0 ∷ 1 ∷ []) ∷ (1 ∷ 1 ∷ 1 ∷ 0 ∷ []) ∷ (0 ∷ 1 ∷ 0 ∷ 1 ∷ []) ∷ []
+  -- "both products are the identity"
+  pub rightInverse : matrix 4 (product 4 (systemEntry paramsK (interleavers paramsK selfK parityK)) (inverseEntry inverseK 4)) ≡ matrix 4 identity
+  pub leftInverse : matrix 4 (product 4 (inverseEntry inverseK 4) (systemEntry paramsK (interleavers paramsK selfK parityK))) ≡ matrix 4 identity
+  pub passes : kitK selfK parityK inverseK ≡ accepted
+  -- "blocks 1: 0000 1010"
+  pub blocks1 : encodedK 1 (1 ∷ []) ≡ record { verdict = accepted; red = 0 ∷ 0 ∷ 0 ∷ 0 ∷ 1 ∷ 0 ∷ 1 ∷ 0 ∷ [] }
+  -- "blocks 1, 0: the same"
+  pub blocks10 : encodedK 2 (1 ∷ 0 ∷ []) ≡ record { verdict = accepted; red = 0 ∷ 0 ∷ 0 ∷ 0 ∷ 1 ∷ 0 ∷ 1 ∷ 0 ∷ [] }
+  -- "blocks 0, 1: 0001 0110"
+  pub blocks01 : encodedK 2 (0 ∷ 1 ∷ []) ≡ record { verdict = accepted; red = 0 ∷ 0 ∷ 0 ∷ 1 ∷ 0 ∷ 1 ∷ 1 ∷ 0 ∷ [] }
+  -- "blocks 1, 1: 0001 1100"
+  pub blocks11 : encodedK 2 (1 ∷ 1 ∷ []) ≡ record { verdict = accepted; red = 0 ∷ 0 ∷ 0 ∷ 1 ∷ 1 ∷ 1 ∷ 0 ∷ 0 ∷ [] }
+  -- "the four blocks above": 0, 1, 0, 0 give the groups 0001 0110 and 0001 0011
+  pub blocks0100 : encodedK 4 (0 ∷ 1 ∷ 0 ∷ 0 ∷ [])
+      ≡ record { verdict = accepted; red = 0 ∷ 0 ∷ 0 ∷ 1 ∷ 0 ∷ 1 ∷ 1 ∷ 0 ∷ 0 ∷ 0 ∷ 0 ∷ 1 ∷ 0 ∷ 0 ∷ 1 ∷ 1 ∷ [] }
+  -- "both lists 0 1 2 3: A is all zero, refused 9 at 0"
+  pub plainSystem : matrix 4 (systemEntry paramsK (interleavers paramsK plain plain)) ≡ matrix 4 (λ i j. 0)
+  pub plainRefused : kitK plain plain inverseK ≡ refused 9 0
+  -- "last row of W 0101: refused 9 at 7"
+  pub inverseRefused : kitK selfK parityK (5 ∷ 10 ∷ 11 ∷ 10 ∷ []) ≡ refused 9 7
+  -- "blocks 0, 1 with group 0001 0111: mended, result 2, 1, 0"
+  pub corrected : decodedK 2 0 (0 ∷ 1 ∷ []) (0 ∷ 0 ∷ 0 ∷ 1 ∷ 0 ∷ 1 ∷ 1 ∷ 1 ∷ [])
+      ≡ record {
+        verdict = accepted;
+        frame = record { info = 0 ∷ 1 ∷ []; red = 0 ∷ 0 ∷ 0 ∷ 1 ∷ 0 ∷ 1 ∷ 1 ∷ 0 ∷ [] };
+        counts = record { rounds = 2; flips = 1; outside = 0 };
+      }
+  -- "with one round allowed 1, 1, 0"
+  pub correctedInOne : decodedK 2 1 (0 ∷ 1 ∷ []) (0 ∷ 0 ∷ 0 ∷ 1 ∷ 0 ∷ 1 ∷ 1 ∷ 1 ∷ [])
+      ≡ record {
+        verdict = accepted;
+        frame = record { info = 0 ∷ 1 ∷ []; red = 0 ∷ 0 ∷ 0 ∷ 1 ∷ 0 ∷ 1 ∷ 1 ∷ 0 ∷ [] };
+        counts = record { rounds = 1; flips = 1; outside = 0 };
+      }
+  -- "blocks 0, 0 with group 0000 0101: blocks 0, 1, group kept, result 2, 1, 1 (the row word's codeword needs B0)"
+  pub needsB0 : decodedK 2 0 (0 ∷ 0 ∷ []) (0 ∷ 0 ∷ 0 ∷ 0 ∷ 0 ∷ 1 ∷ 0 ∷ 1 ∷ [])
+      ≡ record {
+        verdict = accepted;
+        frame = record { info = 0 ∷ 1 ∷ []; red = 0 ∷ 0 ∷ 0 ∷ 0 ∷ 0 ∷ 1 ∷ 0 ∷ 1 ∷ [] };
+        counts = record { rounds = 2; flips = 1; outside = 1 };
+      }
+  -- "m 4, t 1, M 3 fits; M 4 is refused 2 at 16. m 10, t 2, M 204 fits; M 205 is refused 3 at 4,100."
+  pub fits3 : designRules 4 1 3 ≡ accepted
+  pub long4 : designRules 4 1 4 ≡ refused 2 16
+  pub fits204 : designRules 10 2 204 ≡ accepted
+  pub large205 : designRules 10 2 205 ≡ refused 3 4100
+
+pub rowsK : RowsK
+unfolding _⊕_ _⊗_ timesX iterate polyAtDigits polyAt horner remainder bitsOf fieldPoly valueAt leastFrom minimalPoly generator isCodeword parity sumBits tabulate concat firstWhere rowInfo rowWord columnInfo columnWord preimage columnParity rowParity residual systemEntry constantEntry inverseEntry product selfEntry groupBits rowSites columnSites words outsideAmong outside groupRedundancy redundancy choices flipBits firstCorrecting errorPositions correction flipAll correctWord correctWords round runRounds decoded refuseFirst sizeRule longRule largeRule designRules countRule roundsRule listLengths kitLengths frameLengths kitWork wordWork entries badEntry listRule spareRow spareRule wrongEntry inverseRule kitRules bitRule frameBits kitVerdict encodeVerdict encodeCall decodeVerdict decodeCall
+rowsK =
+    record {
+      x9 = refl;
+      x8 = refl;
+      system = refl;
+      rightInverse = refl;
+      leftInverse = refl;
+      passes = refl;
+      blocks1 = refl;
+      blocks10 = refl;
+      blocks01 = refl;
+      blocks11 = refl;
+      blocks0100 = refl;
+      plainSystem = refl;
+      plainRefused = refl;
+      inverseRefused = refl;
+      corrected = refl;
+      correctedInOne = refl;
+      needsB0 = refl;
+      fits3 = refl;
+      long4 = refl;
+      fits204 = refl;
+      large205 = refl;
+    }
