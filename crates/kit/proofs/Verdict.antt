@@ -1,0 +1,146 @@
+-- The verdicts that the kit checker's steps return are those of the table.
+--   inverse-left, inverse-right, inverse-none   rule 9 by the first wrong entries
+--   lists-rule, spare-rule, lists-permute       rules 7 and 8 by the order that code has
+--   lengths-fit                                 rule 6 passed: the lengths are right
+--   made-allowed, design-then                   a design that was made
+--   kit-design, kit-lengths, kit-working, kit-content   the call's verdict, step by step
+-- Assumes nothing.
+use mathlib.Core.Path.{_≡_, refl, sym, ap, _∙_}
+use mathlib.Core.Bool.{Bool, not}
+use mathlib.Core.List.{List}
+use Prim.Native.Nat.{ℕ, _+_, _*_, _≤_, _<_}
+use native.Mathlib.Nat.{zero-add}
+use lib.Dec.{ltb, eqb}
+use lib.ListN.{length, getD}
+use borrow.Author.Tests.{lt-ltb, le-ltb, eqb-true, not-false}
+use Rattle.staircase.specs.Lists.{firstWhere}
+use Rattle.staircase.specs.Design.{Params, Interleavers, params, order}
+use Rattle.staircase.specs.System.{rowBytes, systemEntry, inverseEntry}
+use Rattle.staircase.specs.Rules.{Verdict, _then_, refuse, refuseFirst, designRules, lengthRule, listLengths, kitLengths, kitWork, entries, interleavers, badEntry, listRule, spareRow, spareRule, wrongEntry, inverseRule, kitRules}
+use Rattle.staircase.specs.Rules.Verdict.{accepted, refused}
+use Rattle.staircase.specs.Calls.{kitVerdict}
+use Rattle.staircase.specs.Demand2.{Permutes, FitsOrder}
+use Rattle.staircase.proofs.Rules.{then-first, then-rest, refuse-false, refuseFirst-false, entries-permute}
+use Rattle.rules.specs.declared.Refusal.{Refusal}
+use Rattle.rules.specs.declared.Check.{Check}
+use Rattle.rules.specs.declared.Check.the-variants as check
+use Rattle.rules.specs.declared.Design.{Design}
+use Rattle.rules.specs.declared.Designed.{Designed}
+use Rattle.rules.specs.declared.Designed.the-variants as designed
+use Rattle.rules.specs.Answers.{verdictOf, designVerdict, DesignIs, Allowed, DesignAllowed}
+use Rattle.rules.proofs.Answers.{refused-then, passed-then, design-refused, design-made, made-params}
+use Rattle.kit.specs.Fits.{paramsOf, orderOf, listsOf}
+
+-- ---- rule 9
+
+module _ (rule base N : ℕ) (f : ℕ → Bool) (x : ℕ) (e : x ≡ firstWhere N f) where
+  first-refused : x < N → refused rule (base + x) ≡ refuseFirst rule base N f
+  unfolding refuseFirst
+  first-refused h = sym (ap (λ (z : ℕ). refuse (ltb z N) rule (base + z)) (sym e) ∙ ap (λ (b : Bool). refuse b rule (base + x)) (lt-ltb x N h))
+
+  first-passed : N ≤ x → accepted ≡ refuseFirst rule base N f
+  unfolding refuseFirst
+  first-passed h = sym (ap (λ (z : ℕ). refuse (ltb z N) rule (base + z)) (sym e) ∙ ap (λ (b : Bool). refuse b rule (base + x)) (le-ltb x N h))
+
+module _ (s : Params) (l : Interleavers) (w : List ℕ) (x : ℕ) (e : x ≡ firstWhere (order s * order s) (wrongEntry (order s) (systemEntry s l) (inverseEntry w (order s)))) where
+  abbrev n : ℕ
+  n = order s
+
+  pub inverse-left : x < order s * order s → refused 9 x ≡ inverseRule s l w
+  unfolding inverseRule
+  inverse-left h =
+      ap (refused 9) (sym (zero-add x))
+      ∙ ap (λ (v : Verdict). v then refuseFirst 9 (n * n) (n * n) (wrongEntry n (inverseEntry w n) (systemEntry s l)))
+      (first-refused 9 0 (n * n) (wrongEntry n (systemEntry s l) (inverseEntry w n)) x e h)
+
+  module _ (clean : order s * order s ≤ x) (y : ℕ) (d : y ≡ firstWhere (order s * order s) (wrongEntry (order s) (inverseEntry w (order s)) (systemEntry s l))) where
+    second : refuseFirst 9 (n * n) (n * n) (wrongEntry n (inverseEntry w n) (systemEntry s l)) ≡ inverseRule s l w
+    unfolding inverseRule
+    second =
+        ap (λ (v : Verdict). v then refuseFirst 9 (n * n) (n * n) (wrongEntry n (inverseEntry w n) (systemEntry s l)))
+        (first-passed 9 0 (n * n) (wrongEntry n (systemEntry s l) (inverseEntry w n)) x e clean)
+
+    pub inverse-right : y < order s * order s → refused 9 (order s * order s + y) ≡ inverseRule s l w
+    inverse-right h = first-refused 9 (n * n) (n * n) (wrongEntry n (inverseEntry w n) (systemEntry s l)) y d h ∙ second
+
+    pub inverse-none : order s * order s ≤ y → accepted ≡ inverseRule s l w
+    inverse-none h = first-passed 9 (n * n) (n * n) (wrongEntry n (inverseEntry w n) (systemEntry s l)) y d h ∙ second
+
+-- ---- rules 6 to 8
+
+module _ (d : Design) (own parity w : List ℕ) (n : ℕ) (e : n ≡ orderOf d) where
+  pub lists-rule : {v : Verdict} → v ≡ (refuseFirst 7 0 n (badEntry n (entries n own)) then refuseFirst 7 n n (badEntry n (entries n parity)))
+      → v ≡ listRule (paramsOf d) (listsOf d own parity)
+  unfolding listRule
+  lists-rule h = h ∙ ap (λ (k : ℕ). refuseFirst 7 0 k (badEntry k (entries k own)) then refuseFirst 7 k k (badEntry k (entries k parity))) e
+
+  pub spare-rule : {v : Verdict} → v ≡ refuseFirst 8 0 n (spareRow w n) → v ≡ spareRule (paramsOf d) w
+  unfolding spareRule
+  spare-rule h = h ∙ ap (λ (k : ℕ). refuseFirst 8 0 k (spareRow w k)) e
+
+pub lists-permute : (s : Params) (l : Interleavers) → listRule s l ≡ accepted → Permutes (order s) (λ p. getD (l .self) p 0) × Permutes (order s) (λ p. getD (l .parity) p 0)
+unfolding listRule
+lists-permute s l e =
+    let n : ℕ = order s in
+    let u : Verdict = refuseFirst 7 0 n (badEntry n (l .self)) in
+    let v : Verdict = refuseFirst 7 n n (badEntry n (l .parity)) in (
+      entries-permute n (l .self) (refuseFirst-false 7 0 n (badEntry n (l .self)) (then-first u v e)),
+      entries-permute n (l .parity) (refuseFirst-false 7 n n (badEntry n (l .parity)) (then-rest u v e)),
+    )
+
+pub length-equal : (p a b : ℕ) → lengthRule p a b ≡ accepted → a ≡ b
+length-equal p a b e = eqb-true a b (not-false (eqb a b) (refuse-false (not (eqb a b)) 6 p e))
+
+pub lengths-fit : (s : Params) (own parity w : List ℕ) → kitLengths s own parity w ≡ accepted → FitsOrder (order s) own parity w
+unfolding kitLengths listLengths
+lengths-fit s own parity w e =
+    let a : Verdict = lengthRule 1 (length own) (2 * order s) in
+    let b : Verdict = lengthRule 2 (length parity) (2 * order s) in
+    let c : Verdict = lengthRule 3 (length w) (order s * rowBytes (order s)) in
+    let ab : (a then b) ≡ accepted = then-first (a then b) c e in
+    record {
+      selfLength = length-equal 1 (length own) (2 * order s) (then-first a b ab);
+      parityLength = length-equal 2 (length parity) (2 * order s) (then-rest a b ab);
+      inverseLength = length-equal 3 (length w) (order s * rowBytes (order s)) (then-rest (a then b) c e);
+    }
+
+-- ---- the design
+
+pub made-allowed : {a : Designed} {d : Design} → a ≡ designed.Made d → DesignAllowed a → Allowed d
+unfolding DesignAllowed
+made-allowed e h = rw e at h
+
+pub design-then : {a : Designed} {d : Design} {u : Verdict} (v : Verdict) → designVerdict a ≡ u → a ≡ designed.Made d → v ≡ (u then v)
+design-then v n g = ap (λ (z : Verdict). z then v) (sym (design-made g) ∙ n)
+
+-- ---- the call
+
+-- what follows the design's rules
+module _ (own parity w : List ℕ) (work : ℕ) where
+  rest : Params → Verdict
+  rest s = kitLengths s own parity w then lengthRule 6 work (kitWork s) then kitRules s (interleavers s own parity) w
+
+  whole : (m t M : ℕ) → (designRules m t M then rest (params m t M)) ≡ kitVerdict m t M own parity w work
+  unfolding rest kitVerdict
+  whole m t M = refl
+
+module _ (m t M : ℕ) (own parity w : List ℕ) (work : ℕ) {a : Designed} (n : designVerdict a ≡ designRules m t M) where
+  pub kit-design : {r : Refusal} → a ≡ designed.Refused r → designVerdict a ≡ kitVerdict m t M own parity w work
+  kit-design g = design-refused g ∙ refused-then (rest own parity w work (params m t M)) (sym (design-refused g) ∙ n) refl ∙ whole own parity w work m t M
+
+  module _ (i : DesignIs a m t M) {d : Design} (g : a ≡ designed.Made d) where
+    made-whole : rest own parity w work (paramsOf d) ≡ kitVerdict m t M own parity w work
+    made-whole = ap (rest own parity w work) (made-params g m t M i) ∙ design-then (rest own parity w work (params m t M)) n g ∙ whole own parity w work m t M
+
+    pub kit-lengths : {x : Check} {r : Refusal} → verdictOf x ≡ kitLengths (paramsOf d) own parity w → x ≡ check.Refused r → verdictOf x ≡ kitVerdict m t M own parity w work
+    unfolding rest
+    kit-lengths h e = refused-then _ h e ∙ made-whole
+
+    module _ {x : Check} (hx : verdictOf x ≡ kitLengths (paramsOf d) own parity w) (px : x ≡ check.Passed) {y : Check} (hy : verdictOf y ≡ lengthRule 6 work (kitWork (paramsOf d))) where
+      pub kit-working : {r : Refusal} → y ≡ check.Refused r → verdictOf y ≡ kitVerdict m t M own parity w work
+      unfolding rest
+      kit-working e = refused-then _ hy e ∙ passed-then _ hx px ∙ made-whole
+
+      pub kit-content : (z : Check) → y ≡ check.Passed → verdictOf z ≡ kitRules (paramsOf d) (listsOf d own parity) w → verdictOf z ≡ kitVerdict m t M own parity w work
+      unfolding rest
+      kit-content z py h = h ∙ passed-then _ hy py ∙ passed-then _ hx px ∙ made-whole

@@ -1,0 +1,123 @@
+use native.Mathlib.Omega.{arith}
+use borrow.Author.Needs.{needs}
+use mathlib.Core.Path.{_≡_, sym, ap, _∙_}
+use Prim.Native.Nat.{ℕ, _*_}
+use Rattle.staircase.specs.Rules.{kitRules}
+use Rattle.staircase.specs.System.{rowBytes}
+use Rattle.rules.proofs.Answers.{refused-then, passed-then, check-passed}
+use Rattle.kit.specs.Fits.{paramsOf, orderOf, listsOf}
+use Rattle.kit.proofs.Whole.{order-positive}
+use Rattle.kit.proofs.Verdict.{lists-rule, spare-rule, lists-permute}
+use Rattle.kit.proofs.check_content.Statement.{statement}
+use Rattle.kit.proofs.check_content.Tie as tie
+
+order-requires : tie.Need-order-requires
+order-requires c κs = search needs
+
+sub-check-lists : tie.Need-sub-check-lists
+sub-check-lists c = search needs
+
+part-marks-start : tie.Need-part-marks-start
+part-marks-start c = search needs
+
+part-marks-end : tie.Need-part-marks-end
+part-marks-end c =
+    let a = c .before .before .before .before .before .args in
+    let h = c .before .before .before .before .before .pre in
+    let e : c .order .result ≡ orderOf (a .d) = c .order .ensures .0 in
+    omega (arith, h .allowed .order-high)
+
+check-lists-requires : tie.Need-check-lists-requires
+check-lists-requires c κs =
+    let a = c .before .before .before .before .before .before .args in
+    let h = c .before .before .before .before .before .before .pre in
+    let e : c .before .order .result ≡ orderOf (a .d) = c .before .order .ensures .0 in
+    (omega (arith, h .ownLength), omega (arith, h .parityLength), omega arith, omega (arith, h .allowed .order-high))
+
+enum-told : tie.Need-enum-told
+enum-told c = search needs
+
+enum-told-2 : tie.Need-enum-told-2
+enum-told-2 c = search needs
+
+returns : tie.Need-returns
+unfolding kitRules
+returns c =
+    let a = c .before .before .before .before .before .before .before .before .before .before .args in
+    let h = c .before .before .before .before .before .before .before .before .before .before .pre in
+    let e : c .before .before .before .before .before .order .result ≡ orderOf (a .d) = c .before .before .before .before .before .order .ensures .0 in
+    let x = lists-rule (a .d) (a .own .now) (a .parity .now) (a .inverse .now) (c .before .before .before .before .before .order .result) e (c .before .before .before .check-lists .ensures) in
+    refused-then _ x (c .enum-told2 .given .1)
+
+check-spare-requires : tie.Need-check-spare-requires
+check-spare-requires c κs =
+    let a = c .before .before .before .before .before .before .before .before .before .before .args in
+    let h = c .before .before .before .before .before .before .before .before .before .before .pre in
+    let e : c .before .before .before .before .before .order .result ≡ orderOf (a .d) = c .before .before .before .before .before .order .ensures .0 in
+    (h .inverseLength ∙ ap (λ (k : ℕ). k * rowBytes k) (sym e), omega (arith, order-positive (a .d) (h .allowed)), omega (arith, h .allowed .order-high))
+
+enum-told-3 : tie.Need-enum-told-3
+enum-told-3 c = search needs
+
+enum-told-4 : tie.Need-enum-told-4
+enum-told-4 c = search needs
+
+returns-2 : tie.Need-returns-2
+unfolding kitRules
+returns-2 c =
+    let a = c .before .before .before .before .before .before .before .before .before .before .before .before .before .args in
+    let h = c .before .before .before .before .before .before .before .before .before .before .before .before .before .pre in
+    let e : c .before .before .before .before .before .before .before .before .order .result ≡ orderOf (a .d) = c .before .before .before .before .before .before .before .before .order .ensures .0 in
+    let x = lists-rule (a .d) (a .own .now) (a .parity .now) (a .inverse .now) (c .before .before .before .before .before .before .before .before .order .result) e (c .before .before .before .before .before .before .check-lists .ensures) in
+    let y = spare-rule (a .d) (a .own .now) (a .parity .now) (a .inverse .now) (c .before .before .before .before .before .before .before .before .order .result) e (c .before .before .check-spare .ensures) in
+    refused-then _ y (c .enum-told4 .given .1) ∙ passed-then _ x (c .before .before .before .enum-told .given .1)
+
+check-inverse-requires : tie.Need-check-inverse-requires
+check-inverse-requires c κs =
+    let a = c .before .before .before .before .before .before .before .before .before .before .before .before .before .before .args in
+    let h = c .before .before .before .before .before .before .before .before .before .before .before .before .before .before .pre in
+    let e : c .before .before .before .before .before .before .before .before .before .order .result ≡ orderOf (a .d) = c .before .before .before .before .before .before .before .before .before .order .ensures .0 in
+    let x = lists-rule (a .d) (a .own .now) (a .parity .now) (a .inverse .now) (c .before .before .before .before .before .before .before .before .before .order .result) e (c .before .before .before .before .before .before .before .check-lists .ensures) in
+    let p = lists-permute (paramsOf (a .d)) (listsOf (a .d) (a .own .now) (a .parity .now)) (sym x ∙ check-passed (c .before .before .before .before .enum-told .given .1)) in
+    record {
+      allowed = h .allowed;
+      ownLength = h .ownLength;
+      parityLength = h .parityLength;
+      inverseLength = h .inverseLength;
+      workLength = h .workLength;
+      ownPermutes = p .0;
+      parityPermutes = p .1;
+    }
+
+same-length : tie.Need-same-length
+same-length c = search needs
+
+returns-3 : tie.Need-returns-3
+unfolding kitRules
+returns-3 c =
+    let a = c .before .before .before .before .before .before .before .before .before .before .before .before .before .before .before .before .before .args in
+    let h = c .before .before .before .before .before .before .before .before .before .before .before .before .before .before .before .before .before .pre in
+    let e : c .before .before .before .before .before .before .before .before .before .before .before .before .order .result ≡ orderOf (a .d) = c .before .before .before .before .before .before .before .before .before .before .before .before .order .ensures .0 in
+    let x = lists-rule (a .d) (a .own .now) (a .parity .now) (a .inverse .now) (c .before .before .before .before .before .before .before .before .before .before .before .before .order .result) e (c .before .before .before .before .before .before .before .before .before .before .check-lists .ensures) in
+    let y = spare-rule (a .d) (a .own .now) (a .parity .now) (a .inverse .now) (c .before .before .before .before .before .before .before .before .before .before .before .before .order .result) e (c .before .before .before .before .before .before .check-spare .ensures) in
+    c .before .before .check-inverse .ensures ∙ passed-then _ y (c .before .before .before .before .enum-told3 .given .1) ∙ passed-then _ x (c .before .before .before .before .before .before .before .enum-told .given .1)
+
+pub check-content-spec : {M : Type 1} → statement M
+check-content-spec =
+    tie.close
+    (tie.spec
+    order-requires
+    sub-check-lists
+    part-marks-start
+    part-marks-end
+    check-lists-requires
+    enum-told
+    enum-told-2
+    returns
+    check-spare-requires
+    enum-told-3
+    enum-told-4
+    returns-2
+    check-inverse-requires
+    same-length
+    returns-3)

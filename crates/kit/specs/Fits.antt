@@ -1,0 +1,40 @@
+-- What a design and the slices of a kit are once rules 1 to 7 have passed.
+--   paramsOf, orderOf, listsOf   the sizes, the order and the lists of a design
+--   KitSized                     an allowed design, and slices of their lengths
+--   KitFits                      and lists that are permutations
+-- Assumes nothing.
+use mathlib.Core.Path.{_≡_}
+use mathlib.Core.List.{List}
+use Prim.Native.Nat.{ℕ, _*_}
+use lib.ListN.{length, getD}
+use Rattle.staircase.specs.Design.{Params, Interleavers, params, order}
+use Rattle.staircase.specs.System.{rowBytes}
+use Rattle.staircase.specs.Rules.{interleavers}
+use Rattle.staircase.specs.Demand2.{Permutes}
+use Rattle.rules.specs.declared.Design.{Design}
+use Rattle.rules.specs.Answers.{Allowed}
+
+abbrev pub paramsOf : Design → Params
+paramsOf d = params (d .m) (d .t) (d .size)
+
+abbrev pub orderOf : Design → ℕ
+orderOf d = order (paramsOf d)
+
+abbrev pub listsOf : Design → List ℕ → List ℕ → Interleavers
+listsOf d own parity = interleavers (paramsOf d) own parity
+
+pub record KitSized (d : Design) (own parity inverse work : List ℕ) : Type 0 where
+  pub allowed : Allowed d
+  pub ownLength : length own ≡ 2 * orderOf d
+  pub parityLength : length parity ≡ 2 * orderOf d
+  pub inverseLength : length inverse ≡ orderOf d * rowBytes (orderOf d)
+  pub workLength : length work ≡ orderOf d * rowBytes (orderOf d)
+
+pub record KitFits (d : Design) (own parity inverse work : List ℕ) : Type 0 where
+  pub allowed : Allowed d
+  pub ownLength : length own ≡ 2 * orderOf d
+  pub parityLength : length parity ≡ 2 * orderOf d
+  pub inverseLength : length inverse ≡ orderOf d * rowBytes (orderOf d)
+  pub workLength : length work ≡ orderOf d * rowBytes (orderOf d)
+  pub ownPermutes : Permutes (orderOf d) (λ p. getD (listsOf d own parity .self) p 0)
+  pub parityPermutes : Permutes (orderOf d) (λ p. getD (listsOf d own parity .parity) p 0)

@@ -1,0 +1,5 @@
+pub mod Bits
+pub mod Written
+pub mod Block
+pub mod Packed
+pub mod Product

@@ -1,0 +1,124 @@
+-- Sums over packed bits, a byte at a time, and the entries of products.
+--   sumBits-add   a sum in two parts
+--   mask-none, mask-byte, mask-zero   the parity of masked bytes: of none, with one more, with one more that is 0
+--   Masked, masked-none, masked-more, masked-skip   the same in every column, of the planes masked so far
+--   sum-spare     bits of a packed row that are 0 add nothing
+--   mask-rows-product, mask-rows-product-full   what `mask_rows` leaves of a row that holds a and planes that hold b
+--   product-row, product-column   the same as an entry of a product
+-- Assumes nothing.
+use mathlib.Core.Path.{_≡_, refl, sym, ap, ap₂, _∙_}
+use mathlib.Core.Bool.{Bool, cond}
+use mathlib.Core.List.{List}
+use Prim.Native.Nat.{ℕ, zero, suc, _+_, _-_, _*_, _%_, _≤_, _<_}
+use native.Mathlib.Nat.{zero-add, suc-add, zero-mul, mul-comm, add-sub-cancel-left}
+use native.Mathlib.Omega.{arith}
+use lib.Bits.{bitAnd, bitXor, and-comm, xor-zero-r}
+use lib.Count.{onesIn, ones}
+use lib.Dec.{ltb}
+use lib.ListN.{getD, take, drop, replicate, getD-replicate}
+use lib.Seq.{getD-take, getD-drop}
+use borrow.Author.Tests.{lt-ltb}
+use Rattle.staircase.specs.Lists.{bitSum, sumBits}
+use Rattle.staircase.specs.System.{rowBytes, product}
+use Rattle.staircase.proofs.Matrix.{bitSum-assoc, bitSum-zero, zero-bitSum, sumBits-lt, sumBits-same, sumBits-zero}
+use Rattle.matrix.specs.Packed.{packedBit, planeBit, Planes}
+use Rattle.matrix.proofs.Bits.{bit, odd-xor, odd-and}
+use Rattle.matrix.proofs.Packed.{packedBit-at, planeBit-at}
+
+sumBits-add : (n m : ℕ) (f : ℕ → ℕ) → sumBits (n + m) f ≡ bitSum (sumBits n f) (sumBits m (λ r. f (n + r)))
+unfolding sumBits
+sumBits-add zero m f =
+    ap (λ (z : ℕ). sumBits z f) (zero-add m) ∙ sumBits-same m f (λ r. f (zero + r)) (λ r l. ap f (sym (zero-add r)))
+    ∙ sym (zero-bitSum (sumBits m (λ r. f (zero + r))) (sumBits-lt m (λ r. f (zero + r))))
+sumBits-add (suc n) m f =
+    ap (λ (z : ℕ). sumBits z f) (suc-add n m)
+    ∙ ap (bitSum (f zero)) (sumBits-add n m (λ k. f (suc k))
+    ∙ ap (bitSum (sumBits n (λ k. f (suc k)))) (sumBits-same m (λ r. f (suc (n + r))) (λ r. f (suc n + r)) (λ r l. ap f (sym (suc-add n r)))))
+    ∙ sym (bitSum-assoc (f zero) (sumBits n (λ k. f (suc k))) (sumBits m (λ r. f (suc n + r))))
+
+-- ---- masked bytes
+
+module _ (f : ℕ → ℕ) where
+  pub mask-none : ones 0 % 2 ≡ sumBits (8 * 0) f
+  unfolding ones onesIn sumBits
+  mask-none = refl
+
+  module _ (i a u v : ℕ) (terms : (r : ℕ) → r < 8 → f (8 * i + r) ≡ bit u r * bit v r) (before : ones a % 2 ≡ sumBits (8 * i) f) where
+    -- a byte more, masked in
+    pub mask-byte : u < 256 → ones (bitXor a (bitAnd u v)) % 2 ≡ sumBits (8 * (i + 1)) f
+    mask-byte h =
+        let w : 8 * (i + 1) ≡ 8 * i + 8 = omega arith in
+        odd-xor a (bitAnd u v)
+        ∙ ap₂ bitSum before (odd-and 8 u v h ∙ sym (sumBits-same 8 (λ r. f (8 * i + r)) (λ r. bit u r * bit v r) terms))
+        ∙ sym (ap (λ (z : ℕ). sumBits z f) w ∙ sumBits-add (8 * i) 8 f)
+
+    -- a byte 0 masks to nothing
+    pub mask-zero : u ≡ 0 → ones a % 2 ≡ sumBits (8 * (i + 1)) f
+    mask-zero z =
+        ap (λ (y : ℕ). ones y % 2) (sym (ap (λ (y : ℕ). bitXor a (bitAnd y v)) z ∙ xor-zero-r a)) ∙ mask-byte (omega arith)
+
+abbrev pub Masked : List ℕ → List ℕ → ℕ → List ℕ → ℕ → Type 0
+Masked row t n acc b = (x : ℕ) → x < n → ones (getD acc x 0) % 2 ≡ sumBits (8 * b) (λ k. packedBit row k * planeBit t n k x)
+
+module _ (row t : List ℕ) (n : ℕ) where
+  pub masked-none : Masked row t n (replicate n 0) 0
+  masked-none x h = ap (λ (z : ℕ). ones z % 2) (getD-replicate n x 0 0 h) ∙ mask-none (λ k. packedBit row k * planeBit t n k x)
+
+  module _ (acc : List ℕ) (b : ℕ) (before : Masked row t n acc b) where
+    terms : (x r : ℕ) → r < 8 → packedBit row (8 * b + r) * planeBit t n (8 * b + r) x ≡ bit (getD row b 0) r * bit (getD t (b * n + x) 0) r
+    terms x r h = ap₂ _*_ (packedBit-at row b r h) (planeBit-at t n b r x h)
+
+    -- the plane of the row's byte b, lent as a part, is masked in
+    pub masked-more : (next : List ℕ) → getD row b 0 < 256
+        → ((x : ℕ) → getD next x 0 ≡ bitXor (getD acc x 0) (bitAnd (getD (take (b * n + n - b * n) (drop (b * n) t)) x 0) (getD row b 0)))
+        → Masked row t n next (b + 1)
+    masked-more next h e x l =
+        let p : getD (take (b * n + n - b * n) (drop (b * n) t)) x 0 ≡ getD t (b * n + x) 0 = rw (add-sub-cancel-left (b * n) n, getD-take n (drop (b * n) t) x 0 l, getD-drop) in
+        ap (λ (z : ℕ). ones z % 2) (e x ∙ ap (bitXor (getD acc x 0)) (and-comm (getD (take (b * n + n - b * n) (drop (b * n) t)) x 0) (getD row b 0) ∙ ap (bitAnd (getD row b 0)) p))
+        ∙ mask-byte (λ k. packedBit row k * planeBit t n k x) b (getD acc x 0) (getD row b 0) (getD t (b * n + x) 0) (terms x) (before x l) h
+
+    pub masked-skip : getD row b 0 ≡ 0 → Masked row t n acc (b + 1)
+    masked-skip z x l =
+        mask-zero (λ k. packedBit row k * planeBit t n k x) b (getD acc x 0) (getD row b 0) (getD t (b * n + x) 0) (terms x) (before x l) z
+
+-- ---- products
+
+-- a packed row whose bits from n on are 0: they add nothing
+pub sum-spare : (row : List ℕ) (n : ℕ) (f : ℕ → ℕ) → ((k : ℕ) → n ≤ k → k < 8 * rowBytes n → packedBit row k ≡ 0)
+    → sumBits (8 * rowBytes n) (λ k. packedBit row k * f k) ≡ sumBits n (λ k. packedBit row k * f k)
+sum-spare row n f h =
+    let g : ℕ → ℕ = λ k. packedBit row k * f k in
+    let m : ℕ = 8 * rowBytes n - n in
+    let e : 8 * rowBytes n ≡ n + m = omega arith in
+    ap (λ (z : ℕ). sumBits z g) e ∙ sumBits-add n m g
+    ∙ ap (bitSum (sumBits n g)) (sumBits-zero m (λ r. g (n + r)) (λ r q. ap (λ (z : ℕ). z * f (n + r)) (h (n + r) (omega arith) (omega arith)) ∙ zero-mul (f (n + r))))
+    ∙ bitSum-zero (sumBits n g) (sumBits-lt n g)
+
+module _ (row t : List ℕ) (n : ℕ) (spare : (k : ℕ) → n ≤ k → k < 8 * rowBytes n → packedBit row k ≡ 0) (x : ℕ) (in-columns : x < n) where
+  -- the row holds a, and the planes hold b in their first n rows, whatever stands below
+  pub mask-rows-product-full : (a : ℕ → ℕ) (b : ℕ → ℕ → ℕ) → ((k : ℕ) → k < n → packedBit row k ≡ a k) → Planes t n b
+      → sumBits (8 * rowBytes n) (λ k. packedBit row k * planeBit t n k x) ≡ sumBits n (λ k. a k * b k x)
+  mask-rows-product-full a b held planes =
+      sum-spare row n (λ k. planeBit t n k x) spare
+      ∙ sumBits-same n (λ k. packedBit row k * planeBit t n k x) (λ k. a k * b k x) (λ k l. ap₂ _*_ (held k l) (planes k x (omega arith) in-columns))
+
+  -- the planes hold b, and 0 below
+  pub mask-rows-product : (a : ℕ → ℕ) (b : ℕ → ℕ → ℕ) → ((k : ℕ) → k < n → packedBit row k ≡ a k) → Planes t n (λ k y. cond (ltb k n) (b k y) 0)
+      → sumBits (8 * rowBytes n) (λ k. packedBit row k * planeBit t n k x) ≡ sumBits n (λ k. a k * b k x)
+  mask-rows-product a b held planes =
+      mask-rows-product-full a (λ k y. cond (ltb k n) (b k y) 0) held planes
+      ∙ sumBits-same n (λ k. a k * cond (ltb k n) (b k x) 0) (λ k. a k * b k x) (λ k l. ap (λ (z : Bool). a k * cond z (b k x) 0) (lt-ltb k n l))
+
+  -- row i of a product a b: the row holds row i of a, the planes b
+  pub product-row : (a b : ℕ → ℕ → ℕ) (i : ℕ) → ((k : ℕ) → k < n → packedBit row k ≡ a i k) → Planes t n (λ k y. cond (ltb k n) (b k y) 0)
+      → sumBits (8 * rowBytes n) (λ k. packedBit row k * planeBit t n k x) ≡ product n a b i x
+  unfolding product
+  product-row a b i held planes = mask-rows-product (a i) b held planes
+
+  -- column j of a product a b: the row holds column j of b, the planes a, its columns as their rows
+  pub product-column : (a b : ℕ → ℕ → ℕ) (j : ℕ) → ((k : ℕ) → k < n → packedBit row k ≡ b k j) → Planes t n (λ k y. a y k)
+      → sumBits (8 * rowBytes n) (λ k. packedBit row k * planeBit t n k x) ≡ product n a b x j
+  unfolding product
+  product-column a b j held planes =
+      mask-rows-product-full (λ k. b k j) (λ k y. a y k) held planes
+      ∙ sumBits-same n (λ k. b k j * a x k) (λ k. a x k * b k j) (λ k l. mul-comm (b k j) (a x k))

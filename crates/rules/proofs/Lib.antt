@@ -1,0 +1,5 @@
+pub mod Answers
+pub mod FirstPlace
+pub mod Sizes
+pub mod Entries
+pub mod Spare

@@ -1,0 +1,26 @@
+-- The test of the code is that of the rule.
+-- Assumes nothing.
+use mathlib.Core.Path.{_≡_, sym, _∙_}
+use mathlib.Core.Bool.{true, false}
+use Rattle.staircase.specs.Design.{most-blocks}
+use Rattle.staircase.specs.Rules.{outOfRange, countRule}
+use Rattle.rules.specs.Answers.{refusalVerdict, verdictOf}
+use borrow.Author.Needs.{needs}
+use Rattle.rules.proofs.check_count.Statement.{statement}
+use Rattle.rules.proofs.check_count.Tie as tie
+
+out-of-range-requires : tie.Need-out-of-range-requires
+out-of-range-requires c κs = search needs
+
+returns : tie.Need-returns
+unfolding countRule verdictOf refusalVerdict
+returns c =
+    let e : outOfRange 1 most-blocks (c .before .before .args .blocks) ≡ true = sym (c .before .out-of-range .ensures) ∙ c .if1 .taken in rw e
+
+returns-2 : tie.Need-returns-2
+unfolding countRule verdictOf refusalVerdict
+returns-2 c =
+    let e : outOfRange 1 most-blocks (c .before .before .args .blocks) ≡ false = sym (c .before .out-of-range .ensures) ∙ c .if1 .left in rw e
+
+pub check-count-spec : {M : Type 1} → statement M
+check-count-spec = tie.close (tie.spec out-of-range-requires returns returns-2)

@@ -1,0 +1,24 @@
+-- Each case is a law of the answer.
+-- Assumes nothing.
+use mathlib.Core.Path.{sym}
+use Rattle.rules.specs.Answers.{verdictOf}
+use Rattle.rules.proofs.Answers.{design-refused, design-made}
+use borrow.Author.Needs.{needs}
+use Rattle.rules.proofs.design_check.Statement.{statement}
+use Rattle.rules.proofs.design_check.Tie as tie
+
+enum-told : tie.Need-enum-told
+enum-told c = search needs
+
+enum-known-a : tie.Need-enum-known-a
+enum-known-a c = search needs
+
+returns : tie.Need-returns
+unfolding verdictOf
+returns c = sym (design-made (c .enum-told .given .1))
+
+returns-2 : tie.Need-returns-2
+returns-2 c = sym (design-refused (c .before .a .given .1))
+
+pub design-check-spec : {M : Type 1} → statement M
+design-check-spec = tie.close (tie.spec enum-told enum-known-a returns returns-2)

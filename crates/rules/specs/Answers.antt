@@ -1,0 +1,58 @@
+-- Document 01, "a definition gives this paper's number and values for each of its cases": what each answer of the code says.
+--   refusalVerdict   the table's number and place of a refusal
+--   verdictOf        of a check's answer
+--   designVerdict    of a new design's answer
+--   DesignIs         a design that was made has the three numbers that it was made from
+--   Allowed          what rules 1 to 3 leave of a design
+--   DesignAllowed    a design that was made is allowed
+-- Assumes nothing.
+use mathlib.Core.Path.{_≡_}
+use Prim.Native.Nat.{ℕ, _-_, _^_, _≤_}
+use Rattle.staircase.specs.Design.{params, wordLength, order, least-m, most-m, most-t, most-M, most-order}
+use Rattle.staircase.specs.Rules.{Verdict}
+use Rattle.staircase.specs.Rules.Verdict.{accepted, refused}
+use Rattle.rules.specs.declared.Design.{Design}
+use Rattle.rules.specs.declared.Refusal.{Refusal}
+use Rattle.rules.specs.declared.Refusal.the-variants.{Size, Long, Large, Count, Rounds, Length, List, Spare, Inverse, Bit}
+use Rattle.rules.specs.declared.Check.{Check}
+use Rattle.rules.specs.declared.Check.the-variants as check
+use Rattle.rules.specs.declared.Designed.{Designed}
+use Rattle.rules.specs.declared.Designed.the-variants as designed
+
+unfoldable pub refusalVerdict : Refusal → Verdict
+refusalVerdict (Size p) = refused 1 p
+refusalVerdict (Long p) = refused 2 p
+refusalVerdict (Large p) = refused 3 p
+refusalVerdict (Count p) = refused 4 p
+refusalVerdict (Rounds p) = refused 5 p
+refusalVerdict (Length p) = refused 6 p
+refusalVerdict (List p) = refused 7 p
+refusalVerdict (Spare p) = refused 8 p
+refusalVerdict (Inverse p) = refused 9 p
+refusalVerdict (Bit p) = refused 10 p
+
+unfoldable pub verdictOf : Check → Verdict
+verdictOf check.Passed = accepted
+verdictOf (check.Refused r) = refusalVerdict r
+
+unfoldable pub designVerdict : Designed → Verdict
+designVerdict (designed.Made d) = accepted
+designVerdict (designed.Refused r) = refusalVerdict r
+
+unfoldable pub DesignIs : Designed → ℕ → ℕ → ℕ → Type 0
+DesignIs (designed.Made d) m t M = (d .m ≡ m) × (d .t ≡ t) × (d .size ≡ M)
+DesignIs (designed.Refused r) m t M = Unit
+
+pub record Allowed (d : Design) : Type 0 where
+  pub m-low : least-m ≤ d .m
+  pub m-high : d .m ≤ most-m
+  pub t-low : 1 ≤ d .t
+  pub t-high : d .t ≤ most-t
+  pub M-low : 1 ≤ d .size
+  pub M-high : d .size ≤ most-M
+  pub n-high : wordLength (params (d .m) (d .t) (d .size)) ≤ 2 ^ (d .m) - 1
+  pub order-high : order (params (d .m) (d .t) (d .size)) ≤ most-order
+
+unfoldable pub DesignAllowed : Designed → Type 0
+DesignAllowed (designed.Made d) = Allowed d
+DesignAllowed (designed.Refused r) = Unit

@@ -1,0 +1,4 @@
+pub mod Stretch
+pub mod Accepted
+pub mod Shown
+pub mod Empty

@@ -1,0 +1,63 @@
+-- Each check's refusal is the answer, and one that passes leaves it to the next. A count that passed is small.
+-- Assumes nothing.
+use mathlib.Core.Path.{sym, _∙_}
+use Rattle.show.specs.Show.{frameVerdict}
+use Rattle.rules.proofs.Answers.{refused-then, passed-then, check-passed}
+use Rattle.show.proofs.Accepted.{count-limit}
+use borrow.Author.Needs.{needs}
+use Rattle.show.proofs.check_frame.Statement.{statement}
+use Rattle.show.proofs.check_frame.Tie as tie
+
+check-count-requires : tie.Need-check-count-requires
+check-count-requires c κs = search needs
+
+enum-told : tie.Need-enum-told
+enum-told c = search needs
+
+enum-told-2 : tie.Need-enum-told-2
+enum-told-2 c = search needs
+
+returns : tie.Need-returns
+unfolding frameVerdict
+returns c = refused-then _ (c .before .before .check-count .ensures) (c .enum-told2 .given .1)
+
+check-part-requires : tie.Need-check-part-requires
+check-part-requires c κs = count-limit _ (sym (c .before .before .check-count .ensures) ∙ check-passed (c .enum-told .given .1))
+
+enum-told-3 : tie.Need-enum-told-3
+enum-told-3 c = search needs
+
+enum-told-4 : tie.Need-enum-told-4
+enum-told-4 c = search needs
+
+returns-2 : tie.Need-returns-2
+unfolding frameVerdict
+returns-2 c =
+    refused-then _ (c .before .before .check-part .ensures) (c .enum-told4 .given .1)
+    ∙ passed-then _ (c .before .before .before .before .before .check-count .ensures) (c .before .before .before .enum-told .given .1)
+
+check-frame-lengths-requires : tie.Need-check-frame-lengths-requires
+check-frame-lengths-requires c κs =
+    count-limit _ (sym (c .before .before .before .before .before .check-count .ensures) ∙ check-passed (c .before .before .before .enum-told .given .1))
+
+returns-3 : tie.Need-returns-3
+unfolding frameVerdict
+returns-3 c =
+    c .check-frame-lengths .ensures
+    ∙ passed-then _ (c .before .before .before .check-part .ensures) (c .before .enum-told3 .given .1)
+    ∙ passed-then _ (c .before .before .before .before .before .before .check-count .ensures) (c .before .before .before .before .enum-told .given .1)
+
+pub check-frame-spec : {M : Type 1} → statement M
+check-frame-spec =
+    tie.close
+    (tie.spec
+    check-count-requires
+    enum-told
+    enum-told-2
+    returns
+    check-part-requires
+    enum-told-3
+    enum-told-4
+    returns-2
+    check-frame-lengths-requires
+    returns-3)

@@ -1,0 +1,57 @@
+-- A block has M × M bytes and a group 2 M r, which are the code's sizes.
+-- Assumes nothing.
+use mathlib.Core.Path.{_∙_}
+use Rattle.show.specs.Answers.{partOf}
+use Rattle.show.specs.Show.{HasPart}
+use borrow.Author.Needs.{needs}
+use Rattle.show.proofs.shown_part.Statement.{statement}
+use Rattle.show.proofs.shown_part.Tie as tie
+
+area-requires : tie.Need-area-requires
+area-requires c κs = search needs
+
+order-requires : tie.Need-order-requires
+order-requires c κs = search needs
+
+mul-group-size : tie.Need-mul-group-size
+mul-group-size c = search needs
+
+enum-known-part : tie.Need-enum-known-part
+enum-known-part c = search needs
+
+stretch-of-requires : tie.Need-stretch-of-requires
+unfolding HasPart partOf
+stretch-of-requires c κs =
+    rw (c .before .before .before .before .area .ensures .0)
+    (rw (c .before .part .given .1) at (c .before .before .before .before .before .before .before .pre))
+
+enum-known-part-2 : tie.Need-enum-known-part-2
+enum-known-part-2 c = search needs
+
+stretch-of-requires-2 : tie.Need-stretch-of-requires-2
+unfolding HasPart partOf
+stretch-of-requires-2 c κs =
+    rw (c .before .before .before .order .ensures .0)
+    (rw (c .before .part2 .given .1) at (c .before .before .before .before .before .before .before .pre))
+
+returns : tie.Need-returns
+unfolding partOf
+returns c = c .stretch-of .ensures ∙ rw (c .before .before .before .before .before .area .ensures .0, c .before .before .part .given .1)
+
+returns-2 : tie.Need-returns-2
+unfolding partOf
+returns-2 c = c .stretch-of2 .ensures ∙ rw (c .before .before .before .before .order .ensures .0, c .before .before .part2 .given .1)
+
+pub shown-part-spec : {M : Type 1} → statement M
+shown-part-spec =
+    tie.close
+    (tie.spec
+    area-requires
+    order-requires
+    mul-group-size
+    enum-known-part
+    stretch-of-requires
+    enum-known-part-2
+    stretch-of-requires-2
+    returns
+    returns-2)

@@ -1,0 +1,136 @@
+// Showing a block or a group of a frame: rules 1 to 4 and 6 of document 01's table, then the stretch of the buffer that holds it.
+//   check_show   the verdict on the arguments: passed, or the first refusal
+//   show         the stretch of the lent buffer, empty exactly when `check_show` of the same arguments refuses
+//
+// Neither call has a `requires`: the rules are tested in the table's order, and a product is formed only once the factors are known to be small.
+// Blocks stand in the information and groups in the redundancy, one after another and all of one size, so a stretch starts at
+// (number - 1) × size. A frame whose lengths pass rule 6 has that stretch whole, and no byte is copied: the answer is a part of the slice lent.
+ghost use mathlib.Core.Path.{_≡_};
+ghost use Prim.Native.Nat.{_-_, _*_, _≤_};
+ghost use lib.ListN.{take, drop};
+ghost use Rattle.staircase.specs.Design.{params, most-blocks};
+ghost use Rattle.staircase.specs.Frame.{groups};
+ghost use Rattle.staircase.specs.Rules.{refuse, outOfRange, partRule};
+ghost use Rattle.staircase.specs.Calls.{stretch, showCall};
+ghost use Rattle.rules.specs.Answers.{verdictOf};
+ghost use Rattle.show.specs.Answers.{partOf};
+ghost use Rattle.show.specs.Show.{frameVerdict, HasStretch, HasPart};
+use rules::Check;
+use rules::Design;
+use rules::Designed;
+use rules::Refusal;
+
+// What is shown: a block or a group, by its number from 1.
+pub enum Part {
+    Block(u64),
+    Group(u64),
+}
+
+// Rule 4 for the number of a block or a group, of which there are `most`.
+fn check_number(most: u64, number: u64) -> Check
+    ensures { λ a. ⌜ verdictOf a ≡ refuse (outOfRange 1 most number) 4 number ⌝ }
+{
+    let refused = Check::Refused(Refusal::Count(number));
+    if number < 1 {
+        return refused;
+    }
+    if most < number {
+        return refused;
+    }
+    Check::Passed
+}
+
+// Rule 4 for the part to be shown.
+fn check_part(blocks: u64, part: Part) -> Check
+    requires { ⌜ blocks ≤ most-blocks ⌝ }
+    ensures { λ a. ⌜ verdictOf a ≡ partRule blocks (partOf part) ⌝ }
+{
+    let groups = rules::group_count(blocks);
+    match part {
+        Part::Block(b) => check_number(blocks, b),
+        Part::Group(i) => check_number(groups, i),
+    }
+}
+
+// Rules 4 and 6, for the frame of an allowed design.
+fn check_frame(d: Design, blocks: u64, part: Part, info: &[u8], red: &[u8]) -> Check
+    ensures { λ a. ⌜ verdictOf a
+        ≡ frameVerdict (params (d .m) (d .t) (d .size)) blocks (partOf part) (now (info .entry)) (now (red .entry)) ⌝ }
+{
+    let count = rules::check_count(blocks);
+    let Check::Passed = count else {
+        return count;
+    };
+    let number = check_part(blocks, part);
+    let Check::Passed = number else {
+        return number;
+    };
+    rules::check_frame_lengths(d, blocks, info, red)
+}
+
+// The stretch of n bytes with this number, counted from 1, of the lent bytes.
+fn stretch_of(bytes: &[u8], n: usize, number: u64) -> &[u8]
+    requires { ⌜ HasStretch n number (now bytes) ⌝ }
+    ensures { λ r. ⌜ now r ≡ take n (drop ((number - 1) * n) (now (bytes .entry))) ⌝ }
+{
+    let before = number - 1;
+    let at = (before as usize) * n;
+    &bytes[at..at + n]
+}
+
+// The block or the group, of the buffer that holds it.
+fn shown_part<'a>(d: Design, part: Part, info: &'a [u8], red: &'a [u8]) -> &'a [u8]
+    requires { ⌜ HasPart (params (d .m) (d .t) (d .size)) (partOf part) (now info) (now red) ⌝ }
+    ensures { λ r. ⌜ now r ≡ stretch (params (d .m) (d .t) (d .size)) (partOf part) (now (info .entry)) (now (red .entry)) ⌝ }
+{
+    let block_size = d.area();
+    let group_size = 2 * d.order();
+    match part {
+        Part::Block(b) => stretch_of(info, block_size, b),
+        Part::Group(i) => stretch_of(red, group_size, i),
+    }
+}
+
+// The check of the arguments of `show`: rules 1 to 4 and 6, with the table's number and place of the first that refuses. Reads the lengths of the
+// lent information and redundancy alone. Constant work.
+pub fn check_show(
+    m: u64,
+    t: u64,
+    size: u64,
+    blocks: u64,
+    part: Part,
+    info: &[u8],
+    red: &[u8],
+) -> Check
+    ensures { λ a. ⌜ verdictOf a ≡ (showCall m t size blocks (partOf part) (now (info .entry)) (now (red .entry))) .verdict ⌝ }
+{
+    let a = Design::new(m, t, size);
+    let Designed::Made(d) = a else {
+        return rules::design_check(a);
+    };
+    check_frame(d, blocks, part, info, red)
+}
+
+// The block or the group of the frame of `blocks` blocks in the lent information and redundancy: M × M bytes of the one or 2 M r of the other, as
+// they stand there, and no byte where `check_show` of the same arguments refuses. Constant work.
+pub fn show<'a>(
+    m: u64,
+    t: u64,
+    size: u64,
+    blocks: u64,
+    part: Part,
+    info: &'a [u8],
+    red: &'a [u8],
+) -> &'a [u8]
+    ensures { λ r. ⌜ now r ≡ (showCall m t size blocks (partOf part) (now (info .entry)) (now (red .entry))) .bits ⌝ }
+{
+    let a = Design::new(m, t, size);
+    let Designed::Made(d) = a else {
+        return &info[0..0];
+    };
+    let frame = check_frame(d, blocks, part, info, red);
+    let Check::Passed = frame else {
+        return &info[0..0];
+    };
+    shown_part(d, part, info, red)
+}

@@ -1,0 +1,89 @@
+use native.Mathlib.Omega.{arith}
+use mathlib.Core.Path.{_≡_, refl, sym, ap, _∙_}
+use mathlib.Core.Bool.{cond}
+use Prim.Native.Nat.{ℕ, _+_, _-_, _/_, _%_, _^_, _≤_}
+use lib.Dec.{eqb}
+use lib.ListN.{length}
+use Rattle.staircase.specs.Lists.{bitSum, sumBits}
+use Rattle.matrix.specs.Packed.{packedBit}
+use Rattle.system.proofs.Terms.{sum-none, sum-more, run-terms}
+use Rattle.system.proofs.run_of.Statement.{statement}
+use Rattle.system.proofs.run_of.Tie as tie
+
+abbrev Inv-loop : tie.InvT-loop
+Inv-loop row₀ x r base b₀ row b =
+    (b ≤ r) × (length row ≡ length row₀)
+    × ((k : ℕ) → packedBit row k ≡ bitSum (packedBit row₀ k) (sumBits b (λ (i : ℕ). cond (eqb (base + i) k) (x / 2 ^ (r - 1 - i) % 2) 0)))
+
+abbrev μ-loop : tie.MeasureT-loop
+μ-loop row₀ x r base b₀ row b = r - b
+
+loop-holds : tie.Need-loop-holds Inv-loop μ-loop
+loop-holds c = (omega arith, omega arith, λ k. sum-none _ _ k)
+
+sub-v : tie.Need-sub-v Inv-loop μ-loop
+sub-v c = omega arith
+
+sub-v-2 : tie.Need-sub-v-2 Inv-loop μ-loop
+sub-v-2 c = omega arith
+
+cast-v : tie.Need-cast-v Inv-loop μ-loop
+cast-v c = omega arith
+
+shr-v : tie.Need-shr-v Inv-loop μ-loop
+shr-v c = omega arith
+
+cast-v-2 : tie.Need-cast-v-2 Inv-loop μ-loop
+cast-v-2 c = omega arith
+
+add-add-bit : tie.Need-add-add-bit Inv-loop μ-loop
+add-add-bit c = omega arith
+
+add-bit-requires : tie.Need-add-bit-requires Inv-loop μ-loop
+add-bit-requires c κs = (omega arith, omega arith)
+
+add-b : tie.Need-add-b Inv-loop μ-loop
+add-b c = omega arith
+
+loop-less : tie.Need-loop-less Inv-loop μ-loop
+loop-less c = omega arith
+
+loop-again : tie.Need-loop-again Inv-loop μ-loop
+loop-again c =
+    let l = c .before .before .before .before .before .loop in
+    let a = c .before .before .before .before .before .before .before .args in
+    let f = c .before .before .add-bit .ensures in (
+      omega arith,
+      f .0 ∙ l .inv .1,
+      λ k. f .1 k ∙ sum-more _ _ (λ (i : ℕ). cond (eqb (a .base + i) k) (a .x / 2 ^ (a .r - 1 - i) % 2) 0) (l .b) _ (l .inv .2 k) refl,
+    )
+
+same-length : tie.Need-same-length Inv-loop μ-loop
+same-length c = omega arith
+
+returns : tie.Need-returns Inv-loop μ-loop
+returns c =
+    let l = c .before .loop in
+    let a = c .before .before .before .args in
+    let e : l .b ≡ a .r = omega arith in
+    (l .inv .1, λ k. rw e at (l .inv .2 k) ∙ ap (bitSum (packedBit (a .row .now) k)) (sym (run-terms (a .r) (λ (i : ℕ). a .x / 2 ^ (a .r - 1 - i) % 2) (a .base) k)))
+
+pub run-of-spec : {M : Type 1} → statement M
+run-of-spec =
+    tie.close
+    (tie.spec
+    Inv-loop
+    μ-loop
+    loop-holds
+    sub-v
+    sub-v-2
+    cast-v
+    shr-v
+    cast-v-2
+    add-add-bit
+    add-bit-requires
+    add-b
+    loop-less
+    loop-again
+    same-length
+    returns)
