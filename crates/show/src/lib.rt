@@ -9,7 +9,6 @@ ghost use mathlib.Core.Path.{_≡_};
 ghost use Prim.Native.Nat.{_-_, _*_, _≤_};
 ghost use lib.ListN.{take, drop};
 ghost use Rattle.staircase.specs.Design.{params, most-blocks};
-ghost use Rattle.staircase.specs.Frame.{groups};
 ghost use Rattle.staircase.specs.Rules.{refuse, outOfRange, partRule};
 ghost use Rattle.staircase.specs.Calls.{stretch, showCall};
 ghost use Rattle.rules.specs.Answers.{verdictOf};
