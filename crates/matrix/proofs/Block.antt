@@ -2,7 +2,7 @@
 --   exchange d mask x   the bits of x under the mask and those d places higher change places
 --   exchange-bit        what stands at bit k then
 --   turned, turned-bit  the three exchanges: bit (s, r) is what bit (r, s) was
---   Loaded              a block of which r rows are there
+--   Loaded, loaded-none, loaded-more, loaded-all   a block of which r rows are there
 -- Assumes nothing.
 use mathlib.Core.Path.{_≡_, refl, sym, ap, ap₂, _∙_}
 use mathlib.Core.Bool.{Bool, true, false, cond}

@@ -3,14 +3,13 @@
 --   mask-none, mask-byte, mask-zero   the parity of masked bytes: of none, with one more, with one more that is 0
 --   Masked, masked-none, masked-more, masked-skip   the same in every column, of the planes masked so far
 --   sum-spare     bits of a packed row that are 0 add nothing
---   mask-rows-product, mask-rows-product-full   what `mask_rows` leaves of a row that holds a and planes that hold b
---   product-row, product-column   the same as an entry of a product
+--   mask-rows-product, mask-rows-product-full   what `mask_rows` leaves of a row that holds a and planes that hold b: an entry of the product
 -- Assumes nothing.
 use mathlib.Core.Path.{_≡_, refl, sym, ap, ap₂, _∙_}
 use mathlib.Core.Bool.{Bool, cond}
 use mathlib.Core.List.{List}
 use Prim.Native.Nat.{ℕ, zero, suc, _+_, _-_, _*_, _%_, _≤_, _<_}
-use native.Mathlib.Nat.{zero-add, suc-add, zero-mul, mul-comm, add-sub-cancel-left}
+use native.Mathlib.Nat.{zero-add, suc-add, zero-mul, add-sub-cancel-left}
 use native.Mathlib.Omega.{arith}
 use lib.Bits.{bitAnd, bitXor, and-comm, xor-zero-r}
 use lib.Count.{onesIn, ones}
@@ -19,7 +18,7 @@ use lib.ListN.{getD, take, drop, replicate, getD-replicate}
 use lib.Seq.{getD-take, getD-drop}
 use borrow.Author.Tests.{lt-ltb}
 use Rattle.staircase.specs.Lists.{bitSum, sumBits}
-use Rattle.staircase.specs.System.{rowBytes, product}
+use Rattle.staircase.specs.System.{rowBytes}
 use Rattle.staircase.proofs.Matrix.{bitSum-assoc, bitSum-zero, zero-bitSum, sumBits-lt, sumBits-same, sumBits-zero}
 use Rattle.matrix.specs.Packed.{packedBit, planeBit, Planes}
 use Rattle.matrix.proofs.Bits.{bit, odd-xor, odd-and}
@@ -95,30 +94,16 @@ sum-spare row n f h =
     ∙ bitSum-zero (sumBits n g) (sumBits-lt n g)
 
 module _ (row t : List ℕ) (n : ℕ) (spare : (k : ℕ) → n ≤ k → k < 8 * rowBytes n → packedBit row k ≡ 0) (x : ℕ) (in-columns : x < n) where
-  -- the row holds a, and the planes hold b in their first n rows, whatever stands below
+  -- the row holds a, and the planes hold b, the rows from n on too
   pub mask-rows-product-full : (a : ℕ → ℕ) (b : ℕ → ℕ → ℕ) → ((k : ℕ) → k < n → packedBit row k ≡ a k) → Planes t n b
       → sumBits (8 * rowBytes n) (λ k. packedBit row k * planeBit t n k x) ≡ sumBits n (λ k. a k * b k x)
   mask-rows-product-full a b held planes =
       sum-spare row n (λ k. planeBit t n k x) spare
       ∙ sumBits-same n (λ k. packedBit row k * planeBit t n k x) (λ k. a k * b k x) (λ k l. ap₂ _*_ (held k l) (planes k x (omega arith) in-columns))
 
-  -- the planes hold b, and 0 below
+  -- the planes hold b, and 0 in the rows from n on
   pub mask-rows-product : (a : ℕ → ℕ) (b : ℕ → ℕ → ℕ) → ((k : ℕ) → k < n → packedBit row k ≡ a k) → Planes t n (λ k y. cond (ltb k n) (b k y) 0)
       → sumBits (8 * rowBytes n) (λ k. packedBit row k * planeBit t n k x) ≡ sumBits n (λ k. a k * b k x)
   mask-rows-product a b held planes =
       mask-rows-product-full a (λ k y. cond (ltb k n) (b k y) 0) held planes
       ∙ sumBits-same n (λ k. a k * cond (ltb k n) (b k x) 0) (λ k. a k * b k x) (λ k l. ap (λ (z : Bool). a k * cond z (b k x) 0) (lt-ltb k n l))
-
-  -- row i of a product a b: the row holds row i of a, the planes b
-  pub product-row : (a b : ℕ → ℕ → ℕ) (i : ℕ) → ((k : ℕ) → k < n → packedBit row k ≡ a i k) → Planes t n (λ k y. cond (ltb k n) (b k y) 0)
-      → sumBits (8 * rowBytes n) (λ k. packedBit row k * planeBit t n k x) ≡ product n a b i x
-  unfolding product
-  product-row a b i held planes = mask-rows-product (a i) b held planes
-
-  -- column j of a product a b: the row holds column j of b, the planes a, its columns as their rows
-  pub product-column : (a b : ℕ → ℕ → ℕ) (j : ℕ) → ((k : ℕ) → k < n → packedBit row k ≡ b k j) → Planes t n (λ k y. a y k)
-      → sumBits (8 * rowBytes n) (λ k. packedBit row k * planeBit t n k x) ≡ product n a b x j
-  unfolding product
-  product-column a b j held planes =
-      mask-rows-product-full (λ k. b k j) (λ k y. a y k) held planes
-      ∙ sumBits-same n (λ k. b k j * a x k) (λ k. a x k * b k j) (λ k l. mul-comm (b k j) (a x k))

@@ -36,7 +36,7 @@ pub fn clear(bytes: &mut [u8])
     }
 }
 
-// Adds v to bit k of the lent packed row. A fixed number of steps.
+// Adds the bit v to bit k of the lent packed row. A fixed number of steps.
 pub fn add_bit(row: &mut [u8], k: usize, v: u8)
     requires { ⌜ (k / 8 < length (now row)) × (v < 2) ⌝ }
     ensures { λ r. ⌜
@@ -128,7 +128,8 @@ fn fill_plane(plane: &mut [u8], w: &[u8], n: usize, rb: usize, b: usize)
     }
 }
 
-// Lays the packed matrix w out in the lent planes, its rows as their rows, and 0 in the rows from n on. The work grows with n².
+// Lays the packed matrix w, of n rows and n columns, out in the lent planes t: its rows are their rows, and the rows from n on are 0. Each byte of w
+// is read and each of t written once.
 pub fn transpose_bits(w: &[u8], n: usize, t: &mut [u8])
     requires { ⌜ (1 ≤ n) × (n ≤ 4096) × (length (now w) ≡ n * rowBytes n) × (length (now t) ≡ n * rowBytes n) ⌝ }
     ensures { λ r. ⌜
@@ -144,7 +145,21 @@ pub fn transpose_bits(w: &[u8], n: usize, t: &mut [u8])
     }
 }
 
-// Lays the packed matrix w out in the lent planes, its columns as their rows. The work grows with n².
+// Byte b of each of the n rows of rb bytes.
+fn fill_column(plane: &mut [u8], w: &[u8], n: usize, rb: usize, b: usize)
+    requires { ⌜ (length (now plane) ≡ n) × (length (now w) ≡ n * rb) × (b < rb) ⌝ }
+    ensures { λ u. ⌜
+        (length (now (plane .exit)) ≡ length (now (plane .entry)))
+        × ((x : ℕ) → x < n → getD (now (plane .exit)) x 0 ≡ getD (now (w .entry)) (x * rb + b) 0)
+        ⌝ }
+{
+    for i in 0..plane.len() {
+        plane[i] = w[i * rb + b];
+    }
+}
+
+// Lays the packed matrix w, of n rows and n columns, out in the lent planes t: its columns are their rows, spare columns too. Each byte of w is read and
+// each of t written once.
 pub fn transpose_bytes(w: &[u8], n: usize, t: &mut [u8])
     requires { ⌜ (1 ≤ n) × (n ≤ 4096) × (length (now w) ≡ n * rowBytes n) × (length (now t) ≡ n * rowBytes n) ⌝ }
     ensures { λ r. ⌜
@@ -153,12 +168,14 @@ pub fn transpose_bytes(w: &[u8], n: usize, t: &mut [u8])
         ⌝ }
 {
     let rb = (n + 7) / 8;
-    for p in 0..t.len() {
-        t[p] = w[p % n * rb + p / n];
+    for b in 0..rb {
+        let a = b * n;
+        let e = a + n;
+        fill_column(&mut t[a..e], w, n, rb, b);
     }
 }
 
-// Adds to each byte of acc the byte of the plane masked by v. The work grows with the number of bytes.
+// Adds to each byte of acc, by exclusive or, the byte of the plane masked by v. The work grows with the number of bytes.
 pub fn mask_in(acc: &mut [u8], plane: &[u8], v: u8)
     requires { ⌜ length (now acc) ≡ length (now plane) ⌝ }
     ensures { λ r. ⌜
@@ -172,8 +189,8 @@ pub fn mask_in(acc: &mut [u8], plane: &[u8], v: u8)
     }
 }
 
-// Leaves in acc a byte for each column, with an odd number of ones where the packed row and the column of the planes t share an odd number of
-// ones. The work grows with n for each byte of the row that is not 0.
+// Leaves in acc a byte for each column, with an odd number of ones where the packed row and that column of the planes t share an odd number of
+// ones: a row of a product. What acc held is lost. The work grows with n for each byte of the row that is not 0.
 pub fn mask_rows(acc: &mut [u8], row: &[u8], t: &[u8], n: usize)
     requires { ⌜
         (1 ≤ n) × (n ≤ 4096) × (length (now acc) ≡ n) × (length (now row) ≡ rowBytes n)

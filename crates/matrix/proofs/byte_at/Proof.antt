@@ -2,8 +2,7 @@
 -- Assumes nothing.
 use native.Mathlib.Omega.{arith}
 use borrow.Author.Tests.{lt-ltb, le-ltb}
-use lib.Arith.{digits-lt}
-use Prim.Native.Nat.{_+_, _*_, _<_}
+use Rattle.matrix.proofs.Packed.{in-rows}
 use Rattle.matrix.proofs.byte_at.Statement.{statement}
 use Rattle.matrix.proofs.byte_at.Tie as tie
 
@@ -13,20 +12,17 @@ returns c = rw (le-ltb (c .before .args .i) (c .before .args .n) (c .if1 .taken)
 mul-result : tie.Need-mul-result
 mul-result c =
     let a = c .before .args in
-    let h : a .i * a .rb + a .c < a .n * a .rb = digits-lt (c .if1 .left) (omega arith) in
-    omega arith
+    omega (arith, in-rows (a .i) (a .n) (a .rb) (a .c) (omega arith) (omega arith))
 
 add-result : tie.Need-add-result
 add-result c =
     let a = c .before .args in
-    let h : a .i * a .rb + a .c < a .n * a .rb = digits-lt (c .if1 .left) (omega arith) in
-    omega arith
+    omega (arith, in-rows (a .i) (a .n) (a .rb) (a .c) (omega arith) (omega arith))
 
 shared-slice-read-result : tie.Need-shared-slice-read-result
 shared-slice-read-result c =
     let a = c .before .before .args in
-    let h : a .i * a .rb + a .c < a .n * a .rb = digits-lt (c .before .if1 .left) (omega arith) in
-    omega arith
+    omega (arith, in-rows (a .i) (a .n) (a .rb) (a .c) (omega arith) (omega arith))
 
 returns-2 : tie.Need-returns-2
 returns-2 c = rw (lt-ltb (c .before .before .args .i) (c .before .before .args .n) (c .before .if1 .left))

@@ -2,12 +2,11 @@
 -- Assumes nothing.
 use mathlib.Core.Path.{_≡_, _∙_}
 use mathlib.Core.Logic.{⊎-elim}
-use Prim.Native.Nat.{_+_, _-_, _*_, _≤_}
+use Prim.Native.Nat.{_-_, _≤_}
 use native.Mathlib.Omega.{arith}
-use borrow.Rule.Slice.PartMut.{mid-len}
 use lib.ListN.{length, replicate}
 use Rattle.staircase.specs.System.{rowBytes}
-use Rattle.matrix.proofs.Packed.{plane-end}
+use Rattle.matrix.proofs.Packed.{plane-end, plane-length}
 use Rattle.matrix.proofs.Product.{Masked, masked-none, masked-more, masked-skip}
 use Rattle.matrix.proofs.mask_rows.Statement.{statement}
 use Rattle.matrix.proofs.mask_rows.Tie as tie
@@ -56,7 +55,7 @@ mask-in-requires : tie.Need-mask-in-requires Inv-loop μ-loop
 mask-in-requires c κs =
     let a = c .before .before .before .before .before .before .before .before .before .before .before .before .before .args in
     let l = c .before .before .before .before .before .loop in
-    omega (arith, mid-len (l .b * a .n) (l .b * a .n + a .n) (a .t .now) (omega (arith, plane-end (l .b) (a .n) (rowBytes (a .n)) (omega arith))))
+    omega (arith, plane-length (a .t .now) (l .b) (a .n) (rowBytes (a .n)) (omega arith) (omega arith))
 
 add-b : tie.Need-add-b Inv-loop μ-loop
 add-b c = omega arith

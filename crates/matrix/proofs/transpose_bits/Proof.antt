@@ -2,13 +2,13 @@
 -- Assumes nothing.
 use mathlib.Core.Path.{_≡_, _∙_}
 use Prim.Native.Nat.{ℕ, _+_, _-_, _*_, _≤_, _<_}
-use native.Mathlib.Nat.{add-sub-cancel-left, mul-comm}
+use native.Mathlib.Nat.{mul-comm}
 use native.Mathlib.Omega.{arith}
-use borrow.Rule.Slice.PartMut.{mid-len, same-len-mid}
+use borrow.Rule.Slice.PartMut.{same-len-mid}
 use lib.ListN.{length, getD}
 use Rattle.staircase.specs.System.{rowBytes}
 use Rattle.matrix.specs.Packed.{paddedEntry}
-use Rattle.matrix.proofs.Packed.{PlaneByte, planes-more, planes-all, plane-end}
+use Rattle.matrix.proofs.Packed.{PlaneByte, planes-more, planes-all, plane-end, plane-length}
 use Rattle.matrix.proofs.transpose_bits.Statement.{statement}
 use Rattle.matrix.proofs.transpose_bits.Tie as tie
 
@@ -50,8 +50,7 @@ fill-plane-requires : tie.Need-fill-plane-requires Inv-loop μ-loop
 fill-plane-requires c κs =
     let n = c .before .before .before .before .before .args .n in
     let l = c .before .before .loop in
-    omega
-    (arith, mid-len (l .b * n) (l .b * n + n) (l .t) (omega (arith, plane-end (l .b) n (rowBytes n) (omega arith))), add-sub-cancel-left (l .b * n) n)
+    omega (arith, plane-length (l .t) (l .b) n (rowBytes n) (omega arith) (omega arith))
 
 add-b : tie.Need-add-b Inv-loop μ-loop
 add-b c = omega arith
@@ -63,12 +62,10 @@ loop-again : tie.Need-loop-again Inv-loop μ-loop
 loop-again c =
     let a = c .before .before .before .before .before .before .before .before .args in
     let l = c .before .before .before .before .before .loop in
-    let filled = c .before .before .fill-plane in
-    let end = plane-end (l .b) (a .n) (rowBytes (a .n)) (omega arith) in
-    let m = mid-len (l .b * a .n) (l .b * a .n + a .n) (l .t) (omega arith) ∙ add-sub-cancel-left (l .b * a .n) (a .n) in (
+    let filled = c .before .before .fill-plane in (
       omega arith,
       same-len-mid (l .b * a .n) (l .b * a .n + a .n - l .b * a .n) (l .t) (filled .last .0) (filled .ensures .0) ∙ l .inv .1,
-      planes-more (a .n) (paddedEntry (a .w .now) (a .n)) (l .t) (filled .last .0) (l .b) (omega arith) (filled .ensures .0 ∙ m) (l .inv .2)
+      planes-more (a .n) (rowBytes (a .n)) (paddedEntry (a .w .now) (a .n)) (l .t) (filled .last .0) (l .b) (omega arith) (omega arith) (filled .ensures .0) (l .inv .2)
           (filled .ensures .1),
     )
 

@@ -1,0 +1,5 @@
+pub mod Blocks
+pub mod Groups
+pub mod Lending
+pub mod Whole
+pub mod Verdict

@@ -1,0 +1,159 @@
+-- The encoder's verdict step by step, and what it leaves.
+--   count-limit, frame-lengths, information-bits   what rules 4, 6 and 10 say once they accept
+--   frame-fits                                     and what all say together
+--   encode-design, encode-frame, encode-made       the call's answer at each of its ends
+-- Assumes nothing.
+use mathlib.Core.Path.{_≡_, refl, sym, ap, _∙_}
+use mathlib.Core.Logic.{_≢_}
+use mathlib.Core.Bool.{Bool, true, false}
+use mathlib.Core.List.{List}
+use Prim.Native.Nat.{ℕ, _≤_, _<_}
+use native.Mathlib.Omega.{arith}
+use lib.Dec.{ltb}
+use lib.ListN.{length, getD, List·getD-eq-default}
+use borrow.Author.Tests.{ltb-true, ltb-false}
+use Rattle.bch.specs.Polynomial.{Bits}
+use Rattle.staircase.specs.Design.{Params, params, most-blocks}
+use Rattle.staircase.specs.Frame.{redundancy}
+use Rattle.staircase.specs.Rules.{Verdict, _then_, outOfRange, designRules, countRule, lengthRule, infoLength, redLength, frameLengths, kitLengths, kitWork, interleavers, listRule, spareRule, inverseRule, kitRules, bitRule}
+use Rattle.staircase.specs.Rules.Verdict.{accepted, refused}
+use Rattle.staircase.specs.Calls.{encodeVerdict, encodedBy, encodeCall}
+use Rattle.staircase.proofs.Rules.{then-first, then-rest, refuse-false, refuseFirst-false, outOfRange-false}
+use Rattle.rules.specs.declared.Refusal.{Refusal}
+use Rattle.rules.specs.declared.Check.{Check}
+use Rattle.rules.specs.declared.Check.the-variants as check
+use Rattle.rules.specs.declared.Design.{Design}
+use Rattle.rules.specs.declared.Designed.{Designed}
+use Rattle.rules.specs.declared.Designed.the-variants as designed
+use Rattle.rules.specs.Answers.{verdictOf, designVerdict, DesignIs, Allowed}
+use Rattle.rules.proofs.Answers.{refused-then, check-refused, check-passed, design-refused, design-made, made-params}
+use Rattle.kit.specs.Fits.{paramsOf, listsOf}
+use Rattle.kit.proofs.Verdict.{length-equal, lengths-fit, lists-permute}
+use Rattle.encoder.specs.Groups.{FrameFits}
+use Rattle.encoder.specs.Checks.{contentRules, lengthRules, frameRules}
+
+pub count-limit : (L : ℕ) → countRule L ≡ accepted → L ≤ most-blocks
+unfolding countRule
+count-limit L e = outOfRange-false 1 most-blocks L (refuse-false (outOfRange 1 most-blocks L) 4 L e) .1
+
+pub frame-lengths : (s : Params) (L : ℕ) (info red : List ℕ) → frameLengths s L info red ≡ accepted → (length info ≡ infoLength s L) × (length red ≡ redLength s L)
+unfolding frameLengths
+frame-lengths s L info red e =
+    let a : Verdict = lengthRule 4 (length info) (infoLength s L) in
+    let b : Verdict = lengthRule 5 (length red) (redLength s L) in
+    (length-equal 4 (length info) (infoLength s L) (then-first a b e), length-equal 5 (length red) (redLength s L) (then-rest a b e))
+
+pub information-bits : (info : List ℕ) → bitRule 0 info ≡ accepted → Bits info
+unfolding bitRule
+information-bits info e k = go (ltb k (length info)) refl
+  where
+    go : (z : Bool) → ltb k (length info) ≡ z → getD info k 0 < 2
+    go true h =
+        omega (arith, ltb-false 1 (getD info k 0) (refuseFirst-false 10 0 (length info) (λ j. ltb 1 (getD info j 0)) e k (ltb-true k (length info) h)))
+    go false h = let z : getD info k 0 ≡ 0 = List·getD-eq-default info 0 (ltb-false k (length info) h) in omega arith
+
+module _ (d : Design) (L : ℕ) (own parity w info red : List ℕ) (work : ℕ) (allowed : Allowed d) (e : frameRules (paramsOf d) L own parity w info red work ≡ accepted) where
+  abbrev s : Params
+  s = paramsOf d
+
+  after-count : lengthRules s L own parity w info red work ≡ accepted
+  unfolding frameRules
+  after-count = then-rest (countRule L) (lengthRules s L own parity w info red work) e
+
+  counted : countRule L ≡ accepted
+  unfolding frameRules
+  counted = then-first (countRule L) (lengthRules s L own parity w info red work) e
+
+  kit-long : kitLengths s own parity w ≡ accepted
+  unfolding lengthRules
+  kit-long = then-first (kitLengths s own parity w) (frameLengths s L info red then contentRules s own parity w info work) after-count
+
+  after-kit : (frameLengths s L info red then contentRules s own parity w info work) ≡ accepted
+  unfolding lengthRules
+  after-kit = then-rest (kitLengths s own parity w) (frameLengths s L info red then contentRules s own parity w info work) after-count
+
+  after-working : (kitRules s (interleavers s own parity) w then bitRule 0 info) ≡ accepted
+  unfolding contentRules
+  after-working =
+      then-rest (lengthRule 6 work (kitWork s)) (kitRules s (interleavers s own parity) w then bitRule 0 info)
+      (then-rest (frameLengths s L info red) (contentRules s own parity w info work) after-kit)
+
+  lists : listRule s (interleavers s own parity) ≡ accepted
+  unfolding kitRules
+  lists =
+      then-first (listRule s (interleavers s own parity)) (spareRule s w then inverseRule s (interleavers s own parity) w)
+      (then-first (kitRules s (interleavers s own parity) w) (bitRule 0 info) after-working)
+
+  pub frame-fits : FrameFits d L parity w info red
+  frame-fits =
+      let k = lengths-fit s own parity w kit-long in
+      let f = frame-lengths s L info red (then-first (frameLengths s L info red) (contentRules s own parity w info work) after-kit) in
+      record {
+        allowed = allowed;
+        few-blocks = count-limit L counted;
+        parityLength = k .parityLength;
+        inverseLength = k .inverseLength;
+        infoLength = f .0;
+        redLength = f .1;
+        parityPermutes = lists-permute s (interleavers s own parity) lists .1;
+        bits = information-bits info (then-rest (kitRules s (interleavers s own parity) w) (bitRule 0 info) after-working);
+      }
+
+-- ---- what the call leaves
+
+by-verdict : (v : Verdict) (old new : List ℕ) → v ≡ encodedBy v old new .verdict
+by-verdict accepted old new = refl
+by-verdict (refused n p) old new = refl
+
+by-old : (v : Verdict) (old new : List ℕ) → v ≢ accepted → old ≡ encodedBy v old new .red
+by-old accepted old new h = absurd (h refl)
+by-old (refused n p) old new h = refl
+
+by-new : (v : Verdict) (old new : List ℕ) → v ≡ accepted → new ≡ encodedBy v old new .red
+by-new v old new e = sym (ap (λ (z : Verdict). encodedBy z old new .red) e)
+
+module _ (m t M L : ℕ) (own parity w info red : List ℕ) (work : ℕ) where
+  abbrev call : Verdict
+  call = encodeVerdict m t M L own parity w info red work
+
+  refused-call : (x : Check) → verdictOf x ≢ accepted → verdictOf x ≡ encodeVerdict m t M L own parity w info red work
+      → (verdictOf x ≡ (encodeCall m t M L own parity w info red work) .verdict) × (red ≡ (encodeCall m t M L own parity w info red work) .red)
+  unfolding encodeCall
+  refused-call x other e =
+      let new : List ℕ = redundancy (params m t M) (interleavers (params m t M) own parity) w L info in
+      (e ∙ by-verdict call red new, by-old call red new (λ z. other (e ∙ z)))
+
+  made-call : (x : Check) (after : List ℕ) → x ≡ check.Passed → verdictOf x ≡ encodeVerdict m t M L own parity w info red work
+      → after ≡ redundancy (params m t M) (interleavers (params m t M) own parity) w L info
+      → (verdictOf x ≡ (encodeCall m t M L own parity w info red work) .verdict) × (after ≡ (encodeCall m t M L own parity w info red work) .red)
+  unfolding encodeCall
+  made-call x after g e a =
+      let new : List ℕ = redundancy (params m t M) (interleavers (params m t M) own parity) w L info in
+      (e ∙ by-verdict call red new, a ∙ by-new call red new (sym e ∙ check-passed g))
+
+  whole : (designRules m t M then frameRules (params m t M) L own parity w info red work) ≡ encodeVerdict m t M L own parity w info red work
+  unfolding encodeVerdict frameRules lengthRules contentRules
+  whole = refl
+
+  module _ (a : Designed) (n : designVerdict a ≡ designRules m t M) where
+    pub encode-design : (x : Check) (r : Refusal) → a ≡ designed.Refused r → verdictOf x ≡ designVerdict a
+        → (verdictOf x ≡ (encodeCall m t M L own parity w info red work) .verdict) × (red ≡ (encodeCall m t M L own parity w info red work) .red)
+    encode-design x r g e =
+        let f : Verdict = frameRules (params m t M) L own parity w info red work in
+        let same : verdictOf x ≡ verdictOf (check.Refused r) = e ∙ design-refused g in
+        refused-call x (λ z. check-refused {r = r} refl (sym same ∙ z)) (same ∙ refused-then f (sym (design-refused g) ∙ n) refl ∙ whole)
+
+    module _ (i : DesignIs a m t M) (d : Design) (g : a ≡ designed.Made d) (x : Check) (e : verdictOf x ≡ frameRules (paramsOf d) L own parity w info red work) where
+      verdict-is : verdictOf x ≡ encodeVerdict m t M L own parity w info red work
+      verdict-is =
+          e ∙ ap (λ (s : Params). frameRules s L own parity w info red work) (made-params g m t M i)
+          ∙ ap (λ (z : Verdict). z then frameRules (params m t M) L own parity w info red work) (sym (design-made g) ∙ n) ∙ whole
+
+      pub encode-frame : (r : Refusal) → x ≡ check.Refused r
+          → (verdictOf x ≡ (encodeCall m t M L own parity w info red work) .verdict) × (red ≡ (encodeCall m t M L own parity w info red work) .red)
+      encode-frame r g = refused-call x (check-refused g) verdict-is
+
+      pub encode-made : (after : List ℕ) → x ≡ check.Passed → after ≡ redundancy (paramsOf d) (listsOf d own parity) w L info
+          → (verdictOf x ≡ (encodeCall m t M L own parity w info red work) .verdict) × (after ≡ (encodeCall m t M L own parity w info red work) .red)
+      encode-made after p b =
+          made-call x after p verdict-is (b ∙ ap (λ (s : Params). redundancy s (interleavers s own parity) w L info) (made-params g m t M i))

@@ -1,0 +1,99 @@
+use native.Mathlib.Omega.{arith}
+use borrow.Author.Needs.{needs}
+use mathlib.Core.Path.{sym, ap₂, _∙_}
+use Prim.Native.Nat.{ℕ, _*_}
+use lib.ListN.{length}
+use Rattle.staircase.specs.Rules.{lengthRule, kitWork}
+use Rattle.staircase.proofs.Fill.{small-product}
+use Rattle.rules.proofs.Answers.{refused-then, passed-then, check-passed}
+use Rattle.kit.proofs.Verdict.{length-equal}
+use Rattle.encoder.specs.Checks.{contentRules}
+use Rattle.encoder.proofs.check_contents.Statement.{statement}
+use Rattle.encoder.proofs.check_contents.Tie as tie
+
+order-requires : tie.Need-order-requires
+order-requires c κs = search needs
+
+row-bytes-requires : tie.Need-row-bytes-requires
+row-bytes-requires c κs = search needs
+
+mul-check-length : tie.Need-mul-check-length
+mul-check-length c = omega (arith, small-product (c .before .order .result) (c .row-bytes .result) 4294967295 536870912 (omega arith) (omega arith))
+
+check-length-requires : tie.Need-check-length-requires
+check-length-requires c κs = search needs
+
+enum-told : tie.Need-enum-told
+enum-told c = search needs
+
+enum-told-2 : tie.Need-enum-told-2
+enum-told-2 c = search needs
+
+returns : tie.Need-returns
+unfolding contentRules kitWork
+returns c =
+    let a = c .before .before .before .before .before .before .before .before .before .before .args in
+    let y = c .before .before .check-length .ensures ∙ ap₂ (λ (n b : ℕ). lengthRule 6 (length (a .work .now)) (n * b)) (c .before .before .before .before .order .ensures .0) (c .before .before .before .row-bytes .ensures .0) in
+    refused-then _ y (c .enum-told2 .given .1)
+
+check-content-requires : tie.Need-check-content-requires
+check-content-requires c κs =
+    let a = c .before .before .before .before .before .before .before .before .before .before .before .args in
+    let y = c .before .before .before .check-length .ensures ∙ ap₂ (λ (n b : ℕ). lengthRule 6 (length (a .work .now)) (n * b)) (c .before .before .before .before .before .order .ensures .0) (c .before .before .before .before .row-bytes .ensures .0) in
+    let h = c .before .before .before .before .before .before .before .before .before .before .before .pre in
+    record {
+      allowed = h .0;
+      ownLength = h .1 .selfLength;
+      parityLength = h .1 .parityLength;
+      inverseLength = h .1 .inverseLength;
+      workLength = length-equal 6 _ _ (sym y ∙ check-passed (c .before .enum-told .given .1));
+    }
+
+enum-told-3 : tie.Need-enum-told-3
+enum-told-3 c = search needs
+
+enum-told-4 : tie.Need-enum-told-4
+enum-told-4 c = search needs
+
+same-length : tie.Need-same-length
+same-length c = search needs
+
+returns-2 : tie.Need-returns-2
+unfolding contentRules kitWork
+returns-2 c =
+    let a = c .before .before .before .before .before .before .before .before .before .before .before .before .before .before .before .before .args in
+    let y = c .before .before .before .before .before .before .before .before .check-length .ensures ∙ ap₂ (λ (n b : ℕ). lengthRule 6 (length (a .work .now)) (n * b)) (c .before .before .before .before .before .before .before .before .before .before .order .ensures .0) (c .before .before .before .before .before .before .before .before .before .row-bytes .ensures .0) in
+    refused-then _ (c .before .before .before .before .check-content .ensures) (c .enum-told4 .given .1) ∙ passed-then _ y (c .before .before .before .before .before .before .enum-told .given .1)
+
+check-bits-requires : tie.Need-check-bits-requires
+check-bits-requires c κs = search needs
+
+same-length-2 : tie.Need-same-length-2
+same-length-2 c = search needs
+
+returns-3 : tie.Need-returns-3
+unfolding contentRules kitWork
+returns-3 c =
+    let a = c .before .before .before .before .before .before .before .before .before .before .before .before .before .before .before .before .before .args in
+    let y = c .before .before .before .before .before .before .before .before .before .check-length .ensures ∙ ap₂ (λ (n b : ℕ). lengthRule 6 (length (a .work .now)) (n * b)) (c .before .before .before .before .before .before .before .before .before .before .before .order .ensures .0) (c .before .before .before .before .before .before .before .before .before .before .row-bytes .ensures .0) in
+    c .check-bits .ensures ∙ passed-then _ (c .before .before .before .before .before .check-content .ensures) (c .before .enum-told3 .given .1) ∙ passed-then _ y (c .before .before .before .before .before .before .before .enum-told .given .1)
+
+pub check-contents-spec : {M : Type 1} → statement M
+check-contents-spec =
+    tie.close
+    (tie.spec
+    order-requires
+    row-bytes-requires
+    mul-check-length
+    check-length-requires
+    enum-told
+    enum-told-2
+    returns
+    check-content-requires
+    enum-told-3
+    enum-told-4
+    same-length
+    returns-2
+    check-bits-requires
+    same-length-2
+    returns-3)

@@ -1,0 +1,6 @@
+pub mod Fill
+pub mod Blocks
+pub mod Packed
+pub mod Stack
+pub mod Group
+pub mod Link

@@ -1,0 +1,283 @@
+// Makes the redundancy of one group: Y, with which all words of the group can be codewords, and P, with which they are.
+//   add_dots(acc, block, part)                           adds the sums over the rows of a block
+//   parity_bits(columns, size, r, out)                   P, or Q, from the remainders of its words
+//   constant_bits(columns, rows, sources, size, r, c)    the constant of the group's system, packed
+//   self_bits(inverse, c, size, r, out)                  Y: the inverse times the constant
+//   make_group(..)                                       the group
+//
+// The remainder of a word is a sum of entries of a table of powers of x, one for each of its ones (crate `remainders`). Column words and row words
+// are summed block by block, without Y at first. The digits of these remainders are P and Q as they would be for Y = 0, and the constant c of the
+// system A y + c is the one plus the other where the parity list brings it. So y = W c, with W the inverse of A that the kit has, and P are the
+// digits of the column remainders once those of Y are added.
+//
+// An entry of W c is the parity of the ones of a row of W masked by c. W has (size × r)² bits and is read once for each group, which is most of the
+// work: its rows are taken in the order in which they stand, so that memory is read from front to back, and the bits are scattered into Y instead.
+// Q is spread into bytes before c is packed, which spares a division for each entry.
+ghost use mathlib.Core.Path.{_≡_};
+ghost use mathlib.Core.List.{_++_};
+ghost use Prim.Native.Nat.{ℕ, _+_, _-_, _*_, _/_, _%_, _^_, _≤_, _<_};
+ghost use lib.ListN.{length, getD};
+ghost use Rattle.bch.specs.Polynomial.{_⊕_, Bits};
+ghost use Rattle.bch.specs.Powers.{xorSum};
+ghost use Rattle.staircase.specs.Lists.{tabulate};
+ghost use Rattle.staircase.specs.System.{rowBytes};
+ghost use Rattle.group.specs.Group.{sentBit, Sent, columnSum, rowSum, Packed, constantBit, productBit, productParity, groupOf, Lent};
+
+// Adds to each of the lent entries of `acc` the entries of `part` at the ones of its row of `block`. The block has a row for each entry of `acc`,
+// one after the other, and a column for each entry of `part`. One step for each bit of the block.
+pub fn add_dots(acc: &mut [u32], block: &[u8], part: &[u32])
+    requires { ⌜ (length (now block) ≡ length (now acc) * length (now part)) × Bits (now block) ⌝ }
+    ensures { λ u. ⌜ (length (now (acc .exit)) ≡ length (now (acc .entry)))
+        × ((a : ℕ) → a < length (now (acc .entry)) → getD (now (acc .exit)) a 0 ≡ getD (now (acc .entry)) a 0
+        ⊕ xorSum (length (now (part .entry))) (λ j. getD (now (block .entry)) (a * length (now (part .entry)) + j) 0 * getD (now (part .entry)) j 0)) ⌝ }
+{
+    let w = part.len();
+    for a in 0..acc.len() {
+        let from = a * w;
+        acc[a] = acc[a] ^ remainders::dot(&block[from..from + w], part);
+    }
+}
+
+// Bit a of the r digits of a remainder x, the highest first.
+fn digit_of(x: u32, r: usize, a: usize) -> u8
+    requires { ⌜ (a < r) × (r ≤ 32) ⌝ }
+    ensures { λ v. ⌜ (v ≡ x / 2 ^ (r - 1 - a) % 2) × (v < 2) ⌝ }
+{
+    ((x >> (r - 1 - a)) % 2) as u8
+}
+
+// Makes `out` digit `shift` of each entry of `columns`.
+fn digits(columns: &[u32], shift: usize, out: &mut [u8])
+    requires { ⌜ (length (now out) ≡ length (now columns)) × (shift < 32) ⌝ }
+    ensures { λ u. ⌜ now (out .exit) ≡ tabulate (length (now (columns .entry))) (λ b. getD (now (columns .entry)) b 0 / 2 ^ shift % 2) ⌝ }
+{
+    for b in 0..out.len() {
+        out[b] = ((columns[b] >> shift) % 2) as u8;
+    }
+}
+
+// Makes P in the lent `out`, or Q, from the lent remainders of its words: bit a of word b stands at place a × size + b. One step for each of the
+// size × r bits.
+pub fn parity_bits(columns: &[u32], size: usize, r: usize, out: &mut [u8])
+    requires { ⌜ (length (now columns) ≡ size) × (length (now out) ≡ size * r) × (0 < size) × (r ≤ 32) ⌝ }
+    ensures { λ u. ⌜ now (out .exit) ≡ tabulate (size * r) (λ q. getD (now (columns .entry)) (q % size) 0 / 2 ^ (r - 1 - q / size) % 2) ⌝ }
+{
+    for a in 0..r {
+        let from = a * size;
+        digits(columns, r - 1 - a, &mut out[from..from + size]);
+    }
+}
+
+// `constant_bits` with a working byte lent for each bit of Q.
+fn constant_in(
+    columns: &[u32],
+    rows: &[u32],
+    sources: &[u16],
+    size: usize,
+    r: usize,
+    q: &mut [u8],
+    c: &mut [u8],
+)
+    requires { ⌜ (length (now columns) ≡ size) × (length (now rows) ≡ size) × (length (now sources) ≡ size * r) × (length (now q) ≡ size * r)
+        × (length (now c) ≡ rowBytes (size * r))
+        × (0 < size) × (0 < r) × (r ≤ 32) × (size * r ≤ 4096) × ((p : ℕ) → p < size * r → getD (now sources) p 0 < size * r) ⌝ }
+    ensures { λ u. ⌜ (length (now (c .exit)) ≡ length (now (c .entry)))
+        × Packed (size * r) (now (c .exit)) (constantBit (now (columns .entry)) (now (rows .entry)) (now (sources .entry)) size r) ⌝ }
+{
+    let n = size * r;
+    parity_bits(rows, size, r, &mut q[..]);
+    matrix::clear(&mut c[..]);
+    for k in 0..n {
+        let a = k % r;
+        let b = k / r;
+        let p = sources[a * size + b] as usize;
+        let v = digit_of(columns[b], r, a) + q[p];
+        matrix::add_bit(&mut c[..], k, v % 2);
+    }
+}
+
+// Packs the constant of a group's system into the lent `c`: bit k is entry k of the stack, spare bits are 0. Lent are the remainders of the group's
+// column words and row words without Y, and the place of Q that the parity list sends to each place of P. A few steps for each of the size × r
+// entries.
+pub fn constant_bits(
+    columns: &[u32],
+    rows: &[u32],
+    sources: &[u16],
+    size: usize,
+    r: usize,
+    c: &mut [u8],
+)
+    requires { ⌜ (length (now columns) ≡ size) × (length (now rows) ≡ size) × (length (now sources) ≡ size * r) × (length (now c) ≡ rowBytes (size * r))
+        × (0 < size) × (0 < r) × (r ≤ 32) × (size * r ≤ 4096) × ((p : ℕ) → p < size * r → getD (now sources) p 0 < size * r) ⌝ }
+    ensures { λ u. ⌜ (length (now (c .exit)) ≡ length (now (c .entry)))
+        × Packed (size * r) (now (c .exit)) (constantBit (now (columns .entry)) (now (rows .entry)) (now (sources .entry)) size r) ⌝ }
+{
+    let mut q = [0u8; 4096];
+    constant_in(columns, rows, sources, size, r, &mut q[0..size * r], c);
+}
+
+// Makes Y in the lent `out`: the lent inverse times the lent constant, both packed, each bit at its place in Y. One step for each byte of the
+// inverse.
+pub fn self_bits(inverse: &[u8], c: &[u8], size: usize, r: usize, out: &mut [u8])
+    requires { ⌜ (length (now inverse) ≡ size * r * rowBytes (size * r)) × (length (now c) ≡ rowBytes (size * r)) × (length (now out) ≡ size * r)
+        × (0 < size) × (0 < r) × (size * r ≤ 4096) ⌝ }
+    ensures { λ u. ⌜ now (out .exit) ≡ tabulate (size * r) (productBit (now (inverse .entry)) (now (c .entry)) size r) ⌝ }
+{
+    let w = c.len();
+    for e in 0..out.len() {
+        let from = e * w;
+        out[e % r * size + e / r] = matrix::shared_odd(&inverse[from..from + w], c);
+    }
+}
+
+// Adds to each entry of `acc` the entries of `part` at the ones of its column of a block that may not be sent.
+fn add_sent_rows(acc: &mut [u32], block: &[u8], sent: bool, part: &[u32])
+    requires { ⌜ Sent sent (now block) (length (now part) * length (now acc)) ⌝ }
+    ensures { λ u. ⌜ (length (now (acc .exit)) ≡ length (now (acc .entry)))
+        × ((a : ℕ) → a < length (now (acc .entry)) → getD (now (acc .exit)) a 0 ≡ getD (now (acc .entry)) a 0
+        ⊕ xorSum (length (now (part .entry))) (λ j. sentBit sent (now (block .entry)) (j * length (now (acc .entry)) + a) * getD (now (part .entry)) j 0)) ⌝ }
+{
+    if !sent {
+        return;
+    }
+    remainders::add_rows(acc, block, part);
+}
+
+// Adds to each entry of `acc` the entries of `part` at the ones of its row of a block that may not be sent.
+fn add_sent_dots(acc: &mut [u32], block: &[u8], sent: bool, part: &[u32])
+    requires { ⌜ Sent sent (now block) (length (now acc) * length (now part)) ⌝ }
+    ensures { λ u. ⌜ (length (now (acc .exit)) ≡ length (now (acc .entry)))
+        × ((a : ℕ) → a < length (now (acc .entry)) → getD (now (acc .exit)) a 0 ≡ getD (now (acc .entry)) a 0
+        ⊕ xorSum (length (now (part .entry))) (λ j. sentBit sent (now (block .entry)) (a * length (now (part .entry)) + j) * getD (now (part .entry)) j 0)) ⌝ }
+{
+    if !sent {
+        return;
+    }
+    add_dots(acc, block, part);
+}
+
+// Makes `columns` the remainders of the blocks of a group's column words.
+fn column_sums(odd: &[u8], even: &[u8], has_even: bool, table: &[u32], columns: &mut [u32])
+    requires { ⌜ (length (now odd) ≡ length (now columns) * length (now columns)) × Bits (now odd)
+        × Sent «has_even» (now even) (length (now columns) * length (now columns)) × (2 * length (now columns) ≤ length (now table)) ⌝ }
+    ensures { λ u. ⌜ now (columns .exit) ≡ tabulate (length (now (columns .entry)))
+        (columnSum (now (table .entry)) (length (now (columns .entry))) (λ k. getD (now (odd .entry)) k 0) (sentBit «has_even» (now (even .entry)))) ⌝ }
+{
+    let size = columns.len();
+    remainders::clear(&mut columns[..]);
+    remainders::add_rows(&mut columns[..], odd, &table[0..size]);
+    add_sent_rows(&mut columns[..], even, has_even, &table[size..2 * size]);
+}
+
+// Makes `rows` the remainders of the blocks of a group's row words.
+fn row_sums(before: &[u8], has_before: bool, odd: &[u8], table: &[u32], rows: &mut [u32])
+    requires { ⌜ (length (now odd) ≡ length (now rows) * length (now rows)) × Bits (now odd)
+        × Sent «has_before» (now before) (length (now rows) * length (now rows)) × (2 * length (now rows) ≤ length (now table)) ⌝ }
+    ensures { λ u. ⌜ now (rows .exit) ≡ tabulate (length (now (rows .entry)))
+        (rowSum (now (table .entry)) (length (now (rows .entry))) (sentBit «has_before» (now (before .entry))) (λ k. getD (now (odd .entry)) k 0)) ⌝ }
+{
+    let size = rows.len();
+    remainders::clear(&mut rows[..]);
+    add_sent_dots(&mut rows[..], before, has_before, &table[0..size]);
+    add_dots(&mut rows[..], odd, &table[size..2 * size]);
+}
+
+// Makes Y and P in `out` from the packed constant and the remainders of the blocks of the column words, to which it adds those of Y.
+fn group_bits(
+    inverse: &[u8],
+    c: &[u8],
+    part: &[u32],
+    size: usize,
+    r: usize,
+    columns: &mut [u32],
+    out: &mut [u8],
+)
+    requires { ⌜ (length (now inverse) ≡ size * r * rowBytes (size * r)) × (length (now c) ≡ rowBytes (size * r)) × (length (now part) ≡ r)
+        × (length (now columns) ≡ size) × (length (now out) ≡ 2 * (size * r)) × (0 < size) × (0 < r) × (r ≤ 32) × (size * r ≤ 4096) ⌝ }
+    ensures { λ u. ⌜ now (out .exit) ≡ tabulate (size * r) (productBit (now (inverse .entry)) (now (c .entry)) size r)
+        ++ tabulate (size * r) (productParity (now (inverse .entry)) (now (c .entry)) (now (columns .entry)) (now (part .entry)) size r) ⌝ }
+{
+    let n = size * r;
+    self_bits(inverse, c, size, r, &mut out[0..n]);
+    remainders::add_rows(&mut columns[..], &out[0..n], part);
+    parity_bits(&columns[..], size, r, &mut out[n..2 * n]);
+}
+
+// `make_group` with its working entries lent: `columns` and `rows` for the remainders of the words, `c` for the packed constant.
+fn group_in(
+    odd: &[u8],
+    even: &[u8],
+    has_even: bool,
+    before: &[u8],
+    has_before: bool,
+    table: &[u32],
+    sources: &[u16],
+    inverse: &[u8],
+    size: usize,
+    r: usize,
+    columns: &mut [u32],
+    rows: &mut [u32],
+    c: &mut [u8],
+    out: &mut [u8],
+)
+    requires { ⌜ Lent size r (now odd) «has_even» (now even) «has_before» (now before) (now table) (now sources) (now inverse) (now out)
+        × (length (now columns) ≡ size) × (length (now rows) ≡ size) × (length (now c) ≡ rowBytes (size * r)) ⌝ }
+    ensures { λ u. ⌜ now (out .exit) ≡ groupOf (now (table .entry)) (now (sources .entry)) (now (inverse .entry)) size r
+        (sentBit «has_before» (now (before .entry))) (λ k. getD (now (odd .entry)) k 0) (sentBit «has_even» (now (even .entry))) ⌝ }
+{
+    column_sums(odd, even, has_even, table, &mut columns[..]);
+    row_sums(before, has_before, odd, table, &mut rows[..]);
+    constant_bits(&columns[..], &rows[..], sources, size, r, &mut c[..]);
+    group_bits(
+        inverse,
+        &c[..],
+        &table[2 * size..2 * size + r],
+        size,
+        r,
+        columns,
+        out,
+    );
+}
+
+// Makes a group's redundancy in the lent `out`: Y, then P. Lent to read are the odd block, the even one and the one before the odd (`has_even` and
+// `has_before` say whether these two are sent; one that is not may be any slice), the table of the powers of x that the positions of a word carry,
+// the place of Q that the parity list sends to each place of P, and the packed inverse. One step for each byte of the inverse, (size × r)² / 8 of
+// them, and 4 × size² steps for the blocks.
+pub fn make_group(
+    odd: &[u8],
+    even: &[u8],
+    has_even: bool,
+    before: &[u8],
+    has_before: bool,
+    table: &[u32],
+    sources: &[u16],
+    inverse: &[u8],
+    size: usize,
+    r: usize,
+    out: &mut [u8],
+)
+    requires { ⌜ Lent size r (now odd) «has_even» (now even) «has_before» (now before) (now table) (now sources) (now inverse) (now out) ⌝ }
+    ensures { λ u. ⌜ now (out .exit) ≡ groupOf (now (table .entry)) (now (sources .entry)) (now (inverse .entry)) size r
+        (sentBit «has_before» (now (before .entry))) (λ k. getD (now (odd .entry)) k 0) (sentBit «has_even» (now (even .entry))) ⌝ }
+{
+    let w = (size * r + 7) / 8;
+    let mut columns = [0u32; 512];
+    let mut rows = [0u32; 512];
+    let mut c = [0u8; 512];
+    group_in(
+        odd,
+        even,
+        has_even,
+        before,
+        has_before,
+        table,
+        sources,
+        inverse,
+        size,
+        r,
+        &mut columns[0..size],
+        &mut rows[0..size],
+        &mut c[0..w],
+        out,
+    );
+}
