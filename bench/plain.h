@@ -1,0 +1,62 @@
+/* A plain C implementation of document 01 (feed-forward staircase frames and their kits): a baseline for benchmarks, an opponent for tests.
+
+   Common to all calls: lists have two bytes an entry, low byte first; the inverse has M * r rows of (M * r + 7) / 8 bytes; info and red hold one
+   bit a byte, info L * M * M bytes, red (L + 1) / 2 * 2 * M * r bytes. Only plain_design and plain_check_kit judge anything: every other call
+   wants a design that fits, lists that are permutations, L from 1 to 4,096 and bytes of 0 or 1. A want of memory ends the program. */
+
+#ifndef PLAIN_H
+#define PLAIN_H
+
+#include <stdint.h>
+
+typedef struct {
+    unsigned r, n, k, size;     /* size is M * r */
+} plain_sizes;
+
+/* Rules 1 to 3: 0 and the sizes, or the rule's number and its place. */
+int plain_design(unsigned m, unsigned t, unsigned M, plain_sizes *sizes, uint64_t *place);
+
+/* The generator, bit i for x^i: the product of the minimal polynomials of the odd powers 1 .. 2t-1 of the root. */
+uint32_t plain_generator(unsigned m, unsigned t);
+
+/* The remainder of x^power by the generator. */
+uint32_t plain_power(unsigned m, unsigned t, unsigned power);
+
+/* The matrix A, row by row, one bit a byte. */
+void plain_system(unsigned m, unsigned t, unsigned M, const uint8_t *self, const uint8_t *parity, uint8_t *bits);
+
+/* Rules 1 to 3 and 7 to 9: 0 if the kit passes, else the rule's number and its place.
+   Both products are dense: each entry by and, xor and parity over 64-bit words, about 2 (M r)^3 / 64 steps. */
+int plain_check_kit(unsigned m, unsigned t, unsigned M, const uint8_t *self, const uint8_t *parity, const uint8_t *inverse, uint64_t *place);
+
+/* Writes the redundancy of L blocks. The kit is not checked; about (M r)^2 / 64 steps a group, and the inverse is packed once a call. */
+void plain_encode(unsigned m, unsigned t, unsigned M, unsigned L, const uint8_t *self, const uint8_t *parity, const uint8_t *inverse,
+                  const uint8_t *info, uint8_t *red);
+
+/* The number of words outside the code. */
+uint64_t plain_outside(unsigned m, unsigned t, unsigned M, unsigned L, const uint8_t *self, const uint8_t *parity, const uint8_t *info,
+                       const uint8_t *red);
+
+/* Mends info and red by the document's rounds (0 stands for 7); counts: rounds made, bits turned, words outside at the end. */
+void plain_decode(unsigned m, unsigned t, unsigned M, unsigned L, unsigned rounds, const uint8_t *self, const uint8_t *parity, uint8_t *info,
+                  uint8_t *red, uint64_t counts[3]);
+
+/* Makes W by elimination: 1 and the inverse written, or 0 and nothing written if A has no inverse. */
+int plain_make_inverse(unsigned m, unsigned t, unsigned M, const uint8_t *self, const uint8_t *parity, uint8_t *inverse);
+
+/* Steps a xorshift state (not 0) and returns 32 bits. */
+uint32_t plain_random(uint64_t *state);
+
+/* Fills both lists with permutations that depend on the seed alone. */
+void plain_random_lists(unsigned m, unsigned t, unsigned M, uint64_t seed, uint8_t *self, uint8_t *parity);
+
+/* Designs with the smallest seed from 1 whose lists have an inverse, as kits.c finds it. */
+typedef struct {
+    unsigned m, t, M;
+    uint64_t seed;
+} plain_kit;
+
+enum { PLAIN_KITS = 4 };
+extern const plain_kit plain_kits[PLAIN_KITS];
+
+#endif

@@ -1,0 +1,684 @@
+/* Self-test of plain.c: document 01's rows under kit K, a kit with M = 2, published generators, round trips, a brute-force decoder, refusals.
+   Prints a line a group, returns 1 on a failure. gcc -O3 -o plain_test plain_test.c plain.c
+
+   The opponent ("ref") shares nothing with plain.c: long division of whole words by published generators, words as tables of indices made from the
+   document's matrices and places, mending by trying every set of at most t positions. */
+
+#include "plain.h"
+
+#include <stdio.h>
+#include <stdlib.h>
+#include <string.h>
+#include <time.h>
+
+static unsigned failures, checks;
+
+#define CHECK(condition) check((condition), #condition, __LINE__)
+
+static int check(int condition, const char *text, int line)
+{
+    checks++;
+    if (!condition && ++failures <= 20)
+        printf("line %d fails: %s\n", line, text);
+    return condition;
+}
+
+static double seconds(void)
+{
+    return (double)clock() / CLOCKS_PER_SEC;
+}
+
+static void group_done(const char *name, double start)
+{
+    static unsigned checks_before, failures_before;
+    printf("%-40s %7u checks, %u failed, %.2f s\n", name, checks - checks_before, failures - failures_before, seconds() - start);
+    fflush(stdout);
+    checks_before = checks;
+    failures_before = failures;
+}
+
+static void *get(size_t size)
+{
+    void *p = calloc(size ? size : 1, 1);
+    if (!p)
+        exit(2);
+    return p;
+}
+
+/* ---- The opponent ---- */
+
+typedef struct {
+    unsigned m, t, M, r, n, k, N;
+    uint32_t g;
+    const uint8_t *self, *parity;
+    uint32_t unit[1023];        /* remainder of a word with a single one */
+} ref;
+
+static uint32_t ref_remainder(const ref *d, const uint8_t *word, unsigned length)
+{
+    uint8_t left[1100];
+    uint32_t out = 0;
+    memcpy(left, word, length);
+    for (unsigned i = 0; i + d->r < length; i++)
+        if (left[i])
+            for (unsigned e = 0; e <= d->r; e++)
+                left[i + e] ^= d->g >> (d->r - e) & 1;
+    for (unsigned e = 0; e < d->r; e++)
+        out = out << 1 | left[length - d->r + e];
+    return out;
+}
+
+static void ref_parity(const ref *d, const uint8_t *information, uint8_t *bits)
+{
+    uint8_t word[1100] = { 0 };
+    memcpy(word, information, d->k);
+    uint32_t rem = ref_remainder(d, word, d->k + d->r);
+    for (unsigned e = 0; e < d->r; e++)
+        bits[e] = rem >> (d->r - 1 - e) & 1;
+}
+
+static ref ref_design(unsigned m, unsigned t, unsigned M, uint32_t g, const uint8_t *self, const uint8_t *parity)
+{
+    ref d = { m, t, M, m * t, 2 * M + 2 * m * t, 2 * M + m * t, M * m * t, g, self, parity, { 0 } };
+    for (unsigned j = 0; j < d.n; j++) {
+        uint8_t word[1023] = { 0 };
+        word[j] = 1;
+        d.unit[j] = ref_remainder(&d, word, d.n);
+    }
+    return d;
+}
+
+static unsigned ref_entry(const uint8_t *list, unsigned p)
+{
+    return list[2 * p] + 256u * list[2 * p + 1];
+}
+
+/* Index in a row-by-row r x M matrix of the bit that the list brings there from row a, column b of an M x r one. */
+static unsigned ref_listed(const ref *d, const uint8_t *list, unsigned a, unsigned b)
+{
+    unsigned place = ref_entry(list, b * d->M + a), row = place % d->M, column = place / d->M;
+    return column * d->M + row;         /* transposed */
+}
+
+static long ref_block(const ref *d, unsigned L, unsigned number, unsigned row, unsigned column)
+{
+    return number == 0 || number > L ? -1 : (long)(((number - 1) * d->M + row) * d->M + column);
+}
+
+/* The frame index (information, then redundancy) of each position of a word; -1 for unsent. */
+static void ref_word(const ref *d, unsigned L, unsigned group, int is_column, unsigned a, long *at)
+{
+    unsigned M = d->M, r = d->r;
+    long Y = (long)L * M * M + (long)(group - 1) * 2 * r * M, P = Y + r * M;
+    for (unsigned j = 0; j < M; j++) {
+        at[j] = is_column ? ref_block(d, L, 2 * group - 1, j, a) : ref_block(d, L, 2 * group - 2, a, j);
+        at[M + j] = is_column ? ref_block(d, L, 2 * group, j, a) : ref_block(d, L, 2 * group - 1, a, j);
+    }
+    for (unsigned b = 0; b < r; b++) {
+        at[2 * M + b] = Y + (is_column ? b * M + a : ref_listed(d, d->self, a, b));
+        at[2 * M + r + b] = P + (is_column ? b * M + a : ref_listed(d, d->parity, a, b));
+    }
+}
+
+static uint32_t ref_word_remainder(const ref *d, const uint8_t *frame, const long *at)
+{
+    uint8_t word[1023];
+    for (unsigned j = 0; j < d->n; j++)
+        word[j] = at[j] < 0 ? 0 : frame[at[j]];
+    return ref_remainder(d, word, d->n);
+}
+
+/* Looks for exactly count positions from the given one whose remainders add up to rem. */
+static int ref_search(const ref *d, uint32_t rem, unsigned from, unsigned count, unsigned *position)
+{
+    if (count == 0)
+        return rem == 0;
+    for (unsigned j = from; j < d->n; j++) {
+        position[0] = j;
+        if (ref_search(d, rem ^ d->unit[j], j + 1, count - 1, position + 1))
+            return 1;
+    }
+    return 0;
+}
+
+static unsigned ref_mend(const ref *d, uint8_t *frame, const long *at)
+{
+    uint32_t rem = ref_word_remainder(d, frame, at);
+    unsigned position[3];
+    for (unsigned count = 0; count <= d->t; count++)
+        if (ref_search(d, rem, 0, count, position)) {
+            for (unsigned i = 0; i < count; i++)
+                if (at[position[i]] < 0)
+                    return 0;
+            for (unsigned i = 0; i < count; i++)
+                frame[at[position[i]]] ^= 1;
+            return count;
+        }
+    return 0;
+}
+
+static uint64_t ref_outside(const ref *d, unsigned L, const uint8_t *frame)
+{
+    long at[1023];
+    uint64_t outside = 0;
+    for (unsigned group = 1; group <= (L + 1) / 2; group++)
+        for (int is_column = 0; is_column < 2; is_column++)
+            for (unsigned a = 0; a < d->M; a++) {
+                ref_word(d, L, group, is_column, a, at);
+                outside += ref_word_remainder(d, frame, at) != 0;
+            }
+    return outside;
+}
+
+static void ref_decode(const ref *d, unsigned L, unsigned rounds, uint8_t *frame, uint64_t counts[3])
+{
+    long at[1023];
+    counts[0] = counts[1] = 0;
+    for (unsigned left = rounds ? rounds : 7; left > 0; left--) {
+        uint64_t before = counts[1];
+        for (unsigned group = 1; group <= (L + 1) / 2; group++)
+            for (int is_column = 0; is_column < 2; is_column++)
+                for (unsigned a = 0; a < d->M; a++) {
+                    ref_word(d, L, group, is_column, a, at);
+                    counts[1] += ref_mend(d, frame, at);
+                }
+        counts[0]++;
+        if (counts[1] == before)
+            break;
+    }
+    counts[2] = ref_outside(d, L, frame);
+}
+
+/* A, one bit a byte: each column is the sum that a single one in Y gives between zero blocks. */
+static void ref_system(const ref *d, uint8_t *A)
+{
+    unsigned M = d->M, r = d->r, N = d->N;
+    uint8_t *Y = get(N), *P = get(N), information[1023], bits[30];
+    for (unsigned j = 0; j < N; j++) {
+        memset(Y, 0, N);
+        memset(P, 0, N);
+        Y[j % r * M + j / r] = 1;
+        for (unsigned a = 0; a < M; a++) {
+            memset(information, 0, sizeof information);
+            for (unsigned b = 0; b < r; b++)
+                information[2 * M + b] = Y[b * M + a];
+            ref_parity(d, information, bits);
+            for (unsigned b = 0; b < r; b++)
+                P[b * M + a] ^= bits[b];
+            for (unsigned b = 0; b < r; b++)
+                information[2 * M + b] = Y[ref_listed(d, d->self, a, b)];
+            ref_parity(d, information, bits);
+            for (unsigned b = 0; b < r; b++)
+                P[ref_listed(d, d->parity, a, b)] ^= bits[b];
+        }
+        for (unsigned i = 0; i < N; i++)
+            A[i * N + j] = P[i % r * M + i / r];
+    }
+    free(Y);
+    free(P);
+}
+
+/* The rule and place of a kit whose design fits. */
+static int ref_check(const ref *d, const uint8_t *A, const uint8_t *inverse, uint64_t *place)
+{
+    unsigned N = d->N, bytes = (N + 7) / 8;
+    for (unsigned p = 0; p < 2 * N; p++) {
+        const uint8_t *list = p < N ? d->self : d->parity;
+        int bad = ref_entry(list, p % N) >= N;
+        for (unsigned q = 0; q < p % N; q++)
+            bad |= ref_entry(list, q) == ref_entry(list, p % N);
+        if (bad) {
+            *place = p;
+            return 7;
+        }
+    }
+    for (unsigned i = 0; i < N; i++)
+        for (unsigned j = N; j < 8 * bytes; j++)
+            if (inverse[i * bytes + j / 8] >> (j % 8) & 1) {
+                *place = i;
+                return 8;
+            }
+    for (unsigned half = 0; half < 2; half++)
+        for (unsigned i = 0; i < N; i++)
+            for (unsigned j = 0; j < N; j++) {
+                unsigned ones = 0;
+                for (unsigned e = 0; e < N; e++) {
+                    unsigned row = half ? i : e, column = half ? e : j;     /* of W */
+                    ones += A[half ? e * N + j : i * N + e] & inverse[row * bytes + column / 8] >> (column % 8);
+                }
+                if (ones % 2 != (i == j)) {
+                    *place = (uint64_t)half * N * N + i * N + j;
+                    return 9;
+                }
+            }
+    return 0;
+}
+
+/* ---- Rows under K ---- */
+
+/* Bits written as characters, spaces left out. */
+static unsigned from_text(const char *text, uint8_t *bits)
+{
+    unsigned count = 0;
+    for (; *text; text++)
+        if (*text != ' ')
+            bits[count++] = *text - '0';
+    return count;
+}
+
+static const uint8_t K_self[] = { 1, 0, 0, 0, 2, 0, 3, 0 }, K_parity[] = { 3, 0, 0, 0, 1, 0, 2, 0 };
+static const uint8_t K_inverse[] = { 0x5, 0xA, 0xB, 0x2 };     /* 1010, 0101, 1101, 0100: column 0 is bit 0 */
+
+static int K_encodes(const char *blocks, const char *groups)
+{
+    uint8_t info[16], want[64], red[64];
+    unsigned L = from_text(blocks, info), length = from_text(groups, want);
+    memset(red, 7, sizeof red);
+    plain_encode(4, 1, 1, L, K_self, K_parity, K_inverse, info, red);
+    return memcmp(red, want, length) == 0 && red[length] == 7 && plain_outside(4, 1, 1, L, K_self, K_parity, info, red) == 0;
+}
+
+static int K_decodes(const char *blocks, const char *groups, unsigned rounds, const char *blocks_after, const char *groups_after, unsigned made,
+                     unsigned turned, unsigned outside)
+{
+    uint8_t info[16], red[64], info_after[16], red_after[64];
+    uint64_t counts[3];
+    unsigned L = from_text(blocks, info), length = from_text(groups, red);
+    from_text(blocks_after, info_after);
+    from_text(groups_after, red_after);
+    plain_decode(4, 1, 1, L, rounds, K_self, K_parity, info, red, counts);
+    return memcmp(info, info_after, L) == 0 && memcmp(red, red_after, length) == 0 && counts[0] == made && counts[1] == turned
+        && counts[2] == outside;
+}
+
+static int refused(unsigned m, unsigned t, unsigned M, int rule, uint64_t at)
+{
+    plain_sizes s;
+    uint64_t place = 0;
+    return plain_design(m, t, M, &s, &place) == rule && place == at;
+}
+
+static void test_rows(void)
+{
+    double start = seconds();
+    uint8_t A[16], want[16], same[] = { 0, 0, 1, 0, 2, 0, 3, 0 }, wrong[4];
+    uint64_t place = 0;
+
+    CHECK(plain_power(4, 1, 9) == 0xA && plain_power(4, 1, 8) == 0x5);
+    plain_system(4, 1, 1, K_self, K_parity, A);
+    from_text("0110 0001 1110 0101", want);
+    CHECK(memcmp(A, want, 16) == 0);
+    CHECK(plain_check_kit(4, 1, 1, K_self, K_parity, K_inverse, &place) == 0);
+
+    CHECK(K_encodes("1", "0000 1010"));
+    CHECK(K_encodes("10", "0000 1010"));
+    CHECK(K_encodes("01", "0001 0110"));
+    CHECK(K_encodes("11", "0001 1100"));
+    CHECK(K_encodes("0100", "0001 0110 0001 0011"));
+
+    plain_system(4, 1, 1, same, same, A);
+    memset(want, 0, 16);
+    CHECK(memcmp(A, want, 16) == 0);
+    CHECK(plain_check_kit(4, 1, 1, same, same, K_inverse, &place) == 9 && place == 0);
+    memcpy(wrong, K_inverse, 4);
+    wrong[3] = 0xA;
+    CHECK(plain_check_kit(4, 1, 1, K_self, K_parity, wrong, &place) == 9 && place == 7);
+
+    CHECK(K_decodes("01", "0001 0111", 0, "01", "0001 0110", 2, 1, 0));
+    CHECK(K_decodes("01", "0001 0111", 1, "01", "0001 0110", 1, 1, 0));
+    CHECK(K_decodes("00", "0000 0101", 0, "01", "0000 0101", 2, 1, 1));
+
+    CHECK(refused(4, 1, 3, 0, 0) && refused(4, 1, 4, 2, 16) && refused(10, 2, 204, 0, 0) && refused(10, 2, 205, 3, 4100));
+    CHECK(refused(3, 0, 0, 1, 1) && refused(11, 9, 9, 1, 1) && refused(4, 0, 0, 1, 2) && refused(10, 4, 0, 1, 2));
+    CHECK(refused(4, 1, 0, 1, 3) && refused(10, 1, 501, 1, 3) && refused(10, 3, 390, 3, 11700) && refused(10, 1, 500, 3, 5000));
+    CHECK(refused(8, 3, 72, 0, 0) && refused(8, 3, 96, 0, 0) && refused(9, 3, 135, 0, 0));
+    group_done("rows of the document under K", start);
+}
+
+/* The kit with M = 2 and its frames, from a literal reading of the document by another program in another language. */
+static void test_second_kit(void)
+{
+    double start = seconds();
+    const uint8_t self[] = { 5, 0, 3, 0, 4, 0, 1, 0, 7, 0, 2, 0, 6, 0, 0, 0 }, parity[] = { 0, 0, 5, 0, 7, 0, 3, 0, 2, 0, 1, 0, 6, 0, 4, 0 };
+    const uint8_t inverse[] = { 153, 70, 79, 115, 207, 56, 145, 233 }, wrong[] = { 153, 70, 79, 115, 207, 60, 145, 233 };
+    uint8_t A[64], rows[64], info[12], red[32], out[32], made[8];
+    uint64_t place, counts[3];
+
+    from_text("11100010 01110011 00110100 10000010 11001000 01001110 00000111 00101000", rows);
+    plain_system(4, 1, 2, self, parity, A);
+    CHECK(memcmp(A, rows, 64) == 0);
+    CHECK(plain_check_kit(4, 1, 2, self, parity, inverse, &place) == 0);
+    CHECK(plain_check_kit(4, 1, 2, self, parity, wrong, &place) == 9 && place == 18);
+    CHECK(plain_make_inverse(4, 1, 2, self, parity, made) && memcmp(made, inverse, 8) == 0);
+
+    from_text("1010 0010 1100", info);
+    from_text("11111101 10100110 01110100 01011101", red);
+    plain_encode(4, 1, 2, 3, self, parity, inverse, info, out);
+    CHECK(memcmp(out, red, 32) == 0);
+
+    from_text("1000", info);
+    from_text("11111001 10100110", red);
+    plain_decode(4, 1, 2, 1, 1, self, parity, info, red, counts);
+    from_text("1010 11111101 10100110", out);
+    CHECK(memcmp(info, out, 4) == 0 && memcmp(red, out + 4, 16) == 0 && counts[0] == 1 && counts[1] == 2 && counts[2] == 1);
+    group_done("a kit with M = 2", start);
+}
+
+/* ---- Generators ---- */
+
+static unsigned field_mul(unsigned a, unsigned b, unsigned m)
+{
+    static const unsigned polynomial[] = { 0x13, 0x25, 0x43, 0x89, 0x11D, 0x211, 0x409 };
+    unsigned product = 0;
+    for (; b; b >>= 1) {
+        if (b & 1)
+            product ^= a;
+        a <<= 1;
+        if (a >> m)
+            a ^= polynomial[m - 4];
+    }
+    return product;
+}
+
+static void test_generators(void)
+{
+    double start = seconds();
+    static const struct {
+        unsigned m, t;
+        uint32_t octal;
+    } published[] = {
+        { 4, 1, 023 }, { 5, 1, 045 }, { 5, 2, 03551 }, { 6, 1, 0103 }, { 6, 2, 012471 }, { 6, 3, 01701317 }, { 7, 1, 0211 }, { 7, 2, 041567 },
+        { 7, 3, 011554743 }, { 8, 1, 0435 }, { 8, 2, 0267543 }, { 8, 3, 0156720665 },
+    };
+    for (unsigned i = 0; i < sizeof published / sizeof *published; i++)
+        CHECK(plain_generator(published[i].m, published[i].t) == published[i].octal);
+    /* Of degree m t and 0 at the first 2t powers of the root: for each pair that has a design. */
+    for (unsigned m = 4; m <= 10; m++)
+        for (unsigned t = 1; t <= 3; t++) {
+            plain_sizes s;
+            uint64_t place;
+            if (plain_design(m, t, 1, &s, &place))
+                continue;
+            uint32_t g = plain_generator(m, t);
+            CHECK(g >> (m * t) == 1 && (g & 1));
+            for (unsigned i = 1, root = 2; i <= 2 * t; i++, root = field_mul(root, 2, m)) {
+                unsigned value = 0;
+                for (unsigned d = m * t + 1; d-- > 0;)
+                    value = field_mul(value, root, m) ^ (g >> d & 1);
+                CHECK(value == 0);
+            }
+        }
+    group_done("generators", start);
+}
+
+/* ---- Kits with random lists ---- */
+
+typedef struct {
+    uint8_t *self, *parity, *inverse;
+    unsigned bytes;             /* of the inverse */
+} kit;
+
+/* Lists of the first seed from the given one that have an inverse. */
+static kit make_kit(unsigned m, unsigned t, unsigned M, uint64_t seed, unsigned tries)
+{
+    unsigned N = M * m * t;
+    kit k = { get(2 * N), get(2 * N), get((size_t)N * ((N + 7) / 8)), N * ((N + 7) / 8) };
+    for (; tries > 0; tries--, seed++) {
+        plain_random_lists(m, t, M, seed, k.self, k.parity);
+        if (plain_make_inverse(m, t, M, k.self, k.parity, k.inverse))
+            return k;
+    }
+    CHECK(!"a kit was found");
+    return k;
+}
+
+static void free_kit(kit k)
+{
+    free(k.self);
+    free(k.parity);
+    free(k.inverse);
+}
+
+static void random_bits(uint8_t *bits, size_t count, uint64_t *state)
+{
+    for (size_t i = 0; i < count; i++)
+        bits[i] = plain_random(state) >> 31;
+}
+
+/* Encodes random blocks, turns bits at random while no word gets more than t wrong ones, and wants the frame back. */
+static void round_trip(unsigned m, unsigned t, unsigned M, unsigned L, kit k, uint64_t *state)
+{
+    ref d = ref_design(m, t, M, plain_generator(m, t), k.self, k.parity);
+    unsigned G = (L + 1) / 2, words = 2 * M * G;
+    size_t info_length = (size_t)L * M * M, red_length = (size_t)G * 2 * d.N, length = info_length + red_length;
+    uint8_t *frame = get(length), *copy = get(length), *load = get(words);
+    unsigned (*owner)[2] = get(length * sizeof *owner);         /* the words of a bit, from 1 */
+    uint64_t counts[3], wrong = 0;
+    long at[1023];
+
+    for (unsigned w = 0; w < words; w++) {
+        ref_word(&d, L, w / (2 * M) + 1, w % (2 * M) >= M, w % M, at);
+        for (unsigned j = 0; j < d.n; j++)
+            if (at[j] >= 0)
+                owner[at[j]][owner[at[j]][0] != 0] = w + 1;
+    }
+    random_bits(frame, info_length, state);
+    memset(frame + info_length, 5, red_length);
+    plain_encode(m, t, M, L, k.self, k.parity, k.inverse, frame, frame + info_length);
+    CHECK(ref_outside(&d, L, frame) == 0);
+    CHECK(plain_outside(m, t, M, L, k.self, k.parity, frame, frame + info_length) == 0);
+
+    memcpy(copy, frame, length);
+    for (unsigned tries = plain_random(state) % (4 * t * words + 1); tries > 0; tries--) {
+        size_t bit = plain_random(state) % length;
+        int full = copy[bit] != frame[bit];
+        for (unsigned i = 0; i < 2; i++)
+            full |= owner[bit][i] && load[owner[bit][i] - 1] == t;
+        if (full)
+            continue;
+        copy[bit] ^= 1;
+        wrong++;
+        for (unsigned i = 0; i < 2; i++)
+            if (owner[bit][i])
+                load[owner[bit][i] - 1]++;
+    }
+    CHECK(plain_outside(m, t, M, L, k.self, k.parity, copy, copy + info_length) == ref_outside(&d, L, copy));
+    plain_decode(m, t, M, L, 0, k.self, k.parity, copy, copy + info_length, counts);
+    CHECK(memcmp(copy, frame, length) == 0);
+    CHECK(counts[0] == (wrong ? 2 : 1) && counts[1] == wrong && counts[2] == 0);
+    free(frame);
+    free(copy);
+    free(load);
+    free(owner);
+}
+
+static void test_round_trips(void)
+{
+    double start = seconds();
+    static const unsigned designs[][3] = { { 4, 1, 1 }, { 4, 1, 3 }, { 5, 1, 10 }, { 5, 2, 5 }, { 6, 1, 25 }, { 6, 2, 19 }, { 6, 3, 13 }, { 7, 1, 7 },
+        { 7, 2, 20 }, { 7, 3, 11 }, { 8, 1, 12 }, { 8, 2, 9 }, { 8, 3, 10 }, { 9, 1, 11 }, { 9, 2, 8 }, { 9, 3, 7 }, { 10, 1, 13 }, { 10, 2, 6 },
+        { 10, 3, 5 } };
+    uint64_t state = 20;
+    for (unsigned i = 0; i < sizeof designs / sizeof *designs; i++) {
+        unsigned m = designs[i][0], t = designs[i][1], M = designs[i][2];
+        kit k = make_kit(m, t, M, 1, 60);
+        for (unsigned L = 1; L <= 6; L++)
+            for (unsigned repeat = 0; repeat < 3; repeat++)
+                round_trip(m, t, M, L, k, &state);
+        free_kit(k);
+    }
+    group_done("round trips, at most t errors a word", start);
+}
+
+/* Any number of errors, down to noise without a frame: bits and counts against the opponent's. */
+static void brute_force(unsigned m, unsigned t, unsigned M, uint32_t g, unsigned trials)
+{
+    static const unsigned per_mille[] = { 5, 15, 30, 60, 100, 200, 500 };
+    static const unsigned rounds_tried[] = { 0, 0, 0, 1, 2, 3, 64 };
+    uint64_t state = 77 + M, counts[3], want[3];
+    kit k = make_kit(m, t, M, 1, 60);
+    ref d = ref_design(m, t, M, g, k.self, k.parity);
+    for (unsigned i = 0; i < trials; i++) {
+        unsigned L = 1 + plain_random(&state) % 5, rounds = rounds_tried[plain_random(&state) % 7], rate = per_mille[plain_random(&state) % 7];
+        size_t info_length = (size_t)L * M * M, length = info_length + (size_t)(L + 1) / 2 * 2 * d.N;
+        uint8_t *mine = get(length), *other = get(length);
+        random_bits(mine, info_length, &state);
+        plain_encode(m, t, M, L, k.self, k.parity, k.inverse, mine, mine + info_length);
+        for (size_t bit = 0; bit < length; bit++)
+            mine[bit] ^= plain_random(&state) % 1000 < rate;
+        memcpy(other, mine, length);
+        plain_decode(m, t, M, L, rounds, k.self, k.parity, mine, mine + info_length, counts);
+        ref_decode(&d, L, rounds, other, want);
+        CHECK(memcmp(mine, other, length) == 0);
+        CHECK(memcmp(counts, want, sizeof counts) == 0);
+        free(mine);
+        free(other);
+    }
+    free_kit(k);
+}
+
+static void test_brute_force(void)
+{
+    double start = seconds();
+    brute_force(4, 1, 1, 023, 1000);
+    brute_force(4, 1, 2, 023, 2000);
+    brute_force(4, 1, 3, 023, 2000);
+    brute_force(5, 2, 2, 03551, 2000);
+    brute_force(5, 2, 5, 03551, 1000);
+    brute_force(6, 3, 2, 01701317, 1000);
+    brute_force(6, 3, 4, 01701317, 400);
+    brute_force(6, 3, 13, 01701317, 20);
+    brute_force(7, 2, 6, 041567, 200);
+    group_done("decoder against brute force", start);
+}
+
+/* ---- Refusals ---- */
+
+static void set_entry(uint8_t *list, unsigned p, unsigned value)
+{
+    list[2 * p] = value & 255;
+    list[2 * p + 1] = value >> 8;
+}
+
+static void damaged_kits(unsigned m, unsigned t, unsigned M, uint32_t g, unsigned trials)
+{
+    uint64_t state = 5 + M, place, want_place;
+    kit k = make_kit(m, t, M, 1, 60);
+    unsigned N = M * m * t, seen[10] = { 0 };
+    uint8_t *A = get((size_t)N * N), *mine = get((size_t)N * N);
+    ref d = ref_design(m, t, M, g, k.self, k.parity);
+    ref_system(&d, A);
+    plain_system(m, t, M, k.self, k.parity, mine);
+    CHECK(memcmp(A, mine, (size_t)N * N) == 0);
+    CHECK(plain_check_kit(m, t, M, k.self, k.parity, k.inverse, &place) == 0 && ref_check(&d, A, k.inverse, &place) == 0);
+
+    for (unsigned i = 0; i < trials; i++) {
+        uint8_t *self = get(2 * N), *parity = get(2 * N), *inverse = get(k.bytes);
+        unsigned kind = plain_random(&state) % 16;      /* a bit a damage: self, parity, inverse, spare */
+        memcpy(self, k.self, 2 * N);
+        memcpy(parity, k.parity, 2 * N);
+        memcpy(inverse, k.inverse, k.bytes);
+        if (i % 2)
+            kind &= 12;         /* with whole lists, so that the later rules are met often */
+        for (unsigned list = 0; list < 2; list++)
+            if (kind >> list & 1) {
+                unsigned large[] = { N, N + 256, 65535, plain_random(&state) % N };
+                set_entry(list ? parity : self, plain_random(&state) % N, large[plain_random(&state) % 4]);
+            }
+        if (kind & 4) {
+            unsigned row = plain_random(&state) % N, column = plain_random(&state) % N;
+            inverse[row * ((N + 7) / 8) + column / 8] ^= 1 << (column % 8);
+        }
+        if ((kind & 8) && N % 8 && i % 3 == 0)
+            inverse[(plain_random(&state) % N + 1) * ((N + 7) / 8) - 1] |= 1 << (N % 8 + plain_random(&state) % (8 - N % 8));
+        d.self = self;
+        d.parity = parity;
+        place = want_place = 0;
+        int rule = plain_check_kit(m, t, M, self, parity, inverse, &place), want = ref_check(&d, A, inverse, &want_place);
+        CHECK(rule == want && place == want_place);
+        seen[want]++;
+        free(self);
+        free(parity);
+        free(inverse);
+    }
+    CHECK(seen[7] && seen[9] && (seen[8] || N % 8 == 0));
+    free(A);
+    free(mine);
+    free_kit(k);
+}
+
+static void test_refusals(void)
+{
+    double start = seconds();
+    uint64_t place;
+    uint8_t self[8], wrong[4];
+
+    memcpy(self, K_self, 8);
+    set_entry(self, 2, 4);
+    CHECK(plain_check_kit(4, 1, 1, self, self, K_inverse, &place) == 7 && place == 2);
+    set_entry(self, 2, 256);
+    CHECK(plain_check_kit(4, 1, 1, self, K_parity, K_inverse, &place) == 7 && place == 2);
+    set_entry(self, 2, 1);
+    CHECK(plain_check_kit(4, 1, 1, self, K_parity, K_inverse, &place) == 7 && place == 2);
+    CHECK(plain_check_kit(4, 1, 1, K_self, self, K_inverse, &place) == 7 && place == 6);
+    memcpy(wrong, K_inverse, 4);
+    wrong[2] |= 0x80;
+    wrong[3] |= 0x10;
+    CHECK(plain_check_kit(4, 1, 1, K_self, K_parity, wrong, &place) == 8 && place == 2);
+    CHECK(plain_check_kit(4, 1, 1, K_self, self, wrong, &place) == 7 && place == 6);
+    CHECK(plain_check_kit(3, 1, 1, self, self, wrong, &place) == 1 && place == 1);
+
+    damaged_kits(4, 1, 1, 023, 200);
+    damaged_kits(4, 1, 2, 023, 200);
+    damaged_kits(5, 1, 3, 045, 200);
+    damaged_kits(5, 2, 2, 03551, 200);
+    damaged_kits(6, 3, 3, 01701317, 100);
+    damaged_kits(7, 1, 10, 0211, 60);
+    group_done("refusals of damaged kits", start);
+}
+
+/* ---- The designs for benchmarks ---- */
+
+static void test_large(const plain_kit *design, unsigned L)
+{
+    unsigned m = design->m, t = design->t, M = design->M, N = M * m * t;
+    size_t bytes = (N + 7) / 8, info_length = (size_t)L * M * M;
+    double start = seconds(), made, checked, encoded;
+    uint64_t place = 0, state = 3;
+    char name[80];
+
+    kit k = make_kit(m, t, M, design->seed, 1);
+    made = seconds();
+    CHECK(plain_check_kit(m, t, M, k.self, k.parity, k.inverse, &place) == 0);
+    checked = seconds();
+    uint8_t *info = get(info_length), *red = get((size_t)(L + 1) / 2 * 2 * N);
+    random_bits(info, info_length, &state);
+    encoded = seconds();
+    plain_encode(m, t, M, L, k.self, k.parity, k.inverse, info, red);
+    encoded = seconds() - encoded;
+    CHECK(plain_outside(m, t, M, L, k.self, k.parity, info, red) == 0);
+    for (unsigned i = 0; i < 2; i++)
+        round_trip(m, t, M, 3 + i, k, &state);
+    k.inverse[(N - 1) * bytes] ^= 1;
+    CHECK(plain_check_kit(m, t, M, k.self, k.parity, k.inverse, &place) == 9 && place % N == 0);
+    printf("  made %.3f s, checked %.3f s, %u blocks encoded %.3f ms\n", made - start, checked - made, L, 1000 * encoded);
+    snprintf(name, sizeof name, "kit of m %u, t %u, M %u (M r = %u)", m, t, M, N);
+    group_done(name, start);
+    free(info);
+    free(red);
+    free_kit(k);
+}
+
+int main(void)
+{
+    test_rows();
+    test_second_kit();
+    test_generators();
+    test_round_trips();
+    test_brute_force();
+    test_refusals();
+    for (unsigned i = 0; i < PLAIN_KITS; i++)
+        test_large(&plain_kits[i], 32);
+    printf("%u checks, %u failed\n", checks, failures);
+    return failures != 0;
+}
