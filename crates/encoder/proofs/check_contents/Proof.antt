@@ -1,3 +1,5 @@
+-- A refusal of rule 6, or of rules 7 to 9, is the answer; else rule 10's.
+-- Assumes nothing.
 use native.Mathlib.Omega.{arith}
 use borrow.Author.Needs.{needs}
 use mathlib.Core.Path.{sym, ap₂, _∙_}

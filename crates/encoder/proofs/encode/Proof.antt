@@ -1,3 +1,5 @@
+-- The call ends at a refused design, at a refused frame, or with the redundancy made.
+-- Assumes nothing.
 use borrow.Author.Needs.{needs}
 use mathlib.Core.Path.{sym, _∙_}
 use lib.ListN.{length}

@@ -1,3 +1,5 @@
+-- The three blocks are as a group asks.
+-- Assumes nothing.
 use native.Mathlib.Omega.{arith}
 use borrow.Author.Needs.{needs}
 use mathlib.Core.Path.{_∙_}

@@ -1,3 +1,5 @@
+-- The two tests of the code are those of `sent`.
+-- Assumes nothing.
 use Rattle.encoder.proofs.Blocks.{sent-none, sent-some}
 use Rattle.encoder.proofs.is_sent.Statement.{statement}
 use Rattle.encoder.proofs.is_sent.Tie as tie

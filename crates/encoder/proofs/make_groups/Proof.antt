@@ -1,3 +1,5 @@
+-- The loop's invariant: the groups before `i` are written. The measure is the number of groups left.
+-- Assumes nothing.
 use native.Mathlib.Omega.{arith}
 use mathlib.Core.Path.{_≡_, _∙_}
 use Prim.Native.Nat.{_*_, _-_, _≤_}

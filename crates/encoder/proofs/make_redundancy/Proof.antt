@@ -1,3 +1,5 @@
+-- The table and the places of the parity list are as the groups ask, and the groups are the redundancy.
+-- Assumes nothing.
 use native.Mathlib.Omega.{arith}
 use borrow.Author.Needs.{needs}
 use mathlib.Core.Path.{_≡_, sym, ap, _∙_, subst, subst⁻¹}

@@ -1,3 +1,5 @@
+-- The encoder's contract, by its number.
+-- Assumes nothing.
 use borrow.Author.Needs.{needs}
 use mathlib.Core.Path.{ap, _∙_}
 use Rattle.host.specs.Number.{number}

@@ -1,3 +1,5 @@
+-- A refusal of rule 7 or 8 is the answer; lists that pass are permutations, which rule 9 asks for.
+-- Assumes nothing.
 use native.Mathlib.Omega.{arith}
 use borrow.Author.Needs.{needs}
 use mathlib.Core.Path.{_≡_, sym, ap, _∙_}

@@ -1,3 +1,5 @@
+-- The first wrong entry of A W, or else of W A, is the place; none is a kit that passes.
+-- Assumes nothing.
 use native.Mathlib.Omega.{arith}
 use borrow.Author.Needs.{needs}
 use mathlib.Core.Path.{_≡_, ap, _∙_}

@@ -1,3 +1,5 @@
+-- Each check's refusal is the answer, in the table's order, and one that passes leaves it to the next.
+-- Assumes nothing.
 use native.Mathlib.Omega.{arith}
 use borrow.Author.Needs.{needs}
 use mathlib.Core.Path.{sym, ap₂, _∙_}

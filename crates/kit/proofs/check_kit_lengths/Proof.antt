@@ -1,3 +1,5 @@
+-- The lengths that are due are those of the rule, and fit.
+-- Assumes nothing.
 use native.Mathlib.Omega.{arith}
 use borrow.Author.Needs.{needs}
 use mathlib.Core.Path.{_≡_, ap, ap₂, _∙_}

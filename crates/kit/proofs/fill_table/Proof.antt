@@ -1,3 +1,5 @@
+-- The generator and its degree are those of an allowed design.
+-- Assumes nothing.
 use native.Mathlib.Omega.{arith}
 use borrow.Author.Needs.{needs}
 use mathlib.Core.Path.{_≡_, ap₂, _∙_, subst₂}

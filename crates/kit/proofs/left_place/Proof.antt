@@ -1,3 +1,5 @@
+-- The table, the places of the parity list and the columns of W in planes are as the rows of A W ask.
+-- Assumes nothing.
 use native.Mathlib.Omega.{arith}
 use borrow.Author.Needs.{needs}
 use mathlib.Core.Path.{_≡_, sym, ap, _∙_, subst}

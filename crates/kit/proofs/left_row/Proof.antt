@@ -1,3 +1,5 @@
+-- A packed row of A masks the planes, and the first wrong entry of the sum is that of the row.
+-- Assumes nothing.
 use native.Mathlib.Omega.{arith}
 use borrow.Author.Needs.{needs}
 use mathlib.Core.Path.{_≡_, _∙_, subst}

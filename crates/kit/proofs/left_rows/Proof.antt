@@ -1,3 +1,5 @@
+-- The loop's invariant: the rows before `e` have no wrong entry. The measure is the number of rows left.
+-- Assumes nothing.
 use native.Mathlib.Omega.{arith}
 use mathlib.Core.Path.{_≡_, refl}
 use mathlib.Core.Bool.{false}

@@ -1,3 +1,5 @@
+-- A packed column of A masks the planes, and the first wrong entry of the sum is that of the column.
+-- Assumes nothing.
 use native.Mathlib.Omega.{arith}
 use borrow.Author.Needs.{needs}
 use mathlib.Core.Path.{_≡_, _∙_, subst}

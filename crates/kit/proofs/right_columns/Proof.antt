@@ -1,3 +1,5 @@
+-- The loop's invariant: `best` is the first wrong place in the columns before `j`. The measure is the number of columns left.
+-- Assumes nothing.
 use native.Mathlib.Omega.{arith}
 use mathlib.Core.Path.{_≡_, refl, sym, subst}
 use mathlib.Core.Logic.{⊎-elim}

@@ -1,3 +1,5 @@
+-- The table, the places of the self list and the rows of W in planes are as the columns of W A ask.
+-- Assumes nothing.
 use native.Mathlib.Omega.{arith}
 use borrow.Author.Needs.{needs}
 use mathlib.Core.Path.{_≡_, sym, ap, _∙_, subst}

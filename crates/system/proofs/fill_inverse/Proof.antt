@@ -1,3 +1,5 @@
+-- The loop's invariant: the places that entries before `p` name are filled. The measure is the number of entries left.
+-- Assumes nothing.
 use native.Mathlib.Omega.{arith}
 use mathlib.Core.Path.{_≡_, sym, ap, _∙_}
 use Prim.Native.Nat.{ℕ, _-_, _≤_, _<_}

@@ -1,3 +1,5 @@
+-- The loop's invariant: the digits before `b` are added. The measure is the number of digits left.
+-- Assumes nothing.
 use native.Mathlib.Omega.{arith}
 use mathlib.Core.Path.{_≡_, refl, sym, ap, _∙_}
 use mathlib.Core.Bool.{cond}

@@ -1,3 +1,5 @@
+-- A cleared column with two runs of digits is the column of A.
+-- Assumes nothing.
 use native.Mathlib.Omega.{arith}
 use borrow.Author.Needs.{needs}
 use mathlib.Core.Path.{ap, _∙_}

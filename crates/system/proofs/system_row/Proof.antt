@@ -1,3 +1,5 @@
+-- A cleared row with two runs of digits is the row of A.
+-- Assumes nothing.
 use native.Mathlib.Omega.{arith}
 use borrow.Author.Needs.{needs}
 use mathlib.Core.Path.{ap, _∙_}
