@@ -5,8 +5,7 @@
 // The rule is the definition `powerTable` of the crate `bch`. The proof of `fill_powers` computes the list that the rule makes and compares
 // the constant with it, one test a field; the lemma `powerTable-at` of `bch` carries the rule to each entry.
 //
-// The compiler copies a constant array at each call that reads it. So an exported call fills a table once and lends it down, and hot code
-// never indexes a constant.
+// The compiler copies a constant array at each call that reads it, so no loop indexes one: a caller that needs a table fills it once.
 ghost use mathlib.Core.Path.{_≡_};
 ghost use Prim.Native.Nat.{_-_, _^_, _≤_};
 ghost use lib.ListN.{length};

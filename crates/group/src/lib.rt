@@ -1,9 +1,8 @@
 // Makes the redundancy of one group: Y, with which all words of the group can be codewords, and P, with which they are.
-//   add_dots(acc, block, part)                           adds the sums over the rows of a block
-//   parity_bits(columns, size, r, out)                   P, or Q, from the remainders of its words
-//   constant_bits(columns, rows, sources, size, r, c)    the constant of the group's system, packed
-//   self_bits(inverse, c, size, r, out)                  Y: the inverse times the constant
-//   make_group(..)                                       the group
+//   make_group(..)   the group
+//
+// Its steps: `add_dots` adds the sums over the rows of a block, `constant_bits` packs the constant of the group's system, `self_bits` makes Y, the
+// inverse times the constant, and `parity_bits` makes P, or Q, from the remainders of its words.
 //
 // The remainder of a word is a sum of entries of a table of powers of x, one for each of its ones (crate `remainders`). Column words and row words
 // are summed block by block, without Y at first. The digits of these remainders are P and Q as they would be for Y = 0, and the constant c of the
@@ -25,7 +24,7 @@ ghost use Rattle.group.specs.Group.{sentBit, Sent, columnSum, rowSum, Pa
 
 // Adds to each of the lent entries of `acc` the entries of `part` at the ones of its row of `block`. The block has a row for each entry of `acc`,
 // one after the other, and a column for each entry of `part`. One step for each bit of the block.
-pub fn add_dots(acc: &mut [u32], block: &[u8], part: &[u32])
+fn add_dots(acc: &mut [u32], block: &[u8], part: &[u32])
     requires { ⌜ (length (now block) ≡ length (now acc) * length (now part)) × Bits (now block) ⌝ }
     ensures { λ u. ⌜ (length (now (acc .exit)) ≡ length (now (acc .entry)))
         × ((a : ℕ) → a < length (now (acc .entry)) → getD (now (acc .exit)) a 0 ≡ getD (now (acc .entry)) a 0
@@ -58,7 +57,7 @@ fn digits(columns: &[u32], shift: usize, out: &mut [u8])
 
 // Makes P in the lent `out`, or Q, from the lent remainders of its words: bit a of word b stands at place a × size + b. One step for each of the
 // size × r bits.
-pub fn parity_bits(columns: &[u32], size: usize, r: usize, out: &mut [u8])
+fn parity_bits(columns: &[u32], size: usize, r: usize, out: &mut [u8])
     requires { ⌜ (length (now columns) ≡ size) × (length (now out) ≡ size * r) × (0 < size) × (r ≤ 32) ⌝ }
     ensures { λ u. ⌜ now (out .exit) ≡ tabulate (size * r) (λ q. getD (now (columns .entry)) (q % size) 0 / 2 ^ (r - 1 - q / size) % 2) ⌝ }
 {
@@ -99,7 +98,7 @@ fn constant_in(
 // Packs the constant of a group's system into the lent `c`: bit k is entry k of the stack, spare bits are 0. Lent are the remainders of the group's
 // column words and row words without Y, and the place of Q that the parity list sends to each place of P. A few steps for each of the size × r
 // entries.
-pub fn constant_bits(
+fn constant_bits(
     columns: &[u32],
     rows: &[u32],
     sources: &[u16],
@@ -118,7 +117,7 @@ pub fn constant_bits(
 
 // Makes Y in the lent `out`: the lent inverse times the lent constant, both packed, each bit at its place in Y. One step for each byte of the
 // inverse.
-pub fn self_bits(inverse: &[u8], c: &[u8], size: usize, r: usize, out: &mut [u8])
+fn self_bits(inverse: &[u8], c: &[u8], size: usize, r: usize, out: &mut [u8])
     requires { ⌜ (length (now inverse) ≡ size * r * rowBytes (size * r)) × (length (now c) ≡ rowBytes (size * r)) × (length (now out) ≡ size * r)
         × (0 < size) × (0 < r) × (size * r ≤ 4096) ⌝ }
     ensures { λ u. ⌜ now (out .exit) ≡ tabulate (size * r) (productBit (now (inverse .entry)) (now (c .entry)) size r) ⌝ }

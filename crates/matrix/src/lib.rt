@@ -1,7 +1,7 @@
 // Products of square matrices of bits in packed bytes.
 //   clear, add_bit                    make a packed row
 //   transpose_bits, transpose_bytes   lay a packed matrix out in planes
-//   mask_rows, mask_in                a row of a product, from a packed row and planes
+//   mask_rows                         a row of a product, from a packed row and planes
 //   first_wrong                       the first entry of such a row that is not the identity's
 //   shared_odd                        one entry, from a packed row and a packed column
 //
@@ -13,7 +13,7 @@
 // a byte that is 0 masks to nothing and is passed over: a row costs n for each of its bytes that are not 0.
 //
 // A matrix comes into planes by blocks of eight rows and eight columns, 64 bits in one number, which three exchanges of bits turn (H. Warren,
-// "Hacker's Delight", section 7-3); bit by bit it takes some eight times as long.
+// "Hacker's Delight", section 7-3).
 //
 // n is the order, 1 to 4,096, and a packed row has rowBytes n bytes. Every function leaves the lengths of what it is lent as they are.
 ghost use mathlib.Core.Path.{_≡_};
@@ -176,7 +176,7 @@ pub fn transpose_bytes(w: &[u8], n: usize, t: &mut [u8])
 }
 
 // Adds to each byte of acc, by exclusive or, the byte of the plane masked by v. The work grows with the number of bytes.
-pub fn mask_in(acc: &mut [u8], plane: &[u8], v: u8)
+fn mask_in(acc: &mut [u8], plane: &[u8], v: u8)
     requires { ⌜ length (now acc) ≡ length (now plane) ⌝ }
     ensures { λ r. ⌜
         (length (now (acc .exit)) ≡ length (now (acc .entry)))

@@ -2,7 +2,6 @@
 //   generator_of(m, t)                the generator of the code over field m that corrects t errors
 //   fill_positions(g, r, top, table)  entry j of the table is the power of x that position j of a word carries, modulo g
 //   dot(bits, part)                   the sum of the entries of `part` at the ones of `bits`
-//   add_bits(acc, bits, x)            adds x to `acc` wherever `bits` has a one
 //   add_rows(acc, block, part)        `dot` for every column of a block at once, row by row
 //   clear(acc)                        makes every entry 0
 //
@@ -89,7 +88,7 @@ pub fn dot(bits: &[u8], part: &[u32]) -> u32
 }
 
 // Adds x to the lent entries of `acc` at the ones of `bits`. One step for each bit.
-pub fn add_bits(acc: &mut [u32], bits: &[u8], x: u32)
+fn add_bits(acc: &mut [u32], bits: &[u8], x: u32)
     requires { ⌜ (length (now bits) ≡ length (now acc)) × Bits (now bits) ⌝ }
     ensures { λ r. ⌜ (length (now (acc .exit)) ≡ length (now (acc .entry)))
         × ((a : ℕ) → a < length (now (acc .entry)) → getD (now (acc .exit)) a 0 ≡ getD (now (acc .entry)) a 0 ⊕ getD (now (bits .entry)) a 0 * x) ⌝ }

@@ -6,8 +6,7 @@
 //   check_length(place, have, want)             rule 6, for one slice
 //   group_count, check_frame_lengths            the groups of a frame, and rule 6 for its two buffers
 //   entry(list, p)                              entry p of a list
-//   check_list(list, n, marks, base)            rule 7, for one list
-//   check_lists(own, parity, n, marks)          rule 7, for both
+//   check_lists(own, parity, n, marks)          rule 7
 //   check_spare(inverse, n)                     rule 8
 //   check_bits(bytes, base)                     rule 10, for one buffer
 //
@@ -260,7 +259,7 @@ fn clear(s: &mut [u8])
 
 // Rule 7 for the lent list of n entries; places count from `base`. `marks` is a working byte for each of the n numbers, and its bytes afterwards
 // are free. One pass over the marks and one over the list.
-pub fn check_list(list: &[u8], n: usize, marks: &mut [u8], base: u64) -> Check
+fn check_list(list: &[u8], n: usize, marks: &mut [u8], base: u64) -> Check
     requires { ⌜ (length (now list) ≡ 2 * n) × (length (now marks) ≡ n) × (n ≤ 4096) × (base ≤ 4096) ⌝ }
     ensures { λ a. ⌜ verdictOf a ≡ refuseFirst 7 base n (badEntry n (entries n (now (list .entry)))) ⌝ }
 {
