@@ -1,6 +1,7 @@
 /* The library beside the plain implementation, in one run: prints ratios of the library's time to the plain one's, and stops with 1 if any
    result differs. Encoding alone is the difference between two frames under one kit, divided by the groups between them, so that the kit check
-   that the encoder makes drops out. Buffers are written before they are timed. */
+   that the encoder makes drops out. The word checker and the decoder get frames with errors, a copy each, written just before. All times are the
+   least of several turns, in which the two take turns. */
 
 #include "plain.h"
 
@@ -14,8 +15,17 @@ uint64_t bauchleton_check_kit(uint64_t m, uint64_t t, uint64_t size, const uint8
 uint64_t bauchleton_encode(uint64_t m, uint64_t t, uint64_t size, uint64_t blocks, const uint8_t *self, size_t self_length,
                            const uint8_t *parity, size_t parity_length, const uint8_t *inverse, size_t inverse_length, const uint8_t *info,
                            size_t info_length, uint8_t *red, size_t red_length, uint8_t *work, size_t work_length);
+uint64_t bauchleton_check_words(uint64_t m, uint64_t t, uint64_t size, uint64_t blocks, const uint8_t *self, size_t self_length,
+                                const uint8_t *parity, size_t parity_length, const uint8_t *info, size_t info_length, const uint8_t *red,
+                                size_t red_length, uint8_t *work, size_t work_length, uint64_t *counts, size_t counts_length);
+uint64_t bauchleton_decode(uint64_t m, uint64_t t, uint64_t size, uint64_t blocks, uint64_t rounds, const uint8_t *self, size_t self_length,
+                           const uint8_t *parity, size_t parity_length, uint8_t *info, size_t info_length, uint8_t *red, size_t red_length,
+                           uint8_t *work, size_t work_length, uint64_t *counts, size_t counts_length);
 
-enum { SHORT = 32, LONG = 32 + 512, TURNS = 3 };
+enum { SHORT = 32, LONG = 32 + 512, TURNS = 3, FRAME_TURNS = 40 };
+
+static const double error_rate[] = { 0, 1e-3, 5e-3, 1e-2 };
+enum { RATES = sizeof error_rate / sizeof *error_rate };
 
 static double now(void)
 {
@@ -37,6 +47,49 @@ static void *lend(size_t bytes)
 static double least(double a, double b)
 {
     return a < b ? a : b;
+}
+
+/* Words outside and decoding of a frame of SHORT blocks, information and redundancy one after the other. Returns whether a result differs. */
+static int time_frame(unsigned m, unsigned t, unsigned M, const plain_sizes *s, const uint8_t *self, const uint8_t *parity, const uint8_t *frame)
+{
+    size_t list = 2 * (size_t)s->size, info = SHORT * (size_t)M * M, red = SHORT * (size_t)s->size;
+    uint8_t *received = lend(info + red), *mine = lend(info + red), *other = lend(info + red), *work = lend(s->size);
+    plain_frame lent = { self, parity, other, other + info, list, list, info, red };
+    double words[2] = { 1e9, 1e9 }, decode[RATES][2];
+    uint64_t counts[RATES][3], place, outside[2], results[3], state = 88172645463325252u;
+    int differ = 0;
+    for (unsigned e = 0; e < RATES; e++) {
+        decode[e][0] = decode[e][1] = 1e9;
+        for (size_t k = 0; k < info + red; k++)
+            received[k] = frame[k] ^ (plain_random(&state) < error_rate[e] * 4294967296.0);
+        for (unsigned turn = 0; turn < FRAME_TURNS; turn++) {
+            memcpy(other, received, info + red);
+            double a = now();
+            differ |= plain_words(m, t, M, SHORT, &lent, &outside[0], &place) != 0;
+            double b = now();
+            differ |= plain_decode(m, t, M, SHORT, 0, &lent, counts[e], &place) != 0;
+            double c = now();
+            words[0] = least(words[0], b - a);
+            decode[e][0] = least(decode[e][0], c - b);
+
+            memcpy(mine, received, info + red);
+            a = now();
+            differ |= bauchleton_check_words(m, t, M, SHORT, self, list, parity, list, mine, info, mine + info, red, work, s->size, &outside[1],
+                                             1) != 0;
+            b = now();
+            differ |= bauchleton_decode(m, t, M, SHORT, 0, self, list, parity, list, mine, info, mine + info, red, work, s->size, results, 3) != 0;
+            c = now();
+            words[1] = least(words[1], b - a);
+            decode[e][1] = least(decode[e][1], c - b);
+            differ |= outside[0] != outside[1] || memcmp(results, counts[e], sizeof results) != 0 || memcmp(mine, other, info + red) != 0;
+        }
+    }
+    printf("  words outside %.0f us, plain %.0f us, ratio %.2f\n", words[1] * 1e6, words[0] * 1e6, words[1] / words[0]);
+    for (unsigned e = 0; e < RATES; e++)
+        printf("  decoding at %g (%u rounds, %u turned, %u outside) %.0f us, plain %.0f us, ratio %.2f\n", error_rate[e], (unsigned)counts[e][0],
+               (unsigned)counts[e][1], (unsigned)counts[e][2], decode[e][1] * 1e6, decode[e][0] * 1e6, decode[e][1] / decode[e][0]);
+    free(received), free(mine), free(other), free(work);
+    return differ;
 }
 
 int main(void)
@@ -80,6 +133,8 @@ int main(void)
         double plain = (encode[0][1] - encode[0][0]) / 16, ours = (encode[1][1] - encode[1][0]) / 16;
         printf("m %u t %u M %u, %u rows: kit check %.4f s, plain %.4f s, ratio %.2f; 32 blocks %.5f s, plain %.5f s, ratio %.2f\n", m, t, M, s.size,
                check[1], check[0], check[1] / check[0], ours, plain, ours / plain);
+        memcpy(info + SHORT * area, red, SHORT / 2 * group);    /* the first blocks and groups are a frame by themselves */
+        differ |= time_frame(m, t, M, &s, self, parity, info);
         free(self), free(parity), free(inverse), free(work), free(info), free(red), free(other);
     }
     if (differ)

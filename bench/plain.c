@@ -10,7 +10,7 @@
 #include <stdlib.h>
 #include <string.h>
 
-enum { MAX_N = 1023, MAX_T = 3, DEFAULT_ROUNDS = 7 };
+enum { MAX_N = 1023, MAX_T = 3, MAX_M = 500, MAX_R = 30, MAX_SIZE = 4096, MAX_L = 4096, MAX_ROUNDS = 64, DEFAULT_ROUNDS = 7 };
 
 const plain_kit plain_kits[PLAIN_KITS] = { { 4, 1, 2, 3 }, { 8, 3, 72, 4 }, { 9, 3, 135, 3 }, { 10, 2, 204, 4 } };
 
@@ -45,7 +45,7 @@ int plain_design(unsigned m, unsigned t, unsigned M, plain_sizes *sizes, uint64_
         *place = 2;
         return 1;
     }
-    if (M < 1 || M > 500) {
+    if (M < 1 || M > MAX_M) {
         *place = 3;
         return 1;
     }
@@ -57,7 +57,7 @@ int plain_design(unsigned m, unsigned t, unsigned M, plain_sizes *sizes, uint64_
         *place = sizes->n;
         return 2;
     }
-    if (sizes->size > 4096) {
+    if (sizes->size > MAX_SIZE) {
         *place = sizes->size;
         return 3;
     }
@@ -155,44 +155,110 @@ uint32_t plain_power(unsigned m, unsigned t, unsigned power)
     return x;
 }
 
-/* The positions, at most t, whose turning makes a word with this remainder (not 0) a codeword; their number, or 0 if there are none.
-   Peterson's solution: the power sums of the error locators give the coefficients of the polynomial whose roots they are. */
-static unsigned locate(const code *c, uint32_t rem, unsigned position[MAX_T])
+/* Sums of eight numbers: entry v adds those whose bits of v are 1. */
+typedef uint32_t byte_sums[256];
+
+/* The sums of the numbers, eight after eight. */
+static void make_sums(byte_sums *sums, const uint32_t *numbers, unsigned count)
 {
-    unsigned sum[MAX_T] = { 0 };        /* S1, S3, S5: the word at root^1, root^3, root^5 */
-    unsigned sigma1, sigma2 = 0, sigma3 = 0, degree, found = 0;
-
-    for (unsigned e = 0; e < c->r; e++)
-        if (rem >> e & 1)
-            for (unsigned i = 0; i < c->t; i++)
-                sum[i] ^= c->power[(2 * i + 1) * e % c->order];
-
-    sigma1 = sum[0];
-    if (c->t > 1) {
-        unsigned square = mul(c, sigma1, sigma1), cube = mul(c, square, sigma1);
-        unsigned gap = cube ^ sum[1];   /* 0 for one error, never for two or three */
-        if (gap && c->t == 2) {
-            if (!sigma1)
-                return 0;
-            sigma2 = divide(c, gap, sigma1);
-        } else if (gap) {
-            sigma2 = divide(c, mul(c, square, sum[1]) ^ sum[2], gap);
-            sigma3 = gap ^ mul(c, sigma1, sigma2);
+    for (unsigned j = 0; j < count; j += 8) {
+        uint32_t *entries = sums[j / 8];
+        entries[0] = 0;
+        for (unsigned b = 0; b < 8; b++) {
+            uint32_t number = j + b < count ? numbers[j + b] : 0;
+            for (unsigned v = 0; v < 1u << b; v++)
+                entries[(1u << b) + v] = entries[v] ^ number;
         }
     }
-    degree = sigma3 ? 3 : sigma2 ? 2 : sigma1 ? 1 : 0;
+}
 
-    /* Chien search: root^e, of position n-1-e, is an error locator if 1 + sigma1/root^e + sigma2/root^2e + sigma3/root^3e is 0. */
-    for (unsigned e = 0; e < c->n && found < degree; e++) {
-        unsigned inverse = c->power[c->order - e];
-        unsigned value = mul(c, mul(c, mul(c, sigma3, inverse) ^ sigma2, inverse) ^ sigma1, inverse) ^ 1;
-        if (!value)
-            position[found++] = c->n - 1 - e;
+/* ---- Errors of a word ---- */
+
+enum { SYNDROME_BITS = 10 };            /* S1, S3 and S5 of at most so many bits stand in one number, S1 lowest */
+
+typedef struct {
+    byte_sums syndromes[(MAX_R + 7) / 8];       /* of the bits of a remainder */
+    uint16_t half[MAX_N + 1];           /* a z with z^2 + z = u, or 0 if there is none; the other one is z + 1 */
+    uint16_t third[MAX_N + 1][2];       /* two of three z with z^3 + z = u; the second is 0 if there are no three; their sum is the last one */
+} locator;
+
+static void make_locator(const code *c, locator *l)
+{
+    uint32_t syndromes[MAX_R];
+    for (unsigned e = 0; e < c->r; e++) {
+        syndromes[e] = 0;
+        for (unsigned i = 0; i < c->t; i++)
+            syndromes[e] |= (uint32_t)c->power[(2 * i + 1) * e % c->order] << (i * SYNDROME_BITS);
+    }
+    make_sums(l->syndromes, syndromes, c->r);
+
+    memset(l->half, 0, sizeof l->half);
+    memset(l->third, 0, sizeof l->third);
+    for (unsigned z = 2; z <= c->order; z++) {
+        unsigned square = mul(c, z, z), u = mul(c, z, square) ^ z;
+        l->half[square ^ z] = z;
+        l->third[u][l->third[u][0] != 0] = z;
+    }
+}
+
+/* Whether root^e, e below twice the order, is the locator of a position, and of which. */
+static int position_of(const code *c, unsigned e, unsigned *position)
+{
+    e = e < c->order ? e : e - c->order;
+    *position = c->n - 1 - e;
+    return e < c->n;
+}
+
+/* The positions, at most t, whose turning makes a word with this remainder (not 0) a codeword; their number, or 0 if there are none.
+   Peterson's solution: the power sums S1, S3, S5 of the error locators are given by the remainder and give the coefficients of the polynomial
+   whose roots the locators are, x + S1, x^2 + S1 x + sigma2 or x^3 + S1 x^2 + sigma2 x + sigma3. */
+static unsigned locate(const code *c, const locator *l, uint32_t rem, unsigned position[MAX_T])
+{
+    const unsigned mask = (1u << SYNDROME_BITS) - 1;
+    uint32_t sums = 0;
+    for (unsigned i = 0; 8 * i < c->r; i++)
+        sums ^= l->syndromes[i][rem >> (8 * i) & 255];
+    unsigned S1 = sums & mask, S3 = sums >> SYNDROME_BITS & mask, S5 = sums >> (2 * SYNDROME_BITS);
+
+    if (c->t == 1)
+        return position_of(c, c->log[S1], position);
+
+    unsigned square = mul(c, S1, S1), gap = mul(c, square, S1) ^ S3;    /* the gap is 0 for one error, never for two or three */
+    if (!gap)
+        return S1 && (c->t == 2 || mul(c, mul(c, square, square), S1) == S5) && position_of(c, c->log[S1], position);
+
+    unsigned sigma2 = 0, sigma3 = 0;
+    if (c->t == 3) {
+        sigma2 = divide(c, mul(c, square, S3) ^ S5, gap);
+        sigma3 = gap ^ mul(c, S1, sigma2);
+    }
+    if (!sigma3) {                      /* x = S1 z gives z^2 + z = sigma2 / S1^2, where sigma2 is gap / S1 */
+        if (!S1)
+            return 0;
+        unsigned z = l->half[divide(c, gap, mul(c, square, S1))], e = c->log[S1];
+        return z && position_of(c, e + c->log[z], position) && position_of(c, e + c->log[z ^ 1], position + 1) ? 2 : 0;
     }
 
-    for (unsigned i = 0; i < found; i++)
-        rem ^= c->rem[position[i]];
-    return rem ? 0 : found;
+    unsigned y[3], a = square ^ sigma2;         /* x = y + S1 gives y^3 + a y = gap, */
+    if (a) {                                    /* and y = z sqrt(a) gives z^3 + z = gap / sqrt(a)^3 */
+        unsigned e = c->log[a], root = c->power[(e % 2 ? e + c->order : e) / 2];
+        const uint16_t *z = l->third[divide(c, gap, mul(c, a, root))];
+        if (!z[1])
+            return 0;
+        y[0] = mul(c, root, z[0]);
+        y[1] = mul(c, root, z[1]);
+    } else {
+        unsigned e = c->log[gap];
+        if (c->order % 3 || e % 3)
+            return 0;
+        y[0] = c->power[e / 3];
+        y[1] = c->power[e / 3 + c->order / 3];
+    }
+    y[2] = y[0] ^ y[1];
+    for (unsigned i = 0; i < 3; i++)
+        if (!position_of(c, c->log[y[i] ^ S1], position + i))
+            return 0;
+    return 3;
 }
 
 /* ---- Kits ---- */
@@ -202,12 +268,11 @@ static unsigned entry(const uint8_t *list, size_t p)
     return list[2 * p] | (unsigned)list[2 * p + 1] << 8;
 }
 
-static uint16_t *unpack_list(const uint8_t *list, unsigned size)
+/* Eight bytes, the first lowest. */
+static uint64_t eight_bytes(const uint8_t *b)
 {
-    uint16_t *out = zeroed(size, sizeof *out);
-    for (unsigned p = 0; p < size; p++)
-        out[p] = entry(list, p);
-    return out;
+    return (uint64_t)b[0] | (uint64_t)b[1] << 8 | (uint64_t)b[2] << 16 | (uint64_t)b[3] << 24 | (uint64_t)b[4] << 32 | (uint64_t)b[5] << 40
+        | (uint64_t)b[6] << 48 | (uint64_t)b[7] << 56;
 }
 
 static size_t words_a_row(unsigned size)
@@ -235,8 +300,7 @@ static uint64_t *pack_rows(const uint8_t *inverse, unsigned size)
         uint64_t *to = rows + i * words;
         size_t b = 0;
         for (; b + 8 <= bytes; b += 8)
-            to[b / 8] = (uint64_t)from[b] | (uint64_t)from[b + 1] << 8 | (uint64_t)from[b + 2] << 16 | (uint64_t)from[b + 3] << 24
-                | (uint64_t)from[b + 4] << 32 | (uint64_t)from[b + 5] << 40 | (uint64_t)from[b + 6] << 48 | (uint64_t)from[b + 7] << 56;
+            to[b / 8] = eight_bytes(from + b);
         for (; b < bytes; b++)
             to[b / 8] |= (uint64_t)from[b] << (8 * (b % 8));
     }
@@ -296,12 +360,23 @@ void plain_system(unsigned m, unsigned t, unsigned M, const uint8_t *self, const
 /* The first entry that is too large or seen before, or size if the list is a permutation. */
 static unsigned first_bad_entry(const uint8_t *list, unsigned size)
 {
-    uint8_t *seen = zeroed(size, 1);
+    uint8_t seen[MAX_SIZE] = { 0 };
     unsigned p = 0;
     while (p < size && entry(list, p) < size && !seen[entry(list, p)])
         seen[entry(list, p++)] = 1;
-    free(seen);
     return p;
+}
+
+/* Rule 7: 0, or 7 and the place. */
+static int judge_lists(unsigned size, const uint8_t *self, const uint8_t *parity, uint64_t *place)
+{
+    unsigned bad = first_bad_entry(self, size);
+    if (bad == size)
+        bad += first_bad_entry(parity, size);
+    if (bad == 2 * size)
+        return 0;
+    *place = bad;
+    return 7;
 }
 
 /* Whether the product of the two matrices is the identity; if not, the place of its first wrong entry. */
@@ -330,13 +405,9 @@ int plain_check_kit(unsigned m, unsigned t, unsigned M, const uint8_t *self, con
     if (rule)
         return rule;
 
-    unsigned bad = first_bad_entry(self, s.size);
-    if (bad == s.size)
-        bad += first_bad_entry(parity, s.size);
-    if (bad < 2 * s.size) {
-        *place = bad;
-        return 7;
-    }
+    rule = judge_lists(s.size, self, parity, place);
+    if (rule)
+        return rule;
 
     size_t bytes = (s.size + 7) / 8;
     if (s.size % 8)
@@ -441,6 +512,11 @@ void plain_random_lists(unsigned m, unsigned t, unsigned M, uint64_t seed, uint8
 
 /* ---- Frames ---- */
 
+static unsigned groups(unsigned L)
+{
+    return (L + 1) / 2;
+}
+
 /* What a group's words are made of; an unsent block is a null pointer. */
 typedef struct {
     const uint8_t *before, *odd, *even;         /* B(2i-2), B(2i-1), B(2i) */
@@ -464,74 +540,126 @@ static group get_group(const code *c, unsigned L, const uint8_t *info, const uin
     return g;
 }
 
-/* Adds the matrix (M columns) to M remainders, its columns as the words' positions from the one that rem starts with. */
-static void add_rows(uint32_t *sums, const uint8_t *matrix, unsigned M, const uint32_t *rem)
+/* Sums of rem for the positions of a word: those of its first block, of its second one, of X or Y, and of Q or P. */
+typedef struct {
+    byte_sums first[(MAX_M + 7) / 8], second[(MAX_M + 7) / 8], self[(MAX_R + 7) / 8], parity[(MAX_R + 7) / 8];
+} word_sums;
+
+static void make_word_sums(const code *c, word_sums *w)
 {
-    for (unsigned a = 0; matrix && a < M; a++) {
+    make_sums(w->first, c->rem, c->M);
+    make_sums(w->second, c->rem + c->M, c->M);
+    make_sums(w->self, c->rem + 2 * c->M, c->r);
+    make_sums(w->parity, c->rem + c->k, c->r);
+}
+
+/* Bytes j to j + 7 of a row of M, the first lowest, and 0 past its end. */
+static inline uint64_t row_bytes(const uint8_t *row, unsigned j, unsigned M)
+{
+    if (j + 8 <= M)
+        return eight_bytes(row + j);
+    if (M >= 8)
+        return eight_bytes(row + M - 8) >> 8 * (j + 8 - M);
+    uint64_t bytes = 0;
+    while (M-- > j)
+        bytes = bytes << 8 | row[M];
+    return bytes;
+}
+
+/* Bit b is the lowest one of byte b; each byte is 0 or 1. */
+static unsigned low_bits(uint64_t bytes)
+{
+    return bytes * 0x0102040810204080u >> 56;   /* bit 8 b comes to bit 56 + b, and no two bits meet */
+}
+
+/* Adds the rows of a block to M remainders. */
+static void add_rows(uint32_t *to, const uint8_t *block, unsigned M, const byte_sums *sums)
+{
+    for (unsigned a = 0; block && a < M; a++, block += M) {
         uint32_t sum = 0;
-        for (unsigned j = 0; j < M; j++)
-            sum ^= rem[j] & -(uint32_t)matrix[a * M + j];
-        sums[a] ^= sum;
+        unsigned j = 0;
+        for (; j + 8 <= M; j += 8)
+            sum ^= sums[j / 8][low_bits(eight_bytes(block + j))];
+        if (j < M)
+            sum ^= sums[j / 8][low_bits(row_bytes(block, j, M))];
+        to[a] ^= sum;
     }
 }
 
-/* The same for the columns of a matrix of M columns: its rows are the positions. */
-static void add_columns(uint32_t *sums, const uint8_t *matrix, unsigned rows, unsigned M, const uint32_t *rem)
+/* Of eight columns from a on, a byte each: the bits of at most eight rows, the first row's lowest. */
+static inline uint64_t column_bits(const uint8_t *rows, unsigned count, unsigned a, unsigned M)
 {
-    for (unsigned j = 0; matrix && j < rows; j++)
-        for (unsigned a = 0; a < M; a++)
-            sums[a] ^= rem[j] & -(uint32_t)matrix[j * M + a];
+    uint64_t bits = 0;
+    while (count-- > 0)
+        bits = 2 * bits + row_bytes(rows + count * M, a, M);
+    return bits;
+}
+
+/* The same for the columns of a matrix of M columns: eight rows at a time, from their start to their end. */
+static void add_columns(uint32_t *to, const uint8_t *matrix, unsigned rows, unsigned M, const byte_sums *sums)
+{
+    for (unsigned j = 0; matrix && j < rows; j += 8) {
+        const uint8_t *top = matrix + j * M;
+        unsigned count = rows - j < 8 ? rows - j : 8, a = 0;
+        for (; a + 8 <= M; a += 8) {
+            uint64_t bits = count == 8 ? column_bits(top, 8, a, M) : column_bits(top, count, a, M);     /* the former is unrolled */
+            for (unsigned b = 0; b < 8; b++)
+                to[a + b] ^= sums[j / 8][bits >> 8 * b & 255];
+        }
+        if (a < M)
+            for (uint64_t bits = column_bits(top, count, a, M); a < M; a++, bits >>= 8)
+                to[a] ^= sums[j / 8][bits & 255];
+    }
+}
+
+/* The bits at which at most eight entries of a list point, the first one's lowest. */
+static inline unsigned listed_bits(const uint8_t *matrix, const uint16_t *list, unsigned count)
+{
+    unsigned bits = 0;
+    while (count-- > 0)
+        bits = 2 * bits + matrix[list[count]];
+    return bits;
 }
 
 /* The same for the rows of X or Q, read from Y or P by its list. */
-static void add_listed(uint32_t *sums, const uint8_t *matrix, const uint16_t *list, unsigned r, unsigned M, const uint32_t *rem)
+static void add_listed(uint32_t *to, const uint8_t *matrix, const uint16_t *list, unsigned r, unsigned M, const byte_sums *sums)
 {
-    for (unsigned b = 0; b < r; b++)
-        for (unsigned a = 0; a < M; a++)
-            sums[a] ^= rem[b] & -(uint32_t)matrix[list[b * M + a]];
-}
-
-static void row_remainders(const code *c, const uint16_t *self, const uint16_t *parity, const group *g, uint32_t *sums)
-{
-    memset(sums, 0, c->M * sizeof *sums);
-    add_rows(sums, g->before, c->M, c->rem);
-    add_rows(sums, g->odd, c->M, c->rem + c->M);
-    add_listed(sums, g->Y, self, c->r, c->M, c->rem + 2 * c->M);
-    add_listed(sums, g->P, parity, c->r, c->M, c->rem + c->k);
-}
-
-static void column_remainders(const code *c, const group *g, uint32_t *sums)
-{
-    memset(sums, 0, c->M * sizeof *sums);
-    add_columns(sums, g->odd, c->M, c->M, c->rem);
-    add_columns(sums, g->even, c->M, c->M, c->rem + c->M);
-    add_columns(sums, g->Y, c->r, c->M, c->rem + 2 * c->M);
-    add_columns(sums, g->P, c->r, c->M, c->rem + c->k);
+    for (unsigned a = 0; a < M; a++, list += r) {
+        uint32_t sum = 0;
+        unsigned j = 0;
+        for (; j + 8 <= r; j += 8)
+            sum ^= sums[j / 8][listed_bits(matrix, list + j, 8)];
+        if (j < r)
+            sum ^= sums[j / 8][listed_bits(matrix, list + j, r - j)];
+        to[a] ^= sum;
+    }
 }
 
 void plain_encode(unsigned m, unsigned t, unsigned M, unsigned L, const uint8_t *self, const uint8_t *parity, const uint8_t *inverse,
                   const uint8_t *info, uint8_t *red)
 {
     code c;
+    word_sums w;
     make_code(&c, m, t, M);
+    make_word_sums(&c, &w);
     (void)self;                                         /* W holds what the self list says */
     size_t words = words_a_row(c.size);
     uint64_t *W = pack_rows(inverse, c.size), *constant = zeroed(words, sizeof *constant);
     uint32_t *rows = zeroed(M, sizeof *rows), *columns = zeroed(M, sizeof *columns);
-    uint16_t *brought = unpack_list(parity, c.size);    /* place of Q to entry of c */
+    uint16_t *brought = zeroed(c.size, sizeof *brought);        /* place of Q to entry of c */
     for (unsigned p = 0; p < c.size; p++)
-        brought[p] = entry_of_byte(&c, brought[p]);
+        brought[p] = entry_of_byte(&c, entry(parity, p));
 
-    for (unsigned i = 1; i <= (L + 1) / 2; i++) {
+    for (unsigned i = 1; i <= groups(L); i++) {
         group g = get_group(&c, L, info, red, i);
         uint8_t *Y = red + (size_t)(i - 1) * 2 * c.size, *P = Y + c.size;
 
         memset(rows, 0, M * sizeof *rows);
-        add_rows(rows, g.before, M, c.rem);
-        add_rows(rows, g.odd, M, c.rem + M);
+        add_rows(rows, g.before, M, w.first);
+        add_rows(rows, g.odd, M, w.second);
         memset(columns, 0, M * sizeof *columns);
-        add_columns(columns, g.odd, M, M, c.rem);
-        add_columns(columns, g.even, M, M, c.rem + M);
+        add_columns(columns, g.odd, M, M, w.first);
+        add_columns(columns, g.even, M, M, w.second);
 
         memset(constant, 0, words * sizeof *constant);
         for (unsigned e = 0; e < c.r; e++)
@@ -551,7 +679,7 @@ void plain_encode(unsigned m, unsigned t, unsigned M, unsigned L, const uint8_t 
                 Y[a * M + b] = __builtin_parityll(sum);
             }
 
-        add_columns(columns, Y, c.r, M, c.rem + 2 * M);
+        add_columns(columns, Y, c.r, M, w.self);
         for (unsigned e = 0; e < c.r; e++)
             for (unsigned a = 0; a < M; a++)
                 P[e * M + a] = columns[a] >> (c.r - 1 - e) & 1;
@@ -563,60 +691,158 @@ void plain_encode(unsigned m, unsigned t, unsigned M, unsigned L, const uint8_t 
     free(brought);
 }
 
-static uint64_t count_outside(const code *c, unsigned L, const uint16_t *self, const uint16_t *parity, const uint8_t *info, const uint8_t *red,
-                              uint32_t *sums)
+/* ---- Words of a frame ---- */
+
+/* What the word checker and the decoder work with. */
+typedef struct {
+    code c;
+    word_sums w;
+    unsigned L;
+    uint8_t *info, *red;
+    uint16_t self[MAX_SIZE], parity[MAX_SIZE];          /* entry a * r + b: the byte of Y or P that is row a, column b of X or Q */
+    uint32_t rem[MAX_M];                /* of a group's row words or column words */
+} words;
+
+static void make_words(words *f, unsigned m, unsigned t, unsigned M, unsigned L, const plain_frame *lent)
+{
+    make_code(&f->c, m, t, M);
+    make_word_sums(&f->c, &f->w);
+    f->L = L;
+    f->info = lent->info;
+    f->red = lent->red;
+    for (unsigned b = 0; b < f->c.r; b++)
+        for (unsigned a = 0; a < M; a++) {
+            f->self[a * f->c.r + b] = entry(lent->self, b * M + a);
+            f->parity[a * f->c.r + b] = entry(lent->parity, b * M + a);
+        }
+}
+
+static void row_remainders(words *f, const group *g)
+{
+    unsigned M = f->c.M;
+    memset(f->rem, 0, M * sizeof *f->rem);
+    add_rows(f->rem, g->before, M, f->w.first);
+    add_rows(f->rem, g->odd, M, f->w.second);
+    add_listed(f->rem, g->Y, f->self, f->c.r, M, f->w.self);
+    add_listed(f->rem, g->P, f->parity, f->c.r, M, f->w.parity);
+}
+
+static void column_remainders(words *f, const group *g)
+{
+    unsigned M = f->c.M;
+    memset(f->rem, 0, M * sizeof *f->rem);
+    add_columns(f->rem, g->odd, M, M, f->w.first);
+    add_columns(f->rem, g->even, M, M, f->w.second);
+    add_columns(f->rem, g->Y, f->c.r, M, f->w.self);
+    add_columns(f->rem, g->P, f->c.r, M, f->w.parity);
+}
+
+static unsigned nonzero(const uint32_t *numbers, unsigned count)
+{
+    unsigned found = 0;
+    for (unsigned a = 0; a < count; a++)
+        found += numbers[a] != 0;
+    return found;
+}
+
+static uint64_t count_outside(words *f)
 {
     uint64_t outside = 0;
-    for (unsigned i = 1; i <= (L + 1) / 2; i++) {
-        group g = get_group(c, L, info, red, i);
-        row_remainders(c, self, parity, &g, sums);
-        for (unsigned a = 0; a < c->M; a++)
-            outside += sums[a] != 0;
-        column_remainders(c, &g, sums);
-        for (unsigned a = 0; a < c->M; a++)
-            outside += sums[a] != 0;
+    for (unsigned i = 1; i <= groups(f->L); i++) {
+        group g = get_group(&f->c, f->L, f->info, f->red, i);
+        row_remainders(f, &g);
+        outside += nonzero(f->rem, f->c.M);
+        column_remainders(f, &g);
+        outside += nonzero(f->rem, f->c.M);
     }
     return outside;
 }
 
-uint64_t plain_outside(unsigned m, unsigned t, unsigned M, unsigned L, const uint8_t *self, const uint8_t *parity, const uint8_t *info,
-                       const uint8_t *red)
+/* The first byte above 1, or the length. */
+static size_t first_bad_bit(const uint8_t *bytes, size_t length)
 {
-    code c;
-    make_code(&c, m, t, M);
-    uint16_t *self_list = unpack_list(self, c.size), *parity_list = unpack_list(parity, c.size);
-    uint32_t *sums = zeroed(M, sizeof *sums);
-    uint64_t outside = count_outside(&c, L, self_list, parity_list, info, red, sums);
-    free(self_list);
-    free(parity_list);
-    free(sums);
-    return outside;
+    size_t start = 0, end = 0;
+    for (uint8_t any = 0; any <= 1 && end < length;) {
+        start = end;
+        end = length - start < 4096 ? length : start + 4096;
+        for (size_t i = start; i < end; i++)
+            any |= bytes[i];
+    }
+    while (start < length && bytes[start] <= 1)
+        start++;
+    return start;
+}
+
+/* Rules 1 to 7 and 10: 0, or the rule's number and its place. */
+static int judge_frame(unsigned m, unsigned t, unsigned M, unsigned L, unsigned rounds, const plain_frame *lent, uint64_t *place)
+{
+    plain_sizes s;
+    int rule = plain_design(m, t, M, &s, place);
+    if (rule)
+        return rule;
+    if (L < 1 || L > MAX_L) {
+        *place = L;
+        return 4;
+    }
+    if (rounds > MAX_ROUNDS) {
+        *place = rounds;
+        return 5;
+    }
+    size_t list = 2 * (size_t)s.size, info = (size_t)L * M * M, red = groups(L) * 2 * (size_t)s.size;
+    unsigned slice = lent->self_length != list ? 1 : lent->parity_length != list ? 2 : lent->info_length != info ? 4
+        : lent->red_length != red ? 5 : 0;
+    if (slice) {
+        *place = slice;
+        return 6;
+    }
+    rule = judge_lists(s.size, lent->self, lent->parity, place);
+    if (rule)
+        return rule;
+    size_t bad = first_bad_bit(lent->info, info);
+    if (bad == info)
+        bad += first_bad_bit(lent->red, red);
+    if (bad == info + red)
+        return 0;
+    *place = bad;
+    return 10;
+}
+
+int plain_words(unsigned m, unsigned t, unsigned M, unsigned L, const plain_frame *lent, uint64_t *outside, uint64_t *place)
+{
+    words f;
+    *outside = 0;
+    int rule = judge_frame(m, t, M, L, 0, lent, place);
+    if (rule)
+        return rule;
+    make_words(&f, m, t, M, L, lent);
+    *outside = count_outside(&f);
+    return 0;
 }
 
 /* Where position j of row word a stands, or null in an unsent block. */
-static const uint8_t *row_bit(const code *c, const uint16_t *self, const uint16_t *parity, const group *g, unsigned a, unsigned j)
+static const uint8_t *row_bit(const words *f, const group *g, unsigned a, unsigned j)
 {
-    unsigned M = c->M;
+    unsigned M = f->c.M, r = f->c.r;
     if (j < M)
         return g->before ? g->before + a * M + j : NULL;
     if (j < 2 * M)
         return g->odd + a * M + (j - M);
-    if (j < c->k)
-        return g->Y + self[(j - 2 * M) * M + a];
-    return g->P + parity[(j - c->k) * M + a];
+    if (j < f->c.k)
+        return g->Y + f->self[a * r + (j - 2 * M)];
+    return g->P + f->parity[a * r + (j - f->c.k)];
 }
 
 /* The same for column word a. */
-static const uint8_t *column_bit(const code *c, const group *g, unsigned a, unsigned j)
+static const uint8_t *column_bit(const words *f, const group *g, unsigned a, unsigned j)
 {
-    unsigned M = c->M;
+    unsigned M = f->c.M;
     if (j < M)
         return g->odd + j * M + a;
     if (j < 2 * M)
         return g->even ? g->even + (j - M) * M + a : NULL;
-    if (j < c->k)
+    if (j < f->c.k)
         return g->Y + (j - 2 * M) * M + a;
-    return g->P + (j - c->k) * M + a;
+    return g->P + (j - f->c.k) * M + a;
 }
 
 /* Turns the bits unless one is unsent; returns the number turned. */
@@ -630,55 +856,54 @@ static unsigned turn(const uint8_t *bits[], unsigned count)
     return count;
 }
 
-/* Row words share no bit with one another, nor do column words, so each kind's remainders are taken before the first of them is mended. */
-static uint64_t mend_group(const code *c, const uint16_t *self, const uint16_t *parity, const group *g, uint32_t *sums)
+/* Mends the words whose remainders were taken; counts the bits turned and the words that were outside the code. */
+static void mend_words(const words *f, const locator *l, const group *g, const uint8_t *(*bit)(const words *, const group *, unsigned, unsigned),
+                       uint64_t *turned, uint64_t *outside)
 {
     unsigned position[MAX_T];
     const uint8_t *bits[MAX_T];
-    uint64_t turned = 0;
-
-    row_remainders(c, self, parity, g, sums);
-    for (unsigned a = 0; a < c->M; a++)
-        if (sums[a]) {
-            unsigned count = locate(c, sums[a], position);
+    for (unsigned a = 0; a < f->c.M; a++)
+        if (f->rem[a]) {
+            unsigned count = locate(&f->c, l, f->rem[a], position);
             for (unsigned i = 0; i < count; i++)
-                bits[i] = row_bit(c, self, parity, g, a, position[i]);
-            turned += turn(bits, count);
+                bits[i] = bit(f, g, a, position[i]);
+            *turned += turn(bits, count);
+            ++*outside;
         }
-    column_remainders(c, g, sums);
-    for (unsigned a = 0; a < c->M; a++)
-        if (sums[a]) {
-            unsigned count = locate(c, sums[a], position);
-            for (unsigned i = 0; i < count; i++)
-                bits[i] = column_bit(c, g, a, position[i]);
-            turned += turn(bits, count);
-        }
-    return turned;
 }
 
-void plain_decode(unsigned m, unsigned t, unsigned M, unsigned L, unsigned rounds, const uint8_t *self, const uint8_t *parity, uint8_t *info,
-                  uint8_t *red, uint64_t counts[3])
+/* Row words share no bit with one another, nor do column words, so each kind's remainders are taken before the first of them is mended. */
+static void mend_group(words *f, const locator *l, const group *g, uint64_t *turned, uint64_t *outside)
 {
-    code c;
-    make_code(&c, m, t, M);
-    uint16_t *self_list = unpack_list(self, c.size), *parity_list = unpack_list(parity, c.size);
-    uint32_t *sums = zeroed(M, sizeof *sums);
-    uint64_t made = 0, all = 0, turned;
+    row_remainders(f, g);
+    mend_words(f, l, g, row_bit, turned, outside);
+    column_remainders(f, g);
+    mend_words(f, l, g, column_bit, turned, outside);
+}
+
+int plain_decode(unsigned m, unsigned t, unsigned M, unsigned L, unsigned rounds, const plain_frame *lent, uint64_t counts[3], uint64_t *place)
+{
+    words f;
+    locator l;
+    uint64_t turned;
+    memset(counts, 0, 3 * sizeof *counts);
+    int rule = judge_frame(m, t, M, L, rounds, lent, place);
+    if (rule)
+        return rule;
+    make_words(&f, m, t, M, L, lent);
+    make_locator(&f.c, &l);
     if (rounds == 0)
         rounds = DEFAULT_ROUNDS;
     do {
-        turned = 0;
-        for (unsigned i = 1; i <= (L + 1) / 2; i++) {
-            group g = get_group(&c, L, info, red, i);
-            turned += mend_group(&c, self_list, parity_list, &g, sums);
+        turned = counts[2] = 0;
+        for (unsigned i = 1; i <= groups(L); i++) {
+            group g = get_group(&f.c, L, f.info, f.red, i);
+            mend_group(&f, &l, &g, &turned, &counts[2]);
         }
-        made++;
-        all += turned;
-    } while (turned && made < rounds);
-    counts[0] = made;
-    counts[1] = all;
-    counts[2] = count_outside(&c, L, self_list, parity_list, info, red, sums);
-    free(self_list);
-    free(parity_list);
-    free(sums);
+        counts[0]++;
+        counts[1] += turned;
+    } while (turned && counts[0] < rounds);
+    if (turned)                         /* an idle round has just met them all */
+        counts[2] = count_outside(&f);
+    return 0;
 }

@@ -1,12 +1,13 @@
 /* A plain C implementation of document 01 (feed-forward staircase frames and their kits): a baseline for benchmarks, an opponent for tests.
 
    Common to all calls: lists have two bytes an entry, low byte first; the inverse has M * r rows of (M * r + 7) / 8 bytes; info and red hold one
-   bit a byte, info L * M * M bytes, red (L + 1) / 2 * 2 * M * r bytes. Only plain_design and plain_check_kit judge anything: every other call
-   wants a design that fits, lists that are permutations, L from 1 to 4,096 and bytes of 0 or 1. A want of memory ends the program. */
+   bit a byte, info L * M * M bytes, red (L + 1) / 2 * 2 * M * r bytes. A call judges what its comment says; otherwise it wants a design that fits,
+   lists that are permutations, L from 1 to 4,096 and bytes of 0 or 1. A want of memory ends the program. */
 
 #ifndef PLAIN_H
 #define PLAIN_H
 
+#include <stddef.h>
 #include <stdint.h>
 
 typedef struct {
@@ -33,13 +34,20 @@ int plain_check_kit(unsigned m, unsigned t, unsigned M, const uint8_t *self, con
 void plain_encode(unsigned m, unsigned t, unsigned M, unsigned L, const uint8_t *self, const uint8_t *parity, const uint8_t *inverse,
                   const uint8_t *info, uint8_t *red);
 
-/* The number of words outside the code. */
-uint64_t plain_outside(unsigned m, unsigned t, unsigned M, unsigned L, const uint8_t *self, const uint8_t *parity, const uint8_t *info,
-                       const uint8_t *red);
+/* What the word checker and the decoder are lent. */
+typedef struct {
+    const uint8_t *self, *parity;
+    uint8_t *info, *red;
+    size_t self_length, parity_length, info_length, red_length;
+} plain_frame;
 
-/* Mends info and red by the document's rounds (0 stands for 7); counts: rounds made, bits turned, words outside at the end. */
-void plain_decode(unsigned m, unsigned t, unsigned M, unsigned L, unsigned rounds, const uint8_t *self, const uint8_t *parity, uint8_t *info,
-                  uint8_t *red, uint64_t counts[3]);
+/* Rules 1 to 4, 6, 7 and 10: 0 and the number of words outside the code, or the rule's number, its place and no words. Changes no bit. */
+int plain_words(unsigned m, unsigned t, unsigned M, unsigned L, const plain_frame *lent, uint64_t *outside, uint64_t *place);
+
+/* Rules 1 to 7 and 10: 0, or the rule's number and its place. Mends info and red by the document's rounds (0 stands for 7); counts: rounds made,
+   bits turned, words outside at the end, all 0 if refused. A group's remainders are taken anew in each round, about n / 8 steps a word; the errors
+   of a word are then found in a fixed number of steps. */
+int plain_decode(unsigned m, unsigned t, unsigned M, unsigned L, unsigned rounds, const plain_frame *lent, uint64_t counts[3], uint64_t *place);
 
 /* Makes W by elimination: 1 and the inverse written, or 0 and nothing written if A has no inverse. */
 int plain_make_inverse(unsigned m, unsigned t, unsigned M, const uint8_t *self, const uint8_t *parity, uint8_t *inverse);

@@ -1,8 +1,8 @@
 /* Self-test of plain.c: document 01's rows under kit K, a kit with M = 2, published generators, round trips, a brute-force decoder, refusals.
    Prints a line a group, returns 1 on a failure. gcc -O3 -o plain_test plain_test.c plain.c
 
-   The opponent ("ref") shares nothing with plain.c: long division of whole words by published generators, words as tables of indices made from the
-   document's matrices and places, mending by trying every set of at most t positions. */
+   The opponent ("ref") shares nothing with plain.c but generators, which are tested by themselves: long division of whole words, words as tables
+   of indices made from the document's matrices and places, mending by trying every set of at most t positions. */
 
 #include "plain.h"
 
@@ -77,9 +77,9 @@ static void ref_parity(const ref *d, const uint8_t *information, uint8_t *bits)
         bits[e] = rem >> (d->r - 1 - e) & 1;
 }
 
-static ref ref_design(unsigned m, unsigned t, unsigned M, uint32_t g, const uint8_t *self, const uint8_t *parity)
+static ref ref_design(unsigned m, unsigned t, unsigned M, const uint8_t *self, const uint8_t *parity)
 {
-    ref d = { m, t, M, m * t, 2 * M + 2 * m * t, 2 * M + m * t, M * m * t, g, self, parity, { 0 } };
+    ref d = { m, t, M, m * t, 2 * M + 2 * m * t, 2 * M + m * t, M * m * t, plain_generator(m, t), self, parity, { 0 } };
     for (unsigned j = 0; j < d.n; j++) {
         uint8_t word[1023] = { 0 };
         word[j] = 1;
@@ -254,14 +254,45 @@ static int ref_check(const ref *d, const uint8_t *A, const uint8_t *inverse, uin
     return 0;
 }
 
+/* ---- Calls of plain.c ---- */
+
+/* Information and redundancy one after the other, as lent to the word checker and the decoder. */
+static plain_frame lend(const ref *d, unsigned L, uint8_t *frame)
+{
+    size_t list = 2 * (size_t)d->N, info = (size_t)L * d->M * d->M, red = (size_t)(L + 1) / 2 * 2 * d->N;
+    return (plain_frame){ d->self, d->parity, frame, frame + info, list, list, info, red };
+}
+
+/* The words outside, or -1 if refused. */
+static int64_t outside(const ref *d, unsigned L, uint8_t *frame)
+{
+    plain_frame lent = lend(d, L, frame);
+    uint64_t words, place;
+    return plain_words(d->m, d->t, d->M, L, &lent, &words, &place) ? -1 : (int64_t)words;
+}
+
+static int decode(const ref *d, unsigned L, unsigned rounds, uint8_t *frame, uint64_t counts[3])
+{
+    plain_frame lent = lend(d, L, frame);
+    uint64_t place;
+    return plain_decode(d->m, d->t, d->M, L, rounds, &lent, counts, &place);
+}
+
+/* Whether the decoder leaves this frame and these counts. */
+static int decodes(const ref *d, unsigned L, unsigned rounds, uint8_t *frame, const uint8_t *after, size_t length, const uint64_t want[3])
+{
+    uint64_t counts[3];
+    return decode(d, L, rounds, frame, counts) == 0 && memcmp(frame, after, length) == 0 && memcmp(counts, want, sizeof counts) == 0;
+}
+
 /* ---- Rows under K ---- */
 
-/* Bits written as characters, spaces left out. */
+/* Bits written as characters, others left out. */
 static unsigned from_text(const char *text, uint8_t *bits)
 {
     unsigned count = 0;
     for (; *text; text++)
-        if (*text != ' ')
+        if (*text == '0' || *text == '1')
             bits[count++] = *text - '0';
     return count;
 }
@@ -271,24 +302,22 @@ static const uint8_t K_inverse[] = { 0x5, 0xA, 0xB, 0x2 };     /* 1010, 0101, 11
 
 static int K_encodes(const char *blocks, const char *groups)
 {
-    uint8_t info[16], want[64], red[64];
-    unsigned L = from_text(blocks, info), length = from_text(groups, want);
-    memset(red, 7, sizeof red);
-    plain_encode(4, 1, 1, L, K_self, K_parity, K_inverse, info, red);
-    return memcmp(red, want, length) == 0 && red[length] == 7 && plain_outside(4, 1, 1, L, K_self, K_parity, info, red) == 0;
+    ref d = ref_design(4, 1, 1, K_self, K_parity);
+    uint8_t frame[64], want[64];
+    unsigned L = from_text(blocks, frame), length = from_text(groups, want);
+    memset(frame + L, 7, sizeof frame - L);
+    plain_encode(4, 1, 1, L, K_self, K_parity, K_inverse, frame, frame + L);
+    return memcmp(frame + L, want, length) == 0 && frame[L + length] == 7 && outside(&d, L, frame) == 0;
 }
 
-static int K_decodes(const char *blocks, const char *groups, unsigned rounds, const char *blocks_after, const char *groups_after, unsigned made,
-                     unsigned turned, unsigned outside)
+/* Frames are blocks, a bar, groups. */
+static int K_decodes(const char *before, unsigned rounds, const char *after, unsigned made, unsigned turned, unsigned words)
 {
-    uint8_t info[16], red[64], info_after[16], red_after[64];
-    uint64_t counts[3];
-    unsigned L = from_text(blocks, info), length = from_text(groups, red);
-    from_text(blocks_after, info_after);
-    from_text(groups_after, red_after);
-    plain_decode(4, 1, 1, L, rounds, K_self, K_parity, info, red, counts);
-    return memcmp(info, info_after, L) == 0 && memcmp(red, red_after, length) == 0 && counts[0] == made && counts[1] == turned
-        && counts[2] == outside;
+    ref d = ref_design(4, 1, 1, K_self, K_parity);
+    uint8_t frame[64], want[64];
+    unsigned L = strcspn(before, "|"), length = from_text(before, frame);
+    from_text(after, want);
+    return decodes(&d, L, rounds, frame, want, length, (uint64_t[]){ made, turned, words });
 }
 
 static int refused(unsigned m, unsigned t, unsigned M, int rule, uint64_t at)
@@ -324,9 +353,9 @@ static void test_rows(void)
     wrong[3] = 0xA;
     CHECK(plain_check_kit(4, 1, 1, K_self, K_parity, wrong, &place) == 9 && place == 7);
 
-    CHECK(K_decodes("01", "0001 0111", 0, "01", "0001 0110", 2, 1, 0));
-    CHECK(K_decodes("01", "0001 0111", 1, "01", "0001 0110", 1, 1, 0));
-    CHECK(K_decodes("00", "0000 0101", 0, "01", "0000 0101", 2, 1, 1));
+    CHECK(K_decodes("01|0001 0111", 0, "01|0001 0110", 2, 1, 0));
+    CHECK(K_decodes("01|0001 0111", 1, "01|0001 0110", 1, 1, 0));
+    CHECK(K_decodes("00|0000 0101", 0, "01|0000 0101", 2, 1, 1));
 
     CHECK(refused(4, 1, 3, 0, 0) && refused(4, 1, 4, 2, 16) && refused(10, 2, 204, 0, 0) && refused(10, 2, 205, 3, 4100));
     CHECK(refused(3, 0, 0, 1, 1) && refused(11, 9, 9, 1, 1) && refused(4, 0, 0, 1, 2) && refused(10, 4, 0, 1, 2));
@@ -341,8 +370,9 @@ static void test_second_kit(void)
     double start = seconds();
     const uint8_t self[] = { 5, 0, 3, 0, 4, 0, 1, 0, 7, 0, 2, 0, 6, 0, 0, 0 }, parity[] = { 0, 0, 5, 0, 7, 0, 3, 0, 2, 0, 1, 0, 6, 0, 4, 0 };
     const uint8_t inverse[] = { 153, 70, 79, 115, 207, 56, 145, 233 }, wrong[] = { 153, 70, 79, 115, 207, 60, 145, 233 };
-    uint8_t A[64], rows[64], info[12], red[32], out[32], made[8];
-    uint64_t place, counts[3];
+    uint8_t A[64], rows[64], info[12], red[32], out[32], made[8], frame[20];
+    uint64_t place;
+    ref d = ref_design(4, 1, 2, self, parity);
 
     from_text("11100010 01110011 00110100 10000010 11001000 01001110 00000111 00101000", rows);
     plain_system(4, 1, 2, self, parity, A);
@@ -356,11 +386,9 @@ static void test_second_kit(void)
     plain_encode(4, 1, 2, 3, self, parity, inverse, info, out);
     CHECK(memcmp(out, red, 32) == 0);
 
-    from_text("1000", info);
-    from_text("11111001 10100110", red);
-    plain_decode(4, 1, 2, 1, 1, self, parity, info, red, counts);
-    from_text("1010 11111101 10100110", out);
-    CHECK(memcmp(info, out, 4) == 0 && memcmp(red, out + 4, 16) == 0 && counts[0] == 1 && counts[1] == 2 && counts[2] == 1);
+    from_text("1000|11111001 10100110", frame);
+    from_text("1010|11111101 10100110", out);
+    CHECK(decodes(&d, 1, 1, frame, out, 20, (uint64_t[]){ 1, 2, 1 }));
     group_done("a kit with M = 2", start);
 }
 
@@ -448,12 +476,12 @@ static void random_bits(uint8_t *bits, size_t count, uint64_t *state)
 /* Encodes random blocks, turns bits at random while no word gets more than t wrong ones, and wants the frame back. */
 static void round_trip(unsigned m, unsigned t, unsigned M, unsigned L, kit k, uint64_t *state)
 {
-    ref d = ref_design(m, t, M, plain_generator(m, t), k.self, k.parity);
+    ref d = ref_design(m, t, M, k.self, k.parity);
     unsigned G = (L + 1) / 2, words = 2 * M * G;
     size_t info_length = (size_t)L * M * M, red_length = (size_t)G * 2 * d.N, length = info_length + red_length;
     uint8_t *frame = get(length), *copy = get(length), *load = get(words);
     unsigned (*owner)[2] = get(length * sizeof *owner);         /* the words of a bit, from 1 */
-    uint64_t counts[3], wrong = 0;
+    uint64_t wrong = 0;
     long at[1023];
 
     for (unsigned w = 0; w < words; w++) {
@@ -466,7 +494,7 @@ static void round_trip(unsigned m, unsigned t, unsigned M, unsigned L, kit k, ui
     memset(frame + info_length, 5, red_length);
     plain_encode(m, t, M, L, k.self, k.parity, k.inverse, frame, frame + info_length);
     CHECK(ref_outside(&d, L, frame) == 0);
-    CHECK(plain_outside(m, t, M, L, k.self, k.parity, frame, frame + info_length) == 0);
+    CHECK(outside(&d, L, frame) == 0);
 
     memcpy(copy, frame, length);
     for (unsigned tries = plain_random(state) % (4 * t * words + 1); tries > 0; tries--) {
@@ -482,10 +510,8 @@ static void round_trip(unsigned m, unsigned t, unsigned M, unsigned L, kit k, ui
             if (owner[bit][i])
                 load[owner[bit][i] - 1]++;
     }
-    CHECK(plain_outside(m, t, M, L, k.self, k.parity, copy, copy + info_length) == ref_outside(&d, L, copy));
-    plain_decode(m, t, M, L, 0, k.self, k.parity, copy, copy + info_length, counts);
-    CHECK(memcmp(copy, frame, length) == 0);
-    CHECK(counts[0] == (wrong ? 2 : 1) && counts[1] == wrong && counts[2] == 0);
+    CHECK(outside(&d, L, copy) == (int64_t)ref_outside(&d, L, copy));
+    CHECK(decodes(&d, L, 0, copy, frame, length, (uint64_t[]){ wrong ? 2 : 1, wrong, 0 }));
     free(frame);
     free(copy);
     free(load);
@@ -510,45 +536,68 @@ static void test_round_trips(void)
     group_done("round trips, at most t errors a word", start);
 }
 
-/* Any number of errors, down to noise without a frame: bits and counts against the opponent's. */
-static void brute_force(unsigned m, unsigned t, unsigned M, uint32_t g, unsigned trials)
+/* A frame with errors: words outside, bits and counts against the opponent's. Where the lists have no inverse, the frame is the zero one. */
+static void brute_force(const ref *d, const uint8_t *inverse, unsigned L, unsigned rounds, unsigned per_mille, uint64_t *state)
 {
-    static const unsigned per_mille[] = { 5, 15, 30, 60, 100, 200, 500 };
-    static const unsigned rounds_tried[] = { 0, 0, 0, 1, 2, 3, 64 };
-    uint64_t state = 77 + M, counts[3], want[3];
-    kit k = make_kit(m, t, M, 1, 60);
-    ref d = ref_design(m, t, M, g, k.self, k.parity);
-    for (unsigned i = 0; i < trials; i++) {
-        unsigned L = 1 + plain_random(&state) % 5, rounds = rounds_tried[plain_random(&state) % 7], rate = per_mille[plain_random(&state) % 7];
-        size_t info_length = (size_t)L * M * M, length = info_length + (size_t)(L + 1) / 2 * 2 * d.N;
-        uint8_t *mine = get(length), *other = get(length);
-        random_bits(mine, info_length, &state);
-        plain_encode(m, t, M, L, k.self, k.parity, k.inverse, mine, mine + info_length);
-        for (size_t bit = 0; bit < length; bit++)
-            mine[bit] ^= plain_random(&state) % 1000 < rate;
-        memcpy(other, mine, length);
-        plain_decode(m, t, M, L, rounds, k.self, k.parity, mine, mine + info_length, counts);
-        ref_decode(&d, L, rounds, other, want);
-        CHECK(memcmp(mine, other, length) == 0);
-        CHECK(memcmp(counts, want, sizeof counts) == 0);
-        free(mine);
-        free(other);
+    size_t info_length = (size_t)L * d->M * d->M, length = info_length + (size_t)(L + 1) / 2 * 2 * d->N;
+    uint8_t *mine = get(length), *other = get(length);
+    uint64_t want[3];
+    if (inverse) {
+        random_bits(mine, info_length, state);
+        plain_encode(d->m, d->t, d->M, L, d->self, d->parity, inverse, mine, mine + info_length);
     }
-    free_kit(k);
+    for (size_t bit = 0; bit < length; bit++)
+        mine[bit] ^= plain_random(state) % 1000 < per_mille;
+    memcpy(other, mine, length);
+    CHECK(outside(d, L, mine) == (int64_t)ref_outside(d, L, other));
+    CHECK(memcmp(mine, other, length) == 0);
+    ref_decode(d, L, rounds, other, want);
+    CHECK(decodes(d, L, rounds, mine, other, length, want));
+    free(mine);
+    free(other);
 }
 
+/* Numbers of blocks, rounds and errors from none to every bit, under lists that nobody chose. */
+static void brute_force_design(unsigned m, unsigned t, unsigned M, unsigned repeats)
+{
+    static const unsigned per_mille[] = { 0, 5, 15, 30, 60, 100, 200, 500, 1000 }, rounds[] = { 0, 1, 2, 64 };
+    unsigned N = M * m * t;
+    uint64_t state = 77 + M;
+    uint8_t *self = get(2 * N), *parity = get(2 * N), *inverse = get((size_t)N * ((N + 7) / 8));
+    for (unsigned seed = 1; seed <= repeats; seed++) {
+        plain_random_lists(m, t, M, seed, self, parity);
+        int regular = plain_make_inverse(m, t, M, self, parity, inverse);
+        ref d = ref_design(m, t, M, self, parity);
+        for (unsigned L = 1; L <= 5; L++)
+            for (unsigned i = 0; i < sizeof rounds / sizeof *rounds; i++)
+                for (unsigned e = 0; e < sizeof per_mille / sizeof *per_mille; e++)
+                    brute_force(&d, regular ? inverse : NULL, L, rounds[i], per_mille[e], &state);
+    }
+    free(self);
+    free(parity);
+    free(inverse);
+}
+
+/* All pairs of m and t: the smallest M, and for m up to 6 the greatest, where words have almost all positions. */
 static void test_brute_force(void)
 {
     double start = seconds();
-    brute_force(4, 1, 1, 023, 1000);
-    brute_force(4, 1, 2, 023, 2000);
-    brute_force(4, 1, 3, 023, 2000);
-    brute_force(5, 2, 2, 03551, 2000);
-    brute_force(5, 2, 5, 03551, 1000);
-    brute_force(6, 3, 2, 01701317, 1000);
-    brute_force(6, 3, 4, 01701317, 400);
-    brute_force(6, 3, 13, 01701317, 20);
-    brute_force(7, 2, 6, 041567, 200);
+    plain_sizes s;
+    uint64_t place, state = 9;
+    for (unsigned m = 4; m <= 10; m++)
+        for (unsigned t = 1; t <= 3; t++) {
+            unsigned greatest = 0, repeats = m > 6 ? 1 : t == 1 ? 8 : t == 2 ? 4 : 1;
+            while (plain_design(m, t, greatest + 1, &s, &place) == 0)
+                greatest++;
+            for (unsigned M = 1; M <= greatest; M++)
+                if (M <= (m > 6 ? 2 : 5) || (m <= 6 && M == greatest))
+                    brute_force_design(m, t, M, M > 5 ? 1 : repeats);
+        }
+    kit k = make_kit(8, 3, 72, 4, 1);           /* three errors among many positions */
+    ref d = ref_design(8, 3, 72, k.self, k.parity);
+    for (unsigned L = 1; L <= 3; L++)
+        brute_force(&d, k.inverse, L, 1, 12, &state);
+    free_kit(k);
     group_done("decoder against brute force", start);
 }
 
@@ -560,13 +609,13 @@ static void set_entry(uint8_t *list, unsigned p, unsigned value)
     list[2 * p + 1] = value >> 8;
 }
 
-static void damaged_kits(unsigned m, unsigned t, unsigned M, uint32_t g, unsigned trials)
+static void damaged_kits(unsigned m, unsigned t, unsigned M, unsigned trials)
 {
     uint64_t state = 5 + M, place, want_place;
     kit k = make_kit(m, t, M, 1, 60);
     unsigned N = M * m * t, seen[10] = { 0 };
     uint8_t *A = get((size_t)N * N), *mine = get((size_t)N * N);
-    ref d = ref_design(m, t, M, g, k.self, k.parity);
+    ref d = ref_design(m, t, M, k.self, k.parity);
     ref_system(&d, A);
     plain_system(m, t, M, k.self, k.parity, mine);
     CHECK(memcmp(A, mine, (size_t)N * N) == 0);
@@ -628,13 +677,66 @@ static void test_refusals(void)
     CHECK(plain_check_kit(4, 1, 1, K_self, self, wrong, &place) == 7 && place == 6);
     CHECK(plain_check_kit(3, 1, 1, self, self, wrong, &place) == 1 && place == 1);
 
-    damaged_kits(4, 1, 1, 023, 200);
-    damaged_kits(4, 1, 2, 023, 200);
-    damaged_kits(5, 1, 3, 045, 200);
-    damaged_kits(5, 2, 2, 03551, 200);
-    damaged_kits(6, 3, 3, 01701317, 100);
-    damaged_kits(7, 1, 10, 0211, 60);
+    damaged_kits(4, 1, 1, 200);
+    damaged_kits(4, 1, 2, 200);
+    damaged_kits(5, 1, 3, 200);
+    damaged_kits(5, 2, 2, 200);
+    damaged_kits(6, 3, 3, 100);
+    damaged_kits(7, 1, 10, 60);
     group_done("refusals of damaged kits", start);
+}
+
+/* Both calls refuse with this rule and place, count nothing and leave the frame; only the decoder knows rule 5. */
+static int frame_refused(unsigned m, unsigned t, unsigned M, unsigned L, unsigned rounds, const plain_frame *lent, int rule, uint64_t at)
+{
+    uint64_t words = 1, place = 0, counts[3] = { 1, 1, 1 };
+    uint8_t info[2], red[8];
+    memcpy(info, lent->info, sizeof info);
+    memcpy(red, lent->red, sizeof red);
+    int by_words = rule == 5 || (plain_words(m, t, M, L, lent, &words, &place) == rule && place == at && words == 0);
+    return by_words && plain_decode(m, t, M, L, rounds, lent, counts, &place) == rule && place == at && !counts[0] && !counts[1] && !counts[2]
+        && memcmp(info, lent->info, sizeof info) == 0 && memcmp(red, lent->red, sizeof red) == 0;
+}
+
+/* Under K with two blocks, fault after fault, each met before those that are already there. */
+static void test_frame_refusals(void)
+{
+    double start = seconds();
+    ref d = ref_design(4, 1, 1, K_self, K_parity);
+    uint8_t self[8], parity[8], info[2] = { 0 }, red[8] = { 0 }, *longest = get(4096 + 2048 * 8);
+    plain_frame lent = { self, parity, info, red, 8, 8, 2, 8 };
+    memcpy(self, K_self, 8);
+    memcpy(parity, K_parity, 8);
+
+    CHECK(outside(&d, 4096, longest) == 0 && decodes(&d, 4096, 64, longest, longest, 1, (uint64_t[]){ 1, 0, 0 }));
+    free(longest);
+    red[7] = 255;
+    CHECK(frame_refused(4, 1, 1, 2, 0, &lent, 10, 9));
+    red[0] = 2;
+    CHECK(frame_refused(4, 1, 1, 2, 0, &lent, 10, 2));
+    info[1] = 3;
+    CHECK(frame_refused(4, 1, 1, 2, 0, &lent, 10, 1));
+    info[0] = 128;
+    CHECK(frame_refused(4, 1, 1, 2, 0, &lent, 10, 0));
+    set_entry(parity, 3, 3);
+    CHECK(frame_refused(4, 1, 1, 2, 0, &lent, 7, 7));
+    set_entry(parity, 0, 4);
+    CHECK(frame_refused(4, 1, 1, 2, 0, &lent, 7, 4));
+    set_entry(self, 1, 258);
+    CHECK(frame_refused(4, 1, 1, 2, 0, &lent, 7, 1));
+    lent.red_length = 16;
+    CHECK(frame_refused(4, 1, 1, 2, 0, &lent, 6, 5));
+    lent.info_length = 3;
+    CHECK(frame_refused(4, 1, 1, 2, 0, &lent, 6, 4));
+    lent.parity_length = 7;
+    CHECK(frame_refused(4, 1, 1, 2, 0, &lent, 6, 2));
+    lent.self_length = 0;
+    CHECK(frame_refused(4, 1, 1, 2, 0, &lent, 6, 1));
+    CHECK(frame_refused(4, 1, 1, 2, 65, &lent, 5, 65));
+    CHECK(frame_refused(4, 1, 1, 4097, 65, &lent, 4, 4097) && frame_refused(4, 1, 1, 0, 65, &lent, 4, 0));
+    CHECK(frame_refused(10, 2, 205, 0, 65, &lent, 3, 4100) && frame_refused(4, 1, 4, 0, 65, &lent, 2, 16));
+    CHECK(frame_refused(4, 1, 501, 0, 65, &lent, 1, 3) && frame_refused(4, 4, 0, 0, 65, &lent, 1, 2) && frame_refused(3, 4, 0, 0, 65, &lent, 1, 1));
+    group_done("refusals of frames", start);
 }
 
 /* ---- The designs for benchmarks ---- */
@@ -651,12 +753,13 @@ static void test_large(const plain_kit *design, unsigned L)
     made = seconds();
     CHECK(plain_check_kit(m, t, M, k.self, k.parity, k.inverse, &place) == 0);
     checked = seconds();
-    uint8_t *info = get(info_length), *red = get((size_t)(L + 1) / 2 * 2 * N);
-    random_bits(info, info_length, &state);
+    ref d = ref_design(m, t, M, k.self, k.parity);
+    uint8_t *frame = get(info_length + (size_t)(L + 1) / 2 * 2 * N);
+    random_bits(frame, info_length, &state);
     encoded = seconds();
-    plain_encode(m, t, M, L, k.self, k.parity, k.inverse, info, red);
+    plain_encode(m, t, M, L, k.self, k.parity, k.inverse, frame, frame + info_length);
     encoded = seconds() - encoded;
-    CHECK(plain_outside(m, t, M, L, k.self, k.parity, info, red) == 0);
+    CHECK(outside(&d, L, frame) == 0);
     for (unsigned i = 0; i < 2; i++)
         round_trip(m, t, M, 3 + i, k, &state);
     k.inverse[(N - 1) * bytes] ^= 1;
@@ -664,8 +767,7 @@ static void test_large(const plain_kit *design, unsigned L)
     printf("  made %.3f s, checked %.3f s, %u blocks encoded %.3f ms\n", made - start, checked - made, L, 1000 * encoded);
     snprintf(name, sizeof name, "kit of m %u, t %u, M %u (M r = %u)", m, t, M, N);
     group_done(name, start);
-    free(info);
-    free(red);
+    free(frame);
     free_kit(k);
 }
 
@@ -677,6 +779,7 @@ int main(void)
     test_round_trips();
     test_brute_force();
     test_refusals();
+    test_frame_refusals();
     for (unsigned i = 0; i < PLAIN_KITS; i++)
         test_large(&plain_kits[i], 32);
     printf("%u checks, %u failed\n", checks, failures);

@@ -25,7 +25,8 @@ use Rattle.bch.proofs.Vandermonde.{All, Distinct, powerSum, vandermonde
 use Rattle.bch.proofs.Distance.{distance-comm, distance-triangle, distance-zero}
 use Rattle.bch.proofs.Word.{sumWord, sumWord-length, sumWord-bits, horner-cons, remainder-root, remainder-sum}
 
-times-times : (T : ℕ → ℕ) (i k v : ℕ) → iterate (iterate T i) k v ≡ iterate T (k * i) v
+-- the steps of a map of i steps
+pub times-times : (T : ℕ → ℕ) (i k v : ℕ) → iterate (iterate T i) k v ≡ iterate T (k * i) v
 unfolding iterate
 times-times T i zero v = ap (λ n. iterate T n v) (sym (zero-mul i))
 times-times T i (suc k) v =

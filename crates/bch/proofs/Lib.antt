@@ -14,3 +14,7 @@ pub mod Minimal
 pub mod Systematic
 pub mod PowerSum
 pub mod Bch
+pub mod Store
+pub mod Locator
+pub mod Cubic
+pub mod Syndromes

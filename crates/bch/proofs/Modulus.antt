@@ -1,5 +1,6 @@
 -- x times a number modulo a polynomial f of degree d, written f / 2 ^ d ≡ 1.
 --   timesX-linear, timesX-small, timesX-below
+--   polyAt-within              a map that stays below 2^d, and so its polynomials
 --   polyAt-one, polyAt-below   a number below 2^d is what it says as a polynomial in x
 --   polyAt-modulus             f is 0 modulo itself
 -- Assumes nothing.
@@ -38,6 +39,14 @@ module _ (f d : ℕ) where
   bit-below : (x v : ℕ) → x < 2 → v < 2 ^ d → x * v < 2 ^ d
   bit-below x v hx h = bit-ind (λ (x : ℕ). x * v < 2 ^ d) (rw zero-mul (pow-pos d)) (rw one-mul h) x hx
 
+  -- a map that stays below 2^d, and so its polynomials
+  pub polyAt-within : (T : ℕ → ℕ) → ((v : ℕ) → v < 2 ^ d → T v < 2 ^ d) → (p v : ℕ) → v < 2 ^ d → polyAt T p v < 2 ^ d
+  polyAt-within T within =
+      bin-ind (λ (p : ℕ). (v : ℕ) → v < 2 ^ d → polyAt T p v < 2 ^ d) (λ v h. subst⁻¹ (λ (n : ℕ). n < 2 ^ d) (polyAt-zero T v) (pow-pos d))
+      (λ p ih v h.
+      subst⁻¹ (λ (n : ℕ). n < 2 ^ d) (polyAt-step T p v)
+      (⊕-below d ((p % 2) * v) (polyAt T (p / 2) (T v)) (bit-below (p % 2) v (mod2-bit p) h) (ih (T v) (within v h))))
+
   module _ (deg : f / 2 ^ d ≡ 1) where
     bit-div : (x : ℕ) → x < 2 → x * f / 2 ^ d ≡ x
     bit-div = bit-ind (λ (x : ℕ). x * f / 2 ^ d ≡ x) (simp (zero-mul, zero-div)) (simp one-mul deg)
@@ -60,10 +69,7 @@ module _ (f d : ℕ) where
         ∙ half-and-bit p)
 
     pub polyAt-below : (p v : ℕ) → v < 2 ^ d → polyAt (timesX f d) p v < 2 ^ d
-    polyAt-below = bin-ind (λ (p : ℕ). (v : ℕ) → v < 2 ^ d → polyAt (timesX f d) p v < 2 ^ d) (λ v h. subst⁻¹ (λ (n : ℕ). n < 2 ^ d) (polyAt-zero (timesX f d) v) (pow-pos d))
-        (λ p ih v h.
-        subst⁻¹ (λ (n : ℕ). n < 2 ^ d) (polyAt-step (timesX f d) p v)
-        (⊕-below d ((p % 2) * v) (polyAt (timesX f d) (p / 2) (timesX f d v)) (bit-below (p % 2) v (mod2-bit p) h) (ih (timesX f d v) (timesX-below v h))))
+    polyAt-below = polyAt-within (timesX f d) timesX-below
 
     pub degree-high : f < 2 * 2 ^ d
     degree-high = let h : f / 2 ^ d < 2 = omega arith in div-lt-iff-lt-mul (pow-pos d) .0 h

@@ -5,10 +5,10 @@
 --   shifted-powers     that of a word with r zeros behind it
 --   parity-at          bit a of the parity is bit r - 1 - a of that remainder
 -- Assumes nothing.
-use mathlib.Core.Path.{_≡_, refl, sym, ap, ap₂, _∙_, subst}
+use mathlib.Core.Path.{_≡_, refl, sym, ap, ap₂, _∙_}
 use mathlib.Core.List.{List, [], _∷_, _++_}
-use Prim.Native.Nat.{ℕ, zero, suc, _+_, _-_, _*_, _/_, _%_, _^_, _≤_, _<_, zero-le, suc-le-suc}
-use native.Mathlib.Nat.{zero-mul, mul-one, add-zero, add-suc, le-refl, le-trans, not-suc-le-zero, le-of-suc-le-suc, suc-sub-suc, sub-zero, zero-lt-suc}
+use Prim.Native.Nat.{ℕ, zero, suc, _+_, _-_, _*_, _/_, _%_, _^_, _<_}
+use native.Mathlib.Nat.{zero-mul, mul-one, add-zero, add-suc, le-refl, le-trans, not-suc-le-zero, le-of-suc-le-suc, suc-sub-suc, sub-zero}
 use native.Mathlib.Omega.{arith}
 use lib.Pow.{pow-pos, pow-mono}
 use lib.ListN.{length, getD, replicate, length-append, length-replicate, getD-replicate, List·getD-append}
@@ -16,8 +16,8 @@ use lib.Seq.{getD-append-add}
 use Rattle.bch.specs.Polynomial.{Bits, _⊕_, timesX, iterate, horner, remainder, bitsOf}
 use Rattle.bch.specs.Code.{parity}
 use Rattle.bch.specs.Powers.{powerMod, xorSum}
-use Rattle.bch.proofs.Sum.{⊕-assoc, ⊕-comm, ⊕-self, ⊕-zero-left, ⊕-zero-right, ⊕-below}
-use Rattle.bch.proofs.Polynomial.{linear-zero, linear-bit, iterate-linear}
+use Rattle.bch.proofs.Sum.{⊕-assoc, ⊕-comm, ⊕-self, ⊕-zero-right, ⊕-below}
+use Rattle.bch.proofs.Polynomial.{linear-bit, iterate-linear}
 use Rattle.bch.proofs.Modulus.{timesX-linear, timesX-below}
 use Rattle.bch.proofs.Word.{horner-cons}
 use Rattle.bch.proofs.Systematic.{append-bits, zeros-bits}

@@ -3,13 +3,14 @@
 --   wordPoly         the word as a polynomial
 --   horner-shift, horner-cons, remainder-sum
 --   remainder-root   where g is 0, the remainder by g has the word's value
+--   power-root, power-value   the values of the powers of x, modulo g and not
 --   divides, multiple   g divides a word exactly when its remainder is 0
 --   remainder-below  the remainder is below 2^r
 -- Assumes nothing.
 use mathlib.Core.Path.{_≡_, refl, sym, ap, ap₂, _∙_}
 use mathlib.Core.List.{List, [], _∷_}
 use Prim.Native.Nat.{ℕ, zero, suc, _*_, _/_, _%_, _^_, _<_}
-use native.Mathlib.Nat.{mul-one, mul-zero, suc-inj, suc-ne-zero, le-trans}
+use native.Mathlib.Nat.{mul-one, mul-zero, suc-inj, suc-ne-zero, le-refl, le-trans, pow-suc}
 use lib.Pow.{pow-pos, pow-mono}
 use lib.ListN.{length}
 use Rattle.bch.specs.Polynomial.{Bits, _⊕_, _⊗_, timesX, iterate, polyAt, horner, remainder}
@@ -72,6 +73,11 @@ module _ (T : ℕ → ℕ) (lin : (a b : ℕ) → T (a ⊕ b) ≡ T a ⊕ T b) w
     value : (w : List ℕ) → Bits w → polyAt T (horner U 0 w) 1 ≡ horner T 0 w
     value w hw = stands-for w hw 0 ∙ ap (λ n. horner T n w) (polyAt-zero T 1)
 
+    stands-power : (e : ℕ) → polyAt T (iterate U e 1) 1 ≡ iterate T e 1
+    unfolding iterate
+    stands-power zero = polyAt-bit T 1 1 (le-refl 2)
+    stands-power (suc e) = stands (iterate U e 1) ∙ ap T (stands-power e)
+
   double-stands : (s : ℕ) → polyAt T (s * 2) 1 ≡ T (polyAt T s 1)
   double-stands s = polyAt-double T s 1 ∙ sym (polyAt-map T lin s 1)
 
@@ -87,6 +93,15 @@ module _ (T : ℕ → ℕ) (lin : (a b : ℕ) → T (a ⊕ b) ≡ T a ⊕ T b) w
   pub remainder-root : (g r : ℕ) → polyAt T g 1 ≡ 0 → (w : List ℕ) → Bits w → polyAt T (remainder g r w) 1 ≡ horner T 0 w
   unfolding remainder
   remainder-root g r z w hw = value (timesX g r) (root-stands g r z) w hw
+
+  -- and so has a power of x modulo g
+  pub power-root : (g r : ℕ) → polyAt T g 1 ≡ 0 → (e : ℕ) → polyAt T (iterate (timesX g r) e 1) 1 ≡ iterate T e 1
+  power-root g r z = stands-power (timesX g r) (root-stands g r z)
+
+  pub power-value : (e : ℕ) → polyAt T (2 ^ e) 1 ≡ iterate T e 1
+  unfolding iterate
+  power-value zero = polyAt-bit T 1 1 (le-refl 2)
+  power-value (suc e) = ap (λ n. polyAt T n 1) (pow-suc 2 e) ∙ double-stands (2 ^ e) ∙ ap T (power-value e)
 
 -- ---- division
 -- the word as a polynomial

@@ -18,11 +18,12 @@ use Rattle.staircase.specs.System.{Contents, preimage}
 use Rattle.staircase.specs.Frame.{groups, block, groupRedundancy, redundancy}
 use Rattle.staircase.specs.Demand2.{Permutes}
 use Rattle.staircase.proofs.System.{Proper, tabulate-length}
-use Rattle.staircase.proofs.Redundancy.{concat-length, block-binary}
-use Rattle.group.specs.Group.{sentBit, selfBit, parityBit, groupOf}
-use Rattle.group.proofs.Link.{Powers, group-is}
-use Rattle.encoder.specs.Groups.{sent, blockBytes, groupFrom}
-use Rattle.encoder.proofs.Blocks.{sent-odd, block-is, odd-is}
+use Rattle.staircase.proofs.Redundancy.{concat-last, concat-length, block-binary}
+use Rattle.blocks.specs.Blocks.{sent, blockBytes, sentBit, Powers}
+use Rattle.blocks.proofs.Blocks.{sent-odd, block-is, odd-is}
+use Rattle.group.specs.Group.{selfBit, parityBit, groupOf}
+use Rattle.group.proofs.Link.{group-is}
+use Rattle.encoder.specs.Groups.{groupFrom}
 
 groupOf-length : (table sources inverse : List ℕ) (size r : ℕ) (before odd even : Contents) → length (groupOf table sources inverse size r before odd even) ≡ 2 * (size * r)
 unfolding groupOf
@@ -38,12 +39,6 @@ groupFrom-length table sources inverse size r L info i =
     (λ k. getD (blockBytes L (size * size) info (2 * i + 1)) k 0) (sentBit (sent L (2 * i + 2)) (blockBytes L (size * size) info (2 * i + 2)))
 
 -- ---- group by group
-
-concat-last : (n : ℕ) (f : ℕ → List ℕ) → concat (suc n) f ≡ concat n f ++ f n
-unfolding concat
-concat-last zero f = append-nil (f zero)
-concat-last (suc n) f =
-    ap (λ (t : List ℕ). f zero ++ t) (concat-last n (λ k. f (suc k))) ∙ sym (append-assoc (f zero) (concat n (λ k. f (suc k))) (f (suc n)))
 
 concat-same : (n : ℕ) (f g : ℕ → List ℕ) → ((i : ℕ) → i < n → f i ≡ g i) → concat n f ≡ concat n g
 unfolding concat

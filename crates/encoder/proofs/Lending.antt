@@ -9,9 +9,10 @@ use Prim.Native.Nat.{ℕ, _+_, _*_, _<_}
 use lib.ListN.{length, getD}
 use Rattle.bch.specs.Polynomial.{Bits}
 use Rattle.staircase.specs.Frame.{groups}
-use Rattle.group.specs.Group.{sentBit, groupOf, Lent}
-use Rattle.encoder.specs.Groups.{sent, blockBytes, groupFrom, Ready}
-use Rattle.encoder.proofs.Blocks.{sent-odd, block-fits}
+use Rattle.blocks.specs.Blocks.{sent, blockBytes, sentBit}
+use Rattle.blocks.proofs.Blocks.{sent-odd, block-fits}
+use Rattle.group.specs.Group.{groupOf, Lent}
+use Rattle.encoder.specs.Groups.{groupFrom, Ready}
 
 module _ (L size r : ℕ) (info table sources inverse : List ℕ) (i : ℕ) (odd even before : List ℕ) (has-even has-before : Bool)
     (eo : odd ≡ blockBytes L (size * size) info (2 * i + 1)) (ee : even ≡ blockBytes L (size * size) info (2 * i + 2))

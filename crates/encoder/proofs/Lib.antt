@@ -1,4 +1,3 @@
-pub mod Blocks
 pub mod Groups
 pub mod Lending
 pub mod Whole

@@ -1,56 +1,30 @@
 -- The encoder's verdict step by step, and what it leaves.
---   count-limit, frame-lengths, information-bits   what rules 4, 6 and 10 say once they accept
---   frame-fits                                     and what all say together
---   encode-design, encode-frame, encode-made       the call's answer at each of its ends
+--   frame-fits                                 what the rules say once they accept
+--   encode-design, encode-frame, encode-made   the call's answer at each of its ends
 -- Assumes nothing.
 use mathlib.Core.Path.{_≡_, refl, sym, ap, _∙_}
 use mathlib.Core.Logic.{_≢_}
-use mathlib.Core.Bool.{Bool, true, false}
 use mathlib.Core.List.{List}
-use Prim.Native.Nat.{ℕ, _≤_, _<_}
-use native.Mathlib.Omega.{arith}
-use lib.Dec.{ltb}
-use lib.ListN.{length, getD, List·getD-eq-default}
-use borrow.Author.Tests.{ltb-true, ltb-false}
-use Rattle.bch.specs.Polynomial.{Bits}
-use Rattle.staircase.specs.Design.{Params, params, most-blocks}
+use Prim.Native.Nat.{ℕ}
+use Rattle.staircase.specs.Design.{Params, params}
 use Rattle.staircase.specs.Frame.{redundancy}
-use Rattle.staircase.specs.Rules.{Verdict, _then_, outOfRange, designRules, countRule, lengthRule, infoLength, redLength, frameLengths, kitLengths, kitWork, interleavers, listRule, spareRule, inverseRule, kitRules, bitRule}
+use Rattle.staircase.specs.Rules.{Verdict, _then_, designRules, countRule, lengthRule, frameLengths, kitLengths, kitWork, interleavers, listRule, spareRule, inverseRule, kitRules, bitRule}
 use Rattle.staircase.specs.Rules.Verdict.{accepted, refused}
 use Rattle.staircase.specs.Calls.{encodeVerdict, encodedBy, encodeCall}
-use Rattle.staircase.proofs.Rules.{then-first, then-rest, refuse-false, refuseFirst-false, outOfRange-false}
+use Rattle.staircase.proofs.Rules.{then-first, then-rest}
 use Rattle.rules.specs.declared.Refusal.{Refusal}
 use Rattle.rules.specs.declared.Check.{Check}
 use Rattle.rules.specs.declared.Check.the-variants as check
 use Rattle.rules.specs.declared.Design.{Design}
 use Rattle.rules.specs.declared.Designed.{Designed}
 use Rattle.rules.specs.declared.Designed.the-variants as designed
+use Rattle.rules.specs.Sizes.{paramsOf, listsOf}
 use Rattle.rules.specs.Answers.{verdictOf, designVerdict, DesignIs, Allowed}
 use Rattle.rules.proofs.Answers.{refused-then, check-refused, check-passed, design-refused, design-made, made-params}
-use Rattle.kit.specs.Fits.{paramsOf, listsOf}
-use Rattle.kit.proofs.Verdict.{length-equal, lengths-fit, lists-permute}
+use Rattle.rules.proofs.Accepted.{count-limits, frame-lengths, lists-permute, bytes-bits}
+use Rattle.kit.proofs.Verdict.{lengths-fit}
 use Rattle.encoder.specs.Groups.{FrameFits}
 use Rattle.encoder.specs.Checks.{contentRules, lengthRules, frameRules}
-
-pub count-limit : (L : ℕ) → countRule L ≡ accepted → L ≤ most-blocks
-unfolding countRule
-count-limit L e = outOfRange-false 1 most-blocks L (refuse-false (outOfRange 1 most-blocks L) 4 L e) .1
-
-pub frame-lengths : (s : Params) (L : ℕ) (info red : List ℕ) → frameLengths s L info red ≡ accepted → (length info ≡ infoLength s L) × (length red ≡ redLength s L)
-unfolding frameLengths
-frame-lengths s L info red e =
-    let a : Verdict = lengthRule 4 (length info) (infoLength s L) in
-    let b : Verdict = lengthRule 5 (length red) (redLength s L) in
-    (length-equal 4 (length info) (infoLength s L) (then-first a b e), length-equal 5 (length red) (redLength s L) (then-rest a b e))
-
-pub information-bits : (info : List ℕ) → bitRule 0 info ≡ accepted → Bits info
-unfolding bitRule
-information-bits info e k = go (ltb k (length info)) refl
-  where
-    go : (z : Bool) → ltb k (length info) ≡ z → getD info k 0 < 2
-    go true h =
-        omega (arith, ltb-false 1 (getD info k 0) (refuseFirst-false 10 0 (length info) (λ j. ltb 1 (getD info j 0)) e k (ltb-true k (length info) h)))
-    go false h = let z : getD info k 0 ≡ 0 = List·getD-eq-default info 0 (ltb-false k (length info) h) in omega arith
 
 module _ (d : Design) (L : ℕ) (own parity w info red : List ℕ) (work : ℕ) (allowed : Allowed d) (e : frameRules (paramsOf d) L own parity w info red work ≡ accepted) where
   abbrev s : Params
@@ -90,13 +64,13 @@ module _ (d : Design) (L : ℕ) (own parity w info red : List ℕ) (work : ℕ) 
       let f = frame-lengths s L info red (then-first (frameLengths s L info red) (contentRules s own parity w info work) after-kit) in
       record {
         allowed = allowed;
-        few-blocks = count-limit L counted;
+        few-blocks = count-limits L counted .1;
         parityLength = k .parityLength;
         inverseLength = k .inverseLength;
         infoLength = f .0;
         redLength = f .1;
         parityPermutes = lists-permute s (interleavers s own parity) lists .1;
-        bits = information-bits info (then-rest (kitRules s (interleavers s own parity) w) (bitRule 0 info) after-working);
+        bits = bytes-bits 0 info (then-rest (kitRules s (interleavers s own parity) w) (bitRule 0 info) after-working);
       }
 
 -- ---- what the call leaves

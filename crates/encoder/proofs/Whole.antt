@@ -16,8 +16,8 @@ use Rattle.staircase.specs.Rules.{entries}
 use Rattle.staircase.proofs.System.{Proper}
 use Rattle.staircase.proofs.Permutation.{preimage-sent}
 use Rattle.rules.specs.declared.Design.{Design}
-use Rattle.kit.specs.Fits.{paramsOf, orderOf, listsOf}
-use Rattle.kit.proofs.Link.{proper-of}
+use Rattle.rules.specs.Sizes.{paramsOf, orderOf, listsOf}
+use Rattle.rules.proofs.Generator.{proper-of}
 use Rattle.kit.proofs.Whole.{r-small}
 use Rattle.encoder.specs.Groups.{groupFrom, Ready, FrameFits}
 use Rattle.encoder.proofs.Groups.{groups-are}

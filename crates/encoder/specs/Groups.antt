@@ -1,16 +1,12 @@
 -- The groups of a frame by what code has at hand: parts of the information, the table of powers of x, and the places that the parity list brings.
---   sent L b                   block b of a frame of L blocks is sent
---   blockBytes L area info b   its bytes; none where it is not sent
---   groupFrom                  the group that i groups precede
---   Ready                      what is asked of the sizes and slices of a frame
---   FrameFits                  what the encoder's rules say once all have passed
+--   groupFrom   the group that i groups precede
+--   Ready       what is asked of the sizes and slices of a frame
+--   FrameFits   what the encoder's rules say once all have passed
 -- Assumes nothing.
 use mathlib.Core.Path.{_≡_}
-use mathlib.Core.Bool.{Bool, false, cond}
-use mathlib.Core.List.{List, []}
-use Prim.Native.Nat.{ℕ, zero, suc, _+_, _-_, _*_, _≤_, _<_}
-use lib.Dec.{ltb}
-use lib.ListN.{length, getD, take, drop}
+use mathlib.Core.List.{List}
+use Prim.Native.Nat.{ℕ, _+_, _*_, _≤_, _<_}
+use lib.ListN.{length, getD}
 use Rattle.bch.specs.Polynomial.{Bits}
 use Rattle.staircase.specs.Design.{most-blocks}
 use Rattle.staircase.specs.System.{rowBytes}
@@ -19,15 +15,8 @@ use Rattle.staircase.specs.Frame.{groups}
 use Rattle.staircase.specs.Rules.{entries, infoLength, redLength}
 use Rattle.rules.specs.declared.Design.{Design}
 use Rattle.rules.specs.Answers.{Allowed}
-use Rattle.group.specs.Group.{sentBit, groupOf}
-
--- "B0 is all zero and not sent. For odd L the block after the last is all zero and not sent."
-unfoldable pub sent : ℕ → ℕ → Bool
-sent L zero = false
-sent L (suc b) = ltb b L
-
-unfoldable pub blockBytes : ℕ → ℕ → List ℕ → ℕ → List ℕ
-blockBytes L area info b = cond (sent L b) (take area (drop ((b - 1) * area) info)) []
+use Rattle.blocks.specs.Blocks.{sent, blockBytes, sentBit}
+use Rattle.group.specs.Group.{groupOf}
 
 unfoldable pub groupFrom : List ℕ → List ℕ → List ℕ → ℕ → ℕ → ℕ → List ℕ → ℕ → List ℕ
 groupFrom table sources inverse size r L info i =

@@ -13,36 +13,13 @@ ghost use Rattle.staircase.specs.Design.{most-blocks};
 ghost use Rattle.staircase.specs.Frame.{groups, redundancy};
 ghost use Rattle.staircase.specs.Demand2.{FitsOrder};
 ghost use Rattle.staircase.specs.Calls.{encodeCall};
+ghost use Rattle.rules.specs.Sizes.{paramsOf, orderOf, listsOf};
 ghost use Rattle.rules.specs.Answers.{verdictOf, Allowed};
-ghost use Rattle.kit.specs.Fits.{paramsOf, orderOf, listsOf};
-ghost use Rattle.encoder.specs.Groups.{sent, blockBytes, groupFrom, Ready, FrameFits};
+ghost use Rattle.encoder.specs.Groups.{groupFrom, Ready, FrameFits};
 ghost use Rattle.encoder.specs.Checks.{contentRules, lengthRules, frameRules};
 use rules::Check;
 use rules::Design;
 use rules::Designed;
-
-// Whether block b of a frame of `blocks` blocks is sent.
-fn is_sent(blocks: usize, b: usize) -> bool
-    ensures { λ a. ⌜ a ≡ sent blocks b ⌝ }
-{
-    if b < 1 {
-        return false;
-    }
-    b - 1 < blocks
-}
-
-// The bytes of block b, none where it is not sent.
-fn block_of(info: &[u8], area: usize, blocks: usize, b: usize) -> &[u8]
-    requires { ⌜ length (now info) ≡ blocks * area ⌝ }
-    ensures { λ r. ⌜ now r ≡ blockBytes blocks area (now (info .entry)) b ⌝ }
-{
-    let here = is_sent(blocks, b);
-    if !here {
-        return &info[0..0];
-    }
-    let at = (b - 1) * area;
-    &info[at..at + area]
-}
 
 // Makes the redundancy of the group that i groups precede.
 fn group_at(
@@ -60,11 +37,11 @@ fn group_at(
     ensures { λ u. ⌜ now (out .exit) ≡ groupFrom (now (table .entry)) (now (sources .entry)) (now (inverse .entry)) size r blocks (now (info .entry)) i ⌝ }
 {
     let area = size * size;
-    let before = block_of(info, area, blocks, 2 * i);
-    let odd = block_of(info, area, blocks, 2 * i + 1);
-    let even = block_of(info, area, blocks, 2 * i + 2);
-    let has_before = is_sent(blocks, 2 * i);
-    let has_even = is_sent(blocks, 2 * i + 2);
+    let before = blocks::block_of(info, area, blocks, 2 * i);
+    let odd = blocks::block_of(info, area, blocks, 2 * i + 1);
+    let even = blocks::block_of(info, area, blocks, 2 * i + 2);
+    let has_before = blocks::is_sent(blocks, 2 * i);
+    let has_even = blocks::is_sent(blocks, 2 * i + 2);
     group::make_group(
         odd,
         even,

@@ -1,5 +1,7 @@
-// The powers of the root in each of the seven fields GF(2^m), m = 4 to 10, as constant tables.
-//   fill_powers(m, out)   fills `out` with the 2^m - 1 powers of the root of field m: entry j is power j
+// The powers of the root in each of the seven fields GF(2^m), m = 4 to 10, as constant tables, and the tables that are made of them.
+//   fill_powers(m, out)               fills `out` with the 2^m - 1 powers of the root of field m: entry j is power j
+//   fill_field(m, field)              the powers, the logarithms, the solutions of z^2 + z and those of z^3 + z, each in a quarter of `field`
+//   fill_syndromes(m, field, table)   the powers of the root and of its cube that the positions of a word carry
 //
 // "2,025 entries over the seven fields, follow one rule: the first entry is 1, and each entry is the one before times x in its field."
 // The rule is the definition `powerTable` of the crate `bch`. The proof of `fill_powers` computes the list that the rule makes and compares
@@ -7,9 +9,10 @@
 //
 // The compiler copies a constant array at each call that reads it, so no loop indexes one: a caller that needs a table fills it once.
 ghost use mathlib.Core.Path.{_≡_};
-ghost use Prim.Native.Nat.{_-_, _^_, _≤_};
-ghost use lib.ListN.{length};
-ghost use Rattle.bch.specs.Field.{powerTable};
+ghost use Prim.Native.Nat.{_+_, _-_, _*_, _%_, _^_, _≤_, _<_};
+ghost use lib.ListN.{length, replicate};
+ghost use Rattle.bch.specs.Field.{power, powerTable};
+ghost use Rattle.bch.specs.Locator.{LogTable, Solution, SolutionTable, HalfTable, CubicTable, FieldTables, SyndromeTable};
 
 // Copies `table` into `out`.
 fn copy_table(table: &[u16], out: &mut [u16])
@@ -35,6 +38,162 @@ pub fn fill_powers(m: usize, out: &mut [u16])
         9 => copy_table(&POWERS_9, out),
         _ => copy_table(&POWERS_10, out),
     }
+}
+
+// Power e of the root of field m, from the table of powers.
+fn power_at(m: usize, powers: &[u16], e: usize) -> usize
+    requires { ⌜ (4 ≤ m) × (m ≤ 10) × (now powers ≡ powerTable m (2 ^ m - 1)) × (e < 2 ^ m - 1) ⌝ }
+    ensures { λ r. ⌜ (r ≡ power m e) × (r < 2 ^ m) × (r < 1024) ⌝ }
+{
+    powers[e] as usize
+}
+
+// The remainder of j by `order`, by one subtraction where one is due.
+fn reduced(j: usize, order: usize) -> usize
+    requires { ⌜ j < 2 * order ⌝ }
+    ensures { λ r. ⌜ (r ≡ j % order) × (r < order) ⌝ }
+{
+    if j < order { j } else { j - order }
+}
+
+// Makes every entry of `out` 0. One step for each entry.
+fn clear(out: &mut [u16])
+    ensures { λ r. ⌜ now (out .exit) ≡ replicate (length (now (out .entry))) 0 ⌝ }
+{
+    for i in 0..out.len() {
+        out[i] = 0;
+    }
+}
+
+// Fills `logs`, which has an entry for each element of field m: that of power j of the root is j, and that of 0 is 0. The work grows with 2^m.
+fn fill_logs(m: usize, powers: &[u16], logs: &mut [u16])
+    requires { ⌜ (4 ≤ m) × (m ≤ 10) × (now powers ≡ powerTable m (2 ^ m - 1)) × (length (now logs) ≡ 2 ^ m) ⌝ }
+    ensures { λ r. ⌜ LogTable m (now (logs .exit)) ⌝ }
+{
+    clear(logs);
+    for j in 0..powers.len() {
+        logs[power_at(m, powers, j)] = j as u16;
+    }
+}
+
+// The v for which power e of the root solves z^(k + 1) + z = power v, where k is 1 or 2: z is power e, z^k + 1 is power f, and their product
+// is power e + f.
+fn solved_by(m: usize, k: usize, powers: &[u16], logs: &[u16], e: usize) -> usize
+    requires { ⌜ (4 ≤ m) × (m ≤ 10) × (1 ≤ k) × (k ≤ 2) × (now powers ≡ powerTable m (2 ^ m - 1)) × LogTable m (now logs) × (0 < e) × (e < 2 ^ m - 1) ⌝ }
+    ensures { λ v. ⌜ (v < 2 ^ m - 1) × Solution m k v e ⌝ }
+{
+    let d = reduced(k * e, powers.len());
+    let f = logs[power_at(m, powers, d) ^ 1] as usize;
+    reduced(e + f, powers.len())
+}
+
+// Fills `table`, which has an entry for each power of the root of field m: entry v is an exponent e for which power e solves
+// z^(k + 1) + z = power v, and 0 where there is none. All solutions of an equation are met; the largest exponent stays. The work grows with 2^m.
+fn fill_solutions(m: usize, k: usize, powers: &[u16], logs: &[u16], table: &mut [u16])
+    requires { ⌜ (4 ≤ m) × (m ≤ 10) × (1 ≤ k) × (k ≤ 2) × (now powers ≡ powerTable m (2 ^ m - 1)) × LogTable m (now logs)
+        × (length (now table) ≡ 2 ^ m - 1) ⌝ }
+    ensures { λ r. ⌜ SolutionTable m k (now (table .exit)) ⌝ }
+{
+    clear(table);
+    for e in 1..powers.len() {
+        let v = solved_by(m, k, powers, logs, e);
+        table[v] = e as u16;
+    }
+}
+
+// Power e of the root, and power e of its cube as the high half.
+fn syndromes_of(m: usize, powers: &[u16], e: usize) -> u32
+    requires { ⌜ (4 ≤ m) × (m ≤ 10) × (now powers ≡ powerTable m (2 ^ m - 1)) × (e < 2 ^ m - 1) ⌝ }
+    ensures { λ r. ⌜ r ≡ power m e + 65536 * power m (3 * e) ⌝ }
+{
+    let order = powers.len();
+    let twice = reduced(2 * e, order);
+    let thrice = reduced(twice + e, order);
+    (power_at(m, powers, e) + 65536 * power_at(m, powers, thrice)) as u32
+}
+
+// Fills `table`, which has an entry for each position of a word, with the powers of the root and of its cube that the positions carry.
+// One step for each entry.
+fn fill_syndromes_by(m: usize, powers: &[u16], table: &mut [u32])
+    requires { ⌜ (4 ≤ m) × (m ≤ 10) × (now powers ≡ powerTable m (2 ^ m - 1)) × (0 < length (now table)) × (length (now table) ≤ 2 ^ m - 1) ⌝ }
+    ensures { λ r. ⌜ SyndromeTable m (now (table .exit)) × (length (now (table .exit)) ≡ length (now (table .entry))) ⌝ }
+{
+    let n = table.len();
+    for j in 0..n {
+        table[j] = syndromes_of(m, powers, n - 1 - j);
+    }
+}
+
+// Copies the tables into the quarters of `field`.
+fn copy_parts(
+    m: usize,
+    powers: &[u16],
+    logs: &[u16],
+    halves: &[u16],
+    cubics: &[u16],
+    field: &mut [u16],
+)
+    requires { ⌜ (4 ≤ m) × (m ≤ 10) × (now powers ≡ powerTable m (2 ^ m - 1)) × LogTable m (now logs) × HalfTable m (now halves)
+        × CubicTable m (now cubics) × (length (now field) ≡ 4 * 2 ^ m) ⌝ }
+    ensures { λ r. ⌜ FieldTables m (now (field .exit)) ⌝ }
+{
+    let q = logs.len();
+    copy_table(powers, &mut field[0..q - 1]);
+    copy_table(logs, &mut field[q..2 * q]);
+    copy_table(halves, &mut field[2 * q..3 * q - 1]);
+    copy_table(cubics, &mut field[3 * q..4 * q - 1]);
+}
+
+// Makes the tables of field m in the buffers `powers`, `logs`, `halves` and `cubics`, and copies them into the quarters of `field`. The work
+// grows with 2^m.
+fn fill_by_parts(
+    m: usize,
+    powers: &mut [u16],
+    logs: &mut [u16],
+    halves: &mut [u16],
+    cubics: &mut [u16],
+    field: &mut [u16],
+)
+    requires { ⌜ (4 ≤ m) × (m ≤ 10) × (length (now powers) ≡ 2 ^ m - 1) × (length (now logs) ≡ 2 ^ m) × (length (now halves) ≡ 2 ^ m - 1)
+        × (length (now cubics) ≡ 2 ^ m - 1) × (length (now field) ≡ 4 * 2 ^ m) ⌝ }
+    ensures { λ r. ⌜ FieldTables m (now (field .exit)) ⌝ }
+{
+    fill_powers(m, powers);
+    fill_logs(m, powers, logs);
+    fill_solutions(m, 1, powers, logs, halves);
+    fill_solutions(m, 2, powers, logs, cubics);
+    copy_parts(m, powers, logs, halves, cubics, field);
+}
+
+// Fills `field` with the tables of field m: the powers of the root, the logarithms and the solutions of z^2 + z and of z^3 + z, each from
+// the start of a quarter on. The work grows with 2^m.
+pub fn fill_field(m: usize, field: &mut [u16])
+    requires { ⌜ (4 ≤ m) × (m ≤ 10) × (length (now field) ≡ 4 * 2 ^ m) ⌝ }
+    ensures { λ r. ⌜ FieldTables m (now (field .exit)) ⌝ }
+{
+    let q = field.len() / 4;
+    let mut powers = [0u16; 1024];
+    let mut logs = [0u16; 1024];
+    let mut halves = [0u16; 1024];
+    let mut cubics = [0u16; 1024];
+    fill_by_parts(
+        m,
+        &mut powers[0..q - 1],
+        &mut logs[0..q],
+        &mut halves[0..q - 1],
+        &mut cubics[0..q - 1],
+        field,
+    );
+}
+
+// Fills `table`, which has an entry for each position of a word, with the powers of the root and of its cube that the positions carry,
+// from the tables of the field. One step for each entry.
+pub fn fill_syndromes(m: usize, field: &[u16], table: &mut [u32])
+    requires { ⌜ (4 ≤ m) × (m ≤ 10) × FieldTables m (now field) × (0 < length (now table)) × (length (now table) ≤ 2 ^ m - 1) ⌝ }
+    ensures { λ r. ⌜ SyndromeTable m (now (table .exit)) × (length (now (table .exit)) ≡ length (now (table .entry))) ⌝ }
+{
+    let q = field.len() / 4;
+    fill_syndromes_by(m, &field[0..q - 1], table);
 }
 
 // Entry j of POWERS_m is power j of the root of field m.

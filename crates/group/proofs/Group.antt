@@ -20,8 +20,9 @@ use Rattle.staircase.proofs.Matrix.{sumBits-lt, sumBits-same}
 use Rattle.staircase.proofs.System.{tabulate-length, tabulate-at, tabulate-bits, tabulate-same}
 use Rattle.matrix.specs.Packed.{packedBit}
 use Rattle.matrix.proofs.Product.{sum-spare}
-use Rattle.group.specs.Group.{digit, partSum, columnSum, rowSum, Packed, constantBit, productBit, productParity, selfBit, parityBit, groupOf}
-use Rattle.group.proofs.Blocks.{part-at}
+use Rattle.blocks.specs.Blocks.{partSum, columnSum, rowSum}
+use Rattle.blocks.proofs.Sums.{part-at}
+use Rattle.group.specs.Group.{digit, Packed, constantBit, productBit, productParity, selfBit, parityBit, groupOf}
 
 module _ (inverse c part columns ys old : List ℕ) (size r : ℕ) (pos : 0 < size) (long : length part ≡ r) (wide : length columns ≡ size)
     (made : ys ≡ tabulate (size * r) (productBit inverse c size r)) where

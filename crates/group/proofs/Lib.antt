@@ -1,5 +1,4 @@
 pub mod Fill
-pub mod Blocks
 pub mod Packed
 pub mod Stack
 pub mod Group

@@ -1,64 +1,31 @@
 -- What `make_group` makes is the group of the encoder: sums of table entries are the remainders of the words.
---   Powers s table                the table has the powers of x that the positions of a word carry
---   columnSum-is, rowSum-is       the remainders of the blocks of a word
---   constantBit-is                an entry of the constant
---   group-is                      the group, for blocks that agree with those of the frame in all their places
+--   constantBit-is   an entry of the constant
+--   group-is         the group, for blocks that agree with those of the frame in all their places
 -- Assumes nothing.
 use mathlib.Core.Path.{_≡_, sym, ap, ap₂, _∙_}
 use mathlib.Core.List.{List, _++_}
-use Prim.Native.Nat.{ℕ, _+_, _-_, _*_, _/_, _%_, _≤_, _<_}
+use Prim.Native.Nat.{ℕ, _+_, _-_, _*_, _/_, _%_, _<_}
 use native.Mathlib.Nat.{zero-mul, mod-lt, div-lt-iff-lt-mul}
 use native.Mathlib.Omega.{arith}
-use lib.Arith.{digits-lt, digits-div, digits-mod}
-use lib.ListN.{length, getD}
+use lib.Arith.{digits-div, digits-mod}
+use lib.ListN.{getD}
 use Rattle.bch.specs.Polynomial.{_⊕_}
-use Rattle.bch.specs.Powers.{powerMod, xorSum, PositionPowers}
+use Rattle.bch.specs.Powers.{powerMod, xorSum}
 use Rattle.bch.proofs.Sum.{⊕-zero-right}
-use Rattle.bch.proofs.PowerSum.{xorSum-same, xorSum-zero}
+use Rattle.bch.proofs.PowerSum.{xorSum-zero}
 use Rattle.staircase.specs.Lists.{bitSum, tabulate}
-use Rattle.staircase.specs.Design.{Params, Interleavers, wordLength, order}
+use Rattle.staircase.specs.Design.{Params, Interleavers, order}
 use Rattle.staircase.specs.System.{Contents, zeros, stack, unstack, preimage, columnParity, rowParity, residual, constantEntry, inverseEntry, selfEntry, groupBits}
 use Rattle.staircase.specs.Demand2.{Permutes}
 use Rattle.staircase.proofs.Matrix.{sumBits-lt, sumBits-same}
 use Rattle.staircase.proofs.Permutation.{preimage-sent}
 use Rattle.staircase.proofs.System.{Proper, Binary, tabulate-at, tabulate-same, unstack-lt}
 use Rattle.staircase.proofs.Entries.{columnRemainder, rowRemainder, columnParity-powers, rowParity-powers}
-use Rattle.group.specs.Group.{digit, partSum, columnSum, rowSum, constantBit, selfBit, parityBit, groupOf}
-
-pub record Powers (s : Params) (table : List ℕ) : Type 0 where
-  pub long : length table ≡ wordLength s
-  pub powers : PositionPowers (s .g) (s .r) table
-
--- two blocks agree in all places of a block
-abbrev pub SameBlock : Params → Contents → Contents → Type 0
-SameBlock s f g = (k : ℕ) → k < s .M * s .M → f k ≡ g k
+use Rattle.blocks.specs.Blocks.{columnSum, rowSum, Powers}
+use Rattle.blocks.proofs.Link.{SameBlock, part-powers, columnSum-is, rowSum-is}
+use Rattle.group.specs.Group.{digit, constantBit, selfBit, parityBit, groupOf}
 
 module _ (s : Params) (ok : Proper s) (table : List ℕ) (P : Powers s table) where
-  -- a part of the table, for positions whose powers are given by e
-  part-powers : (from w : ℕ) (b c e : ℕ → ℕ) → from + w ≤ wordLength s → ((j : ℕ) → j < w → b j ≡ c j) → ((j : ℕ) → j < w → wordLength s - 1 - (from + j) ≡ e j)
-      → partSum table from w b ≡ xorSum w (λ j. c j * powerMod (s .g) (s .r) (e j))
-  unfolding partSum
-  part-powers from w b c e fits same exponents =
-      xorSum-same w (λ j. b j * getD table (from + j) 0) (λ j. c j * powerMod (s .g) (s .r) (e j))
-      (λ j l. ap₂ _*_ (same j l)
-      (P .powers (from + j) (omega (arith, P .long)) ∙ ap (powerMod (s .g) (s .r)) (ap (λ (n : ℕ). n - 1 - (from + j)) (P .long) ∙ exponents j l)))
-
-  pub columnSum-is : (o e odd even : Contents) → SameBlock s o odd → SameBlock s e even → (a : ℕ) → a < s .M
-      → columnSum table (s .M) o e a ≡ columnRemainder s odd even a
-  unfolding columnSum columnRemainder
-  columnSum-is o e odd even so se a h =
-      ap₂ _⊕_
-      (part-powers 0 (s .M) (λ j. o (j * s .M + a)) (λ j. odd (j * s .M + a)) (λ j. wordLength s - 1 - j) (omega arith) (λ j l. so (j * s .M + a) (digits-lt l h)) (λ j l. omega arith))
-      (part-powers (s .M) (s .M) (λ j. e (j * s .M + a)) (λ j. even (j * s .M + a)) (λ j. wordLength s - 1 - (s .M + j)) (omega arith) (λ j l. se (j * s .M + a) (digits-lt l h)) (λ j l. omega arith))
-
-  pub rowSum-is : (b o before odd : Contents) → SameBlock s b before → SameBlock s o odd → (a : ℕ) → a < s .M
-      → rowSum table (s .M) b o a ≡ rowRemainder s before odd a
-  unfolding rowSum rowRemainder
-  rowSum-is b o before odd sb so a h =
-      ap₂ _⊕_
-      (part-powers 0 (s .M) (λ j. b (a * s .M + j)) (λ j. before (a * s .M + j)) (λ j. wordLength s - 1 - j) (omega arith) (λ j l. sb (a * s .M + j) (digits-lt h l)) (λ j l. omega arith))
-      (part-powers (s .M) (s .M) (λ j. o (a * s .M + j)) (λ j. odd (a * s .M + j)) (λ j. wordLength s - 1 - (s .M + j)) (omega arith) (λ j l. so (a * s .M + j) (digits-lt h l)) (λ j l. omega arith))
-
   no-y : (x : ℕ) (at : ℕ → ℕ) → x ⊕ xorSum (s .r) (λ b. zeros (at b) * powerMod (s .g) (s .r) (2 * s .r - 1 - b)) ≡ x
   no-y x at =
       ap (λ (z : ℕ). x ⊕ z) (xorSum-zero (s .r) (λ b. zeros (at b) * powerMod (s .g) (s .r) (2 * s .r - 1 - b)) (λ b l. zero-mul (powerMod (s .g) (s .r) (2 * s .r - 1 - b))))
@@ -84,7 +51,7 @@ module _ (s : Params) (ok : Proper s) (table : List ℕ) (P : Powers s table) wh
         sym (columnParity-powers s ok odd even zeros ho he zeros-binary q (unstack-lt s l ok k h)
         ∙ ap (λ (x : ℕ). digit x (s .r) (q / s .M)) (no-y (columnRemainder s odd even (q % s .M)) (λ b. b * s .M + q % s .M))
         ∙ ap₂ (λ (a d : ℕ). digit (columnRemainder s odd even a) (s .r) d) (digits-mod (k % s .r) c) (digits-div (k % s .r) c)
-        ∙ ap (λ (x : ℕ). digit x (s .r) (k % s .r)) (sym (tabulate-at (s .M) (columnSum table (s .M) o e) 0 (k / s .r) c ∙ columnSum-is o e odd even so se (k / s .r) c)))
+        ∙ ap (λ (x : ℕ). digit x (s .r) (k % s .r)) (sym (tabulate-at (s .M) (columnSum table (s .M) o e) 0 (k / s .r) c ∙ columnSum-is s table P o e odd even so se (k / s .r) c)))
 
     row-digit : (p : ℕ) → p < order s → digit (getD rows (p % s .M) 0) (s .r) (p / s .M) ≡ rowParity s l before odd zeros p
     row-digit p h =
@@ -92,7 +59,7 @@ module _ (s : Params) (ok : Proper s) (table : List ℕ) (P : Powers s table) wh
         sym (rowParity-powers s ok l before odd zeros hb ho zeros-binary p h
         ∙ ap (λ (x : ℕ). digit x (s .r) (p / s .M))
         (no-y (rowRemainder s before odd (p % s .M)) (λ b. getD (l .self) (b * s .M + p % s .M) 0)
-        ∙ sym (tabulate-at (s .M) (rowSum table (s .M) b o) 0 (p % s .M) c ∙ rowSum-is b o before odd sb so (p % s .M) c)))
+        ∙ sym (tabulate-at (s .M) (rowSum table (s .M) b o) 0 (p % s .M) c ∙ rowSum-is s table P b o before odd sb so (p % s .M) c)))
 
     pub constantBit-is : (k : ℕ) → k < order s → constantBit columns rows sources (s .M) (s .r) k ≡ constantEntry s l before odd even k
     unfolding constantBit constantEntry residual
@@ -122,8 +89,8 @@ module _ (s : Params) (ok : Proper s) (table : List ℕ) (P : Powers s table) wh
       unfolding parityBit
       parity-is q h =
           let a : ℕ = q % s .M in
-          ap₂ (λ (x z : ℕ). digit (x ⊕ z) (s .r) (q / s .M)) (columnSum-is o e odd even so se a (mod-lt q (ok .mpos)))
-          (part-powers (2 * s .M) (s .r) (λ b. y (b * s .M + a)) (λ b. selfEntry s l w before odd even (b * s .M + a)) (λ b. 2 * s .r - 1 - b) (omega arith)
+          ap₂ (λ (x z : ℕ). digit (x ⊕ z) (s .r) (q / s .M)) (columnSum-is s table P o e odd even so se a (mod-lt q (ok .mpos)))
+          (part-powers s table P (2 * s .M) (s .r) (λ b. y (b * s .M + a)) (λ b. selfEntry s l w before odd even (b * s .M + a)) (λ b. 2 * s .r - 1 - b) (omega arith)
           (λ b l. self-is (b * s .M + a)) (λ b l. omega arith))
           ∙ sym (columnParity-powers s ok odd even (selfEntry s l w before odd even) ho he self-binary q h)
 

@@ -1,9 +1,6 @@
 -- A group's redundancy by what code has at hand: the table of powers of x that the positions of a word carry (its first M entries for the first
 -- block of a word, M for the second, r for X or Y), the place of Q that the parity list sends to each place of P (`sources`), and the packed inverse.
 --   digit x r a           bit a of the r bits of a remainder x, the highest first
---   sentBit, Sent         a bit of a block that may not be sent; what is asked of such a block
---   partSum               the sum of a part of the table at the ones of some bits
---   columnSum, rowSum     the remainder of the blocks of column word a, of row word a
 --   Packed                a packed row of bits by a rule
 --   constantBit           entry k of the constant c
 --   productBit            a bit of Y: the inverse times a packed constant
@@ -13,7 +10,7 @@
 --   Lent                  what is asked of the sizes and slices of a group
 -- Assumes nothing.
 use mathlib.Core.Path.{_≡_}
-use mathlib.Core.Bool.{Bool, true, cond}
+use mathlib.Core.Bool.{Bool}
 use mathlib.Core.List.{List, _++_}
 use Prim.Native.Nat.{ℕ, _+_, _-_, _*_, _/_, _%_, _^_, _≤_, _<_}
 use lib.ListN.{length, getD}
@@ -22,29 +19,10 @@ use Rattle.bch.specs.Powers.{xorSum}
 use Rattle.staircase.specs.Lists.{bitSum, sumBits, tabulate}
 use Rattle.staircase.specs.System.{Contents, rowBytes, inverseEntry}
 use Rattle.matrix.specs.Packed.{packedBit}
+use Rattle.blocks.specs.Blocks.{Sent, partSum, columnSum, rowSum}
 
 abbrev pub digit : ℕ → ℕ → ℕ → ℕ
 digit x r a = x / 2 ^ (r - 1 - a) % 2
-
--- "Unsent blocks are zero"
-unfoldable pub sentBit : Bool → List ℕ → Contents
-sentBit sent block k = cond sent (getD block k 0) 0
-
--- a block that is sent has `area` bits; one that is not may be any slice
-abbrev pub Sent : Bool → List ℕ → ℕ → Type 0
-Sent sent block area = sent ≡ true → (length block ≡ area) × Bits block
-
--- the sum of w entries of the table, from entry `from` on, at the ones of b
-unfoldable pub partSum : List ℕ → ℕ → ℕ → (ℕ → ℕ) → ℕ
-partSum table from w b = xorSum w (λ j. b j * getD table (from + j) 0)
-
--- column a of the odd block and of the even one
-unfoldable pub columnSum : List ℕ → ℕ → Contents → Contents → ℕ → ℕ
-columnSum table size odd even a = partSum table 0 size (λ j. odd (j * size + a)) ⊕ partSum table size size (λ j. even (j * size + a))
-
--- row a of the block before and of the odd one
-unfoldable pub rowSum : List ℕ → ℕ → Contents → Contents → ℕ → ℕ
-rowSum table size before odd a = partSum table 0 size (λ j. before (a * size + j)) ⊕ partSum table size size (λ j. odd (a * size + j))
 
 -- a packed row of n bits by a rule, its spare bits 0
 abbrev pub Packed : ℕ → List ℕ → (ℕ → ℕ) → Type 0

@@ -1,7 +1,7 @@
 // Makes the redundancy of one group: Y, with which all words of the group can be codewords, and P, with which they are.
 //   make_group(..)   the group
 //
-// Its steps: `add_dots` adds the sums over the rows of a block, `constant_bits` packs the constant of the group's system, `self_bits` makes Y, the
+// Its steps: the crate `blocks` sums the blocks of the words, `constant_bits` packs the constant of the group's system, `self_bits` makes Y, the
 // inverse times the constant, and `parity_bits` makes P, or Q, from the remainders of its words.
 //
 // The remainder of a word is a sum of entries of a table of powers of x, one for each of its ones (crate `remainders`). Column words and row words
@@ -16,26 +16,10 @@ ghost use mathlib.Core.Path.{_≡_};
 ghost use mathlib.Core.List.{_++_};
 ghost use Prim.Native.Nat.{ℕ, _+_, _-_, _*_, _/_, _%_, _^_, _≤_, _<_};
 ghost use lib.ListN.{length, getD};
-ghost use Rattle.bch.specs.Polynomial.{_⊕_, Bits};
-ghost use Rattle.bch.specs.Powers.{xorSum};
 ghost use Rattle.staircase.specs.Lists.{tabulate};
 ghost use Rattle.staircase.specs.System.{rowBytes};
-ghost use Rattle.group.specs.Group.{sentBit, Sent, columnSum, rowSum, Packed, constantBit, productBit, productParity, groupOf, Lent};
-
-// Adds to each of the lent entries of `acc` the entries of `part` at the ones of its row of `block`. The block has a row for each entry of `acc`,
-// one after the other, and a column for each entry of `part`. One step for each bit of the block.
-fn add_dots(acc: &mut [u32], block: &[u8], part: &[u32])
-    requires { ⌜ (length (now block) ≡ length (now acc) * length (now part)) × Bits (now block) ⌝ }
-    ensures { λ u. ⌜ (length (now (acc .exit)) ≡ length (now (acc .entry)))
-        × ((a : ℕ) → a < length (now (acc .entry)) → getD (now (acc .exit)) a 0 ≡ getD (now (acc .entry)) a 0
-        ⊕ xorSum (length (now (part .entry))) (λ j. getD (now (block .entry)) (a * length (now (part .entry)) + j) 0 * getD (now (part .entry)) j 0)) ⌝ }
-{
-    let w = part.len();
-    for a in 0..acc.len() {
-        let from = a * w;
-        acc[a] = acc[a] ^ remainders::dot(&block[from..from + w], part);
-    }
-}
+ghost use Rattle.blocks.specs.Blocks.{sentBit};
+ghost use Rattle.group.specs.Group.{Packed, constantBit, productBit, productParity, groupOf, Lent};
 
 // Bit a of the r digits of a remainder x, the highest first.
 fn digit_of(x: u32, r: usize, a: usize) -> u8
@@ -129,58 +113,6 @@ fn self_bits(inverse: &[u8], c: &[u8], size: usize, r: usize, out: &mut [u8])
     }
 }
 
-// Adds to each entry of `acc` the entries of `part` at the ones of its column of a block that may not be sent.
-fn add_sent_rows(acc: &mut [u32], block: &[u8], sent: bool, part: &[u32])
-    requires { ⌜ Sent sent (now block) (length (now part) * length (now acc)) ⌝ }
-    ensures { λ u. ⌜ (length (now (acc .exit)) ≡ length (now (acc .entry)))
-        × ((a : ℕ) → a < length (now (acc .entry)) → getD (now (acc .exit)) a 0 ≡ getD (now (acc .entry)) a 0
-        ⊕ xorSum (length (now (part .entry))) (λ j. sentBit sent (now (block .entry)) (j * length (now (acc .entry)) + a) * getD (now (part .entry)) j 0)) ⌝ }
-{
-    if !sent {
-        return;
-    }
-    remainders::add_rows(acc, block, part);
-}
-
-// Adds to each entry of `acc` the entries of `part` at the ones of its row of a block that may not be sent.
-fn add_sent_dots(acc: &mut [u32], block: &[u8], sent: bool, part: &[u32])
-    requires { ⌜ Sent sent (now block) (length (now acc) * length (now part)) ⌝ }
-    ensures { λ u. ⌜ (length (now (acc .exit)) ≡ length (now (acc .entry)))
-        × ((a : ℕ) → a < length (now (acc .entry)) → getD (now (acc .exit)) a 0 ≡ getD (now (acc .entry)) a 0
-        ⊕ xorSum (length (now (part .entry))) (λ j. sentBit sent (now (block .entry)) (a * length (now (part .entry)) + j) * getD (now (part .entry)) j 0)) ⌝ }
-{
-    if !sent {
-        return;
-    }
-    add_dots(acc, block, part);
-}
-
-// Makes `columns` the remainders of the blocks of a group's column words.
-fn column_sums(odd: &[u8], even: &[u8], has_even: bool, table: &[u32], columns: &mut [u32])
-    requires { ⌜ (length (now odd) ≡ length (now columns) * length (now columns)) × Bits (now odd)
-        × Sent «has_even» (now even) (length (now columns) * length (now columns)) × (2 * length (now columns) ≤ length (now table)) ⌝ }
-    ensures { λ u. ⌜ now (columns .exit) ≡ tabulate (length (now (columns .entry)))
-        (columnSum (now (table .entry)) (length (now (columns .entry))) (λ k. getD (now (odd .entry)) k 0) (sentBit «has_even» (now (even .entry)))) ⌝ }
-{
-    let size = columns.len();
-    remainders::clear(&mut columns[..]);
-    remainders::add_rows(&mut columns[..], odd, &table[0..size]);
-    add_sent_rows(&mut columns[..], even, has_even, &table[size..2 * size]);
-}
-
-// Makes `rows` the remainders of the blocks of a group's row words.
-fn row_sums(before: &[u8], has_before: bool, odd: &[u8], table: &[u32], rows: &mut [u32])
-    requires { ⌜ (length (now odd) ≡ length (now rows) * length (now rows)) × Bits (now odd)
-        × Sent «has_before» (now before) (length (now rows) * length (now rows)) × (2 * length (now rows) ≤ length (now table)) ⌝ }
-    ensures { λ u. ⌜ now (rows .exit) ≡ tabulate (length (now (rows .entry)))
-        (rowSum (now (table .entry)) (length (now (rows .entry))) (sentBit «has_before» (now (before .entry))) (λ k. getD (now (odd .entry)) k 0)) ⌝ }
-{
-    let size = rows.len();
-    remainders::clear(&mut rows[..]);
-    add_sent_dots(&mut rows[..], before, has_before, &table[0..size]);
-    add_dots(&mut rows[..], odd, &table[size..2 * size]);
-}
-
 // Makes Y and P in `out` from the packed constant and the remainders of the blocks of the column words, to which it adds those of Y.
 fn group_bits(
     inverse: &[u8],
@@ -224,8 +156,8 @@ fn group_in(
     ensures { λ u. ⌜ now (out .exit) ≡ groupOf (now (table .entry)) (now (sources .entry)) (now (inverse .entry)) size r
         (sentBit «has_before» (now (before .entry))) (λ k. getD (now (odd .entry)) k 0) (sentBit «has_even» (now (even .entry))) ⌝ }
 {
-    column_sums(odd, even, has_even, table, &mut columns[..]);
-    row_sums(before, has_before, odd, table, &mut rows[..]);
+    blocks::column_sums(odd, even, has_even, table, &mut columns[..]);
+    blocks::row_sums(before, has_before, odd, table, &mut rows[..]);
     constant_bits(&columns[..], &rows[..], sources, size, r, &mut c[..]);
     group_bits(
         inverse,

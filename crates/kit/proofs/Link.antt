@@ -1,5 +1,4 @@
 -- The products that code takes are those of the kit, for an allowed design.
---   code-of, proper-of   the BCH code of an allowed design
 --   part-of              the part of a table of position powers that X and Y use
 --   left-is, right-is    a wrong entry of A W, of W A
 -- Assumes nothing.
@@ -11,32 +10,21 @@ use native.Mathlib.Nat.{mul-comm, mod-lt, div-lt-iff-lt-mul}
 use native.Mathlib.Omega.{arith}
 use lib.Dec.{eqb, ltb}
 use lib.ListN.{length, getD, take, drop}
-use lib.Pow.{pow-pos}
 use lib.Seq.{getD-take, getD-drop}
 use borrow.Author.Tests.{lt-ltb}
 use Rattle.bch.specs.Powers.{powerMod, PositionPowers}
-use Rattle.bch.proofs.Bch.{Code, degree, degree-positive}
 use Rattle.staircase.specs.Lists.{sumBits}
-use Rattle.staircase.specs.Design.{Params, Interleavers, params, wordLength, order}
+use Rattle.staircase.specs.Design.{Params, Interleavers, wordLength, order}
 use Rattle.staircase.specs.System.{unstack, preimage, systemEntry, inverseEntry, product, identity}
 use Rattle.staircase.specs.Rules.{wrongEntry}
 use Rattle.staircase.specs.Demand2.{Permutes}
 use Rattle.staircase.proofs.Matrix.{sumBits-same}
 use Rattle.staircase.proofs.System.{Proper, unstack-lt}
 use Rattle.staircase.proofs.Entries.{eqb-iff}
-use Rattle.rules.specs.declared.Design.{Design}
-use Rattle.rules.specs.Answers.{Allowed}
 use Rattle.matrix.specs.Packed.{planeBit, Planes}
 use Rattle.system.specs.Rows.{rowEntry, columnEntry}
 use Rattle.system.proofs.Link.{PartOf, rowEntry-system, columnEntry-system}
 use Rattle.kit.specs.Products.{leftWrong, rightWrong, unstackOf}
-
-pub code-of : (d : Design) → Allowed d → Code (d .m) (d .t)
-code-of d a =
-    record { m-low = a .m-low; m-high = a .m-high; t-low = a .t-low; t-high = a .t-high; fits = omega (arith, a .n-high, a .M-low, pow-pos (d .m)) }
-
-pub proper-of : (d : Design) → Allowed d → Proper (params (d .m) (d .t) (d .size))
-proper-of d a = record { mpos = a .M-low; rpos = degree-positive (d .m) (d .t) (code-of d a); degree = degree (d .m) (d .t) (code-of d a) }
 
 pub part-of : (s : Params) (table part : List ℕ) → PositionPowers (s .g) (s .r) table → length table ≡ wordLength s
     → part ≡ take (s .r) (drop (2 * s .M) table) → length part ≡ s .r → PartOf s part

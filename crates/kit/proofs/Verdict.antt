@@ -1,35 +1,36 @@
 -- The verdicts that the kit checker's steps return are those of the table.
 --   inverse-left, inverse-right, inverse-none   rule 9 by the first wrong entries
---   lists-rule, spare-rule, lists-permute       rules 7 and 8 by the order that code has
+--   lists-rule, spare-rule                      rules 7 and 8 by the order that code has
 --   lengths-fit                                 rule 6 passed: the lengths are right
 --   made-allowed, design-then                   a design that was made
 --   kit-design, kit-lengths, kit-working, kit-content   the call's verdict, step by step
 -- Assumes nothing.
 use mathlib.Core.Path.{_≡_, refl, sym, ap, _∙_}
-use mathlib.Core.Bool.{Bool, not}
+use mathlib.Core.Bool.{Bool}
 use mathlib.Core.List.{List}
 use Prim.Native.Nat.{ℕ, _+_, _*_, _≤_, _<_}
 use native.Mathlib.Nat.{zero-add}
-use lib.Dec.{ltb, eqb}
-use lib.ListN.{length, getD}
-use borrow.Author.Tests.{lt-ltb, le-ltb, eqb-true, not-false}
+use lib.Dec.{ltb}
+use lib.ListN.{length}
+use borrow.Author.Tests.{lt-ltb, le-ltb}
 use Rattle.staircase.specs.Lists.{firstWhere}
 use Rattle.staircase.specs.Design.{Params, Interleavers, params, order}
 use Rattle.staircase.specs.System.{rowBytes, systemEntry, inverseEntry}
 use Rattle.staircase.specs.Rules.{Verdict, _then_, refuse, refuseFirst, designRules, lengthRule, listLengths, kitLengths, kitWork, entries, interleavers, badEntry, listRule, spareRow, spareRule, wrongEntry, inverseRule, kitRules}
 use Rattle.staircase.specs.Rules.Verdict.{accepted, refused}
 use Rattle.staircase.specs.Calls.{kitVerdict}
-use Rattle.staircase.specs.Demand2.{Permutes, FitsOrder}
-use Rattle.staircase.proofs.Rules.{then-first, then-rest, refuse-false, refuseFirst-false, entries-permute}
+use Rattle.staircase.specs.Demand2.{FitsOrder}
+use Rattle.staircase.proofs.Rules.{then-first, then-rest}
 use Rattle.rules.specs.declared.Refusal.{Refusal}
 use Rattle.rules.specs.declared.Check.{Check}
 use Rattle.rules.specs.declared.Check.the-variants as check
 use Rattle.rules.specs.declared.Design.{Design}
 use Rattle.rules.specs.declared.Designed.{Designed}
 use Rattle.rules.specs.declared.Designed.the-variants as designed
+use Rattle.rules.specs.Sizes.{paramsOf, orderOf, listsOf}
 use Rattle.rules.specs.Answers.{verdictOf, designVerdict, DesignIs, Allowed, DesignAllowed}
 use Rattle.rules.proofs.Answers.{refused-then, passed-then, design-refused, design-made, made-params}
-use Rattle.kit.specs.Fits.{paramsOf, orderOf, listsOf}
+use Rattle.rules.proofs.Accepted.{length-equal, list-lengths}
 
 -- ---- rule 9
 
@@ -68,40 +69,26 @@ module _ (s : Params) (l : Interleavers) (w : List ℕ) (x : ℕ) (e : x ≡ fir
 
 -- ---- rules 6 to 8
 
-module _ (d : Design) (own parity w : List ℕ) (n : ℕ) (e : n ≡ orderOf d) where
-  pub lists-rule : {v : Verdict} → v ≡ (refuseFirst 7 0 n (badEntry n (entries n own)) then refuseFirst 7 n n (badEntry n (entries n parity)))
+module _ (d : Design) (n : ℕ) (e : n ≡ orderOf d) where
+  pub lists-rule : (own parity : List ℕ) {v : Verdict} → v ≡ (refuseFirst 7 0 n (badEntry n (entries n own)) then refuseFirst 7 n n (badEntry n (entries n parity)))
       → v ≡ listRule (paramsOf d) (listsOf d own parity)
   unfolding listRule
-  lists-rule h = h ∙ ap (λ (k : ℕ). refuseFirst 7 0 k (badEntry k (entries k own)) then refuseFirst 7 k k (badEntry k (entries k parity))) e
+  lists-rule own parity h = h ∙ ap (λ (k : ℕ). refuseFirst 7 0 k (badEntry k (entries k own)) then refuseFirst 7 k k (badEntry k (entries k parity))) e
 
-  pub spare-rule : {v : Verdict} → v ≡ refuseFirst 8 0 n (spareRow w n) → v ≡ spareRule (paramsOf d) w
+  pub spare-rule : (w : List ℕ) {v : Verdict} → v ≡ refuseFirst 8 0 n (spareRow w n) → v ≡ spareRule (paramsOf d) w
   unfolding spareRule
-  spare-rule h = h ∙ ap (λ (k : ℕ). refuseFirst 8 0 k (spareRow w k)) e
-
-pub lists-permute : (s : Params) (l : Interleavers) → listRule s l ≡ accepted → Permutes (order s) (λ p. getD (l .self) p 0) × Permutes (order s) (λ p. getD (l .parity) p 0)
-unfolding listRule
-lists-permute s l e =
-    let n : ℕ = order s in
-    let u : Verdict = refuseFirst 7 0 n (badEntry n (l .self)) in
-    let v : Verdict = refuseFirst 7 n n (badEntry n (l .parity)) in (
-      entries-permute n (l .self) (refuseFirst-false 7 0 n (badEntry n (l .self)) (then-first u v e)),
-      entries-permute n (l .parity) (refuseFirst-false 7 n n (badEntry n (l .parity)) (then-rest u v e)),
-    )
-
-pub length-equal : (p a b : ℕ) → lengthRule p a b ≡ accepted → a ≡ b
-length-equal p a b e = eqb-true a b (not-false (eqb a b) (refuse-false (not (eqb a b)) 6 p e))
+  spare-rule w h = h ∙ ap (λ (k : ℕ). refuseFirst 8 0 k (spareRow w k)) e
 
 pub lengths-fit : (s : Params) (own parity w : List ℕ) → kitLengths s own parity w ≡ accepted → FitsOrder (order s) own parity w
-unfolding kitLengths listLengths
+unfolding kitLengths
 lengths-fit s own parity w e =
-    let a : Verdict = lengthRule 1 (length own) (2 * order s) in
-    let b : Verdict = lengthRule 2 (length parity) (2 * order s) in
-    let c : Verdict = lengthRule 3 (length w) (order s * rowBytes (order s)) in
-    let ab : (a then b) ≡ accepted = then-first (a then b) c e in
+    let a : Verdict = listLengths s own parity in
+    let b : Verdict = lengthRule 3 (length w) (order s * rowBytes (order s)) in
+    let lists = list-lengths s own parity (then-first a b e) in
     record {
-      selfLength = length-equal 1 (length own) (2 * order s) (then-first a b ab);
-      parityLength = length-equal 2 (length parity) (2 * order s) (then-rest a b ab);
-      inverseLength = length-equal 3 (length w) (order s * rowBytes (order s)) (then-rest (a then b) c e);
+      selfLength = lists .0;
+      parityLength = lists .1;
+      inverseLength = length-equal 3 (length w) (order s * rowBytes (order s)) (then-rest a b e);
     }
 
 -- ---- the design

@@ -18,13 +18,15 @@ use Rattle.staircase.specs.System.{preimage, systemEntry, inverseEntry}
 use Rattle.staircase.specs.Rules.{entries, wrongEntry}
 use Rattle.staircase.proofs.Fill.{small-product}
 use Rattle.rules.specs.declared.Design.{Design}
+use Rattle.rules.specs.Sizes.{paramsOf, orderOf, listsOf}
 use Rattle.rules.specs.Answers.{Allowed}
 use Rattle.matrix.specs.Packed.{Planes}
 use Rattle.system.proofs.Link.{PartOf}
 use Rattle.kit.specs.Products.{leftWrong, rightWrong, unstackOf}
-use Rattle.kit.specs.Fits.{paramsOf, orderOf, listsOf, KitFits}
+use Rattle.kit.specs.Fits.{KitFits}
 use Rattle.kit.proofs.Search.{firstWhere-same}
-use Rattle.kit.proofs.Link.{proper-of, left-is, right-is}
+use Rattle.rules.proofs.Generator.{proper-of}
+use Rattle.kit.proofs.Link.{left-is, right-is}
 
 module _ (d : Design) (a : Allowed d) where
   pub r-small : d .m * d .t ≤ 30

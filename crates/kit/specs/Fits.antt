@@ -1,5 +1,4 @@
 -- What a design and the slices of a kit are once rules 1 to 7 have passed.
---   paramsOf, orderOf, listsOf   the sizes, the order and the lists of a design
 --   KitSized                     an allowed design, and slices of their lengths
 --   KitFits                      and lists that are permutations
 -- Assumes nothing.
@@ -7,21 +6,11 @@ use mathlib.Core.Path.{_≡_}
 use mathlib.Core.List.{List}
 use Prim.Native.Nat.{ℕ, _*_}
 use lib.ListN.{length, getD}
-use Rattle.staircase.specs.Design.{Params, Interleavers, params, order}
 use Rattle.staircase.specs.System.{rowBytes}
-use Rattle.staircase.specs.Rules.{interleavers}
 use Rattle.staircase.specs.Demand2.{Permutes}
 use Rattle.rules.specs.declared.Design.{Design}
 use Rattle.rules.specs.Answers.{Allowed}
-
-abbrev pub paramsOf : Design → Params
-paramsOf d = params (d .m) (d .t) (d .size)
-
-abbrev pub orderOf : Design → ℕ
-orderOf d = order (paramsOf d)
-
-abbrev pub listsOf : Design → List ℕ → List ℕ → Interleavers
-listsOf d own parity = interleavers (paramsOf d) own parity
+use Rattle.rules.specs.Sizes.{orderOf, listsOf}
 
 pub record KitSized (d : Design) (own parity inverse work : List ℕ) : Type 0 where
   pub allowed : Allowed d

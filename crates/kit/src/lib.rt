@@ -6,18 +6,19 @@
 // by side. W A goes the same way with a column of A and the bytes of W's rows side by side. The copy is the one matrix of working bytes. The work
 // grows with n² r, n being M × r.
 ghost use mathlib.Core.Path.{_≡_};
-ghost use Prim.Native.Nat.{ℕ, _+_, _*_, _-_, _/_, _%_, _^_, _≤_, _<_};
+ghost use Prim.Native.Nat.{ℕ, _+_, _*_, _-_, _/_, _%_, _≤_, _<_};
 ghost use lib.ListN.{length, getD};
 ghost use Rattle.bch.specs.Code.{generator};
 ghost use Rattle.bch.specs.Powers.{PositionPowers};
 ghost use Rattle.staircase.specs.Lists.{firstWhere};
 ghost use Rattle.staircase.specs.Design.{params, wordLength};
 ghost use Rattle.staircase.specs.System.{rowBytes, systemEntry, inverseEntry};
-ghost use Rattle.staircase.specs.Rules.{entries, wrongEntry, kitLengths, inverseRule, kitRules};
+ghost use Rattle.staircase.specs.Rules.{entries, wrongEntry, listLengths, kitLengths, inverseRule, kitRules};
 ghost use Rattle.staircase.specs.Calls.{kitVerdict};
+ghost use Rattle.rules.specs.Sizes.{paramsOf, orderOf, listsOf};
 ghost use Rattle.rules.specs.Answers.{verdictOf, Allowed};
 ghost use Rattle.kit.specs.Products.{leftWrong, rightWrong, unstackOf};
-ghost use Rattle.kit.specs.Fits.{paramsOf, orderOf, listsOf, KitSized, KitFits};
+ghost use Rattle.kit.specs.Fits.{KitSized, KitFits};
 use rules::Check;
 use rules::Design;
 use rules::Designed;
@@ -206,21 +207,29 @@ pub fn check_content(d: Design, own: &[u8], parity: &[u8], inverse: &[u8], work:
     check_inverse(d, own, parity, inverse, work)
 }
 
+// Rule 6 for the two lists of a design.
+pub fn check_list_lengths(d: Design, own: &[u8], parity: &[u8]) -> Check
+    ensures { λ a. ⌜ verdictOf a ≡ listLengths (paramsOf d) (now (own .entry)) (now (parity .entry)) ⌝ }
+{
+    let n = d.order();
+    let first = rules::check_length(SELF, own.len(), 2 * n);
+    let Check::Passed = first else {
+        return first;
+    };
+    rules::check_length(PARITY, parity.len(), 2 * n)
+}
+
 // Rule 6 for the lists and the inverse of a kit.
 pub fn check_kit_lengths(d: Design, own: &[u8], parity: &[u8], inverse: &[u8]) -> Check
     requires { ⌜ Allowed d ⌝ }
     ensures { λ a. ⌜ verdictOf a ≡ kitLengths (paramsOf d) (now (own .entry)) (now (parity .entry)) (now (inverse .entry)) ⌝ }
 {
+    let lists = check_list_lengths(d, own, parity);
+    let Check::Passed = lists else {
+        return lists;
+    };
     let n = d.order();
     let rb = d.row_bytes();
-    let a = rules::check_length(SELF, own.len(), 2 * n);
-    let Check::Passed = a else {
-        return a;
-    };
-    let b = rules::check_length(PARITY, parity.len(), 2 * n);
-    let Check::Passed = b else {
-        return b;
-    };
     rules::check_length(INVERSE, inverse.len(), n * rb)
 }
 

@@ -4,22 +4,20 @@
 --   powerMod-next       x^(e + 1) is x times x^e
 --   bit-one, bit-none   a bit times a number
 --   xorSum-more         one term more
---   set-each            what holds of each entry after a store
 --   Added               the entries before n have f added, the others are as they were
 --   added-more          one entry more
 -- Assumes nothing.
-use mathlib.Core.Path.{_≡_, sym, ap, ap₂, _∙_, subst⁻¹}
+use mathlib.Core.Path.{_≡_, sym, ap, ap₂, _∙_}
 use mathlib.Core.List.{List}
 use Prim.Native.Nat.{ℕ, suc, _+_, _*_, _/_, _%_, _^_, _≤_, _<_}
 use native.Mathlib.Nat.{zero-mul, one-mul, div-eq-of-lt-le}
-use native.Mathlib.Decide.{ℕ-discrete}
 use native.Mathlib.Numerals.{add-one}
 use native.Mathlib.Omega.{arith}
 use lib.Bits.{bitXor}
 use lib.ListN.{length, getD, set}
-use lib.Seq.{getD-set-same, getD-set-other}
 use Rattle.bch.specs.Polynomial.{_⊕_, timesX, iterate}
 use Rattle.bch.specs.Powers.{powerMod, xorSum}
+use Rattle.bch.proofs.Store.{set-each}
 
 -- ---- powers
 pub timesX-over : (f d v : ℕ) → v < 2 ^ d → 2 ^ d ≤ v * 2 → bitXor (v * 2) f ≡ timesX f d v
@@ -46,15 +44,6 @@ bit-none b v h d = let e : b ≡ 0 = omega arith in sym (ap (λ (n : ℕ). n * v
 pub xorSum-more : (n s : ℕ) (f : ℕ → ℕ) → s ≡ xorSum n f → bitXor s (f n) ≡ xorSum (n + 1) f
 unfolding xorSum _⊕_
 xorSum-more n s f e = ap (λ (k : ℕ). bitXor k (f n)) e ∙ ap (λ (k : ℕ). xorSum k f) (sym (add-one n))
-
--- ---- stores
-pub set-each : (P : ℕ → ℕ → Type 0) (l : List ℕ) (n v : ℕ) → n < length l → P n v → ((k : ℕ) → (k ≡ n → ⊥) → P k (getD l k 0))
-    → (k : ℕ) → P k (getD (set l n v) k 0)
-set-each P l n v h here else k = go (ℕ-discrete k n)
-  where
-    go : Dec (k ≡ n) → P k (getD (set l n v) k 0)
-    go (yes e) = subst⁻¹ (λ (z : ℕ). P z (getD (set l n v) z 0)) e (subst⁻¹ (P n) (getD-set-same l n v 0 h) here)
-    go (no d) = subst⁻¹ (P k) (getD-set-other l n k v 0 d) (else k d)
 
 -- ---- a list added to, entry by entry
 abbrev pub Added : List ℕ → (ℕ → ℕ) → ℕ → List ℕ → Type 0

@@ -2,7 +2,8 @@
 --   flipBits-length, flipBits-bits, flipBits-distance   a word with some bits flipped
 --   flipBits-here, flipBits-other   a position that is flipped once, and one that is not flipped
 --   errors            the positions at which two words differ; flipping them turns one into the other
---   errors-found      where a codeword lies within t changes, the definition finds a choice that makes a codeword
+--   errorPositions-found      where a codeword lies within t changes, the definition finds a choice that makes a codeword
+--   errorPositions-positions  in each case it gives at most t positions of the word
 -- Assumes nothing.
 use mathlib.Core.Path.{_≡_, refl, sym, ap, _∙_, subst}
 use mathlib.Core.Bool.{Bool, true, false, cond, true≢false}
@@ -22,9 +23,9 @@ use Rattle.bch.proofs.Distance.{unlike-same, unlike-le, unlike-other, distance-
 use Rattle.staircase.specs.Lists.{tabulate}
 use Rattle.staircase.specs.Design.{Params}
 use Rattle.staircase.specs.Decoder.{choices, flipBits, firstCorrecting, errorPositions}
-use Rattle.staircase.proofs.Member.{In, Sub, done, skip, keep, sub-in, tabulate-in, choices-sub, sub-choices}
+use Rattle.staircase.proofs.Member.{In, Sub, done, skip, keep, sub-nil, sub-in, tabulate-in, choices-sub, sub-choices}
 
-cond-ind : {A : Type 0} (P : A → Type 0) (z : Bool) (a b : A) → (z ≡ true → P a) → (z ≡ false → P b) → P (cond z a b)
+pub cond-ind : {A : Type 0} (P : A → Type 0) (z : Bool) (a b : A) → (z ≡ true → P a) → (z ≡ false → P b) → P (cond z a b)
 cond-ind P true a b h k = h refl
 cond-ind P false a b h k = k refl
 
@@ -210,3 +211,20 @@ errorPositions-found s u c p h =
     let r = firstCorrecting-found s u (choices (s .t) ps) c (sub-choices (s .t) (p .sub) (p .few)) h in
     let q = choices-sub ps (s .t) (errorPositions s u) (r .0) in
     (record { sub = q .0; few = q .1 }, r .1)
+
+-- the first such choice is one of the choices, or none
+firstCorrecting-among : (s : Params) (u : List ℕ) (cs : List (List ℕ)) (F : List ℕ → Type 0) → F [] → ((c : List ℕ) → In c cs → F c)
+    → F (firstCorrecting s u cs)
+unfolding firstCorrecting
+firstCorrecting-among s u [] F none each = none
+firstCorrecting-among s u (b ∷ cs) F none each =
+    cond-ind F (isCodeword (s .g) (s .r) (flipBits b u)) b (firstCorrecting s u cs) (λ e. each b (inl refl))
+    (λ e. firstCorrecting-among s u cs F none (λ c i. each c (inr i)))
+
+-- also where no choice makes a codeword, what the definition gives are positions of the word
+pub errorPositions-positions : (s : Params) (u : List ℕ) → Positions (length u) (s .t) (errorPositions s u)
+unfolding errorPositions
+errorPositions-positions s u =
+    let ps : List ℕ = tabulate (length u) (λ j. j) in
+    firstCorrecting-among s u (choices (s .t) ps) (Positions (length u) (s .t)) (record { sub = sub-nil ps; few = zero-le })
+    (λ c i. let q = choices-sub ps (s .t) c i in record { sub = q .0; few = q .1 })

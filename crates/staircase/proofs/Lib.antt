@@ -11,6 +11,10 @@ pub mod Fill
 pub mod Entries
 pub mod Sites
 pub mod Redundancy
+pub mod Rounds
+pub mod Apart
+pub mod Positions
+pub mod Outside
 pub mod Reach
 pub mod Rules
 pub mod Demand2

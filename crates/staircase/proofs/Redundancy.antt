@@ -1,6 +1,8 @@
 -- The redundancy of a whole frame.
+--   concat-last                lists one after the other, and one more
 --   concat-length, concat-at   stretches of one size, one after the other
 --   block-binary, block-same   the blocks of a frame
+--   read-row, read-column      the bits of its words
 --   redundancy-length, redundancy-at, redundancy-bits
 --   rows-in-code, columns-in-code   all words of the encoder's frame are in the code
 --   redundancy-only            no other redundancy puts all words into the code
@@ -8,7 +10,7 @@
 use mathlib.Core.Path.{_≡_, refl, sym, ap, ap₂, _∙_, subst}
 use mathlib.Core.Bool.{Bool, true, false}
 use mathlib.Core.Logic.{_≢_}
-use mathlib.Core.List.{List, [], _∷_, _++_, map}
+use mathlib.Core.List.{List, [], _∷_, _++_, map, append-nil, append-assoc}
 use Prim.Native.Nat.{ℕ, zero, suc, _+_, _-_, _*_, _/_, _%_, _<_}
 use native.Mathlib.Nat.{le-of-suc-le-suc, not-suc-le-zero, mod-lt, div-add-mod', zero-mul, suc-mul, zero-add, add-assoc, add-comm}
 use native.Mathlib.Decide.{decLt}
@@ -60,7 +62,13 @@ four-same m n f o y p f₂ o₂ y₂ p₂ hf ho hy hp =
 
 -- ---- stretches of one size, one after the other
 
-pub concat-length : (n size : ℕ) (f : ℕ → List ℕ) → ((k : ℕ) → length (f k) ≡ size) → length (concat n f) ≡ n * size
+pub concat-last : {A : Type 0} (n : ℕ) (f : ℕ → List A) → concat (suc n) f ≡ concat n f ++ f n
+unfolding concat
+concat-last zero f = append-nil (f zero)
+concat-last (suc n) f =
+    ap (λ t. f zero ++ t) (concat-last n (λ k. f (suc k))) ∙ sym (append-assoc (f zero) (concat n (λ k. f (suc k))) (f (suc n)))
+
+pub concat-length : {A : Type 0} (n size : ℕ) (f : ℕ → List A) → ((k : ℕ) → length (f k) ≡ size) → length (concat n f) ≡ n * size
 unfolding concat
 concat-length zero size f h = sym (zero-mul size)
 concat-length (suc n) size f h =
@@ -110,6 +118,43 @@ module _ (s : Params) (L : ℕ) where
           ≡ bitAt (record { info = other; red = [] }) (cond z (inInfo (b * (s .M * s .M) + k)) unsent)
       go true = h (b * (s .M * s .M) + k) (λ e. d (let z : b ≡ c = sym (digits-div b m) ∙ e in omega (arith, z)))
       go false = refl
+
+-- ---- the words of a frame
+
+module _ (s : Params) (l : Interleavers) (L : ℕ) (ok : Proper s)
+    (ps : Permutes (order s) (λ p. getD (l .self) p 0)) (pp : Permutes (order s) (λ p. getD (l .parity) p 0)) where
+  -- the bits of a word of a frame, as the words of a group
+  pub read-row : (info red : List ℕ) (i a : ℕ) → a < s .M → (y p : Contents)
+      → ((q : ℕ) → q < order s → getD red (i * (2 * order s) + q) 0 ≡ y q) → ((q : ℕ) → q < order s → getD red (i * (2 * order s) + order s + q) 0 ≡ p q)
+      → read (record { info = info; red = red }) (rowSites s l L i a) ≡ rowWord s l (block s L info (2 * i)) (block s L info (2 * i + 1)) y p a
+  unfolding rowSites rowWord rowInfo
+  read-row info red i a ha y p hy hp =
+      let x : Frame = record { info = info; red = red } in
+      map-four (bitAt x) (s .M) (s .r) (λ j. blockAt s L (2 * i) (a * s .M + j)) (λ j. blockAt s L (2 * i + 1) (a * s .M + j))
+      (λ b. selfAt s i (getD (l .self) (b * s .M + a) 0)) (λ b. parityAt s i (getD (l .parity) (b * s .M + a) 0))
+      ∙ four-same (s .M) (s .r) (λ j. bitAt x (blockAt s L (2 * i) (a * s .M + j))) (λ j. bitAt x (blockAt s L (2 * i + 1) (a * s .M + j)))
+      (λ b. bitAt x (selfAt s i (getD (l .self) (b * s .M + a) 0))) (λ b. bitAt x (parityAt s i (getD (l .parity) (b * s .M + a) 0)))
+      (λ j. block s L info (2 * i) (a * s .M + j)) (λ j. block s L info (2 * i + 1) (a * s .M + j))
+      (λ b. y (getD (l .self) (b * s .M + a) 0)) (λ b. p (getD (l .parity) (b * s .M + a) 0))
+      (λ j m. block-bit s L info red (2 * i) (a * s .M + j)) (λ j m. block-bit s L info red (2 * i + 1) (a * s .M + j))
+      (λ b m. hy (getD (l .self) (b * s .M + a) 0) (ps .below (b * s .M + a) (place-lt s l ok b a m ha)))
+      (λ b m. hp (getD (l .parity) (b * s .M + a) 0) (pp .below (b * s .M + a) (place-lt s l ok b a m ha)))
+
+  pub read-column : (info red : List ℕ) (i a : ℕ) → a < s .M → (y p : Contents)
+      → ((q : ℕ) → q < order s → getD red (i * (2 * order s) + q) 0 ≡ y q) → ((q : ℕ) → q < order s → getD red (i * (2 * order s) + order s + q) 0 ≡ p q)
+      → read (record { info = info; red = red }) (columnSites s L i a) ≡ columnWord s (block s L info (2 * i + 1)) (block s L info (2 * i + 2)) y p a
+  unfolding columnSites columnWord columnInfo
+  read-column info red i a ha y p hy hp =
+      let x : Frame = record { info = info; red = red } in
+      map-four (bitAt x) (s .M) (s .r) (λ j. blockAt s L (2 * i + 1) (j * s .M + a)) (λ j. blockAt s L (2 * i + 2) (j * s .M + a))
+      (λ b. selfAt s i (b * s .M + a)) (λ b. parityAt s i (b * s .M + a))
+      ∙ four-same (s .M) (s .r) (λ j. bitAt x (blockAt s L (2 * i + 1) (j * s .M + a))) (λ j. bitAt x (blockAt s L (2 * i + 2) (j * s .M + a)))
+      (λ b. bitAt x (selfAt s i (b * s .M + a))) (λ b. bitAt x (parityAt s i (b * s .M + a)))
+      (λ j. block s L info (2 * i + 1) (j * s .M + a)) (λ j. block s L info (2 * i + 2) (j * s .M + a))
+      (λ b. y (b * s .M + a)) (λ b. p (b * s .M + a))
+      (λ j m. block-bit s L info red (2 * i + 1) (j * s .M + a)) (λ j m. block-bit s L info red (2 * i + 2) (j * s .M + a))
+      (λ b m. hy (b * s .M + a) (place-lt s l ok b a m ha))
+      (λ b m. hp (b * s .M + a) (place-lt s l ok b a m ha))
 
 -- ---- the redundancy of a frame
 
@@ -170,39 +215,6 @@ module _ (s : Params) (l : Interleavers) (L : ℕ) (ok : Proper s)
         ∙ getD-append-add (tabulate (order s) Y) (tabulate (order s) P) q 0
         ∙ tabulate-at (order s) P 0 q h
 
-  -- the bits of a word of a frame, as the words of a group
-  read-row : (info red : List ℕ) (i a : ℕ) → a < s .M → (y p : Contents)
-      → ((q : ℕ) → q < order s → getD red (i * (2 * order s) + q) 0 ≡ y q) → ((q : ℕ) → q < order s → getD red (i * (2 * order s) + order s + q) 0 ≡ p q)
-      → read (record { info = info; red = red }) (rowSites s l L i a) ≡ rowWord s l (block s L info (2 * i)) (block s L info (2 * i + 1)) y p a
-  unfolding rowSites rowWord rowInfo
-  read-row info red i a ha y p hy hp =
-      let x : Frame = record { info = info; red = red } in
-      map-four (bitAt x) (s .M) (s .r) (λ j. blockAt s L (2 * i) (a * s .M + j)) (λ j. blockAt s L (2 * i + 1) (a * s .M + j))
-      (λ b. selfAt s i (getD (l .self) (b * s .M + a) 0)) (λ b. parityAt s i (getD (l .parity) (b * s .M + a) 0))
-      ∙ four-same (s .M) (s .r) (λ j. bitAt x (blockAt s L (2 * i) (a * s .M + j))) (λ j. bitAt x (blockAt s L (2 * i + 1) (a * s .M + j)))
-      (λ b. bitAt x (selfAt s i (getD (l .self) (b * s .M + a) 0))) (λ b. bitAt x (parityAt s i (getD (l .parity) (b * s .M + a) 0)))
-      (λ j. block s L info (2 * i) (a * s .M + j)) (λ j. block s L info (2 * i + 1) (a * s .M + j))
-      (λ b. y (getD (l .self) (b * s .M + a) 0)) (λ b. p (getD (l .parity) (b * s .M + a) 0))
-      (λ j m. block-bit s L info red (2 * i) (a * s .M + j)) (λ j m. block-bit s L info red (2 * i + 1) (a * s .M + j))
-      (λ b m. hy (getD (l .self) (b * s .M + a) 0) (ps .below (b * s .M + a) (place-lt s l ok b a m ha)))
-      (λ b m. hp (getD (l .parity) (b * s .M + a) 0) (pp .below (b * s .M + a) (place-lt s l ok b a m ha)))
-
-  read-column : (info red : List ℕ) (i a : ℕ) → a < s .M → (y p : Contents)
-      → ((q : ℕ) → q < order s → getD red (i * (2 * order s) + q) 0 ≡ y q) → ((q : ℕ) → q < order s → getD red (i * (2 * order s) + order s + q) 0 ≡ p q)
-      → read (record { info = info; red = red }) (columnSites s L i a) ≡ columnWord s (block s L info (2 * i + 1)) (block s L info (2 * i + 2)) y p a
-  unfolding columnSites columnWord columnInfo
-  read-column info red i a ha y p hy hp =
-      let x : Frame = record { info = info; red = red } in
-      map-four (bitAt x) (s .M) (s .r) (λ j. blockAt s L (2 * i + 1) (j * s .M + a)) (λ j. blockAt s L (2 * i + 2) (j * s .M + a))
-      (λ b. selfAt s i (b * s .M + a)) (λ b. parityAt s i (b * s .M + a))
-      ∙ four-same (s .M) (s .r) (λ j. bitAt x (blockAt s L (2 * i + 1) (j * s .M + a))) (λ j. bitAt x (blockAt s L (2 * i + 2) (j * s .M + a)))
-      (λ b. bitAt x (selfAt s i (b * s .M + a))) (λ b. bitAt x (parityAt s i (b * s .M + a)))
-      (λ j. block s L info (2 * i + 1) (j * s .M + a)) (λ j. block s L info (2 * i + 2) (j * s .M + a))
-      (λ b. y (b * s .M + a)) (λ b. p (b * s .M + a))
-      (λ j m. block-bit s L info red (2 * i + 1) (j * s .M + a)) (λ j m. block-bit s L info red (2 * i + 2) (j * s .M + a))
-      (λ b m. hy (b * s .M + a) (place-lt s l ok b a m ha))
-      (λ b m. hp (b * s .M + a) (place-lt s l ok b a m ha))
-
   module _ (aw : (i j : ℕ) → i < order s → j < order s → product (order s) (systemEntry s l) (inverseEntry w (order s)) i j ≡ identity i j)
       (wa : (i j : ℕ) → i < order s → j < order s → product (order s) (inverseEntry w (order s)) (systemEntry s l) i j ≡ identity i j)
       (info : List ℕ) (hb : Bits info) where
@@ -216,12 +228,12 @@ module _ (s : Params) (l : Interleavers) (L : ℕ) (ok : Proper s)
 
     pub rows-in-code : (i a : ℕ) → i < groups L → a < s .M → inCode s (record { info = info; red = made }) (rowSites s l L i a) ≡ true
     rows-in-code i a hi ha =
-        ap (isCodeword (s .g) (s .r)) (read-row info made i a ha (Y info i hi) (P info i hi) (redundancy-self info i hi) (redundancy-parity info i hi))
+        ap (isCodeword (s .g) (s .r)) (read-row s l L ok ps pp info made i a ha (Y info i hi) (P info i hi) (redundancy-self info i hi) (redundancy-parity info i hi))
         ∙ group-rows s l ok ps pp w aw wa (F info i hi) (O info i hi) (E info i hi) (small (2 * i)) (small (2 * i + 1)) (small (2 * i + 2)) a ha
 
     pub columns-in-code : (i a : ℕ) → i < groups L → a < s .M → inCode s (record { info = info; red = made }) (columnSites s L i a) ≡ true
     columns-in-code i a hi ha =
-        ap (isCodeword (s .g) (s .r)) (read-column info made i a ha (Y info i hi) (P info i hi) (redundancy-self info i hi) (redundancy-parity info i hi))
+        ap (isCodeword (s .g) (s .r)) (read-column s l L ok ps pp info made i a ha (Y info i hi) (P info i hi) (redundancy-self info i hi) (redundancy-parity info i hi))
         ∙ group-cols s l ok ps pp w aw wa (F info i hi) (O info i hi) (E info i hi) (small (2 * i)) (small (2 * i + 1)) (small (2 * i + 2)) a ha
 
     -- ---- lists that agree at each place of Y and of P are equal
@@ -284,10 +296,10 @@ module _ (s : Params) (l : Interleavers) (L : ℕ) (ok : Proper s)
         hp i q = ho (i * (2 * order s) + order s + q)
 
         row-code : (i a : ℕ) → (hi : i < groups L) → a < s .M → isCodeword (s .g) (s .r) (rowWord s l (F info i hi) (O info i hi) (y i) (p i) a) ≡ true
-        row-code i a hi ha = ap (isCodeword (s .g) (s .r)) (sym (read-row info other i a ha (y i) (p i) (λ q m. refl) (λ q m. refl))) ∙ rows i a hi ha
+        row-code i a hi ha = ap (isCodeword (s .g) (s .r)) (sym (read-row s l L ok ps pp info other i a ha (y i) (p i) (λ q m. refl) (λ q m. refl))) ∙ rows i a hi ha
 
         col-code : (i a : ℕ) → (hi : i < groups L) → a < s .M → isCodeword (s .g) (s .r) (columnWord s (O info i hi) (E info i hi) (y i) (p i) a) ≡ true
-        col-code i a hi ha = ap (isCodeword (s .g) (s .r)) (sym (read-column info other i a ha (y i) (p i) (λ q m. refl) (λ q m. refl))) ∙ cols i a hi ha
+        col-code i a hi ha = ap (isCodeword (s .g) (s .r)) (sym (read-column s l L ok ps pp info other i a ha (y i) (p i) (λ q m. refl) (λ q m. refl))) ∙ cols i a hi ha
 
     pub redundancy-bits : Bits made
     redundancy-bits k = go (decLt k (length made))

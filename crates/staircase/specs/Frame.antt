@@ -1,6 +1,6 @@
 -- Document 01, "Frame": a frame in its two buffers, its words, and its redundancy. Groups are counted from 0 here and blocks from 1, as in
 -- document 01: the group that i groups precede has blocks 2i, 2i + 1 and 2i + 2, and block 0 is B0.
---   Frame, Site               the buffers, and where a bit of a word stands in them
+--   Frame, frameOf, Site      the buffers, and where a bit of a word stands in them
 --   bitAt, flip               the bit at a site, and the frame with it turned
 --   blockAt, selfAt, parityAt the sites of a block, of Y and of P
 --   rowSites, columnSites     the sites of a row word and of a column word
@@ -24,6 +24,9 @@ use Rattle.staircase.specs.System.{Contents, groupBits}
 pub record Frame : Type 0 where
   pub info : List ℕ
   pub red : List ℕ
+
+abbrev pub frameOf : List ℕ → List ℕ → Frame
+frameOf info red = record { info = info; red = red }
 
 -- a byte of one of the buffers, or nowhere where the block is not sent
 pub data Site : Type 0 where

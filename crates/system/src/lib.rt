@@ -7,7 +7,7 @@
 // of x that its position carries, so a row or column of A takes r digits of powers side by side and r digits where a list sends them. Nothing
 // of A is kept: a row costs r steps.
 ghost use mathlib.Core.Path.{_≡_};
-ghost use Prim.Native.Nat.{ℕ, _+_, _*_, _-_, _/_, _%_, _^_, _≤_, _<_};
+ghost use Prim.Native.Nat.{ℕ, _+_, _*_, _-_, _/_, _%_, _≤_, _<_};
 ghost use lib.ListN.{length, getD};
 ghost use Rattle.staircase.specs.System.{preimage};
 ghost use Rattle.staircase.specs.Rules.{entries};

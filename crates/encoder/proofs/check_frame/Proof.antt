@@ -4,7 +4,7 @@ use borrow.Author.Needs.{needs}
 use mathlib.Core.Path.{sym, _∙_}
 use Rattle.rules.proofs.Answers.{refused-then, passed-then, check-passed}
 use Rattle.encoder.specs.Checks.{frameRules}
-use Rattle.encoder.proofs.Verdict.{count-limit}
+use Rattle.rules.proofs.Accepted.{count-limits}
 use Rattle.encoder.proofs.check_frame.Statement.{statement}
 use Rattle.encoder.proofs.check_frame.Tie as tie
 
@@ -22,7 +22,7 @@ unfolding frameRules
 returns c = refused-then _ (c .before .before .check-count .ensures) (c .enum-told2 .given .1)
 
 check-lengths-requires : tie.Need-check-lengths-requires
-check-lengths-requires c κs = (c .before .before .before .before .before .before .before .before .before .before .pre, count-limit _ (sym (c .before .before .before .check-count .ensures) ∙ check-passed (c .before .enum-told .given .1)))
+check-lengths-requires c κs = (c .before .before .before .before .before .before .before .before .before .before .pre, count-limits _ (sym (c .before .before .before .check-count .ensures) ∙ check-passed (c .before .enum-told .given .1)) .1)
 
 same-length : tie.Need-same-length
 same-length c = search needs

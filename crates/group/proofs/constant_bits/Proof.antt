@@ -2,7 +2,7 @@
 -- Assumes nothing.
 use Prim.Native.Nat.{_*_}
 use native.Mathlib.Omega.{arith}
-use Rattle.group.proofs.Blocks.{part-length}
+use Rattle.blocks.proofs.Sums.{part-length}
 use Rattle.group.proofs.constant_bits.Statement.{statement}
 use Rattle.group.proofs.constant_bits.Tie as tie
 

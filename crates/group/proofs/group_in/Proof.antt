@@ -4,8 +4,8 @@ use mathlib.Core.Path.{_∙_}
 use Prim.Native.Nat.{_+_, _*_}
 use native.Mathlib.Omega.{arith}
 use lib.ListN.{getD}
-use Rattle.group.specs.Group.{sentBit}
-use Rattle.group.proofs.Blocks.{part-length, square}
+use Rattle.blocks.specs.Blocks.{sentBit}
+use Rattle.blocks.proofs.Sums.{part-length, square}
 use Rattle.group.proofs.Group.{group-made}
 use Rattle.group.proofs.group_in.Statement.{statement}
 use Rattle.group.proofs.group_in.Tie as tie

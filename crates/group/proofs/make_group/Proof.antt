@@ -2,7 +2,7 @@
 -- Assumes nothing.
 use Prim.Native.Nat.{_+_, _*_, _/_}
 use native.Mathlib.Omega.{arith}
-use Rattle.group.proofs.Blocks.{part-length}
+use Rattle.blocks.proofs.Sums.{part-length}
 use Rattle.group.proofs.make_group.Statement.{statement}
 use Rattle.group.proofs.make_group.Tie as tie
 

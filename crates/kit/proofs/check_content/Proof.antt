@@ -7,9 +7,10 @@ use Prim.Native.Nat.{ℕ, _*_}
 use Rattle.staircase.specs.Rules.{kitRules}
 use Rattle.staircase.specs.System.{rowBytes}
 use Rattle.rules.proofs.Answers.{refused-then, passed-then, check-passed}
-use Rattle.kit.specs.Fits.{paramsOf, orderOf, listsOf}
+use Rattle.rules.specs.Sizes.{paramsOf, orderOf, listsOf}
+use Rattle.rules.proofs.Accepted.{lists-permute}
 use Rattle.kit.proofs.Whole.{order-positive}
-use Rattle.kit.proofs.Verdict.{lists-rule, spare-rule, lists-permute}
+use Rattle.kit.proofs.Verdict.{lists-rule, spare-rule}
 use Rattle.kit.proofs.check_content.Statement.{statement}
 use Rattle.kit.proofs.check_content.Tie as tie
 
@@ -48,7 +49,7 @@ returns c =
     let a = c .before .before .before .before .before .before .before .before .before .before .args in
     let h = c .before .before .before .before .before .before .before .before .before .before .pre in
     let e : c .before .before .before .before .before .order .result ≡ orderOf (a .d) = c .before .before .before .before .before .order .ensures .0 in
-    let x = lists-rule (a .d) (a .own .now) (a .parity .now) (a .inverse .now) (c .before .before .before .before .before .order .result) e (c .before .before .before .check-lists .ensures) in
+    let x = lists-rule (a .d) (c .before .before .before .before .before .order .result) e (a .own .now) (a .parity .now) (c .before .before .before .check-lists .ensures) in
     refused-then _ x (c .enum-told2 .given .1)
 
 check-spare-requires : tie.Need-check-spare-requires
@@ -70,8 +71,8 @@ returns-2 c =
     let a = c .before .before .before .before .before .before .before .before .before .before .before .before .before .args in
     let h = c .before .before .before .before .before .before .before .before .before .before .before .before .before .pre in
     let e : c .before .before .before .before .before .before .before .before .order .result ≡ orderOf (a .d) = c .before .before .before .before .before .before .before .before .order .ensures .0 in
-    let x = lists-rule (a .d) (a .own .now) (a .parity .now) (a .inverse .now) (c .before .before .before .before .before .before .before .before .order .result) e (c .before .before .before .before .before .before .check-lists .ensures) in
-    let y = spare-rule (a .d) (a .own .now) (a .parity .now) (a .inverse .now) (c .before .before .before .before .before .before .before .before .order .result) e (c .before .before .check-spare .ensures) in
+    let x = lists-rule (a .d) (c .before .before .before .before .before .before .before .before .order .result) e (a .own .now) (a .parity .now) (c .before .before .before .before .before .before .check-lists .ensures) in
+    let y = spare-rule (a .d) (c .before .before .before .before .before .before .before .before .order .result) e (a .inverse .now) (c .before .before .check-spare .ensures) in
     refused-then _ y (c .enum-told4 .given .1) ∙ passed-then _ x (c .before .before .before .enum-told .given .1)
 
 check-inverse-requires : tie.Need-check-inverse-requires
@@ -79,7 +80,7 @@ check-inverse-requires c κs =
     let a = c .before .before .before .before .before .before .before .before .before .before .before .before .before .before .args in
     let h = c .before .before .before .before .before .before .before .before .before .before .before .before .before .before .pre in
     let e : c .before .before .before .before .before .before .before .before .before .order .result ≡ orderOf (a .d) = c .before .before .before .before .before .before .before .before .before .order .ensures .0 in
-    let x = lists-rule (a .d) (a .own .now) (a .parity .now) (a .inverse .now) (c .before .before .before .before .before .before .before .before .before .order .result) e (c .before .before .before .before .before .before .before .check-lists .ensures) in
+    let x = lists-rule (a .d) (c .before .before .before .before .before .before .before .before .before .order .result) e (a .own .now) (a .parity .now) (c .before .before .before .before .before .before .before .check-lists .ensures) in
     let p = lists-permute (paramsOf (a .d)) (listsOf (a .d) (a .own .now) (a .parity .now)) (sym x ∙ check-passed (c .before .before .before .before .enum-told .given .1)) in
     record {
       allowed = h .allowed;
@@ -100,8 +101,8 @@ returns-3 c =
     let a = c .before .before .before .before .before .before .before .before .before .before .before .before .before .before .before .before .before .args in
     let h = c .before .before .before .before .before .before .before .before .before .before .before .before .before .before .before .before .before .pre in
     let e : c .before .before .before .before .before .before .before .before .before .before .before .before .order .result ≡ orderOf (a .d) = c .before .before .before .before .before .before .before .before .before .before .before .before .order .ensures .0 in
-    let x = lists-rule (a .d) (a .own .now) (a .parity .now) (a .inverse .now) (c .before .before .before .before .before .before .before .before .before .before .before .before .order .result) e (c .before .before .before .before .before .before .before .before .before .before .check-lists .ensures) in
-    let y = spare-rule (a .d) (a .own .now) (a .parity .now) (a .inverse .now) (c .before .before .before .before .before .before .before .before .before .before .before .before .order .result) e (c .before .before .before .before .before .before .check-spare .ensures) in
+    let x = lists-rule (a .d) (c .before .before .before .before .before .before .before .before .before .before .before .before .order .result) e (a .own .now) (a .parity .now) (c .before .before .before .before .before .before .before .before .before .before .check-lists .ensures) in
+    let y = spare-rule (a .d) (c .before .before .before .before .before .before .before .before .before .before .before .before .order .result) e (a .inverse .now) (c .before .before .before .before .before .before .check-spare .ensures) in
     c .before .before .check-inverse .ensures ∙ passed-then _ y (c .before .before .before .before .enum-told3 .given .1) ∙ passed-then _ x (c .before .before .before .before .before .before .before .enum-told .given .1)
 
 pub check-content-spec : {M : Type 1} → statement M

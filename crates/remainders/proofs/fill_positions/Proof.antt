@@ -7,7 +7,8 @@ use native.Mathlib.Omega.{arith}
 use lib.ListN.{length, getD, length-set}
 use Rattle.bch.specs.Powers.{powerMod}
 use Rattle.bch.proofs.PowerSum.{powerMod-below}
-use Rattle.remainders.proofs.Tables.{powerMod-none, powerMod-next, set-each}
+use Rattle.bch.proofs.Store.{set-each}
+use Rattle.remainders.proofs.Tables.{powerMod-none, powerMod-next}
 use Rattle.remainders.proofs.fill_positions.Statement.{statement}
 use Rattle.remainders.proofs.fill_positions.Tie as tie
 

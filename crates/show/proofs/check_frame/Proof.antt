@@ -3,7 +3,7 @@
 use mathlib.Core.Path.{sym, _∙_}
 use Rattle.show.specs.Show.{frameVerdict}
 use Rattle.rules.proofs.Answers.{refused-then, passed-then, check-passed}
-use Rattle.show.proofs.Accepted.{count-limit}
+use Rattle.rules.proofs.Accepted.{count-limits}
 use borrow.Author.Needs.{needs}
 use Rattle.show.proofs.check_frame.Statement.{statement}
 use Rattle.show.proofs.check_frame.Tie as tie
@@ -22,7 +22,7 @@ unfolding frameVerdict
 returns c = refused-then _ (c .before .before .check-count .ensures) (c .enum-told2 .given .1)
 
 check-part-requires : tie.Need-check-part-requires
-check-part-requires c κs = count-limit _ (sym (c .before .before .check-count .ensures) ∙ check-passed (c .enum-told .given .1))
+check-part-requires c κs = count-limits _ (sym (c .before .before .check-count .ensures) ∙ check-passed (c .enum-told .given .1)) .1
 
 enum-told-3 : tie.Need-enum-told-3
 enum-told-3 c = search needs
@@ -38,7 +38,7 @@ returns-2 c =
 
 check-frame-lengths-requires : tie.Need-check-frame-lengths-requires
 check-frame-lengths-requires c κs =
-    count-limit _ (sym (c .before .before .before .before .before .check-count .ensures) ∙ check-passed (c .before .before .before .enum-told .given .1))
+    count-limits _ (sym (c .before .before .before .before .before .check-count .ensures) ∙ check-passed (c .before .before .before .enum-told .given .1)) .1
 
 returns-3 : tie.Need-returns-3
 unfolding frameVerdict

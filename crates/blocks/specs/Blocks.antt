@@ -1,0 +1,51 @@
+-- The blocks of a frame as parts of the information, and sums over them by the table of powers of x that the positions of a word carry: its first M
+-- entries are for the first block of a word, the next M for the second.
+--   sent L b                   block b of a frame of L blocks is sent
+--   blockBytes L area info b   its bytes; none where it is not sent
+--   sentBit, Sent              a bit of a block that may not be sent; what is asked of such a block
+--   partSum                    the sum of a part of the table at the ones of some bits
+--   columnSum, rowSum          the remainder of the blocks of column word a, of row word a
+--   Powers s table             the table has the powers of x that the positions of a word carry
+-- Assumes nothing.
+use mathlib.Core.Path.{_≡_}
+use mathlib.Core.Bool.{Bool, true, false, cond}
+use mathlib.Core.List.{List, []}
+use Prim.Native.Nat.{ℕ, zero, suc, _+_, _-_, _*_}
+use lib.Dec.{ltb}
+use lib.ListN.{length, getD, take, drop}
+use Rattle.bch.specs.Polynomial.{_⊕_, Bits}
+use Rattle.bch.specs.Powers.{xorSum, PositionPowers}
+use Rattle.staircase.specs.Design.{Params, wordLength}
+use Rattle.staircase.specs.System.{Contents}
+
+-- "B0 is all zero and not sent. For odd L the block after the last is all zero and not sent."
+unfoldable pub sent : ℕ → ℕ → Bool
+sent L zero = false
+sent L (suc b) = ltb b L
+
+unfoldable pub blockBytes : ℕ → ℕ → List ℕ → ℕ → List ℕ
+blockBytes L area info b = cond (sent L b) (take area (drop ((b - 1) * area) info)) []
+
+-- "Unsent blocks are zero"
+unfoldable pub sentBit : Bool → List ℕ → Contents
+sentBit sent block k = cond sent (getD block k 0) 0
+
+-- a block that is sent has `area` bits; one that is not may be any slice
+abbrev pub Sent : Bool → List ℕ → ℕ → Type 0
+Sent sent block area = sent ≡ true → (length block ≡ area) × Bits block
+
+-- the sum of w entries of the table, from entry `from` on, at the ones of b
+unfoldable pub partSum : List ℕ → ℕ → ℕ → (ℕ → ℕ) → ℕ
+partSum table from w b = xorSum w (λ j. b j * getD table (from + j) 0)
+
+-- column a of the odd block and of the even one
+unfoldable pub columnSum : List ℕ → ℕ → Contents → Contents → ℕ → ℕ
+columnSum table size odd even a = partSum table 0 size (λ j. odd (j * size + a)) ⊕ partSum table size size (λ j. even (j * size + a))
+
+-- row a of the block before and of the odd one
+unfoldable pub rowSum : List ℕ → ℕ → Contents → Contents → ℕ → ℕ
+rowSum table size before odd a = partSum table 0 size (λ j. before (a * size + j)) ⊕ partSum table size size (λ j. odd (a * size + j))
+
+pub record Powers (s : Params) (table : List ℕ) : Type 0 where
+  pub long : length table ≡ wordLength s
+  pub powers : PositionPowers (s .g) (s .r) table

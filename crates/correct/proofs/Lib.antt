@@ -1,0 +1,4 @@
+pub mod Flips
+pub mod Places
+pub mod Word
+pub mod Passes

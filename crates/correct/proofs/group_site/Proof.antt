@@ -1,0 +1,40 @@
+-- `correct::group_site` meets its contract. Assumes nothing.
+use native.Mathlib.Omega.{arith}
+use mathlib.Core.Path.{_≡_, sym, ap, subst}
+use Prim.Native.Nat.{ℕ, _+_, _*_, _<_}
+use Rattle.staircase.specs.Frame.{groups}
+use Rattle.staircase.specs.Frame.Site.{inRed}
+use Rattle.staircase.proofs.Fill.{small-product}
+use Rattle.rules.specs.Sizes.{orderOf}
+use Rattle.correct.specs.Sites.{siteOf, Inside}
+use Rattle.correct.proofs.Places.{stretch-fits}
+use borrow.Author.Needs.{needs}
+use Rattle.correct.proofs.group_site.Statement.{statement}
+use Rattle.correct.proofs.group_site.Tie as tie
+
+order-requires : tie.Need-order-requires
+order-requires c κs = search needs
+
+mul-t6 : tie.Need-mul-t6
+mul-t6 c = search needs
+
+mul-t7 : tie.Need-mul-t7
+mul-t7 c =
+    let a = c .before .args in omega (arith, small-product (a .i) (2 * c .order .result) 4096 8589934592 (omega arith) (omega arith))
+
+add-t8 : tie.Need-add-t8
+add-t8 c =
+    let a = c .before .args in omega (arith, small-product (a .i) (2 * c .order .result) 4096 8589934592 (omega arith) (omega arith), c .order .ensures)
+
+returns : tie.Need-returns
+unfolding siteOf Inside
+returns c =
+    let a = c .before .args in
+    let z = orderOf (a .d) in
+    let e : c .order .result ≡ z = c .order .ensures .0 in (
+      ap (λ (y : ℕ). inRed (a .i * (2 * y) + a .k)) e,
+      λ n. subst (λ (y : ℕ). a .i * (2 * y) + a .k < groups (a .blocks) * (2 * z)) (sym e) (stretch-fits (groups (a .blocks)) (a .i) (2 * z) (a .k) (c .before .pre .1) (c .before .pre .2)),
+    )
+
+pub group-site-spec : {M : Type 1} → statement M
+group-site-spec = tie.close (tie.spec order-requires mul-t6 mul-t7 add-t8 returns)

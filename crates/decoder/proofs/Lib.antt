@@ -1,0 +1,4 @@
+pub mod Groups
+pub mod Limit
+pub mod Whole
+pub mod Verdict

@@ -1,0 +1,88 @@
+-- The tables are filled, then the rounds run, then the words outside the code are counted.
+-- Assumes nothing.
+use native.Mathlib.Omega.{arith}
+use mathlib.Core.Path.{refl, _∙_}
+use Rattle.staircase.specs.Frame.{frameOf, words}
+use Rattle.rules.specs.Sizes.{paramsOf, listsOf}
+use Rattle.decoder.proofs.Whole.{tables-of, ready-of, rounds-fit, corrected-is}
+use borrow.Author.Needs.{needs}
+use Rattle.decoder.proofs.correct_in.Statement.{statement}
+use Rattle.decoder.proofs.correct_in.Tie as tie
+
+cast-m : tie.Need-cast-m
+cast-m c = search needs
+
+rounds-allowed-requires : tie.Need-rounds-allowed-requires
+rounds-allowed-requires c κs = search needs
+
+fill-table-requires : tie.Need-fill-table-requires
+fill-table-requires c κs = search needs
+
+fill-field-requires : tie.Need-fill-field-requires
+fill-field-requires c κs = search needs
+
+fill-syndromes-requires : tie.Need-fill-syndromes-requires
+fill-syndromes-requires c κs =
+    let p = c .before .before .before .before .before .before .before .before .before .before .before .before .before .before .before .before .before .before .before .before .before .pre in (p .0 .allowed .m-low, p .0 .allowed .m-high, c .before .before .before .before .fill-field .ensures, omega (arith, p .4, p .0 .allowed .M-low), omega (arith, p .4, p .0 .allowed .n-high))
+
+run-rounds-requires : tie.Need-run-rounds-requires
+run-rounds-requires c κs =
+    let p = c .before .before .before .before .before .before .before .before .before .before .before .before .before .before .before .before .before .before .before .before .before .before .before .before .before .before .before .before .before .before .before .pre in
+    let l = c .before .before .before .before .before .before .before .before .before .before .before .before .before .before .before .before .before .before .fill-table .ensures .1 ∙ p .3 in
+    let T = tables-of (c .before .before .before .before .before .before .before .before .before .before .before .before .before .before .before .before .before .before .before .before .before .before .before .before .before .before .before .before .before .before .before .args .d) _ _ _ (p .0 .allowed) (c .before .before .before .before .before .before .before .before .before .before .before .before .before .before .before .before .before .before .fill-table .ensures .0) l (c .before .before .before .before .before .before .before .before .before .fill-syndromes .ensures .0) (c .before .before .before .before .before .before .before .before .before .fill-syndromes .ensures .1 ∙ p .4) (c .before .before .before .before .before .before .before .before .before .before .before .before .before .before .fill-field .ensures) in
+    (ready-of _ _ _ (p .0) T l, p .0 .frame, p .1, p .6, c .before .before .before .before .before .before .before .before .before .before .before .before .before .before .before .before .before .before .before .before .rounds-allowed .ensures .1)
+
+count-outside-requires : tie.Need-count-outside-requires
+count-outside-requires c κs =
+    let p = c .before .before .before .before .before .before .before .before .before .before .before .before .before .before .before .before .before .before .before .before .before .before .before .before .before .before .before .before .before .before .before .before .before .before .before .before .before .before .before .before .before .before .before .before .pre in
+    let a = c .before .before .before .before .before .before .before .before .before .before .before .before .before .before .before .before .before .before .before .before .before .before .before .before .before .before .before .before .before .before .before .before .before .before .before .before .before .before .before .before .before .before .before .before .args in
+    let F = rounds-fit (words (paramsOf (a .d)) (listsOf (a .d) (a .own .now) (a .parity .now)) (a .blocks)) (c .before .before .before .before .before .before .before .before .before .before .before .before .before .before .before .before .before .before .before .before .before .before .before .before .before .before .before .before .before .before .before .before .before .rounds-allowed .result) _ (p .0 .frame) (c .before .before .before .before .before .before .before .before .before .before .before .before .run-rounds .ensures .0) refl in
+    (record { allowed = p .0 .allowed; some-blocks = p .0 .some-blocks; few-blocks = p .0 .few-blocks; lists = p .0 .lists; frame = F }, record { long = c .before .before .before .before .before .before .before .before .before .before .before .before .before .before .before .before .before .before .before .before .before .before .before .before .before .before .before .before .before .before .before .fill-table .ensures .1 ∙ p .3; powers = c .before .before .before .before .before .before .before .before .before .before .before .before .before .before .before .before .before .before .before .before .before .before .before .before .before .before .before .before .before .before .before .fill-table .ensures .0 }, c .before .before .before .before .before .before .before .before .before .before .before .before .run-rounds .ensures .1 ∙ p .1)
+
+same-length : tie.Need-same-length
+same-length c = search needs
+
+same-length-2 : tie.Need-same-length-2
+same-length-2 c = search needs
+
+same-length-3 : tie.Need-same-length-3
+same-length-3 c = search needs
+
+same-length-4 : tie.Need-same-length-4
+same-length-4 c =
+    omega (arith, c .before .before .before .before .before .before .before .before .before .before .before .before .before .before .before .before .before .before .before .before .before .before .before .before .before .before .before .before .before .before .before .before .before .before .fill-table .ensures .1)
+
+same-length-5 : tie.Need-same-length-5
+same-length-5 c = search needs
+
+same-length-6 : tie.Need-same-length-6
+same-length-6 c =
+    omega (arith, c .before .before .before .before .before .before .before .before .before .before .before .before .before .before .before .before .before .before .before .before .before .before .before .before .before .before .before .before .before .before .fill-field .ensures .long, c .before .before .before .before .before .before .before .before .before .before .before .before .before .before .before .before .before .before .before .before .before .before .before .before .before .before .before .before .before .before .before .before .before .before .before .before .before .before .before .before .before .before .before .before .before .before .before .pre .5)
+
+same-length-7 : tie.Need-same-length-7
+same-length-7 c = search needs
+
+returns : tie.Need-returns
+returns c =
+    let a = c .before .before .before .before .before .before .before .before .before .before .before .before .before .before .before .before .before .before .before .before .before .before .before .before .before .before .before .before .before .before .before .before .before .before .before .before .before .before .before .before .before .before .before .before .before .before .before .args in
+    corrected-is (paramsOf (a .d)) (listsOf (a .d) (a .own .now) (a .parity .now)) (a .blocks) (a .rounds) (c .before .before .before .before .before .before .before .before .before .before .before .before .before .before .before .before .before .before .before .before .before .before .before .before .before .before .before .before .before .before .before .before .before .before .before .before .rounds-allowed .result) (frameOf (a .info .now) (a .red .now)) _ _ (c .before .before .before .before .before .before .before .before .before .before .before .before .before .before .before .before .before .before .before .before .before .before .before .before .before .before .before .before .before .before .before .before .before .before .before .before .rounds-allowed .ensures .0) (c .before .before .before .before .before .before .before .before .before .before .before .before .before .before .before .run-rounds .ensures .0) (c .before .before .count-outside .ensures)
+
+pub correct-in-spec : {M : Type 1} → statement M
+correct-in-spec =
+    tie.close
+    (tie.spec
+    cast-m
+    rounds-allowed-requires
+    fill-table-requires
+    fill-field-requires
+    fill-syndromes-requires
+    run-rounds-requires
+    count-outside-requires
+    same-length
+    same-length-2
+    same-length-3
+    same-length-4
+    same-length-5
+    same-length-6
+    same-length-7
+    returns)

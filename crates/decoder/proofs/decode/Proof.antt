@@ -1,0 +1,107 @@
+-- The call ends at a refused design, at a refused frame, or after the rounds.
+-- Assumes nothing.
+use native.Mathlib.Omega.{arith}
+use mathlib.Core.Path.{sym, _∙_}
+use lib.ListN.{length}
+use Rattle.rules.proofs.Answers.{check-passed}
+use Rattle.kit.proofs.Verdict.{made-allowed}
+use Rattle.decoder.proofs.Verdict.{few-rounds, frame-received, frame-working, decode-design, decode-frame, decode-done}
+use borrow.Author.Needs.{needs}
+use Rattle.decoder.proofs.decode.Statement.{statement}
+use Rattle.decoder.proofs.decode.Tie as tie
+
+new-requires : tie.Need-new-requires
+new-requires c κs = search needs
+
+enum-known-designed : tie.Need-enum-known-designed
+enum-known-designed c = search needs
+
+enum-told : tie.Need-enum-told
+enum-told c = search needs
+
+design-check-requires : tie.Need-design-check-requires
+design-check-requires c κs = search needs
+
+refused-frame-requires : tie.Need-refused-frame-requires
+refused-frame-requires c κs = search needs
+
+returns : tie.Need-returns
+returns c =
+    let a = c .before .before .before .before .before .before .before .before .before .before .args in
+    decode-design (a .m) (a .t) (a .size) (a .blocks) (a .rounds) (a .own .now) (a .parity .now) (a .info .now) (a .red .now) (length (a .work .now)) (c .before .before .before .before .new .result) (c .before .before .before .before .new .ensures .0)
+    (c .refused-frame .result) (c .before .design-check .result) _ (c .refused-frame .ensures) (c .before .before .enum-told .given .1) (c .before .design-check .ensures)
+
+check-frame-requires : tie.Need-check-frame-requires
+check-frame-requires c κs =
+    made-allowed (c .before .before .before .before .designed .given .1) (c .before .before .before .before .before .before .new .ensures .2)
+
+enum-told-2 : tie.Need-enum-told-2
+enum-told-2 c = search needs
+
+enum-told-3 : tie.Need-enum-told-3
+enum-told-3 c = search needs
+
+refused-frame-requires-2 : tie.Need-refused-frame-requires-2
+refused-frame-requires-2 c κs = search needs
+
+same-length : tie.Need-same-length
+same-length c = search needs
+
+same-length-2 : tie.Need-same-length-2
+same-length-2 c = search needs
+
+same-length-3 : tie.Need-same-length-3
+same-length-3 c = search needs
+
+returns-2 : tie.Need-returns-2
+returns-2 c =
+    let a = c .before .before .before .before .before .before .before .before .before .before .before .before .before .before .before .before .before .before .args in
+    decode-frame (a .m) (a .t) (a .size) (a .blocks) (a .rounds) (a .own .now) (a .parity .now) (a .info .now) (a .red .now) (length (a .work .now)) (c .before .before .before .before .before .before .before .before .before .before .before .before .new .result) (c .before .before .before .before .before .before .before .before .before .before .before .before .new .ensures .0)
+    (c .before .before .before .before .before .before .before .before .before .before .before .before .new .ensures .1) _ (c .before .before .before .before .before .before .before .before .before .before .designed .given .1) (c .before .before .before .before .before .check-frame .result) (c .before .before .before .before .before .check-frame .ensures) (c .refused-frame2 .result) _ (c .refused-frame2 .ensures) (c .before .enum-told3 .given .1)
+
+correct-frame-requires : tie.Need-correct-frame-requires
+correct-frame-requires c κs =
+    let a = c .before .before .before .before .before .before .before .before .before .before .before .before .before .before .before .before .before .before .before .before .args in
+    let e = sym (c .before .before .before .before .before .before .before .check-frame .ensures) ∙ check-passed (c .before .before .before .enum-told2 .given .1) in
+    let allowed = made-allowed (c .before .before .before .before .before .before .before .before .before .before .before .before .designed .given .1) (c .before .before .before .before .before .before .before .before .before .before .before .before .before .before .new .ensures .2) in
+    let work = frame-working _ (a .blocks) (a .rounds) (a .own .now) (a .parity .now) (a .info .now) (a .red .now) (length (a .work .now)) e in
+    (frame-received _ (a .blocks) (a .rounds) (a .own .now) (a .parity .now) (a .info .now) (a .red .now) (length (a .work .now)) e allowed, omega (arith, work), few-rounds _ (a .blocks) (a .rounds) (a .own .now) (a .parity .now) (a .info .now) (a .red .now) (length (a .work .now)) e)
+
+same-length-4 : tie.Need-same-length-4
+same-length-4 c = search needs
+
+same-length-5 : tie.Need-same-length-5
+same-length-5 c = search needs
+
+same-length-6 : tie.Need-same-length-6
+same-length-6 c = search needs
+
+returns-3 : tie.Need-returns-3
+returns-3 c =
+    let a = c .before .before .before .before .before .before .before .before .before .before .before .before .before .before .before .before .before .before .before .before .before .before .before .before .before .before .before .args in
+    decode-done (a .m) (a .t) (a .size) (a .blocks) (a .rounds) (a .own .now) (a .parity .now) (a .info .now) (a .red .now) (length (a .work .now)) (c .before .before .before .before .before .before .before .before .before .before .before .before .before .before .before .before .before .before .before .before .before .new .result) (c .before .before .before .before .before .before .before .before .before .before .before .before .before .before .before .before .before .before .before .before .before .new .ensures .0)
+    (c .before .before .before .before .before .before .before .before .before .before .before .before .before .before .before .before .before .before .before .before .before .new .ensures .1) _ (c .before .before .before .before .before .before .before .before .before .before .before .before .before .before .before .before .before .before .before .designed .given .1) (c .before .before .before .before .before .before .before .before .before .before .before .before .before .before .check-frame .result) (c .before .before .before .before .before .before .before .before .before .before .before .before .before .before .check-frame .ensures) _ (c .before .before .before .before .before .before .before .before .before .before .enum-told2 .given .1) (c .before .before .before .before .before .before .correct-frame .ensures)
+
+pub decode-spec : {M : Type 1} → statement M
+decode-spec =
+    tie.close
+    (tie.spec
+    new-requires
+    enum-known-designed
+    enum-told
+    design-check-requires
+    refused-frame-requires
+    returns
+    check-frame-requires
+    enum-told-2
+    enum-told-3
+    refused-frame-requires-2
+    same-length
+    same-length-2
+    same-length-3
+    returns-2
+    correct-frame-requires
+    same-length-4
+    same-length-5
+    same-length-6
+    returns-3)

@@ -1,0 +1,32 @@
+-- The rules of the decoder after the design's, and what its answer says.
+--   frameRules       rules 4 to 7 and 10
+--   correctedOf      the answer and the frame that the call leaves, as document 01's result
+--   correctedFrame   the result for a frame that no rule refuses
+--   refusedFrame     the result for one that is refused
+-- Assumes nothing.
+use mathlib.Core.List.{List}
+use Prim.Native.Nat.{ℕ}
+use Rattle.staircase.specs.Design.{Params, Interleavers}
+use Rattle.staircase.specs.Frame.{Frame, outside}
+use Rattle.staircase.specs.Decoder.{Decoded, decoded}
+use Rattle.staircase.specs.Rules.{Verdict, _then_, countRule, roundsRule}
+use Rattle.staircase.specs.Rules.Verdict.{accepted}
+use Rattle.staircase.specs.Calls.{Corrected, correctedBy}
+use Rattle.rules.specs.Answers.{refusalVerdict}
+use Rattle.words.specs.Checks.{receivedRules}
+use Rattle.decoder.specs.declared.Decoding.{Decoding}
+use Rattle.decoder.specs.declared.Decoding.the-variants as decoding
+
+unfoldable pub frameRules : Params → ℕ → ℕ → List ℕ → List ℕ → List ℕ → List ℕ → ℕ → Verdict
+frameRules s L k self parity info red work = countRule L then roundsRule k then receivedRules s L self parity info red work
+
+-- "The result: rounds made .., bits turned .., words outside the code at the end"; a refused call counts nothing
+unfoldable pub correctedOf : Decoding → Frame → Corrected
+correctedOf (decoding.Decoded c) f = record { verdict = accepted; frame = f; counts = record { rounds = c .rounds; flips = c .flips; outside = c .outside } }
+correctedOf (decoding.Refused r) f = record { verdict = refusalVerdict r; frame = f; counts = record { rounds = 0; flips = 0; outside = 0 } }
+
+unfoldable pub correctedFrame : Params → Interleavers → ℕ → ℕ → Frame → Corrected
+correctedFrame s l L k f = let d : Decoded = decoded s l L k f in correctedBy accepted f d (outside s l L (d .frame))
+
+unfoldable pub refusedFrame : Verdict → Frame → Corrected
+refusedFrame v f = record { verdict = v; frame = f; counts = record { rounds = 0; flips = 0; outside = 0 } }

@@ -1,0 +1,398 @@
+// The decoder: rules 1 to 7 and 10 of document 01's table, then rounds over the words of the received frame, in place.
+//   decode   corrects a frame, and counts rounds, flipped bits and words outside the code at the end
+//
+// A round takes the groups one after the other, in each the row words and then the column words. The remainders of all row words of a group are
+// taken together, in the order in which their bits stand in memory, and so are those of its column words (crate `words`); then each word whose
+// remainder is not 0 is corrected (crate `correct`). Rounds end after one that flips nothing.
+ghost use mathlib.Core.Path.{_≡_};
+ghost use Prim.Native.Nat.{_*_, _^_, _≤_};
+ghost use lib.ListN.{length};
+ghost use Rattle.staircase.specs.Design.{wordLength};
+ghost use Rattle.staircase.specs.Frame.{Frame, frameOf, words};
+ghost use Rattle.staircase.specs.Decoder.{Progress, Decoded, round, runRounds, roundsAllowed};
+ghost use Rattle.staircase.specs.Calls.{decodeCall};
+ghost use Rattle.rules.specs.Answers.{verdictOf, Allowed};
+ghost use Rattle.rules.specs.Sizes.{paramsOf, orderOf, listsOf};
+ghost use Rattle.words.specs.Words.{groupWords};
+ghost use Rattle.rules.specs.Received.{FrameFits, Received};
+ghost use Rattle.correct.specs.Ready.{GroupReady};
+ghost use Rattle.decoder.specs.Answers.{correctedOf, correctedFrame, refusedFrame, frameRules};
+ghost use Rattle.decoder.specs.Ready.{Ready};
+ghost use Rattle.decoder.specs.declared.Decoding.the-variants as Decoding;
+use rules::Check;
+use rules::Design;
+use rules::Designed;
+use rules::Refusal;
+
+// What decoding a frame has done: rounds made, bits flipped, words outside the code at the end.
+pub struct Counts {
+    pub rounds: u64,
+    pub flips: u64,
+    pub outside: u64,
+}
+
+// The answer of the decoder.
+pub enum Decoding {
+    Decoded(Counts),
+    Refused(Refusal),
+}
+
+// Rounds made and bits flipped.
+struct Made {
+    rounds: usize,
+    flips: usize,
+}
+
+// Corrects the words of a group, the row words and then the column words, and answers how many bits it flipped.
+fn correct_group(
+    d: Design,
+    blocks: usize,
+    i: usize,
+    own: &[u8],
+    parity: &[u8],
+    positions: &[u32],
+    syndromes: &[u32],
+    field: &[u16],
+    info: &mut [u8],
+    red: &mut [u8],
+    work: &mut [u8],
+    sums: &mut [u32],
+) -> usize
+    requires { ⌜ GroupReady d blocks i (now own) (now parity) (now positions) (now syndromes) (now field)
+        × FrameFits d blocks (now info) (now red) × (length (now work) ≡ orderOf d) × (length (now sums) ≡ d .size) ⌝ }
+    ensures { λ k. ⌜ (record { frame = frameOf (now (info .exit)) (now (red .exit)); flips = k }
+        ≡ round (paramsOf d) (groupWords (paramsOf d) (listsOf d (now (own .entry)) (now (parity .entry))) blocks i)
+        (frameOf (now (info .entry)) (now (red .entry))))
+        × (length (now (work .exit)) ≡ length (now (work .entry))) × (length (now (sums .exit)) ≡ length (now (sums .entry))) ⌝ }
+{
+    words::row_remainders(
+        d,
+        blocks,
+        i,
+        own,
+        parity,
+        &info[..],
+        &red[..],
+        positions,
+        &mut work[..],
+        &mut sums[..],
+    );
+    let rows = correct::correct_words(
+        d,
+        blocks,
+        i,
+        false,
+        &sums[..],
+        own,
+        parity,
+        positions,
+        syndromes,
+        field,
+        &mut info[..],
+        &mut red[..],
+    );
+    words::column_remainders(
+        d,
+        blocks,
+        i,
+        own,
+        parity,
+        &info[..],
+        &red[..],
+        positions,
+        &mut sums[..],
+    );
+    let columns = correct::correct_words(
+        d,
+        blocks,
+        i,
+        true,
+        &sums[..],
+        own,
+        parity,
+        positions,
+        syndromes,
+        field,
+        &mut info[..],
+        &mut red[..],
+    );
+    rows + columns
+}
+
+// Corrects all words of a frame once, group by group, and answers how many bits it flipped.
+fn correct_once(
+    d: Design,
+    blocks: usize,
+    own: &[u8],
+    parity: &[u8],
+    positions: &[u32],
+    syndromes: &[u32],
+    field: &[u16],
+    info: &mut [u8],
+    red: &mut [u8],
+    work: &mut [u8],
+    sums: &mut [u32],
+) -> usize
+    requires { ⌜ Ready d blocks (now own) (now parity) (now positions) (now syndromes) (now field)
+        × FrameFits d blocks (now info) (now red) × (length (now work) ≡ orderOf d) × (length (now sums) ≡ d .size) ⌝ }
+    ensures { λ k. ⌜ (record { frame = frameOf (now (info .exit)) (now (red .exit)); flips = k }
+        ≡ round (paramsOf d) (words (paramsOf d) (listsOf d (now (own .entry)) (now (parity .entry))) blocks)
+        (frameOf (now (info .entry)) (now (red .entry))))
+        × (length (now (work .exit)) ≡ length (now (work .entry))) × (length (now (sums .exit)) ≡ length (now (sums .entry))) ⌝ }
+{
+    let count = (blocks + 1) / 2;
+    let mut flips = 0;
+    for i in 0..count {
+        let more = correct_group(
+            d,
+            blocks,
+            i,
+            own,
+            parity,
+            positions,
+            syndromes,
+            field,
+            &mut info[..],
+            &mut red[..],
+            &mut work[..],
+            &mut sums[..],
+        );
+        flips += more;
+    }
+    flips
+}
+
+// Corrects all words of a frame, until a round flips nothing or `limit` rounds are made.
+fn run_rounds(
+    d: Design,
+    blocks: usize,
+    limit: usize,
+    own: &[u8],
+    parity: &[u8],
+    positions: &[u32],
+    syndromes: &[u32],
+    field: &[u16],
+    info: &mut [u8],
+    red: &mut [u8],
+    work: &mut [u8],
+    sums: &mut [u32],
+) -> Made
+    requires { ⌜ Ready d blocks (now own) (now parity) (now positions) (now syndromes) (now field)
+        × FrameFits d blocks (now info) (now red) × (length (now work) ≡ orderOf d) × (length (now sums) ≡ d .size) × (limit ≤ 64) ⌝ }
+    ensures { λ a. ⌜ (record { frame = frameOf (now (info .exit)) (now (red .exit)); rounds = a .rounds; flips = a .flips }
+        ≡ runRounds (paramsOf d) (words (paramsOf d) (listsOf d (now (own .entry)) (now (parity .entry))) blocks) limit
+        (frameOf (now (info .entry)) (now (red .entry))))
+        × (length (now (work .exit)) ≡ length (now (work .entry))) ⌝ }
+{
+    let mut flips = 0;
+    for k in 0..limit {
+        let more = correct_once(
+            d,
+            blocks,
+            own,
+            parity,
+            positions,
+            syndromes,
+            field,
+            &mut info[..],
+            &mut red[..],
+            &mut work[..],
+            &mut sums[..],
+        );
+        flips += more;
+        if more == 0 {
+            return Made {
+                rounds: k + 1,
+                flips: flips,
+            };
+        }
+    }
+    Made {
+        rounds: limit,
+        flips: flips,
+    }
+}
+
+// The rounds that a number of rounds stands for.
+fn rounds_allowed(rounds: u64) -> usize
+    requires { ⌜ rounds ≤ 64 ⌝ }
+    ensures { λ a. ⌜ (a ≡ roundsAllowed rounds) × (a ≤ 64) ⌝ }
+{
+    if rounds == 0 {
+        return 7;
+    }
+    rounds as usize
+}
+
+// `correct_frame` with its working entries lent: the tables, and `sums` for the remainders of the words of a group.
+fn correct_in(
+    d: Design,
+    blocks: usize,
+    rounds: u64,
+    own: &[u8],
+    parity: &[u8],
+    info: &mut [u8],
+    red: &mut [u8],
+    work: &mut [u8],
+    positions: &mut [u32],
+    syndromes: &mut [u32],
+    field: &mut [u16],
+    sums: &mut [u32],
+) -> Counts
+    requires { ⌜ Received d blocks (now own) (now parity) (now info) (now red) × (length (now work) ≡ orderOf d) × (rounds ≤ 64)
+        × (length (now positions) ≡ wordLength (paramsOf d)) × (length (now syndromes) ≡ wordLength (paramsOf d))
+        × (length (now field) ≡ 4 * 2 ^ (d .m)) × (length (now sums) ≡ d .size) ⌝ }
+    ensures { λ a. ⌜ correctedOf (Decoding.Decoded a) (frameOf (now (info .exit)) (now (red .exit)))
+        ≡ correctedFrame (paramsOf d) (listsOf d (now (own .entry)) (now (parity .entry))) blocks rounds (frameOf (now (info .entry)) (now (red .entry))) ⌝ }
+{
+    let m = d.m as usize;
+    let limit = rounds_allowed(rounds);
+    kit::fill_table(d, &mut positions[..]);
+    field::fill_field(m, &mut field[..]);
+    field::fill_syndromes(m, &field[..], &mut syndromes[..]);
+    let made = run_rounds(
+        d,
+        blocks,
+        limit,
+        own,
+        parity,
+        &positions[..],
+        &syndromes[..],
+        &field[..],
+        &mut info[..],
+        &mut red[..],
+        &mut work[..],
+        sums,
+    );
+    let outside = words::count_outside(
+        d,
+        blocks,
+        own,
+        parity,
+        &info[..],
+        &red[..],
+        &positions[..],
+        work,
+    );
+    Counts {
+        rounds: made.rounds as u64,
+        flips: made.flips as u64,
+        outside: outside,
+    }
+}
+
+// Corrects a received frame whose arguments have passed all rules, and counts.
+fn correct_frame(
+    d: Design,
+    blocks: usize,
+    rounds: u64,
+    own: &[u8],
+    parity: &[u8],
+    info: &mut [u8],
+    red: &mut [u8],
+    work: &mut [u8],
+) -> Counts
+    requires { ⌜ Received d blocks (now own) (now parity) (now info) (now red) × (length (now work) ≡ orderOf d) × (rounds ≤ 64) ⌝ }
+    ensures { λ a. ⌜ correctedOf (Decoding.Decoded a) (frameOf (now (info .exit)) (now (red .exit)))
+        ≡ correctedFrame (paramsOf d) (listsOf d (now (own .entry)) (now (parity .entry))) blocks rounds (frameOf (now (info .entry)) (now (red .entry))) ⌝ }
+{
+    let bits = d.n();
+    let size = d.size as usize;
+    let quarter = 1 << (d.m as usize);
+    let mut positions = [0u32; 1024];
+    let mut syndromes = [0u32; 1024];
+    let mut field = [0u16; 4096];
+    let mut sums = [0u32; 512];
+    correct_in(
+        d,
+        blocks,
+        rounds,
+        own,
+        parity,
+        info,
+        red,
+        work,
+        &mut positions[0..bits],
+        &mut syndromes[0..bits],
+        &mut field[0..4 * quarter],
+        &mut sums[0..size],
+    )
+}
+
+// Rules 4 to 7 and 10, for an allowed design.
+fn check_frame(
+    d: Design,
+    blocks: u64,
+    rounds: u64,
+    own: &[u8],
+    parity: &[u8],
+    info: &[u8],
+    red: &[u8],
+    work: &mut [u8],
+) -> Check
+    requires { ⌜ Allowed d ⌝ }
+    ensures { λ a. ⌜ verdictOf a ≡ frameRules (paramsOf d) blocks rounds (now (own .entry)) (now (parity .entry)) (now (info .entry)) (now (red .entry))
+        (length (now (work .entry))) ⌝ }
+{
+    let count = rules::check_count(blocks);
+    let Check::Passed = count else {
+        return count;
+    };
+    let limit = rules::check_rounds(rounds);
+    let Check::Passed = limit else {
+        return limit;
+    };
+    words::check_received(d, blocks, own, parity, info, red, work)
+}
+
+// A refused check as the decoder's answer.
+fn refused_frame(a: Check) -> Decoding
+    ensures { λ c. ⌜ ((f : Frame) → correctedOf c f ≡ refusedFrame (verdictOf a) f) ⌝ }
+{
+    match a {
+        Check::Passed => Decoding::Decoded(Counts {
+            rounds: 0,
+            flips: 0,
+            outside: 0,
+        }),
+        Check::Refused(r) => Decoding::Refused(r),
+    }
+}
+
+// Corrects the lent frame of `blocks` blocks in place, in at most `rounds` rounds, 0 standing for 7, or refuses it by the first of rules 1 to 7 and
+// 10; a refused frame is left as it was. The working bytes are one for each entry of a list, and free afterwards. The work of a round is one step
+// for each bit of the words, and some more for each word that is outside the code.
+pub fn decode(
+    m: u64,
+    t: u64,
+    size: u64,
+    blocks: u64,
+    rounds: u64,
+    own: &[u8],
+    parity: &[u8],
+    info: &mut [u8],
+    red: &mut [u8],
+    work: &mut [u8],
+) -> Decoding
+    ensures { λ a. ⌜ correctedOf a (frameOf (now (info .exit)) (now (red .exit)))
+        ≡ decodeCall m t size blocks rounds (now (own .entry)) (now (parity .entry)) (now (info .entry)) (now (red .entry)) (length (now (work .entry))) ⌝ }
+{
+    let designed = Design::new(m, t, size);
+    let Designed::Made(d) = designed else {
+        return refused_frame(rules::design_check(designed));
+    };
+    let frame = check_frame(
+        d,
+        blocks,
+        rounds,
+        own,
+        parity,
+        &info[..],
+        &red[..],
+        &mut work[..],
+    );
+    let Check::Passed = frame else {
+        return refused_frame(frame);
+    };
+    Decoding::Decoded(correct_frame(d, blocks as usize, rounds, own, parity, info, red, work))
+}

@@ -1,0 +1,7 @@
+pub mod Link
+pub mod Choices
+pub mod Roots
+pub mod Cubics
+pub mod Values
+pub mod Triples
+pub mod Answers

@@ -1,0 +1,440 @@
+// The error positions of a received BCH word, at most three, from its remainder. The word itself is not read.
+//   Located   the positions, in rising order
+//   locate    finds them
+//
+// The remainder is the sum of one table entry for each error, so the positions are those whose entries have that sum; the BCH bound leaves
+// at most one choice of them. A candidate counts only where its entries have the sum, so nothing wrong is located; the algebra shows that
+// nothing is missed. All take constant work after the remainder's bits are read, but for a few remainders (about one of 2^m) of three errors.
+// - S1 and S3, the remainder's values at the root α and at its cube, are the sums of α^e and of α^3e over the errors, where the error's
+//   position carries x^e. They are kept in one number, S1 + 65536 S3.
+// - One error: e is the logarithm of S1.
+// - Two errors: with z = α^e / S1, S3 + S1³ = S1³ (z² + z). A table has a solution z for each value of z² + z.
+// - Three errors: with S5, the value at the fifth power of the root, and Y = α^e + S1, Y³ + a Y + d = 0, where d = S1³ + S3 and
+//   a d = S1⁵ + S5. With a = c² and Y = c z, z³ + z = d / c³. A table has a solution z for each value of z³ + z; each solution is one of the
+//   three, and the other two are found as above from what is left of the sum. Where a is 0, each position is tried as the first.
+ghost use mathlib.Core.Path.{_≡_};
+ghost use mathlib.Core.Logic.{_≢_, _⊎_};
+ghost use Prim.Native.Nat.{_+_, _-_, _*_, _%_, _^_, _≤_, _<_};
+ghost use lib.ListN.{length};
+ghost use Rattle.bch.specs.Field.{powerTable, valueAt};
+ghost use Rattle.bch.specs.Locator.{LogTable, CubicTable, PowerIs, SyndromeTable, syndromes};
+ghost use Rattle.locator.specs.Located.{located, positionsOf, Tables};
+ghost use Rattle.locator.specs.Steps.{Parts, Logs, Fields, Words, NotOne, NotTwo, SingleIs, PairIs, RootOf, ExponentsAre, CarryAre};
+ghost use Rattle.locator.specs.Steps.{CubicRootOf, OneOfThree};
+
+// The positions of at most three errors, the first in front.
+pub enum Located {
+    Nowhere,
+    One(usize),
+    Two(usize, usize),
+    Three(usize, usize, usize),
+}
+
+// A position, if there is one.
+enum Single {
+    Absent,
+    At(usize),
+}
+
+// Two positions, or two exponents, if there are such.
+enum Pair {
+    Absent,
+    At(usize, usize),
+}
+
+// A table entry as an index.
+fn wide(x: u16) -> usize
+    ensures { λ a. ⌜ a ≡ x ⌝ }
+{
+    x as usize
+}
+
+// An exponent below n with the same power as x, where the powers come back after n. No division.
+fn wrap(x: usize, n: usize) -> usize
+    requires { ⌜ x < 2 * n ⌝ }
+    ensures { λ a. ⌜ (a < n) × ((a ≡ x) ⊎ (a + n ≡ x)) ⌝ }
+{
+    if x < n { x } else { x - n }
+}
+
+// The values of the polynomial x, of r bits, at the root and at its cube: one table entry for each bit. The last entry is for the lowest.
+fn syndromes_of(m: usize, r: usize, x: u32, table: &[u32]) -> u32
+    requires { ⌜ (4 ≤ m) × (m ≤ 10) × (r ≤ 30) × (r ≤ length (now table)) × (x < 2 ^ r) × SyndromeTable m (now table) ⌝ }
+    ensures { λ a. ⌜ a ≡ syndromes m x ⌝ }
+{
+    let n = table.len();
+    let mut acc: u32 = 0;
+    for k in 0..r {
+        acc = acc ^ (x >> k) % 2 * table[n - 1 - k];
+    }
+    acc
+}
+
+// The position whose entry is x. `s` has the values of x.
+fn one(m: usize, t: usize, x: u32, s: u32, positions: &[u32], logs: &[u16]) -> Single
+    requires { ⌜ Words m t (now positions) × LogTable m (now logs) × (s ≡ syndromes m x) ⌝ }
+    ensures { λ a. ⌜ SingleIs (now (positions .entry)) x a ⌝ }
+{
+    let low = (s % 65536) as usize;
+    if low == 0 {
+        return Single::Absent;
+    }
+    let n = positions.len();
+    let e = wide(logs[low]);
+    if n <= e {
+        return Single::Absent;
+    }
+    let p = n - 1 - e;
+    if positions[p] != x {
+        return Single::Absent;
+    }
+    Single::At(p)
+}
+
+// Of two powers of the root whose sum is power a and whose cubes have the sum `cubes`, one is power h + a, where h is the answer. It is 0
+// where there are no such two.
+fn root(m: usize, a: usize, cubes: usize, powers: &[u16], logs: &[u16], halves: &[u16]) -> usize
+    requires { ⌜ Fields m (now powers) (now logs) (now halves) × (a < 2 ^ m - 1) × (cubes < 2 ^ m) ⌝ }
+    ensures { λ h. ⌜ (h < 2 ^ m - 1) × RootOf m a cubes h ⌝ }
+{
+    let n = powers.len();
+    let c = wrap(wrap(2 * a, n) + a, n);
+    let d = cubes ^ wide(powers[c]);
+    if d == 0 {
+        return 0;
+    }
+    let v = wrap(wide(logs[d]) + n - c, n);
+    wide(halves[v])
+}
+
+// The exponents of the two powers of the root whose sum is `sum` and whose cubes have the sum `cubes`.
+fn exponents(
+    m: usize,
+    sum: usize,
+    cubes: usize,
+    powers: &[u16],
+    logs: &[u16],
+    halves: &[u16],
+) -> Pair
+    requires { ⌜ Fields m (now powers) (now logs) (now halves) × (sum < 2 ^ m) × (cubes < 2 ^ m) ⌝ }
+    ensures { λ a. ⌜ ExponentsAre m sum cubes a ⌝ }
+{
+    if sum == 0 {
+        return Pair::Absent;
+    }
+    let a = wide(logs[sum]);
+    let h = root(m, a, cubes, powers, logs, halves);
+    if h == 0 {
+        return Pair::Absent;
+    }
+    let e = wrap(h + a, powers.len());
+    let f = wide(logs[sum ^ wide(powers[e])]);
+    Pair::At(e, f)
+}
+
+// The positions that carry x^e and x^f, where their entries have the sum x, which is not 0.
+fn pair_at(x: u32, e: usize, f: usize, positions: &[u32]) -> Pair
+    requires { ⌜ x ≢ 0 ⌝ }
+    ensures { λ a. ⌜ CarryAre (now (positions .entry)) x e f a ⌝ }
+{
+    let n = positions.len();
+    if n <= e {
+        return Pair::Absent;
+    }
+    if n <= f {
+        return Pair::Absent;
+    }
+    let p = n - 1 - e;
+    let q = n - 1 - f;
+    if positions[p] ^ positions[q] != x {
+        return Pair::Absent;
+    }
+    if p < q {
+        return Pair::At(p, q);
+    }
+    Pair::At(q, p)
+}
+
+// The two positions whose entries have the sum x. `s` has the values of x.
+fn two(
+    m: usize,
+    t: usize,
+    x: u32,
+    s: u32,
+    positions: &[u32],
+    powers: &[u16],
+    logs: &[u16],
+    halves: &[u16],
+) -> Pair
+    requires { ⌜ Words m t (now positions) × Fields m (now powers) (now logs) (now halves) × (2 ≤ t) × (s ≡ syndromes m x) ⌝ }
+    ensures { λ a. ⌜ PairIs (now (positions .entry)) x a ⌝ }
+{
+    let roots = exponents(
+        m,
+        (s % 65536) as usize,
+        (s / 65536) as usize,
+        powers,
+        logs,
+        halves,
+    );
+    match roots {
+        Pair::Absent => Pair::Absent,
+        Pair::At(e, f) => pair_at(x, e, f, positions),
+    }
+}
+
+// The three positions whose entries have the sum x, where it is not that of fewer: the first position is tried out. `s` has the values of x.
+// One step for each position.
+fn three_by_trial(
+    m: usize,
+    t: usize,
+    x: u32,
+    s: u32,
+    positions: &[u32],
+    values: &[u32],
+    powers: &[u16],
+    logs: &[u16],
+    halves: &[u16],
+) -> Located
+    requires { ⌜ Parts m t (now positions) (now values) (now powers) (now logs) (now halves) × (t ≡ 3) × (s ≡ syndromes m x)
+        × (x ≢ 0) × NotOne (now positions) x × NotTwo (now positions) x ⌝ }
+    ensures { λ a. ⌜ positionsOf a ≡ located (now (positions .entry)) t x ⌝ }
+{
+    for j in 0..positions.len() {
+        let rest = two(
+            m,
+            t,
+            x ^ positions[j],
+            s ^ values[j],
+            positions,
+            powers,
+            logs,
+            halves,
+        );
+        match rest {
+            Pair::Absent => {}
+            Pair::At(p, q) => {
+                return Located::Three(j, p, q);
+            }
+        }
+    }
+    Located::Nowhere
+}
+
+// The value of the polynomial x, of r bits, at the fifth power of the root: one power for each bit.
+fn fifth_of(m: usize, r: usize, x: usize, powers: &[u16]) -> usize
+    requires { ⌜ (4 ≤ m) × (m ≤ 10) × (r ≤ 30) × (x < 2 ^ r) × (now powers ≡ powerTable m (2 ^ m - 1)) ⌝ }
+    ensures { λ a. ⌜ a ≡ valueAt m 5 x ⌝ }
+{
+    let n = powers.len();
+    let mut acc: usize = 0;
+    let mut e: usize = 0;
+    for k in 0..r {
+        acc = acc ^ (x >> k) % 2 * wide(powers[e]);
+        e = wrap(e + 5, n);
+    }
+    acc
+}
+
+// Power k of the field element x, where k is at most 5.
+fn power_of(m: usize, k: usize, x: usize, powers: &[u16], logs: &[u16]) -> usize
+    requires { ⌜ Logs m (now powers) (now logs) × (k ≤ 5) × (x < 2 ^ m) ⌝ }
+    ensures { λ a. ⌜ (a < 2 ^ m) × PowerIs m k x a ⌝ }
+{
+    if x == 0 {
+        return 0;
+    }
+    wide(powers[k * wide(logs[x]) % powers.len()])
+}
+
+// The exponent of the square root of power w, where the powers come back after n, which is odd.
+fn half_exponent(w: usize, n: usize) -> usize
+    requires { ⌜ (w < 2 * n) × (n < 1024) × (n % 2 ≡ 1) ⌝ }
+    ensures { λ a. ⌜ (a < 2 * n) × ((2 * a ≡ w) ⊎ (2 * a ≡ w + n)) ⌝ }
+{
+    if w % 2 == 0 { w / 2 } else { (w + n) / 2 }
+}
+
+// The exponent of one of three powers of the root. Their sum is `sum`, d is the sum of their cubes and the cube of `sum`, and e that of their
+// fifth powers and the fifth power of `sum`. Any exponent where there are no such three.
+fn cubic_root(
+    m: usize,
+    sum: usize,
+    d: usize,
+    e: usize,
+    powers: &[u16],
+    logs: &[u16],
+    cubics: &[u16],
+) -> usize
+    requires { ⌜ Logs m (now powers) (now logs) × CubicTable m (now cubics) × (sum < 2 ^ m) × (d < 2 ^ m) × (d ≢ 0) × (e < 2 ^ m) × (e ≢ 0) ⌝ }
+    ensures { λ a. ⌜ CubicRootOf m sum d e a ⌝ }
+{
+    let n = powers.len();
+    let u = wide(logs[d]);
+    let h = half_exponent(wide(logs[e]) + n - u, n);
+    let g = wide(cubics[(u + 6 * n - 3 * h) % n]);
+    let y = wide(powers[(h + g) % n]);
+    wide(logs[sum ^ y])
+}
+
+// The three positions whose entries have the sum x, where it is not that of fewer, and where j is one of them. `s` has the values of x.
+fn three_at(
+    m: usize,
+    t: usize,
+    x: u32,
+    s: u32,
+    j: usize,
+    positions: &[u32],
+    values: &[u32],
+    powers: &[u16],
+    logs: &[u16],
+    halves: &[u16],
+) -> Located
+    requires { ⌜ Parts m t (now positions) (now values) (now powers) (now logs) (now halves) × (t ≡ 3) × (s ≡ syndromes m x)
+        × (x ≢ 0) × NotOne (now positions) x × NotTwo (now positions) x × (j < length (now positions)) × OneOfThree (now positions) x j ⌝ }
+    ensures { λ a. ⌜ positionsOf a ≡ located (now (positions .entry)) t x ⌝ }
+{
+    let rest = two(
+        m,
+        t,
+        x ^ positions[j],
+        s ^ values[j],
+        positions,
+        powers,
+        logs,
+        halves,
+    );
+    match rest {
+        Pair::Absent => Located::Nowhere,
+        Pair::At(p, q) => {
+            if j < p {
+                return Located::Three(j, p, q);
+            }
+            if j < q {
+                return Located::Three(p, j, q);
+            }
+            Located::Three(p, q, j)
+        }
+    }
+}
+
+// The three positions whose entries have the sum x, where it is not that of fewer. `s` has the values of x.
+fn three(
+    m: usize,
+    t: usize,
+    x: u32,
+    s: u32,
+    positions: &[u32],
+    values: &[u32],
+    powers: &[u16],
+    logs: &[u16],
+    halves: &[u16],
+    cubics: &[u16],
+) -> Located
+    requires { ⌜ Parts m t (now positions) (now values) (now powers) (now logs) (now halves) × (t ≡ 3) × (s ≡ syndromes m x)
+        × (x ≢ 0) × NotOne (now positions) x × NotTwo (now positions) x × CubicTable m (now cubics) × (x < 2 ^ (m * t)) ⌝ }
+    ensures { λ a. ⌜ positionsOf a ≡ located (now (positions .entry)) t x ⌝ }
+{
+    let sum = (s % 65536) as usize;
+    let d = power_of(m, 3, sum, powers, logs) ^ ((s / 65536) as usize);
+    if d == 0 {
+        return Located::Nowhere;
+    }
+    let e = power_of(m, 5, sum, powers, logs) ^ fifth_of(m, m * t, x as usize, powers);
+    if e == 0 {
+        return three_by_trial(m, t, x, s, positions, values, powers, logs, halves);
+    }
+    let k = cubic_root(m, sum, d, e, powers, logs, cubics);
+    let n = positions.len();
+    if n <= k {
+        return Located::Nowhere;
+    }
+    three_at(
+        m,
+        t,
+        x,
+        s,
+        n - 1 - k,
+        positions,
+        values,
+        powers,
+        logs,
+        halves,
+    )
+}
+
+// One position, two or three, in this order, from the tables apart.
+fn search(
+    m: usize,
+    t: usize,
+    remainder: u32,
+    positions: &[u32],
+    syndromes: &[u32],
+    powers: &[u16],
+    logs: &[u16],
+    halves: &[u16],
+    cubics: &[u16],
+) -> Located
+    requires { ⌜ Parts m t (now positions) (now syndromes) (now powers) (now logs) (now halves) × (remainder < 2 ^ (m * t))
+        × CubicTable m (now cubics) ⌝ }
+    ensures { λ a. ⌜ positionsOf a ≡ located (now (positions .entry)) t remainder ⌝ }
+{
+    if remainder == 0 {
+        return Located::Nowhere;
+    }
+    let s = syndromes_of(m, m * t, remainder, syndromes);
+    let single = one(m, t, remainder, s, positions, logs);
+    if let Single::At(p) = single {
+        return Located::One(p);
+    }
+    if t < 2 {
+        return Located::Nowhere;
+    }
+    let pair = two(m, t, remainder, s, positions, powers, logs, halves);
+    if let Pair::At(p, q) = pair {
+        return Located::Two(p, q);
+    }
+    if t < 3 {
+        return Located::Nowhere;
+    }
+    three(
+        m,
+        t,
+        remainder,
+        s,
+        positions,
+        syndromes,
+        powers,
+        logs,
+        halves,
+        cubics,
+    )
+}
+
+// The positions, at most t, whose entries have the sum `remainder`; `Nowhere` where there are no such, and where the remainder is 0. The lent
+// tables are the entries of the positions, their values at the root and its cube, and the tables of the field. The work grows with the
+// bits of the remainder, and for about one of 2^m remainders with the length of a word.
+pub fn locate(
+    m: usize,
+    t: usize,
+    remainder: u32,
+    positions: &[u32],
+    syndromes: &[u32],
+    field: &[u16],
+) -> Located
+    requires { ⌜ Tables m t (now positions) (now syndromes) (now field) × (remainder < 2 ^ (m * t)) ⌝ }
+    ensures { λ a. ⌜ positionsOf a ≡ located (now (positions .entry)) t remainder ⌝ }
+{
+    let q = field.len() / 4;
+    search(
+        m,
+        t,
+        remainder,
+        positions,
+        syndromes,
+        &field[0..q - 1],
+        &field[q..2 * q],
+        &field[2 * q..3 * q - 1],
+        &field[3 * q..4 * q - 1],
+    )
+}

@@ -1,0 +1,144 @@
+// The bench's self test: encodes a frame, turns the bits that a pattern names, and decodes what the link would deliver.
+//   loopback   the three steps on the lent buffers
+//
+// It is the encoder's call followed by the decoder's, on the same buffers, so its contract is made of theirs, and demand 3 holds of it
+// (`loopback-restores` in proofs/Restores.antt): where the pattern leaves no word with more than t wrong bits, the frame comes back.
+ghost use mathlib.Core.Path.{_≡_};
+ghost use mathlib.Core.Bool.{cond};
+ghost use Prim.Native.Nat.{_-_, _≤_};
+ghost use lib.Dec.{eqb};
+ghost use lib.ListN.{length, getD};
+ghost use Rattle.staircase.specs.Frame.{Frame, frameOf};
+ghost use Rattle.staircase.specs.Calls.{decodeCall};
+ghost use Rattle.decoder.specs.Answers.{correctedOf};
+ghost use Rattle.loopback.specs.Link.{turned, afterDecoding, loopbackCall, resultOf};
+use decoder::Counts;
+use decoder::Decoding;
+use rules::Check;
+use rules::Refusal;
+
+// The answer of the loopback: the refusal of the encoder or of the decoder, or the decoder's counts.
+pub enum Looped {
+    NotEncoded(Refusal),
+    NotDecoded(Refusal),
+    Done(Counts),
+}
+
+// Byte k of a pattern, 0 past its end.
+fn error_at(errors: &[u8], k: usize) -> u8
+    ensures { λ a. ⌜ a ≡ getD (now (errors .entry)) k 0 ⌝ }
+{
+    if k < errors.len() {
+        return errors[k];
+    }
+    0
+}
+
+// A bit, turned unless e is 0.
+fn turned_bit(e: u8, b: u8) -> u8
+    ensures { λ a. ⌜ a ≡ cond (eqb e 0) b (1 - b) ⌝ }
+{
+    if e == 0 {
+        return b;
+    }
+    if b == 0 {
+        return 1;
+    }
+    0
+}
+
+// Turns the bits of the lent buffer that the pattern names.
+fn turn_bits(errors: &[u8], bits: &mut [u8])
+    ensures { λ u. ⌜ now (bits .exit) ≡ turned (now (errors .entry)) (now (bits .entry)) ⌝ }
+{
+    for k in 0..bits.len() {
+        let e = error_at(errors, k);
+        bits[k] = turned_bit(e, bits[k]);
+    }
+}
+
+// The decoder's answer as the loopback's.
+fn decoding_looped(a: Decoding) -> Looped
+    ensures { λ c. ⌜ ((f : Frame) → resultOf c f ≡ afterDecoding (correctedOf a f)) ⌝ }
+{
+    match a {
+        Decoding::Decoded(c) => Looped::Done(c),
+        Decoding::Refused(r) => Looped::NotDecoded(r),
+    }
+}
+
+// The decoder's call with the first n of the lent working bytes.
+fn decode_front(
+    m: u64,
+    t: u64,
+    size: u64,
+    blocks: u64,
+    rounds: u64,
+    own: &[u8],
+    parity: &[u8],
+    info: &mut [u8],
+    red: &mut [u8],
+    work: &mut [u8],
+    n: usize,
+) -> Decoding
+    requires { ⌜ n ≤ length (now work) ⌝ }
+    ensures { λ a. ⌜ correctedOf a (frameOf (now (info .exit)) (now (red .exit)))
+        ≡ decodeCall m t size blocks rounds (now (own .entry)) (now (parity .entry)) (now (info .entry)) (now (red .entry)) n ⌝ }
+{
+    decoder::decode(
+        m,
+        t,
+        size,
+        blocks,
+        rounds,
+        own,
+        parity,
+        info,
+        red,
+        &mut work[0..n],
+    )
+}
+
+// Encodes the lent information, turns the bits of the frame that the two patterns name, and decodes it in at most `rounds` rounds, 0 standing for
+// 7. Byte k of a pattern that is not 0 turns bit k of its buffer; a pattern may have any length. A refusal of the encoder leaves both buffers as
+// they were, one of the decoder leaves the turned frame. The working bytes are as many as the inverse's. The work is that of the two calls.
+pub fn loopback(
+    m: u64,
+    t: u64,
+    size: u64,
+    blocks: u64,
+    rounds: u64,
+    own: &[u8],
+    parity: &[u8],
+    inverse: &[u8],
+    info_errors: &[u8],
+    red_errors: &[u8],
+    info: &mut [u8],
+    red: &mut [u8],
+    work: &mut [u8],
+) -> Looped
+    ensures { λ a. ⌜ resultOf a (frameOf (now (info .exit)) (now (red .exit)))
+        ≡ loopbackCall m t size blocks rounds (now (own .entry)) (now (parity .entry)) (now (inverse .entry)) (now («info_errors» .entry))
+        (now («red_errors» .entry)) (now (info .entry)) (now (red .entry)) (length (now (work .entry))) ⌝ }
+{
+    let encoded = encoder::encode(
+        m,
+        t,
+        size,
+        blocks,
+        own,
+        parity,
+        inverse,
+        &info[..],
+        &mut red[..],
+        &mut work[..],
+    );
+    if let Check::Refused(r) = encoded {
+        return Looped::NotEncoded(r);
+    }
+    turn_bits(info_errors, &mut info[..]);
+    turn_bits(red_errors, &mut red[..]);
+    let n = own.len() / 2;
+    let decoded = decode_front(m, t, size, blocks, rounds, own, parity, info, red, work, n);
+    decoding_looped(decoded)
+}

@@ -1,0 +1,130 @@
+-- A refusal of rule 6, of rule 7, or of rule 10 for the information is the answer; else rule 10's for the redundancy.
+-- Assumes nothing.
+use native.Mathlib.Omega.{arith}
+use borrow.Author.Needs.{needs}
+use mathlib.Core.Path.{_≡_, sym, ap, _∙_}
+use Prim.Native.Nat.{ℕ, _*_}
+use lib.ListN.{length}
+use Rattle.staircase.specs.Rules.{lengthRule, wordWork, frameBits}
+use Rattle.rules.proofs.Answers.{refused-then, passed-then, check-passed}
+use Rattle.rules.proofs.Accepted.{length-equal}
+use Rattle.rules.specs.Sizes.{orderOf}
+use Rattle.kit.proofs.Verdict.{lists-rule}
+use Rattle.words.specs.Checks.{contentRules}
+use Rattle.words.proofs.check_contents.Statement.{statement}
+use Rattle.words.proofs.check_contents.Tie as tie
+
+order-requires : tie.Need-order-requires
+order-requires c κs = search needs
+
+check-length-requires : tie.Need-check-length-requires
+check-length-requires c κs = search needs
+
+enum-told : tie.Need-enum-told
+enum-told c = search needs
+
+enum-told-2 : tie.Need-enum-told-2
+enum-told-2 c = search needs
+
+returns : tie.Need-returns
+unfolding contentRules wordWork
+returns c =
+    let a = c .before .before .before .before .before .before .before .before .before .args in
+    let order = c .before .before .before .order in
+    let e : order .result ≡ orderOf (a .d) = order .ensures .0 in
+    let work = c .before .before .check-length .ensures ∙ ap (λ (k : ℕ). lengthRule 6 (length (a .work .now)) k) e in
+    refused-then _ work (c .enum-told2 .given .1)
+
+check-lists-requires : tie.Need-check-lists-requires
+check-lists-requires c κs =
+    let s = c .before .before .before .before .before .before .before .before .before .before in
+    let a = s .args in
+    let order = c .before .before .before .before .order in
+    let e : order .result ≡ orderOf (a .d) = order .ensures .0 in
+    let w : length (a .work .now) ≡ order .result = length-equal 6 _ _ (sym (c .before .before .before .check-length .ensures) ∙ check-passed (c .before .enum-told .given .1)) in
+    (s .pre .1 ∙ sym (ap (λ (k : ℕ). 2 * k) e), s .pre .2 ∙ sym (ap (λ (k : ℕ). 2 * k) e), w, omega (arith, s .pre .0 .order-high))
+
+enum-told-3 : tie.Need-enum-told-3
+enum-told-3 c = search needs
+
+enum-told-4 : tie.Need-enum-told-4
+enum-told-4 c = search needs
+
+same-length : tie.Need-same-length
+same-length c = search needs
+
+returns-2 : tie.Need-returns-2
+unfolding contentRules wordWork
+returns-2 c =
+    let a = c .before .before .before .before .before .before .before .before .before .before .before .before .before .before .before .args in
+    let order = c .before .before .before .before .before .before .before .before .before .order in
+    let e : order .result ≡ orderOf (a .d) = order .ensures .0 in
+    let work = c .before .before .before .before .before .before .before .before .check-length .ensures ∙ ap (λ (k : ℕ). lengthRule 6 (length (a .work .now)) k) e in
+    let lists = lists-rule (a .d) (order .result) e (a .own .now) (a .parity .now) (c .before .before .before .before .check-lists .ensures) in
+    refused-then _ lists (c .enum-told4 .given .1) ∙ passed-then _ work (c .before .before .before .before .before .before .enum-told .given .1)
+
+check-bits-requires : tie.Need-check-bits-requires
+check-bits-requires c κs = search needs
+
+enum-told-5 : tie.Need-enum-told-5
+enum-told-5 c = search needs
+
+enum-told-6 : tie.Need-enum-told-6
+enum-told-6 c = search needs
+
+same-length-2 : tie.Need-same-length-2
+same-length-2 c = search needs
+
+returns-3 : tie.Need-returns-3
+unfolding contentRules wordWork frameBits
+returns-3 c =
+    let a = c .before .before .before .before .before .before .before .before .before .before .before .before .before .before .before .before .before .before .args in
+    let order = c .before .before .before .before .before .before .before .before .before .before .before .before .order in
+    let e : order .result ≡ orderOf (a .d) = order .ensures .0 in
+    let work = c .before .before .before .before .before .before .before .before .before .before .before .check-length .ensures ∙ ap (λ (k : ℕ). lengthRule 6 (length (a .work .now)) k) e in
+    let lists = lists-rule (a .d) (order .result) e (a .own .now) (a .parity .now) (c .before .before .before .before .before .before .before .check-lists .ensures) in
+    refused-then _ (c .before .before .check-bits .ensures) (c .enum-told6 .given .1)
+    ∙ passed-then _ lists (c .before .before .before .enum-told3 .given .1)
+    ∙ passed-then _ work (c .before .before .before .before .before .before .before .before .before .enum-told .given .1)
+
+check-bits-requires-2 : tie.Need-check-bits-requires-2
+check-bits-requires-2 c κs = search needs
+
+same-length-3 : tie.Need-same-length-3
+same-length-3 c = search needs
+
+returns-4 : tie.Need-returns-4
+unfolding contentRules wordWork frameBits
+returns-4 c =
+    let a = c .before .before .before .before .before .before .before .before .before .before .before .before .before .before .before .before .before .before .before .args in
+    let order = c .before .before .before .before .before .before .before .before .before .before .before .before .before .order in
+    let e : order .result ≡ orderOf (a .d) = order .ensures .0 in
+    let work = c .before .before .before .before .before .before .before .before .before .before .before .before .check-length .ensures ∙ ap (λ (k : ℕ). lengthRule 6 (length (a .work .now)) k) e in
+    let lists = lists-rule (a .d) (order .result) e (a .own .now) (a .parity .now) (c .before .before .before .before .before .before .before .before .check-lists .ensures) in
+    c .check-bits2 .ensures
+    ∙ passed-then _ (c .before .before .before .check-bits .ensures) (c .before .enum-told5 .given .1)
+    ∙ passed-then _ lists (c .before .before .before .before .enum-told3 .given .1)
+    ∙ passed-then _ work (c .before .before .before .before .before .before .before .before .before .before .enum-told .given .1)
+
+pub check-contents-spec : {M : Type 1} → statement M
+check-contents-spec =
+    tie.close
+    (tie.spec
+    order-requires
+    check-length-requires
+    enum-told
+    enum-told-2
+    returns
+    check-lists-requires
+    enum-told-3
+    enum-told-4
+    same-length
+    returns-2
+    check-bits-requires
+    enum-told-5
+    enum-told-6
+    same-length-2
+    returns-3
+    check-bits-requires-2
+    same-length-3
+    returns-4)

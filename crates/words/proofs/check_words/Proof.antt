@@ -1,0 +1,99 @@
+-- The call ends at a refused design, at a refused frame, or with the count.
+-- Assumes nothing.
+use native.Mathlib.Omega.{arith}
+use borrow.Author.Needs.{needs}
+use mathlib.Core.Path.{sym, _∙_}
+use lib.ListN.{length}
+use Rattle.rules.proofs.Answers.{check-passed}
+use Rattle.kit.proofs.Verdict.{made-allowed}
+use Rattle.words.proofs.Verdict.{frame-received, frame-working, words-design, words-frame, words-counted}
+use Rattle.words.proofs.check_words.Statement.{statement}
+use Rattle.words.proofs.check_words.Tie as tie
+
+new-requires : tie.Need-new-requires
+new-requires c κs = search needs
+
+enum-known-designed : tie.Need-enum-known-designed
+enum-known-designed c = search needs
+
+enum-told : tie.Need-enum-told
+enum-told c = search needs
+
+design-check-requires : tie.Need-design-check-requires
+design-check-requires c κs = search needs
+
+refused-count-requires : tie.Need-refused-count-requires
+refused-count-requires c κs = search needs
+
+returns : tie.Need-returns
+returns c =
+    let a = c .before .before .before .before .before .before .before .before .before .before .args in
+    let new = c .before .before .before .before .new in
+    words-design (a .m) (a .t) (a .size) (a .blocks) (a .own .now) (a .parity .now) (a .info .now) (a .red .now) (length (a .work .now))
+    (new .result) (new .ensures .0)
+    (c .refused-count .result) (c .before .design-check .result) _ (c .refused-count .ensures) (c .before .before .enum-told .given .1) (c .before .design-check .ensures)
+
+check-frame-requires : tie.Need-check-frame-requires
+check-frame-requires c κs = made-allowed (c .before .before .designed .given .1) (c .before .before .before .before .new .ensures .2)
+
+enum-told-2 : tie.Need-enum-told-2
+enum-told-2 c = search needs
+
+enum-told-3 : tie.Need-enum-told-3
+enum-told-3 c = search needs
+
+refused-count-requires-2 : tie.Need-refused-count-requires-2
+refused-count-requires-2 c κs = search needs
+
+same-length : tie.Need-same-length
+same-length c = search needs
+
+returns-2 : tie.Need-returns-2
+returns-2 c =
+    let a = c .before .before .before .before .before .before .before .before .before .before .before .before .before .before .before .before .args in
+    let new = c .before .before .before .before .before .before .before .before .before .before .new in
+    let frame = c .before .before .before .before .before .check-frame in
+    words-frame (a .m) (a .t) (a .size) (a .blocks) (a .own .now) (a .parity .now) (a .info .now) (a .red .now) (length (a .work .now))
+    (new .result) (new .ensures .0)
+    (new .ensures .1) _ (c .before .before .before .before .before .before .before .before .designed .given .1) (frame .result) (frame .ensures) (c .refused-count2 .result) _ (c .refused-count2 .ensures) (c .before .enum-told3 .given .1)
+
+count-received-requires : tie.Need-count-received-requires
+count-received-requires c κs =
+    let a = c .before .before .before .before .before .before .before .before .before .before .before .before .before .before .before .before .args in
+    let e = sym (c .before .before .before .before .before .check-frame .ensures) ∙ check-passed (c .before .enum-told2 .given .1) in
+    let allowed = made-allowed (c .before .before .before .before .before .before .before .before .designed .given .1) (c .before .before .before .before .before .before .before .before .before .before .new .ensures .2) in
+    let work = frame-working _ (a .blocks) (a .own .now) (a .parity .now) (a .info .now) (a .red .now) (length (a .work .now)) e in
+    (frame-received _ (a .blocks) (a .own .now) (a .parity .now) (a .info .now) (a .red .now) (length (a .work .now)) e allowed, omega (arith, work))
+
+same-length-2 : tie.Need-same-length-2
+same-length-2 c = search needs
+
+returns-3 : tie.Need-returns-3
+returns-3 c =
+    let a = c .before .before .before .before .before .before .before .before .before .before .before .before .before .before .before .before .before .before .before .args in
+    let new = c .before .before .before .before .before .before .before .before .before .before .before .before .before .new in
+    let frame = c .before .before .before .before .before .before .before .before .check-frame in
+    let counted = c .before .before .count-received in
+    words-counted (a .m) (a .t) (a .size) (a .blocks) (a .own .now) (a .parity .now) (a .info .now) (a .red .now) (length (a .work .now))
+    (new .result) (new .ensures .0)
+    (new .ensures .1) _ (c .before .before .before .before .before .before .before .before .before .before .before .designed .given .1) (frame .result) (frame .ensures) (counted .result) (c .before .before .before .before .enum-told2 .given .1) (counted .ensures)
+
+pub check-words-spec : {M : Type 1} → statement M
+check-words-spec =
+    tie.close
+    (tie.spec
+    new-requires
+    enum-known-designed
+    enum-told
+    design-check-requires
+    refused-count-requires
+    returns
+    check-frame-requires
+    enum-told-2
+    enum-told-3
+    refused-count-requires-2
+    same-length
+    returns-2
+    count-received-requires
+    same-length-2
+    returns-3)

@@ -1,0 +1,43 @@
+-- The working entries are the first of a local array, as many as a group has row words.
+-- Assumes nothing.
+use native.Mathlib.Omega.{arith}
+use borrow.Author.Needs.{needs}
+use Rattle.blocks.proofs.Sums.{part-length}
+use Rattle.words.proofs.count_outside.Statement.{statement}
+use Rattle.words.proofs.count_outside.Tie as tie
+
+cast-size : tie.Need-cast-size
+cast-size c = search needs
+
+sub-count-groups : tie.Need-sub-count-groups
+sub-count-groups c = search needs
+
+part-sums-start : tie.Need-part-sums-start
+part-sums-start c = search needs
+
+part-sums-end : tie.Need-part-sums-end
+part-sums-end c = search needs
+
+count-groups-requires : tie.Need-count-groups-requires
+count-groups-requires c κs =
+    let s = c .before .before .before .before .before .before .before .before .before in
+    let n = s .args .d .size in
+    (s .pre .0, s .pre .1, s .pre .2, part-length _ 0 n n (omega arith) (omega (arith, s .pre .0 .allowed .M-high)))
+
+same-length : tie.Need-same-length
+same-length c = search needs
+
+returns : tie.Need-returns
+returns c = search needs
+
+pub count-outside-spec : {M : Type 1} → statement M
+count-outside-spec =
+    tie.close
+    (tie.spec
+    cast-size
+    sub-count-groups
+    part-sums-start
+    part-sums-end
+    count-groups-requires
+    same-length
+    returns)

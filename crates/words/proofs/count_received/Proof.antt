@@ -1,0 +1,78 @@
+-- The table is as the words ask.
+-- Assumes nothing.
+use native.Mathlib.Omega.{arith}
+use borrow.Author.Needs.{needs}
+use mathlib.Core.Path.{_≡_, ap, _∙_, subst⁻¹}
+use Prim.Native.Nat.{_*_}
+use lib.ListN.{length}
+use Rattle.bch.specs.Code.{generator}
+use Rattle.bch.specs.Powers.{PositionPowers}
+use Rattle.kit.proofs.Whole.{bits-small}
+use Rattle.kit.proofs.Parts.{part-fits, part-is}
+use Rattle.words.proofs.count_received.Statement.{statement}
+use Rattle.words.proofs.count_received.Tie as tie
+
+n-requires : tie.Need-n-requires
+n-requires c κs = search needs
+
+sub-fill-table : tie.Need-sub-fill-table
+sub-fill-table c = search needs
+
+part-table-start : tie.Need-part-table-start
+part-table-start c = search needs
+
+part-table-end : tie.Need-part-table-end
+part-table-end c =
+    let s = c .before .before .before .before .before .before in
+    omega (arith, bits-small (s .args .d) (s .pre .0 .allowed))
+
+fill-table-requires : tie.Need-fill-table-requires
+fill-table-requires c κs = search needs
+
+sub-count-outside : tie.Need-sub-count-outside
+sub-count-outside c = search needs
+
+part-count-outside-start : tie.Need-part-count-outside-start
+part-count-outside-start c = search needs
+
+part-count-outside-end : tie.Need-part-count-outside-end
+part-count-outside-end c =
+    let d : length (c .before .before .fill-table .last .1 .0) ≡ c .before .before .before .before .n .result = omega arith in
+    part-fits (c .before .before .fill-table .last .1 .0) _ _ d
+
+count-outside-requires : tie.Need-count-outside-requires
+count-outside-requires c κs =
+    let s = c .before .before .before .before .before .before .before .before .before .before .before .before in
+    let d = s .args .d in
+    let x = c .before .before .before .before .fill-table in
+    let all : length (c .before .before .before .before .fill-table .last .1 .0) ≡ c .before .before .before .before .before .before .n .result = omega arith in
+    let table = part-is (x .last .1 .0) _ _ all in (
+      s .pre .0,
+      record {
+        long = ap length table ∙ all ∙ c .before .before .before .before .before .before .n .ensures .0;
+        powers = subst⁻¹ (PositionPowers (generator (d .m) (d .t)) (d .m * d .t)) table (x .ensures .0);
+      },
+      s .pre .1,
+    )
+
+same-length : tie.Need-same-length
+same-length c = search needs
+
+returns : tie.Need-returns
+returns c = search needs
+
+pub count-received-spec : {M : Type 1} → statement M
+count-received-spec =
+    tie.close
+    (tie.spec
+    n-requires
+    sub-fill-table
+    part-table-start
+    part-table-end
+    fill-table-requires
+    sub-count-outside
+    part-count-outside-start
+    part-count-outside-end
+    count-outside-requires
+    same-length
+    returns)

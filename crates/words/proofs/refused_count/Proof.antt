@@ -1,0 +1,29 @@
+-- Each case is a law of the answer.
+-- Assumes nothing.
+use borrow.Author.Needs.{needs}
+use mathlib.Core.Path.{sym, ap, _∙_}
+use Rattle.staircase.specs.Rules.{Verdict}
+use Rattle.staircase.specs.Calls.{countedBy}
+use Rattle.rules.specs.Answers.{verdictOf}
+use Rattle.rules.proofs.Answers.{check-passed}
+use Rattle.words.specs.Checks.{countedOf}
+use Rattle.words.proofs.Verdict.{counted-refused}
+use Rattle.words.proofs.refused_count.Statement.{statement}
+use Rattle.words.proofs.refused_count.Tie as tie
+
+enum-told : tie.Need-enum-told
+enum-told c = search needs
+
+enum-known-a : tie.Need-enum-known-a
+enum-known-a c = search needs
+
+returns : tie.Need-returns
+unfolding countedOf
+returns c = sym (ap (λ (v : Verdict). countedBy v 0) (check-passed (c .enum-told .given .1)))
+
+returns-2 : tie.Need-returns-2
+unfolding countedOf verdictOf
+returns-2 c = counted-refused _ ∙ sym (ap (λ (v : Verdict). countedBy v 0) (ap verdictOf (c .before .a .given .1)))
+
+pub refused-count-spec : {M : Type 1} → statement M
+refused-count-spec = tie.close (tie.spec enum-told enum-known-a returns returns-2)

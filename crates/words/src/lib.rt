@@ -1,0 +1,411 @@
+// The words of a frame as it is received: their remainders, and how many are outside the code.
+//   row_remainders, column_remainders   the remainders of all row words and of all column words of a group
+//   count_outside                       how many words of a frame are outside the code
+//   check_received                      rules 6, 7 and 10 for a frame and its lists
+//   check_words                         the word checker: rules 1 to 4, 6, 7 and 10, then the count
+//
+// The remainder of a word is a sum of entries of a table of powers of x, one for each of its ones (crate `remainders`), and a word is in the code
+// where its remainder is 0. All words of a group are summed at once, part by part: the blocks (crate `blocks`), then X and Q or Y and P. Y and P
+// stand in the redundancy row by row, a row for each position and a column for each word. X and Q have the same form once they are spread
+// into the working bytes: byte b × M + a is row a, column b, and stands in Y or P where the list sends it. Nothing of the frame is changed.
+ghost use mathlib.Core.Path.{_≡_};
+ghost use mathlib.Core.Bool.{cond};
+ghost use Prim.Native.Nat.{ℕ, _+_, _*_, _^_, _≤_, _<_};
+ghost use lib.Dec.{eqb};
+ghost use lib.ListN.{length, getD};
+ghost use Rattle.bch.specs.Polynomial.{_⊕_, Bits};
+ghost use Rattle.bch.specs.Powers.{xorSum};
+ghost use Rattle.staircase.specs.Lists.{tabulate};
+ghost use Rattle.staircase.specs.Design.{most-blocks};
+ghost use Rattle.staircase.specs.Frame.{groups, outsideAmong, outside, frameOf};
+ghost use Rattle.staircase.specs.Rules.{entries};
+ghost use Rattle.staircase.specs.Calls.{countedBy, wordsCall};
+ghost use Rattle.rules.specs.Answers.{verdictOf, Allowed};
+ghost use Rattle.rules.specs.Sizes.{paramsOf, orderOf, listsOf};
+ghost use Rattle.rules.specs.Received.{Received};
+ghost use Rattle.words.specs.Words.{rowRemainders, columnRemainders, nonzeros, groupWords, blockRows, blockColumns, WordTable, BlocksLent};
+ghost use Rattle.words.specs.Checks.{contentRules, receivedRules, frameRules, countedOf};
+use rules::Check;
+use rules::Design;
+use rules::Designed;
+use rules::Refusal;
+
+// The answer of the word checker: the number of words outside the code, or a refusal.
+pub enum WordCount {
+    Counted(u64),
+    Refused(Refusal),
+}
+
+// Makes byte p of `out` the byte of `bits` to which the list sends place p. One step for each byte.
+fn gather(list: &[u8], bits: &[u8], out: &mut [u8])
+    requires { ⌜ (length (now list) ≡ 2 * length (now out))
+        × ((p : ℕ) → p < length (now out) → getD (entries (length (now out)) (now list)) p 0 < length (now bits)) ⌝ }
+    ensures { λ u. ⌜ now (out .exit)
+        ≡ tabulate (length (now (out .entry))) (λ p. getD (now (bits .entry)) (getD (entries (length (now (out .entry))) (now (list .entry))) p 0) 0) ⌝ }
+{
+    for p in 0..out.len() {
+        let e = rules::entry(list, p);
+        out[p] = bits[e];
+    }
+}
+
+// Adds to each entry of `rows` the entries of `part` at the ones of its row of X, which the self list makes of Y's bytes; or of Q, by the parity list
+// from P's.
+fn add_spread(list: &[u8], bits: &[u8], part: &[u32], work: &mut [u8], rows: &mut [u32])
+    requires { ⌜ (length (now list) ≡ 2 * length (now work)) × (length (now work) ≡ length (now part) * length (now rows)) × Bits (now bits)
+        × ((p : ℕ) → p < length (now work) → getD (entries (length (now work)) (now list)) p 0 < length (now bits)) ⌝ }
+    ensures { λ u. ⌜ (length (now (rows .exit)) ≡ length (now (rows .entry)))
+        × ((a : ℕ) → a < length (now (rows .entry)) → getD (now (rows .exit)) a 0 ≡ getD (now (rows .entry)) a 0
+        ⊕ xorSum (length (now (part .entry)))
+        (λ j. getD (now (bits .entry)) (getD (entries (length (now (work .entry))) (now (list .entry))) (j * length (now (rows .entry)) + a) 0) 0
+        * getD (now (part .entry)) j 0)) ⌝ }
+{
+    gather(list, bits, &mut work[..]);
+    remainders::add_rows(&mut rows[..], &work[..], part);
+}
+
+// Makes `rows` the remainders of the blocks of a group's row words.
+fn block_rows(info: &[u8], blocks: usize, i: usize, table: &[u32], rows: &mut [u32])
+    requires { ⌜ BlocksLent blocks (length (now rows)) (now info) (now table) × (i < groups blocks) ⌝ }
+    ensures { λ u. ⌜ now (rows .exit) ≡ blockRows (now (table .entry)) (length (now (rows .entry))) blocks (now (info .entry)) i ⌝ }
+{
+    let area = rows.len() * rows.len();
+    let before = blocks::block_of(info, area, blocks, 2 * i);
+    let odd = blocks::block_of(info, area, blocks, 2 * i + 1);
+    let has_before = blocks::is_sent(blocks, 2 * i);
+    blocks::row_sums(before, has_before, odd, table, rows);
+}
+
+// Makes `columns` the remainders of the blocks of a group's column words.
+fn block_columns(info: &[u8], blocks: usize, i: usize, table: &[u32], columns: &mut [u32])
+    requires { ⌜ BlocksLent blocks (length (now columns)) (now info) (now table) × (i < groups blocks) ⌝ }
+    ensures { λ u. ⌜ now (columns .exit) ≡ blockColumns (now (table .entry)) (length (now (columns .entry))) blocks (now (info .entry)) i ⌝ }
+{
+    let area = columns.len() * columns.len();
+    let odd = blocks::block_of(info, area, blocks, 2 * i + 1);
+    let even = blocks::block_of(info, area, blocks, 2 * i + 2);
+    let has_even = blocks::is_sent(blocks, 2 * i + 2);
+    blocks::column_sums(odd, even, has_even, table, columns);
+}
+
+// Makes `rows` the remainders of the row words of the group that i groups precede. The working bytes are one for each entry of a list, and free
+// afterwards. One step for each bit of the group's row words.
+pub fn row_remainders(
+    d: Design,
+    blocks: usize,
+    i: usize,
+    own: &[u8],
+    parity: &[u8],
+    info: &[u8],
+    red: &[u8],
+    table: &[u32],
+    work: &mut [u8],
+    rows: &mut [u32],
+)
+    requires { ⌜ Received d blocks (now own) (now parity) (now info) (now red) × (i < groups blocks) × WordTable d (now table)
+        × (length (now work) ≡ orderOf d) × (length (now rows) ≡ d .size) ⌝ }
+    ensures { λ u. ⌜ (now (rows .exit)
+        ≡ rowRemainders (paramsOf d) (listsOf d (now (own .entry)) (now (parity .entry))) blocks (frameOf (now (info .entry)) (now (red .entry))) i)
+        × (length (now (work .exit)) ≡ length (now (work .entry))) ⌝ }
+{
+    let r = d.r();
+    let n = work.len();
+    let y = i * (2 * n);
+    let p = y + n;
+    let x = 2 * rows.len();
+    let q = x + r;
+    block_rows(info, blocks, i, table, &mut rows[..]);
+    add_spread(own, &red[y..p], &table[x..q], &mut work[..], &mut rows[..]);
+    add_spread(
+        parity,
+        &red[p..p + n],
+        &table[q..q + r],
+        &mut work[..],
+        &mut rows[..],
+    );
+}
+
+// Makes `columns` the remainders of the column words of the group that i groups precede. One step for each bit of the group's column words.
+pub fn column_remainders(
+    d: Design,
+    blocks: usize,
+    i: usize,
+    own: &[u8],
+    parity: &[u8],
+    info: &[u8],
+    red: &[u8],
+    table: &[u32],
+    columns: &mut [u32],
+)
+    requires { ⌜ Received d blocks (now own) (now parity) (now info) (now red) × (i < groups blocks) × WordTable d (now table)
+        × (length (now columns) ≡ d .size) ⌝ }
+    ensures { λ u. ⌜ now (columns .exit) ≡ columnRemainders (paramsOf d) blocks (frameOf (now (info .entry)) (now (red .entry))) i ⌝ }
+{
+    let r = d.r();
+    let n = d.order();
+    let y = i * (2 * n);
+    let p = y + n;
+    let x = 2 * columns.len();
+    let q = x + r;
+    block_columns(info, blocks, i, table, &mut columns[..]);
+    remainders::add_rows(&mut columns[..], &red[y..p], &table[x..q]);
+    remainders::add_rows(&mut columns[..], &red[p..p + n], &table[q..q + r]);
+}
+
+// 1 where x is not 0.
+fn nonzero(x: u32) -> u64
+    ensures { λ a. ⌜ (a ≡ cond (eqb x 0) 0 1) × (a ≤ 1) ⌝ }
+{
+    if x == 0 {
+        return 0;
+    }
+    1
+}
+
+// How many of the lent entries are not 0. One step for each entry.
+fn count_nonzero(list: &[u32]) -> u64
+    ensures { λ a. ⌜ (a ≡ nonzeros (now (list .entry))) × (a ≤ length (now (list .entry))) ⌝ }
+{
+    let mut n: u64 = 0;
+    for k in 0..list.len() {
+        n = n + nonzero(list[k]);
+    }
+    n
+}
+
+// How many words of the group that i groups precede are outside the code. `sums` are working entries, one for each row word.
+fn group_outside(
+    d: Design,
+    blocks: usize,
+    i: usize,
+    own: &[u8],
+    parity: &[u8],
+    info: &[u8],
+    red: &[u8],
+    table: &[u32],
+    work: &mut [u8],
+    sums: &mut [u32],
+) -> u64
+    requires { ⌜ Received d blocks (now own) (now parity) (now info) (now red) × (i < groups blocks) × WordTable d (now table)
+        × (length (now work) ≡ orderOf d) × (length (now sums) ≡ d .size) ⌝ }
+    ensures { λ a. ⌜ (a ≡ outsideAmong (paramsOf d) (frameOf (now (info .entry)) (now (red .entry)))
+        (groupWords (paramsOf d) (listsOf d (now (own .entry)) (now (parity .entry))) blocks i)) × (a ≤ 1000) ⌝ }
+{
+    row_remainders(
+        d,
+        blocks,
+        i,
+        own,
+        parity,
+        info,
+        red,
+        table,
+        &mut work[..],
+        &mut sums[..],
+    );
+    let rows = count_nonzero(&sums[..]);
+    column_remainders(d, blocks, i, own, parity, info, red, table, &mut sums[..]);
+    rows + count_nonzero(&sums[..])
+}
+
+// `count_outside` with its working entries lent.
+fn count_groups(
+    d: Design,
+    blocks: usize,
+    own: &[u8],
+    parity: &[u8],
+    info: &[u8],
+    red: &[u8],
+    table: &[u32],
+    work: &mut [u8],
+    sums: &mut [u32],
+) -> u64
+    requires { ⌜ Received d blocks (now own) (now parity) (now info) (now red) × WordTable d (now table)
+        × (length (now work) ≡ orderOf d) × (length (now sums) ≡ d .size) ⌝ }
+    ensures { λ a. ⌜ a
+        ≡ outside (paramsOf d) (listsOf d (now (own .entry)) (now (parity .entry))) blocks (frameOf (now (info .entry)) (now (red .entry))) ⌝ }
+{
+    let count = (blocks + 1) / 2;
+    let mut total: u64 = 0;
+    for i in 0..count {
+        total = total
+            + group_outside(
+                d,
+                blocks,
+                i,
+                own,
+                parity,
+                info,
+                red,
+                table,
+                &mut work[..],
+                &mut sums[..],
+            );
+    }
+    total
+}
+
+// How many words of a frame of `blocks` blocks are outside the code. Lent to read are the lists, the frame and the table of the powers of x that
+// the positions of a word carry; the working bytes are one for each entry of a list, and free afterwards. One step for each bit of the words.
+pub fn count_outside(
+    d: Design,
+    blocks: usize,
+    own: &[u8],
+    parity: &[u8],
+    info: &[u8],
+    red: &[u8],
+    table: &[u32],
+    work: &mut [u8],
+) -> u64
+    requires { ⌜ Received d blocks (now own) (now parity) (now info) (now red) × WordTable d (now table) × (length (now work) ≡ orderOf d) ⌝ }
+    ensures { λ a. ⌜ a
+        ≡ outside (paramsOf d) (listsOf d (now (own .entry)) (now (parity .entry))) blocks (frameOf (now (info .entry)) (now (red .entry))) ⌝ }
+{
+    let size = d.size as usize;
+    let mut sums = [0u32; 512];
+    count_groups(
+        d,
+        blocks,
+        own,
+        parity,
+        info,
+        red,
+        table,
+        work,
+        &mut sums[0..size],
+    )
+}
+
+// Rule 6 for the working bytes, then rules 7 and 10, for lists and a frame whose lengths are right.
+fn check_contents(
+    d: Design,
+    own: &[u8],
+    parity: &[u8],
+    info: &[u8],
+    red: &[u8],
+    work: &mut [u8],
+) -> Check
+    requires { ⌜ Allowed d × (length (now own) ≡ 2 * orderOf d) × (length (now parity) ≡ 2 * orderOf d) × (length (now info) + length (now red) < 2 ^ 63) ⌝ }
+    ensures { λ a. ⌜ verdictOf a
+        ≡ contentRules (paramsOf d) (now (own .entry)) (now (parity .entry)) (now (info .entry)) (now (red .entry)) (length (now (work .entry))) ⌝ }
+{
+    let n = d.order();
+    let working = rules::check_length(kit::WORKING, work.len(), n);
+    let Check::Passed = working else {
+        return working;
+    };
+    let lists = rules::check_lists(own, parity, n, work);
+    let Check::Passed = lists else {
+        return lists;
+    };
+    let information = rules::check_bits(info, 0);
+    let Check::Passed = information else {
+        return information;
+    };
+    rules::check_bits(red, info.len() as u64)
+}
+
+// Rules 6, 7 and 10 for the lists, the frame and the working bytes, for an allowed design and number of blocks. The working bytes are one for each
+// entry of a list, and alone are written. A few steps for each byte.
+pub fn check_received(
+    d: Design,
+    blocks: u64,
+    own: &[u8],
+    parity: &[u8],
+    info: &[u8],
+    red: &[u8],
+    work: &mut [u8],
+) -> Check
+    requires { ⌜ Allowed d × (blocks ≤ most-blocks) ⌝ }
+    ensures { λ a. ⌜ verdictOf a ≡ receivedRules (paramsOf d) blocks (now (own .entry)) (now (parity .entry)) (now (info .entry)) (now (red .entry))
+        (length (now (work .entry))) ⌝ }
+{
+    let lists = kit::check_list_lengths(d, own, parity);
+    let Check::Passed = lists else {
+        return lists;
+    };
+    let frame = rules::check_frame_lengths(d, blocks, info, red);
+    let Check::Passed = frame else {
+        return frame;
+    };
+    check_contents(d, own, parity, info, red, work)
+}
+
+// Rules 4, 6, 7 and 10, for an allowed design.
+fn check_frame(
+    d: Design,
+    blocks: u64,
+    own: &[u8],
+    parity: &[u8],
+    info: &[u8],
+    red: &[u8],
+    work: &mut [u8],
+) -> Check
+    requires { ⌜ Allowed d ⌝ }
+    ensures { λ a. ⌜ verdictOf a ≡ frameRules (paramsOf d) blocks (now (own .entry)) (now (parity .entry)) (now (info .entry)) (now (red .entry))
+        (length (now (work .entry))) ⌝ }
+{
+    let count = rules::check_count(blocks);
+    let Check::Passed = count else {
+        return count;
+    };
+    check_received(d, blocks, own, parity, info, red, work)
+}
+
+// How many words of a frame are outside the code, once all rules have passed.
+fn count_received(
+    d: Design,
+    blocks: usize,
+    own: &[u8],
+    parity: &[u8],
+    info: &[u8],
+    red: &[u8],
+    work: &mut [u8],
+) -> u64
+    requires { ⌜ Received d blocks (now own) (now parity) (now info) (now red) × (length (now work) ≡ orderOf d) ⌝ }
+    ensures { λ a. ⌜ a
+        ≡ outside (paramsOf d) (listsOf d (now (own .entry)) (now (parity .entry))) blocks (frameOf (now (info .entry)) (now (red .entry))) ⌝ }
+{
+    let bits = d.n();
+    let mut table = [0u32; 1024];
+    kit::fill_table(d, &mut table[0..bits]);
+    count_outside(d, blocks, own, parity, info, red, &table[0..bits], work)
+}
+
+// A refused check as the word checker's answer.
+fn refused_count(a: Check) -> WordCount
+    ensures { λ c. ⌜ countedOf c ≡ countedBy (verdictOf a) 0 ⌝ }
+{
+    match a {
+        Check::Passed => WordCount::Counted(0),
+        Check::Refused(r) => WordCount::Refused(r),
+    }
+}
+
+// The word checker: how many words of the lent frame of `blocks` blocks are outside the code, or the table's number and place of the first of rules
+// 1 to 4, 6, 7 and 10 that refuses. The lists and the frame are lent to read. The working bytes are one for each entry of a list, and free
+// afterwards. The work is one step for each bit of the words.
+pub fn check_words(
+    m: u64,
+    t: u64,
+    size: u64,
+    blocks: u64,
+    own: &[u8],
+    parity: &[u8],
+    info: &[u8],
+    red: &[u8],
+    work: &mut [u8],
+) -> WordCount
+    ensures { λ a. ⌜ countedOf a ≡ wordsCall m t size blocks (now (own .entry)) (now (parity .entry)) (now (info .entry)) (now (red .entry))
+        (length (now (work .entry))) ⌝ }
+{
+    let designed = Design::new(m, t, size);
+    let Designed::Made(d) = designed else {
+        return refused_count(rules::design_check(designed));
+    };
+    let frame = check_frame(d, blocks, own, parity, info, red, &mut work[..]);
+    let Check::Passed = frame else {
+        return refused_count(frame);
+    };
+    WordCount::Counted(count_received(d, blocks as usize, own, parity, info, red, work))
+}
