@@ -10,7 +10,7 @@
 // exclusive ors, with no division, and parts of a word that stand in several buffers are added one after the other. The words that run
 // across the rows of a block are added row by row, in the order in which the block stands in memory.
 //
-// The hot loops have no jump at a bit: `dot` multiplies the entry by the bit, and `add_bits` chooses the value before it adds it.
+// The hot loops have no jump at a bit: `dot` masks the entry with the bit spread over 32, and `add_bits` chooses the value before it adds it.
 ghost use mathlib.Core.Path.{_≡_};
 ghost use Prim.Native.Nat.{ℕ, _+_, _*_, _/_, _^_, _≤_, _<_};
 ghost use lib.ListN.{length, getD, replicate};
@@ -82,7 +82,7 @@ pub fn dot(bits: &[u8], part: &[u32]) -> u32
 {
     let mut acc: u32 = 0;
     for j in 0..bits.len() {
-        acc = acc ^ (bits[j] as u32) * part[j];
+        acc = acc ^ (bits[j] as u32) * 4294967295 & part[j];
     }
     acc
 }

@@ -22,7 +22,7 @@
 // - Rule 8 reads the last byte of each row alone. Columns fill its low bits, so a spare bit is 1 exactly when the byte is 2^used or more, where
 //   `used` bits of it are columns.
 ghost use mathlib.Core.Path.{_≡_};
-ghost use Prim.Native.Nat.{_+_, _*_, _/_, _^_, _≤_, _<_};
+ghost use Prim.Native.Nat.{ℕ, _+_, _*_, _/_, _^_, _≤_, _<_};
 ghost use lib.ListN.{length, getD, replicate};
 ghost use Rattle.staircase.specs.Design.{params, most-blocks};
 ghost use Rattle.staircase.specs.System.{rowBytes};
@@ -308,8 +308,26 @@ pub fn check_spare(inverse: &[u8], n: usize) -> Check
     Check::Passed
 }
 
+// The larger of two bytes.
+fn larger(a: u8, b: u8) -> u8
+    ensures { λ c. ⌜ (a ≤ c) × (b ≤ c) ⌝ }
+{
+    if a < b { b } else { a }
+}
+
+// A number that no byte is above: the greatest of the lent bytes, 0 where there are none. The loop has no jump at a byte.
+fn greatest(bytes: &[u8]) -> u8
+    ensures { λ a. ⌜ ((k : ℕ) → k < length (now (bytes .entry)) → getD (now (bytes .entry)) k 0 ≤ a) ⌝ }
+{
+    let mut most: u8 = 0;
+    for i in 0..bytes.len() {
+        most = larger(most, bytes[i]);
+    }
+    most
+}
+
 // Rule 10 for the lent buffer; places count from `base`. One pass, to the first byte above 1.
-pub fn check_bits(bytes: &[u8], base: u64) -> Check
+fn search_bits(bytes: &[u8], base: u64) -> Check
     requires { ⌜ length (now bytes) + base < 2 ^ 63 ⌝ }
     ensures { λ a. ⌜ verdictOf a ≡ bitRule base (now (bytes .entry)) ⌝ }
 {
@@ -320,4 +338,16 @@ pub fn check_bits(bytes: &[u8], base: u64) -> Check
         }
     }
     Check::Passed
+}
+
+// Rule 10 for the lent buffer; places count from `base`. One pass, and a second one to the place where the rule refuses.
+pub fn check_bits(bytes: &[u8], base: u64) -> Check
+    requires { ⌜ length (now bytes) + base < 2 ^ 63 ⌝ }
+    ensures { λ a. ⌜ verdictOf a ≡ bitRule base (now (bytes .entry)) ⌝ }
+{
+    let most = greatest(bytes);
+    if most <= 1 {
+        return Check::Passed;
+    }
+    search_bits(bytes, base)
 }

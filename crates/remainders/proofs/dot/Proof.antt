@@ -3,10 +3,11 @@
 use mathlib.Core.Path.{_≡_, refl, ap, _∙_}
 use Prim.Native.Nat.{ℕ, _-_, _*_, _≤_}
 use native.Mathlib.Omega.{arith}
+use lib.Bits.{bitXor}
 use lib.ListN.{length, getD}
 use Rattle.bch.specs.Powers.{xorSum}
 use Rattle.remainders.proofs.Tables.{xorSum-more}
-use Rattle.remainders.proofs.Bounds.{bit-below}
+use Rattle.remainders.proofs.Bounds.{spread-bit}
 use Rattle.remainders.proofs.dot.Statement.{statement}
 use Rattle.remainders.proofs.dot.Tie as tie
 
@@ -15,7 +16,8 @@ Inv-loop bits part acc₀ j₀ j-end acc j =
     (j-end ≡ length bits) × (j ≤ length bits) × (acc ≡ xorSum j (λ k. getD bits k 0 * getD part k 0))
 
 abbrev μ-loop : tie.MeasureT-loop
-μ-loop bits part acc₀ j₀ j-end acc j = length bits - j
+μ-loop bits part acc₀ j₀ j-end acc j =
+    length bits - j
 
 loop-holds : tie.Need-loop-holds Inv-loop μ-loop
 unfolding xorSum
@@ -28,14 +30,13 @@ cast-acc : tie.Need-cast-acc Inv-loop μ-loop
 cast-acc c = omega (arith, c .before .before .before .pre .1 (c .before .before .loop .j))
 
 mul-acc : tie.Need-mul-acc Inv-loop μ-loop
-mul-acc c = omega arith
+mul-acc c = omega (arith, c .before .before .before .pre .1 (c .before .before .loop .j))
+
+mul-acc-2 : tie.Need-mul-acc-2 Inv-loop μ-loop
+mul-acc-2 c = omega (arith, c .before .before .before .pre .1 (c .before .before .loop .j))
 
 shared-slice-read-acc-2 : tie.Need-shared-slice-read-acc-2 Inv-loop μ-loop
 shared-slice-read-acc-2 c = omega arith
-
-mul-acc-2 : tie.Need-mul-acc-2 Inv-loop μ-loop
-mul-acc-2 c =
-    record { fits = bit-below 32 _ _ (c .before .before .before .before .pre .1 (c .before .before .before .loop .j)) (c .shared-slice-known2 .given _ .fits) }
 
 add-j : tie.Need-add-j Inv-loop μ-loop
 add-j c = omega arith
@@ -46,8 +47,12 @@ loop-less c = omega arith
 loop-again : tie.Need-loop-again Inv-loop μ-loop
 loop-again c =
     let a = c .before .before .before .before .args in
-    let l = c .before .before .before .loop in
-    (omega arith, omega arith, xorSum-more (l .j) (l .acc) (λ k. getD (a .bits .now) k 0 * getD (a .part .now) k 0) (l .inv .2))
+    let l = c .before .before .before .loop in (
+      omega arith,
+      omega arith,
+      ap (bitXor (l .acc)) (spread-bit (getD (a .bits .now) (l .j) 0) (getD (a .part .now) (l .j) 0) (c .before .before .before .before .pre .1 (l .j)) (c .shared-slice-known2 .given _ .fits))
+          ∙ xorSum-more (l .j) (l .acc) (λ k. getD (a .bits .now) k 0 * getD (a .part .now) k 0) (l .inv .2),
+    )
 
 returns : tie.Need-returns Inv-loop μ-loop
 returns c =
@@ -66,8 +71,8 @@ dot-spec =
     shared-slice-read-acc
     cast-acc
     mul-acc
-    shared-slice-read-acc-2
     mul-acc-2
+    shared-slice-read-acc-2
     add-j
     loop-less
     loop-again
