@@ -6,26 +6,30 @@
 --   round-none, round-next  the groups before i, and one group more
 --   group-few, round-few, words-few   a pass flips at most three bits for each word
 --   rows-length, columns-length   an entry for each word
+--   idle-frame              a pass that flips nothing leaves the frame
+--   group-wrong, round-wrong, words-wrong   and then counts the words outside the code
 -- Assumes nothing.
-use mathlib.Core.Path.{_≡_, refl, sym, ap, _∙_}
+use mathlib.Core.Path.{_≡_, refl, sym, ap, ap₂, _∙_}
 use mathlib.Core.Bool.{true, false}
-use mathlib.Core.List.{List, _++_}
+use mathlib.Core.List.{List, [], _∷_, _++_}
 use Prim.Native.Nat.{ℕ, _+_, _*_, _≤_}
+use native.Mathlib.Nat.{suc-ne-zero}
 use native.Mathlib.Numerals.{add-one}
 use native.Mathlib.Omega.{arith}
 use lib.ListN.{length, length-append}
 use Rattle.bch.specs.Polynomial.{remainder}
 use Rattle.staircase.specs.Lists.{tabulate, concat}
 use Rattle.staircase.specs.Design.{Params, Interleavers, most-blocks}
-use Rattle.staircase.specs.Frame.{Frame, Site, groups, read, rowSites, columnSites, words}
-use Rattle.staircase.specs.Decoder.{Progress, correctWords, round}
+use Rattle.staircase.specs.Frame.{Frame, Site, groups, read, rowSites, columnSites, words, outsideAmong, outside}
+use Rattle.staircase.specs.Decoder.{correction, flipAll, Progress, correctWord, correctWords, round}
 use Rattle.staircase.proofs.System.{tabulate-length}
 use Rattle.staircase.proofs.Fill.{small-product}
 use Rattle.staircase.proofs.Redundancy.{concat-last, concat-length}
 use Rattle.staircase.proofs.Rounds.{correctWords-append, correctWords-from, correctWords-few}
 use Rattle.rules.specs.declared.Design.{Design}
 use Rattle.rules.specs.Received.{Received, FrameFits}
-use Rattle.words.specs.Words.{WordTable, groupWords, rowRemainders, columnRemainders}
+use Rattle.words.specs.Words.{nonzeros, WordTable, groupWords, rowRemainders, columnRemainders}
+use Rattle.words.proofs.Count.{group-count, next-group, all-groups}
 use Rattle.correct.specs.Sites.{wordSites, lineWords}
 use Rattle.correct.specs.Ready.{GroupReady, wordRemainders}
 
@@ -112,3 +116,42 @@ pub words-few : (s : Params) (l : Interleavers) (L : ℕ) (f : Frame) (x : Progr
     → x .flips ≤ 12288000
 unfolding words
 words-few s l L f x ht hM hL e = round-few s l L (groups L) f x ht hM (omega arith) e
+
+-- ---- a pass that flips nothing
+
+no-sites : (c : List Site) → length c ≡ 0 → c ≡ []
+no-sites [] e = refl
+no-sites (x ∷ c) e = absurd (suc-ne-zero (length c) e)
+
+idle : (s : Params) (ws : List (List Site)) (f : Frame) → (correctWords s (record { frame = f; flips = 0 }) ws) .flips ≡ 0
+    → (correctWords s (record { frame = f; flips = 0 }) ws) .frame ≡ f
+unfolding correctWords correctWord flipAll
+idle s [] f e = refl
+idle s (w ∷ ws) f e =
+    let c : List Site = correction s f w in
+    let g : Frame = flipAll c f in
+    let h = correctWords-from s g (0 + length c) ws in
+    let all : 0 + length c + (correctWords s (record { frame = g; flips = 0 }) ws) .flips ≡ 0 = sym (ap (λ (y : Progress). y .flips) h) ∙ e in
+    ap (λ (y : Progress). y .frame) h ∙ idle s ws g (omega (arith, all)) ∙ ap (λ (z : List Site). flipAll z f) (no-sites c (omega (arith, all)))
+
+pub idle-frame : (s : Params) (ws : List (List Site)) (f : Frame) (x : Progress) → x ≡ round s ws f → x .flips ≡ 0 → x .frame ≡ f
+unfolding round
+idle-frame s ws f x e z = ap (λ (y : Progress). y .frame) e ∙ idle s ws f (ap (λ (y : Progress). y .flips) (sym e) ∙ z)
+
+-- a group in which nothing is flipped: its words are those of the frame as it was
+pub group-wrong : (s : Params) (l : Interleavers) (L i : ℕ) (f : Frame) (x : Progress) (u v : List ℕ) (a b : ℕ) → x ≡ round s (lineWords s l L i false) f
+    → x .flips ≡ 0 → u ≡ rowRemainders s l L f i → v ≡ columnRemainders s L (x .frame) i → a ≡ nonzeros u → b ≡ nonzeros v
+    → a + b ≡ outsideAmong s f (groupWords s l L i)
+group-wrong s l L i f x u v a b e z hu hv ha hb =
+    ap₂ _+_ (ha ∙ ap nonzeros hu) (hb ∙ ap nonzeros (hv ∙ ap (λ (g : Frame). columnRemainders s L g i) (idle-frame s (lineWords s l L i false) f x e z)))
+    ∙ group-count s f l L i
+
+pub round-wrong : (s : Params) (l : Interleavers) (L n : ℕ) (f : Frame) (x : Progress) (wrong more : ℕ) → x ≡ round s (concat n (groupWords s l L)) f
+    → x .flips ≡ 0 → wrong ≡ outsideAmong s f (concat n (groupWords s l L)) → more ≡ outsideAmong s (x .frame) (groupWords s l L n)
+    → wrong + more ≡ outsideAmong s f (concat (n + 1) (groupWords s l L))
+round-wrong s l L n f x wrong more e z hw hm =
+    next-group s f l L n wrong more hw (hm ∙ ap (λ (g : Frame). outsideAmong s g (groupWords s l L n)) (idle-frame s (concat n (groupWords s l L)) f x e z))
+
+pub words-wrong : (s : Params) (l : Interleavers) (L n : ℕ) (f : Frame) (x : Progress) (wrong : ℕ) → n ≡ groups L → x ≡ round s (concat n (groupWords s l L)) f
+    → x .flips ≡ 0 → wrong ≡ outsideAmong s f (concat n (groupWords s l L)) → wrong ≡ outside s l L (x .frame)
+words-wrong s l L n f x wrong h e z hw = all-groups s f l L n wrong hw h ∙ ap (outside s l L) (sym (idle-frame s (concat n (groupWords s l L)) f x e z))

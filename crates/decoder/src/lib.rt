@@ -3,17 +3,19 @@
 //
 // A round takes the groups one after the other, in each the row words and then the column words. The remainders of all row words of a group are
 // taken together, in the order in which their bits stand in memory, and so are those of its column words (crate `words`); then each word whose
-// remainder is not 0 is corrected (crate `correct`). Rounds end after one that flips nothing.
+// remainder is not 0 is corrected (crate `correct`). Rounds end after one that flips nothing. Such a round has met every word as it is at the end, so it
+// has counted those outside the code, too.
 ghost use mathlib.Core.Path.{_≡_};
+ghost use mathlib.Core.Bool.{true};
 ghost use Prim.Native.Nat.{_*_, _^_, _≤_};
 ghost use lib.ListN.{length};
 ghost use Rattle.staircase.specs.Design.{wordLength};
-ghost use Rattle.staircase.specs.Frame.{Frame, frameOf, words};
+ghost use Rattle.staircase.specs.Frame.{Frame, frameOf, outsideAmong, words, outside};
 ghost use Rattle.staircase.specs.Decoder.{Progress, Decoded, round, runRounds, roundsAllowed};
 ghost use Rattle.staircase.specs.Calls.{decodeCall};
 ghost use Rattle.rules.specs.Answers.{verdictOf, Allowed};
 ghost use Rattle.rules.specs.Sizes.{paramsOf, orderOf, listsOf};
-ghost use Rattle.words.specs.Words.{groupWords};
+ghost use Rattle.words.specs.Words.{WordTable, groupWords};
 ghost use Rattle.rules.specs.Received.{FrameFits, Received};
 ghost use Rattle.correct.specs.Ready.{GroupReady};
 ghost use Rattle.decoder.specs.Answers.{correctedOf, correctedFrame, refusedFrame, frameRules};
@@ -37,13 +39,21 @@ pub enum Decoding {
     Refused(Refusal),
 }
 
-// Rounds made and bits flipped.
+// What a pass over some words has done: bits flipped, and words that were outside the code when their remainders were taken.
+struct Pass {
+    flips: usize,
+    wrong: u64,
+}
+
+// Rounds made, bits flipped, and whether the last round flipped nothing; `wrong` are then the words outside the code.
 struct Made {
     rounds: usize,
     flips: usize,
+    idle: bool,
+    wrong: u64,
 }
 
-// Corrects the words of a group, the row words and then the column words, and answers how many bits it flipped.
+// Corrects the words of a group, the row words and then the column words. Where it flips nothing, it has counted the words outside the code.
 fn correct_group(
     d: Design,
     blocks: usize,
@@ -57,12 +67,14 @@ fn correct_group(
     red: &mut [u8],
     work: &mut [u8],
     sums: &mut [u32],
-) -> usize
+) -> Pass
     requires { ⌜ GroupReady d blocks i (now own) (now parity) (now positions) (now syndromes) (now field)
         × FrameFits d blocks (now info) (now red) × (length (now work) ≡ orderOf d) × (length (now sums) ≡ d .size) ⌝ }
-    ensures { λ k. ⌜ (record { frame = frameOf (now (info .exit)) (now (red .exit)); flips = k }
+    ensures { λ a. ⌜ (record { frame = frameOf (now (info .exit)) (now (red .exit)); flips = a .flips }
         ≡ round (paramsOf d) (groupWords (paramsOf d) (listsOf d (now (own .entry)) (now (parity .entry))) blocks i)
         (frameOf (now (info .entry)) (now (red .entry))))
+        × (a .flips ≡ 0 → a .wrong ≡ outsideAmong (paramsOf d) (frameOf (now (info .entry)) (now (red .entry)))
+        (groupWords (paramsOf d) (listsOf d (now (own .entry)) (now (parity .entry))) blocks i)) × (a .wrong ≤ 1000)
         × (length (now (work .exit)) ≡ length (now (work .entry))) × (length (now (sums .exit)) ≡ length (now (sums .entry))) ⌝ }
 {
     words::row_remainders(
@@ -77,6 +89,7 @@ fn correct_group(
         &mut work[..],
         &mut sums[..],
     );
+    let wrong_rows = words::count_nonzero(&sums[..]);
     let rows = correct::correct_words(
         d,
         blocks,
@@ -102,6 +115,7 @@ fn correct_group(
         positions,
         &mut sums[..],
     );
+    let wrong_columns = words::count_nonzero(&sums[..]);
     let columns = correct::correct_words(
         d,
         blocks,
@@ -116,10 +130,13 @@ fn correct_group(
         &mut info[..],
         &mut red[..],
     );
-    rows + columns
+    Pass {
+        flips: rows + columns,
+        wrong: wrong_rows + wrong_columns,
+    }
 }
 
-// Corrects all words of a frame once, group by group, and answers how many bits it flipped.
+// Corrects all words of a frame once, group by group. Where it flips nothing, it has counted the words outside the code.
 fn correct_once(
     d: Design,
     blocks: usize,
@@ -132,16 +149,19 @@ fn correct_once(
     red: &mut [u8],
     work: &mut [u8],
     sums: &mut [u32],
-) -> usize
+) -> Pass
     requires { ⌜ Ready d blocks (now own) (now parity) (now positions) (now syndromes) (now field)
         × FrameFits d blocks (now info) (now red) × (length (now work) ≡ orderOf d) × (length (now sums) ≡ d .size) ⌝ }
-    ensures { λ k. ⌜ (record { frame = frameOf (now (info .exit)) (now (red .exit)); flips = k }
+    ensures { λ a. ⌜ (record { frame = frameOf (now (info .exit)) (now (red .exit)); flips = a .flips }
         ≡ round (paramsOf d) (words (paramsOf d) (listsOf d (now (own .entry)) (now (parity .entry))) blocks)
         (frameOf (now (info .entry)) (now (red .entry))))
+        × (a .flips ≡ 0 → a .wrong
+        ≡ outside (paramsOf d) (listsOf d (now (own .entry)) (now (parity .entry))) blocks (frameOf (now (info .exit)) (now (red .exit))))
         × (length (now (work .exit)) ≡ length (now (work .entry))) × (length (now (sums .exit)) ≡ length (now (sums .entry))) ⌝ }
 {
     let count = (blocks + 1) / 2;
     let mut flips = 0;
+    let mut wrong: u64 = 0;
     for i in 0..count {
         let more = correct_group(
             d,
@@ -157,9 +177,13 @@ fn correct_once(
             &mut work[..],
             &mut sums[..],
         );
-        flips += more;
+        flips += more.flips;
+        wrong += more.wrong;
     }
-    flips
+    Pass {
+        flips: flips,
+        wrong: wrong,
+    }
 }
 
 // Corrects all words of a frame, until a round flips nothing or `limit` rounds are made.
@@ -182,6 +206,8 @@ fn run_rounds(
     ensures { λ a. ⌜ (record { frame = frameOf (now (info .exit)) (now (red .exit)); rounds = a .rounds; flips = a .flips }
         ≡ runRounds (paramsOf d) (words (paramsOf d) (listsOf d (now (own .entry)) (now (parity .entry))) blocks) limit
         (frameOf (now (info .entry)) (now (red .entry))))
+        × (a .idle ≡ true → a .wrong
+        ≡ outside (paramsOf d) (listsOf d (now (own .entry)) (now (parity .entry))) blocks (frameOf (now (info .exit)) (now (red .exit))))
         × (length (now (work .exit)) ≡ length (now (work .entry))) ⌝ }
 {
     let mut flips = 0;
@@ -199,17 +225,21 @@ fn run_rounds(
             &mut work[..],
             &mut sums[..],
         );
-        flips += more;
-        if more == 0 {
+        flips += more.flips;
+        if more.flips == 0 {
             return Made {
                 rounds: k + 1,
                 flips: flips,
+                idle: true,
+                wrong: more.wrong,
             };
         }
     }
     Made {
         rounds: limit,
         flips: flips,
+        idle: false,
+        wrong: 0,
     }
 }
 
@@ -222,6 +252,29 @@ fn rounds_allowed(rounds: u64) -> usize
         return 7;
     }
     rounds as usize
+}
+
+// The words of a frame that are outside the code after its rounds. An idle last round has counted them.
+fn outside_after(
+    d: Design,
+    blocks: usize,
+    made: Made,
+    own: &[u8],
+    parity: &[u8],
+    info: &[u8],
+    red: &[u8],
+    table: &[u32],
+    work: &mut [u8],
+) -> u64
+    requires { ⌜ Received d blocks (now own) (now parity) (now info) (now red) × WordTable d (now table) × (length (now work) ≡ orderOf d)
+        × (made .idle ≡ true → made .wrong ≡ outside (paramsOf d) (listsOf d (now own) (now parity)) blocks (frameOf (now info) (now red))) ⌝ }
+    ensures { λ a. ⌜ a
+        ≡ outside (paramsOf d) (listsOf d (now (own .entry)) (now (parity .entry))) blocks (frameOf (now (info .entry)) (now (red .entry))) ⌝ }
+{
+    if made.idle {
+        return made.wrong;
+    }
+    words::count_outside(d, blocks, own, parity, info, red, table, work)
 }
 
 // `correct_frame` with its working entries lent: the tables, and `sums` for the remainders of the words of a group.
@@ -264,9 +317,10 @@ fn correct_in(
         &mut work[..],
         sums,
     );
-    let outside = words::count_outside(
+    let outside = outside_after(
         d,
         blocks,
+        made,
         own,
         parity,
         &info[..],

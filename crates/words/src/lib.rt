@@ -1,5 +1,6 @@
 // The words of a frame as it is received: their remainders, and how many are outside the code.
 //   row_remainders, column_remainders   the remainders of all row words and of all column words of a group
+//   count_nonzero                       how many of some remainders are not 0
 //   count_outside                       how many words of a frame are outside the code
 //   check_received                      rules 6, 7 and 10 for a frame and its lists
 //   check_words                         the word checker: rules 1 to 4, 6, 7 and 10, then the count
@@ -163,7 +164,7 @@ fn nonzero(x: u32) -> u64
 }
 
 // How many of the lent entries are not 0. One step for each entry.
-fn count_nonzero(list: &[u32]) -> u64
+pub fn count_nonzero(list: &[u32]) -> u64
     ensures { λ a. ⌜ (a ≡ nonzeros (now (list .entry))) × (a ≤ length (now (list .entry))) ⌝ }
 {
     let mut n: u64 = 0;

@@ -1,11 +1,11 @@
 -- The tables are filled, then the rounds run, then the words outside the code are counted.
 -- Assumes nothing.
 use native.Mathlib.Omega.{arith}
+use borrow.Author.Needs.{needs}
 use mathlib.Core.Path.{refl, _∙_}
 use Rattle.staircase.specs.Frame.{frameOf, words}
 use Rattle.rules.specs.Sizes.{paramsOf, listsOf}
 use Rattle.decoder.proofs.Whole.{tables-of, ready-of, rounds-fit, corrected-is}
-use borrow.Author.Needs.{needs}
 use Rattle.decoder.proofs.correct_in.Statement.{statement}
 use Rattle.decoder.proofs.correct_in.Tie as tie
 
@@ -32,12 +32,12 @@ run-rounds-requires c κs =
     let T = tables-of (c .before .before .before .before .before .before .before .before .before .before .before .before .before .before .before .before .before .before .before .before .before .before .before .before .before .before .before .before .before .before .before .args .d) _ _ _ (p .0 .allowed) (c .before .before .before .before .before .before .before .before .before .before .before .before .before .before .before .before .before .before .fill-table .ensures .0) l (c .before .before .before .before .before .before .before .before .before .fill-syndromes .ensures .0) (c .before .before .before .before .before .before .before .before .before .fill-syndromes .ensures .1 ∙ p .4) (c .before .before .before .before .before .before .before .before .before .before .before .before .before .before .fill-field .ensures) in
     (ready-of _ _ _ (p .0) T l, p .0 .frame, p .1, p .6, c .before .before .before .before .before .before .before .before .before .before .before .before .before .before .before .before .before .before .before .before .rounds-allowed .ensures .1)
 
-count-outside-requires : tie.Need-count-outside-requires
-count-outside-requires c κs =
+outside-after-requires : tie.Need-outside-after-requires
+outside-after-requires c κs =
     let p = c .before .before .before .before .before .before .before .before .before .before .before .before .before .before .before .before .before .before .before .before .before .before .before .before .before .before .before .before .before .before .before .before .before .before .before .before .before .before .before .before .before .before .before .before .pre in
     let a = c .before .before .before .before .before .before .before .before .before .before .before .before .before .before .before .before .before .before .before .before .before .before .before .before .before .before .before .before .before .before .before .before .before .before .before .before .before .before .before .before .before .before .before .before .args in
     let F = rounds-fit (words (paramsOf (a .d)) (listsOf (a .d) (a .own .now) (a .parity .now)) (a .blocks)) (c .before .before .before .before .before .before .before .before .before .before .before .before .before .before .before .before .before .before .before .before .before .before .before .before .before .before .before .before .before .before .before .before .before .rounds-allowed .result) _ (p .0 .frame) (c .before .before .before .before .before .before .before .before .before .before .before .before .run-rounds .ensures .0) refl in
-    (record { allowed = p .0 .allowed; some-blocks = p .0 .some-blocks; few-blocks = p .0 .few-blocks; lists = p .0 .lists; frame = F }, record { long = c .before .before .before .before .before .before .before .before .before .before .before .before .before .before .before .before .before .before .before .before .before .before .before .before .before .before .before .before .before .before .before .fill-table .ensures .1 ∙ p .3; powers = c .before .before .before .before .before .before .before .before .before .before .before .before .before .before .before .before .before .before .before .before .before .before .before .before .before .before .before .before .before .before .before .fill-table .ensures .0 }, c .before .before .before .before .before .before .before .before .before .before .before .before .run-rounds .ensures .1 ∙ p .1)
+    (record { allowed = p .0 .allowed; some-blocks = p .0 .some-blocks; few-blocks = p .0 .few-blocks; lists = p .0 .lists; frame = F }, record { long = c .before .before .before .before .before .before .before .before .before .before .before .before .before .before .before .before .before .before .before .before .before .before .before .before .before .before .before .before .before .before .before .fill-table .ensures .1 ∙ p .3; powers = c .before .before .before .before .before .before .before .before .before .before .before .before .before .before .before .before .before .before .before .before .before .before .before .before .before .before .before .before .before .before .before .fill-table .ensures .0 }, c .before .before .before .before .before .before .before .before .before .before .before .before .run-rounds .ensures .2 ∙ p .1, c .before .before .before .before .before .before .before .before .before .before .before .before .run-rounds .ensures .1)
 
 same-length : tie.Need-same-length
 same-length c = search needs
@@ -65,7 +65,7 @@ same-length-7 c = search needs
 returns : tie.Need-returns
 returns c =
     let a = c .before .before .before .before .before .before .before .before .before .before .before .before .before .before .before .before .before .before .before .before .before .before .before .before .before .before .before .before .before .before .before .before .before .before .before .before .before .before .before .before .before .before .before .before .before .before .before .args in
-    corrected-is (paramsOf (a .d)) (listsOf (a .d) (a .own .now) (a .parity .now)) (a .blocks) (a .rounds) (c .before .before .before .before .before .before .before .before .before .before .before .before .before .before .before .before .before .before .before .before .before .before .before .before .before .before .before .before .before .before .before .before .before .before .before .before .rounds-allowed .result) (frameOf (a .info .now) (a .red .now)) _ _ (c .before .before .before .before .before .before .before .before .before .before .before .before .before .before .before .before .before .before .before .before .before .before .before .before .before .before .before .before .before .before .before .before .before .before .before .before .rounds-allowed .ensures .0) (c .before .before .before .before .before .before .before .before .before .before .before .before .before .before .before .run-rounds .ensures .0) (c .before .before .count-outside .ensures)
+    corrected-is (paramsOf (a .d)) (listsOf (a .d) (a .own .now) (a .parity .now)) (a .blocks) (a .rounds) (c .before .before .before .before .before .before .before .before .before .before .before .before .before .before .before .before .before .before .before .before .before .before .before .before .before .before .before .before .before .before .before .before .before .before .before .before .rounds-allowed .result) (frameOf (a .info .now) (a .red .now)) _ _ (c .before .before .before .before .before .before .before .before .before .before .before .before .before .before .before .before .before .before .before .before .before .before .before .before .before .before .before .before .before .before .before .before .before .before .before .before .rounds-allowed .ensures .0) (c .before .before .before .before .before .before .before .before .before .before .before .before .before .before .before .run-rounds .ensures .0) (c .before .before .outside-after .ensures)
 
 pub correct-in-spec : {M : Type 1} → statement M
 correct-in-spec =
@@ -77,7 +77,7 @@ correct-in-spec =
     fill-field-requires
     fill-syndromes-requires
     run-rounds-requires
-    count-outside-requires
+    outside-after-requires
     same-length
     same-length-2
     same-length-3
