@@ -1,8 +1,8 @@
 // The bench's self test: encodes a frame, turns the bits that a pattern names, and decodes what the link would deliver.
 //   loopback   the three steps on the lent buffers
 //
-// It is the encoder's call followed by the decoder's, on the same buffers, so its contract is made of theirs, and demand 3 holds of it
-// (`loopback-restores` in proofs/Restores.antt): where the pattern leaves no word with more than t wrong bits, the frame comes back.
+// It is the encoder's call followed by the decoder's, on the same buffers, so its contract is made of theirs. Demand 3's last part holds of it
+// (`loopback-restores` in proofs/Restores.antt): where the patterns leave no word with more than t wrong bits, the frame comes back.
 ghost use mathlib.Core.Path.{_≡_};
 ghost use mathlib.Core.Bool.{cond};
 ghost use Prim.Native.Nat.{_-_, _≤_};
