@@ -1,0 +1,5 @@
+pub mod Digits
+pub mod Items
+pub mod Scan
+pub mod Spelling
+pub mod Walking

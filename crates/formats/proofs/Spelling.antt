@@ -1,0 +1,252 @@
+-- Lists of items: what they render, when they are clear, and what the scan of a format makes of them.
+use Prim.Native.Nat.{ℕ, zero, suc, _+_, _-_, _≤_, _<_}
+use mathlib.Core.Path.{_≡_, refl, sym, ap, _∙_}
+use mathlib.Core.Bool.{false}
+use mathlib.Core.List.{List, [], _∷_, _++_, append-assoc}
+use native.Mathlib.Omega.{arith}
+use native.Mathlib.Decide.{decLt}
+use lib.ListN.{length, take, drop, length-append}
+use lib.Seq.{drop-drop, drop-append-seam}
+use Rattle.formats.specs.Format.{dec, digit, Item, byte, num, bit, Shows, Piece, none, got, item}
+use Rattle.formats.specs.Format.{Format, Renders, Scan, refused, read, after, step, scan, Clear}
+use Rattle.formats.specs.Items.{lits, seq, Walk, stuck, past, prep, stride, walk, spell, Fit, bits, bitsLine, bitsLines, moved, scanAt}
+use Rattle.formats.proofs.Digits.{dec1, dec2, dec3, dec4}
+use Rattle.formats.proofs.Items.{Sound, Ok, Guard, item-sound, item-complete}
+
+-- RENDERING.
+pub seq-renders : (is : List Item) (F : Format) (L : ℕ) (ws us t : List ℕ) → Fit is ws → Renders F L us t → Renders (seq is F) L (ws ++ us) (spell is ws ++ t)
+seq-renders [] F L [] us t h r = r
+seq-renders [] F L (w ∷ ws) us t h r = absurd h
+seq-renders (byte b ∷ is) F L ws us t h r = ([], b ∷ [], ws ++ us, spell is ws ++ t, (refl, refl), refl, refl, seq-renders is F L ws us t h r)
+seq-renders (num ∷ is) F L [] us t h r = absurd h
+seq-renders (num ∷ is) F L (v ∷ ws) us t h r =
+    (v ∷ [], dec v, ws ++ us, spell is ws ++ t, (v, h .0, refl, refl), refl, append-assoc (dec v) (spell is ws) t, seq-renders is F L ws us t (h .1) r)
+seq-renders (bit ∷ is) F L [] us t h r = absurd h
+seq-renders (bit ∷ is) F L (v ∷ ws) us t h r =
+    (v ∷ [], (48 + v) ∷ [], ws ++ us, spell is ws ++ t, (v, h .0, refl, refl), refl, refl, seq-renders is F L ws us t (h .1) r)
+
+abbrev pub Spelt : List Item → Format → ℕ → List ℕ → List ℕ → Type 0
+Spelt is F L vs s = (ws : List ℕ) × (us : List ℕ) × (t : List ℕ) × Fit is ws × (vs ≡ ws ++ us) × (s ≡ spell is ws ++ t) × Renders F L us t
+
+spelt-item : (i : Item) (is : List Item) (F : Format) (L : ℕ) (vs s ws p us t : List ℕ)
+    → Shows i ws p → vs ≡ ws ++ us → s ≡ p ++ t → Spelt is F L us t → Spelt (i ∷ is) F L vs s
+spelt-item (byte b) is F L vs s ws p us t sh e f (ws′, us′, t′, h, e′, f′, r′) = (ws′, us′, t′, h, rw (e, sh .0) e′, rw (f, sh .1, f′), r′)
+spelt-item num is F L vs s ws p us t sh e f (ws′, us′, t′, h, e′, f′, r′) =
+    (sh .0 ∷ ws′, us′, t′, (sh .1, h), rw (e, sh .2, e′), rw (f, sh .3, f′) (sym (append-assoc (dec (sh .0)) (spell is ws′) t′)), r′)
+spelt-item bit is F L vs s ws p us t sh e f (ws′, us′, t′, h, e′, f′, r′) =
+    (sh .0 ∷ ws′, us′, t′, (sh .1, h), rw (e, sh .2, e′), rw (f, sh .3, f′), r′)
+
+pub renders-seq : (is : List Item) (F : Format) (L : ℕ) (vs s : List ℕ) → Renders (seq is F) L vs s → Spelt is F L vs s
+renders-seq [] F L vs s r = ([], vs, s, tt, refl, refl, r)
+renders-seq (i ∷ is) F L vs s (ws, p, us, t, sh, e, f, r) = spelt-item i is F L vs s ws p us t sh e f (renders-seq is F L us t r)
+
+-- CLEAR LISTS: a number is followed by a byte that is no digit.
+abbrev pub Tidy : List Item → Type 0
+Tidy [] = Unit {0}
+Tidy (byte b ∷ is) = (b < 256) × Tidy is
+Tidy (bit ∷ is) = Tidy is
+Tidy (num ∷ []) = ⊥
+Tidy (num ∷ byte b ∷ is) = (digit b ≡ false) × (b < 256) × Tidy is
+Tidy (num ∷ num ∷ is) = ⊥
+Tidy (num ∷ bit ∷ is) = ⊥
+
+pub clear-seq : (is : List Item) (F : Format) → Tidy is → Clear F → Clear (seq is F)
+clear-seq [] F h c = c
+clear-seq (byte b ∷ is) F h c = (h .0, clear-seq is F (h .1) c)
+clear-seq (bit ∷ is) F h c = clear-seq is F h c
+clear-seq (num ∷ []) F h c = absurd h
+clear-seq (num ∷ byte b ∷ is) F h c = (h .0, (h .1, clear-seq is F (h .2) c))
+clear-seq (num ∷ num ∷ is) F h c = absurd h
+clear-seq (num ∷ bit ∷ is) F h c = absurd h
+
+pub tidy-append : (is js : List Item) → Tidy is → Tidy js → Tidy (is ++ js)
+tidy-append [] js h k = k
+tidy-append (byte b ∷ is) js h k = (h .0, tidy-append is js (h .1) k)
+tidy-append (bit ∷ is) js h k = tidy-append is js h k
+tidy-append (num ∷ []) js h k = absurd h
+tidy-append (num ∷ byte b ∷ is) js h k = (h .0, h .1, tidy-append is js (h .2) k)
+tidy-append (num ∷ num ∷ is) js h k = absurd h
+tidy-append (num ∷ bit ∷ is) js h k = absurd h
+
+pub tidy-bits : (n : ℕ) → Tidy (bits n)
+tidy-bits zero = tt
+tidy-bits (suc n) = tidy-bits n
+
+pub tidy-dec : (v : ℕ) → v < 10000 → Tidy (lits (dec v))
+tidy-dec v h = go1 (decLt v 10)
+  where
+    go3 : 100 ≤ v → Dec (v < 1000) → Tidy (lits (dec v))
+    go3 l (yes k) = rw (dec3 v l k) (omega arith)
+    go3 l (no k) = rw (dec4 v (omega arith) (omega arith)) (omega arith)
+
+    go2 : 10 ≤ v → Dec (v < 100) → Tidy (lits (dec v))
+    go2 l (yes k) = rw (dec2 v l k) (omega arith)
+    go2 l (no k) = go3 (omega arith) (decLt v 1000)
+
+    go1 : Dec (v < 10) → Tidy (lits (dec v))
+    go1 (yes k) = rw (dec1 v k) (omega arith)
+    go1 (no k) = go2 (omega arith) (decLt v 100)
+
+pub tidy-bitsLine : (n p : ℕ) → p < 10000 → Tidy (bitsLine n p)
+unfolding bitsLine
+tidy-bitsLine n p h =
+    tidy-append (lits (dec p) ++ (byte 32 ∷ bits n)) (byte 10 ∷ [])
+    (tidy-append (lits (dec p)) (byte 32 ∷ bits n) (tidy-dec p h) (omega arith, tidy-bits n))
+    (omega arith, tt)
+
+pub tidy-bitsLines : (n k p : ℕ) → p + k ≤ 10000 → Tidy (bitsLines n p k)
+unfolding bitsLines
+tidy-bitsLines n zero p h = tt
+tidy-bitsLines n (suc k) p h = tidy-append (bitsLine n p) (bitsLines n (suc p) k) (tidy-bitsLine n p (omega arith)) (tidy-bitsLines n k (suc p) (omega arith))
+
+-- THE SCAN OVER A LIST is the walk, and then the scan of what follows.
+abbrev pub prefix : List ℕ → Scan → Scan
+prefix ws (refused k) = refused k
+prefix ws (read l vs) = read l (ws ++ vs)
+
+abbrev pub continue : Walk → (ℕ → Scan) → Scan
+continue (stuck q) k = refused q
+continue (past ws q) k = prefix ws (k q)
+
+prefix-nil : (x : Scan) → prefix [] x ≡ x
+prefix-nil (refused k) = refl
+prefix-nil (read l vs) = refl
+
+moved-after : (ws : List ℕ) (at n : ℕ) (x : Scan) → moved at (after ws n x) ≡ prefix ws (moved (at + n) x)
+moved-after ws at n (refused k) = ap refused (regroup at n k)
+  where
+    regroup : (a b c : ℕ) → a + (b + c) ≡ a + b + c
+    regroup a b c = omega arith
+moved-after ws at n (read l vs) = refl
+
+prefix-continue : (ws : List ℕ) (w : Walk) (k : ℕ → Scan) → prefix ws (continue w k) ≡ continue (prep ws w) k
+prefix-continue ws (stuck q) k = refl
+prefix-continue ws (past us q) k = go (k q)
+  where
+    go : (x : Scan) → prefix ws (prefix us x) ≡ prefix (ws ++ us) x
+    go (refused r) = refl
+    go (read l vs) = ap (λ (z : List ℕ). read l z) (sym (append-assoc ws us vs))
+
+pub scan-seq : (is : List Item) (F : Format) (s : List ℕ) (at : ℕ) → scanAt (seq is F) s at ≡ continue (walk is s at) (λ q. scanAt F s q)
+unfolding scanAt walk
+scan-seq [] F s at = sym (prefix-nil (moved at (scan F (drop at s))))
+scan-seq (i ∷ is) F s at = go (item i (drop at s)) (λ n. scan-seq is F s n)
+  where
+    go : (x : Piece) → ((q : ℕ) → moved q (scan (seq is F) (drop q s)) ≡ continue (walk is s q) (λ r. moved r (scan F (drop r s))))
+        → moved at (step x (λ n. scan (seq is F) (drop n (drop at s)))) ≡ continue (stride x at (λ q. walk is s q)) (λ q. moved q (scan F (drop q s)))
+    go none ih = ap refused (zero-right at)
+      where
+        zero-right : (a : ℕ) → a + 0 ≡ a
+        zero-right a = omega arith
+    go (got ws n) ih =
+        moved-after ws at n (scan (seq is F) (drop n (drop at s)))
+        ∙ ap (λ (l : List ℕ). prefix ws (moved (at + n) (scan (seq is F) l))) (drop-drop n at s)
+        ∙ ap (prefix ws) (ih (at + n))
+        ∙ prefix-continue ws (walk is s (at + n)) (λ q. moved q (scan F (drop q s)))
+
+pub scan-whole : (F : Format) (s : List ℕ) → scanAt F s 0 ≡ scan F s
+unfolding scanAt
+scan-whole F s = go (scan F s)
+  where
+    zero-left : (a : ℕ) → 0 + a ≡ a
+    zero-left a = omega arith
+
+    go : (x : Scan) → moved 0 x ≡ x
+    go (refused k) = ap refused (zero-left k)
+    go (read l vs) = refl
+
+-- One item more.
+pub spell-item : (i : Item) (is : List Item) (w p us : List ℕ) → Shows i w p → Fit is us → (spell (i ∷ is) (w ++ us) ≡ p ++ spell is us) × Fit (i ∷ is) (w ++ us)
+spell-item (byte b) is w p us sh f = (rw (sh .0, sh .1), rw (sh .0) f)
+spell-item num is w p us sh f = (rw (sh .2, sh .3), rw (sh .2) (sh .1, f))
+spell-item bit is w p us sh f = (rw (sh .2, sh .3), rw (sh .2) (sh .1, f))
+
+walk-item : (i : Item) (is : List Item) (w p rest s : List ℕ) (at : ℕ) → Shows i w p → Guard i rest → drop at s ≡ p ++ rest
+    → walk (i ∷ is) s at ≡ prep w (walk is s (at + length p))
+unfolding walk
+walk-item i is w p rest s at sh g e = rw (e, item-complete i w p rest sh g)
+
+drop-item : (p rest s : List ℕ) (at : ℕ) → drop at s ≡ p ++ rest → drop (at + length p) s ≡ rest
+drop-item p rest s at e = sym (drop-drop (length p) at s) ∙ ap (λ (l : List ℕ). drop (length p) l) e ∙ drop-append-seam p rest
+
+-- A CLEAR LIST THAT IS SPELT IS PASSED, whatever follows it.
+pub walk-spell : (is : List Item) (ws t s : List ℕ) (at : ℕ) → Tidy is → Fit is ws → drop at s ≡ spell is ws ++ t → walk is s at ≡ past ws (at + length (spell is ws))
+unfolding walk
+walk-spell [] [] t s at h k e = let z : at ≡ at + 0 = omega arith in ap (λ (n : ℕ). past [] n) z
+walk-spell [] (w ∷ ws) t s at h k e = absurd k
+walk-spell (byte b ∷ is) ws t s at h k e =
+    let z : at + 1 + length (spell is ws) ≡ at + suc (length (spell is ws)) = omega arith in
+    walk-item (byte b) is [] (b ∷ []) (spell is ws ++ t) s at (refl, refl) tt e
+    ∙ ap (prep []) (walk-spell is ws t s (at + 1) (h .1) k (drop-item (b ∷ []) (spell is ws ++ t) s at e) ∙ ap (λ (n : ℕ). past ws n) z)
+walk-spell (bit ∷ is) [] t s at h k e = absurd k
+walk-spell (bit ∷ is) (v ∷ ws) t s at h k e =
+    let z : at + 1 + length (spell is ws) ≡ at + suc (length (spell is ws)) = omega arith in
+    walk-item bit is (v ∷ []) ((48 + v) ∷ []) (spell is ws ++ t) s at (v, k .0, refl, refl) tt e
+    ∙ ap (prep (v ∷ [])) (walk-spell is ws t s (at + 1) h (k .1) (drop-item ((48 + v) ∷ []) (spell is ws ++ t) s at e) ∙ ap (λ (n : ℕ). past ws n) z)
+walk-spell (num ∷ []) ws t s at h k e = absurd h
+walk-spell (num ∷ num ∷ is) ws t s at h k e = absurd h
+walk-spell (num ∷ bit ∷ is) ws t s at h k e = absurd h
+walk-spell (num ∷ byte b ∷ is) [] t s at h k e = absurd k
+walk-spell (num ∷ byte b ∷ is) (v ∷ ws) t s at h k e =
+    let f : drop at s ≡ dec v ++ (b ∷ spell is ws ++ t) = e ∙ append-assoc (dec v) (b ∷ spell is ws) t in
+    let n : ℕ = length (dec v) in
+    let z : at + n + suc (length (spell is ws)) ≡ at + length (dec v ++ (b ∷ spell is ws)) = omega (arith, length-append (dec v) (b ∷ spell is ws)) in
+    walk-item num (byte b ∷ is) (v ∷ []) (dec v) (b ∷ spell is ws ++ t) s at (v, k .0, refl, refl) (h .0) f
+    ∙ ap (prep (v ∷ [])) (walk-spell (byte b ∷ is) ws t s (at + n) (h .1, h .2) (k .1) (drop-item (dec v) (b ∷ spell is ws ++ t) s at f) ∙ ap (λ (m : ℕ). past ws m) z)
+
+-- WHAT IS PASSED IS SPELT.
+abbrev pub Oks : List Item → Type 0
+Oks [] = Unit {0}
+Oks (i ∷ is) = Ok i × Oks is
+
+pub record Passed (is : List Item) (s : List ℕ) (at : ℕ) (ws : List ℕ) (q : ℕ) : Type 0 where
+  pub fit : Fit is ws
+  pub spelt : drop at s ≡ spell is ws ++ drop q s
+  pub moves : q ≡ at + length (spell is ws)
+
+prep-past : (w : List ℕ) (x : Walk) (ws : List ℕ) (q : ℕ) → prep w x ≡ past ws q → (us : List ℕ) × (x ≡ past us q) × (ws ≡ w ++ us)
+prep-past w (stuck k) ws q e = let z : _≡_ {A = ℕ} 0 1 = cc in absurd (omega arith)
+prep-past w (past us k) ws q e = let z : k ≡ q = cc in (us, ap (λ (n : ℕ). past us n) z, cc)
+
+stride-past : (x : Piece) (at : ℕ) (k : ℕ → Walk) (ws : List ℕ) (q : ℕ) → stride x at k ≡ past ws q
+    → (w : List ℕ) × (n : ℕ) × (us : List ℕ) × (x ≡ got w n) × (k (at + n) ≡ past us q) × (ws ≡ w ++ us)
+stride-past none at k ws q e = let z : _≡_ {A = ℕ} 0 1 = cc in absurd (omega arith)
+stride-past (got w n) at k ws q e = let r = prep-past w (k (at + n)) ws q e in (w, n, r .0, refl, r .1, r .2)
+
+passed-item : (i : Item) (is : List Item) (s : List ℕ) (at : ℕ) (ws : List ℕ) (q : ℕ) (w : List ℕ) (n : ℕ) (us : List ℕ)
+    → Sound i w n (drop at s) → Passed is s (at + n) us q → ws ≡ w ++ us → Passed (i ∷ is) s at ws q
+passed-item i is s at ws q w n us k P e =
+    let g = spell-item i is w (take n (drop at s)) us (k .shows) (P .fit) in
+    let l : length (take n (drop at s)) ≡ n = lib.Seq.length-take-le n (drop at s) (k .within) in
+    record {
+      fit = rw e (g .1);
+      spelt =
+          rw (e, g .0, append-assoc)
+          (sym (lib.ListN.take-append-drop n (drop at s)) ∙ ap (λ (z : List ℕ). take n (drop at s) ++ z) (drop-drop n at s ∙ P .spelt));
+      moves = rw (e, g .0, length-append, l) (P .moves ∙ regroup at n (length (spell is us)));
+    }
+  where
+    regroup : (a b c : ℕ) → a + b + c ≡ a + (b + c)
+    regroup a b c = omega arith
+
+pub walk-sound : (is : List Item) (s : List ℕ) (at : ℕ) (ws : List ℕ) (q : ℕ) → Oks is → walk is s at ≡ past ws q → Passed is s at ws q
+unfolding walk
+walk-sound [] s at ws q h e =
+    let a : ws ≡ [] = cc in
+    let b : q ≡ at = cc in
+    record { fit = rw a tt; spelt = rw b; moves = rw b (zero-right at) }
+  where
+    zero-right : (x : ℕ) → x ≡ x + 0
+    zero-right x = omega arith
+walk-sound (i ∷ is) s at ws q h e =
+    let (w, n, us, g, f, z) = stride-past (item i (drop at s)) at (λ r. walk is s r) ws q e in
+    passed-item i is s at ws q w n us (item-sound i (drop at s) w n (h .0) g) (walk-sound is s (at + n) us q (h .1) f) z
+
+-- Fixed bytes take no value and are spelt as they are.
+pub spell-lits : (bs : List ℕ) → spell (lits bs) [] ≡ bs
+spell-lits [] = refl
+spell-lits (b ∷ bs) = ap (λ (l : List ℕ). b ∷ l) (spell-lits bs)
+
+pub fit-lits : (bs : List ℕ) → Fit (lits bs) []
+fit-lits [] = tt
+fit-lits (b ∷ bs) = fit-lits bs
