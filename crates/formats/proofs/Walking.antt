@@ -70,7 +70,7 @@ unfolding walk
 this-byte b s at l e = walk-this b [] s at l e
 
 -- A bit, as the code has it.
-bit-none : (is : List Item) (s : List ℕ) (at : ℕ) → (getD s at 256 ≡ 48 → ⊥) → (getD s at 256 ≡ 49 → ⊥) → walk (bit ∷ is) s at ≡ stuck at
+pub bit-none : (is : List Item) (s : List ℕ) (at : ℕ) → (getD s at 256 ≡ 48 → ⊥) → (getD s at 256 ≡ 49 → ⊥) → walk (bit ∷ is) s at ≡ stuck at
 unfolding walk item
 bit-none is s at a b = rw (head-at s at, ne-eqb (getD s at 256) 48 a, ne-eqb (getD s at 256) 49 b)
 

@@ -1,0 +1,101 @@
+-- Bits, and the lines of a number and bits, as the code has them.
+-- Assumes nothing.
+use Prim.Native.Nat.{ℕ, suc, _+_, _-_, _≤_, _<_}
+use mathlib.Core.Path.{_≡_, refl, sym, ap, _∙_}
+use mathlib.Core.List.{List, [], _∷_, _++_, append-assoc}
+use native.Mathlib.Omega.{arith}
+use lib.ListN.{length, getD, List·getD-eq-default}
+use Rattle.formats.specs.Format.{Item, byte, bit, dec}
+use Rattle.formats.specs.Items.{lits, Walk, stuck, past, prep, walk, onward}
+use Rattle.readers.specs.Answers.{stepOf, stepWalk}
+use Rattle.formats.specs.Items.{bits, bitsLine}
+use Rattle.readers.specs.declared.Step.{Step}
+use Rattle.readers.specs.declared.Step.the-variants.{Next, Refused}
+use Rattle.formats.proofs.Walking.{bit-none, getD-any, walk-append, walk-bit}
+
+pub step-prep : (ws : List ℕ) (w : Walk) → stepOf (prep ws w) ≡ stepOf w
+step-prep ws (stuck q) = refl
+step-prep ws (past us q) = refl
+
+bits-suc : (n i : ℕ) → i < n → bits (n - i) ≡ bit ∷ bits (n - (i + 1))
+bits-suc n i h = let e : n - i ≡ suc (n - (i + 1)) = omega arith in ap bits e
+
+module _ (s : List ℕ) (n i q : ℕ) where
+  pub bits-done : n ≤ i → walk (bits (n - i)) s q ≡ past [] q
+  unfolding walk
+  bits-done h = let e : n - i ≡ 0 = omega arith in ap (λ (k : ℕ). walk (bits k) s q) e
+
+  module _ (h : i < n) where
+    pub bits-end : length s ≤ q → walk (bits (n - i)) s q ≡ stuck q
+    bits-end l =
+        let f = List·getD-eq-default s 256 {n = q} l in
+        rw (bits-suc n i h) (bit-none (bits (n - (i + 1))) s q (λ e. omega arith) (λ e. omega arith))
+
+    pub bits-low : q < length s → getD s q 0 < 48 → walk (bits (n - i)) s q ≡ stuck q
+    bits-low l k =
+        let f = getD-any s q 256 0 l in
+        rw (bits-suc n i h) (bit-none (bits (n - (i + 1))) s q (λ e. omega arith) (λ e. omega arith))
+
+    pub bits-high : q < length s → 49 < getD s q 0 → walk (bits (n - i)) s q ≡ stuck q
+    bits-high l k =
+        let f = getD-any s q 256 0 l in
+        rw (bits-suc n i h) (bit-none (bits (n - (i + 1))) s q (λ e. omega arith) (λ e. omega arith))
+
+    pub bits-step : q < length s → 48 ≤ getD s q 0 → getD s q 0 ≤ 49 → stepOf (walk (bits (n - i)) s q) ≡ stepOf (walk (bits (n - (i + 1))) s (q + 1))
+    bits-step l a b =
+        ap (λ (is : List Item). stepOf (walk is s q)) (bits-suc n i h) ∙ ap stepOf (walk-bit (bits (n - (i + 1))) s q l a b)
+        ∙ step-prep ((getD s q 0 - 48) ∷ []) (walk (bits (n - (i + 1))) s (q + 1))
+
+pub bits-all : (s : List ℕ) (n q : ℕ) → stepOf (walk (bits n) s q) ≡ stepOf (walk (bits (n - 0)) s q)
+bits-all s n q = let e : n ≡ n - 0 = omega arith in ap (λ (k : ℕ). stepOf (walk (bits k) s q)) e
+
+-- Items one after the other, by the answers to each.
+onward-stop : (w : Walk) (k : ℕ → Walk) (x : Step) (q : ℕ) → x ≡ stepOf w → x ≡ Refused q → x ≡ stepOf (onward w k)
+onward-stop (stuck r) k x q e f = e
+onward-stop (past ws r) k x q e f = let z : _≡_ {A = ℕ} 0 1 = cc in absurd (omega arith)
+
+onward-on : (w : Walk) (k : ℕ → Walk) (x : Step) (q : ℕ) → x ≡ stepOf w → x ≡ Next q → stepOf (onward w k) ≡ stepOf (k q)
+onward-on (stuck r) k x q e f = let z : _≡_ {A = ℕ} 0 1 = cc in absurd (omega arith)
+onward-on (past ws r) k x q e f = let z : r ≡ q = cc in step-prep ws (k r) ∙ ap (λ (y : ℕ). stepOf (k y)) z
+
+pub step-of : (x : Step) (w : Walk) → stepWalk x ≡ w → x ≡ stepOf w
+step-of (Next q) w e = ap stepOf e
+step-of (Refused q) w e = ap stepOf e
+
+module _ (is js : List Item) (s : List ℕ) (at : ℕ) (x : Step) (e : x ≡ stepOf (walk is s at)) where
+  pub stops-first : (q : ℕ) → x ≡ Refused q → x ≡ stepOf (walk (is ++ js) s at)
+  stops-first q f = onward-stop (walk is s at) (λ i. walk js s i) x q e f ∙ ap stepOf (sym (walk-append is js s at))
+
+  pub goes-on : (i : ℕ) → x ≡ Next i → (y : Step) → y ≡ stepOf (walk js s i) → y ≡ stepOf (walk (is ++ js) s at)
+  goes-on i f y g = g ∙ sym (ap stepOf (walk-append is js s at) ∙ onward-on (walk is s at) (λ j. walk js s j) x i e f)
+
+-- A space and bits.
+module _ (n : ℕ) (s : List ℕ) (at : ℕ) (x : Step) (e : stepWalk x ≡ walk (byte 32 ∷ []) s at) where
+  pub part-space : (q : ℕ) → x ≡ Refused q → x ≡ stepOf (walk (byte 32 ∷ bits n) s at)
+  part-space q f = stops-first (byte 32 ∷ []) (bits n) s at x (step-of x _ e) q f
+
+  pub part-bits : (i : ℕ) → x ≡ Next i → (y : Step) → y ≡ stepOf (walk (bits n) s i) → y ≡ stepOf (walk (byte 32 ∷ bits n) s at)
+  part-bits i f y g = goes-on (byte 32 ∷ []) (bits n) s at x (step-of x _ e) i f y g
+
+-- The line of a number and bits.
+line-parts : (n p : ℕ) → bitsLine n p ≡ lits (dec p) ++ ((byte 32 ∷ bits n) ++ (byte 10 ∷ []))
+unfolding bitsLine
+line-parts n p = append-assoc (lits (dec p)) (byte 32 ∷ bits n) (byte 10 ∷ [])
+
+module _ (n p : ℕ) (s : List ℕ) (at : ℕ) (x : Step) (ex : stepWalk x ≡ walk (lits (dec p)) s at) where
+  abbrev Rest : List Item
+  Rest = (byte 32 ∷ bits n) ++ (byte 10 ∷ [])
+
+  whole : (y : Step) → y ≡ stepOf (walk (lits (dec p) ++ Rest) s at) → y ≡ stepOf (walk (bitsLine n p) s at)
+  whole y e = e ∙ ap (λ (is : List Item). stepOf (walk is s at)) (sym (line-parts n p))
+
+  pub line-number : (q : ℕ) → x ≡ Refused q → x ≡ stepOf (walk (bitsLine n p) s at)
+  line-number q f = whole x (stops-first (lits (dec p)) Rest s at x (step-of x _ ex) q f)
+
+  module _ (i : ℕ) (fx : x ≡ Next i) (y : Step) (ey : y ≡ stepOf (walk (byte 32 ∷ bits n) s i)) where
+    pub line-bits : (q : ℕ) → y ≡ Refused q → y ≡ stepOf (walk (bitsLine n p) s at)
+    line-bits q f = whole y (goes-on (lits (dec p)) Rest s at x (step-of x _ ex) i fx y (stops-first (byte 32 ∷ bits n) (byte 10 ∷ []) s i y ey q f))
+
+    pub line-end : (e : ℕ) → y ≡ Next e → (z : Step) → stepWalk z ≡ walk (byte 10 ∷ []) s e → z ≡ stepOf (walk (bitsLine n p) s at)
+    line-end e f z g =
+        whole z (goes-on (lits (dec p)) Rest s at x (step-of x _ ex) i fx z (goes-on (byte 32 ∷ bits n) (byte 10 ∷ []) s i y ey e f z (step-of z _ g)))

@@ -1,0 +1,31 @@
+-- `text::digit_at` meets its contract.
+use borrow.Author.Needs.{needs}
+use native.Mathlib.Omega.{arith}
+use mathlib.Core.Path.{sym, _∙_, ap}
+use Rattle.readers.proofs.Numbers.{digitAt-out, low-read, high-read, digit-read}
+use Rattle.readers.proofs.digit_at.Statement.{statement}
+use Rattle.readers.proofs.digit_at.Tie as tie
+use Rattle.readers.proofs.digit_at.Reads as reads
+use Rattle.readers.proofs.digit_at.Lts as lts
+
+returns : tie.Need-returns
+returns c = sym (digitAt-out _ _ (c .if1 .taken))
+
+shared-slice-read-c : tie.Need-shared-slice-read-c
+shared-slice-read-c c = search needs
+
+returns-2 : tie.Need-returns-2
+returns-2 c = low-read _ _ (c .before .before .if1 .left) (c .if2 .taken)
+
+returns-3 : tie.Need-returns-3
+returns-3 c = high-read _ _ (c .before .before .before .if1 .left) (c .if3 .taken)
+
+cast-result : tie.Need-cast-result
+cast-result c = search needs
+
+returns-4 : tie.Need-returns-4
+returns-4 c = digit-read _ _ (c .before .before .before .if1 .left) (c .before .if2 .left) (c .if3 .left)
+
+pub digit-at-spec : {M : Type 1} → statement M
+digit-at-spec =
+    tie.close (tie.spec returns shared-slice-read-c returns-2 returns-3 cast-result returns-4)

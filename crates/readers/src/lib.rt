@@ -1,0 +1,218 @@
+// Reading texts item by item: numbers, fixed bytes, bits and the lines of a number and bits.
+//   number_then(s, at, b)       a number and the byte b
+//   literal(s, at, text)        fixed bytes; `byte_is` for one, `number_is` for the digits of a number
+//   bit_run, bits_part          n bit characters; with a space before them
+//   bits_line(s, at, n, p)      the line of the number p and n bits
+//
+// Each function reads at a position of the whole text s and answers the position after what it read, or the place where that goes wrong, counted
+// from the start of s. Contracts cite `walk` of the crate `formats`. No length is required of s: a position grows only where a byte was there.
+ghost use mathlib.Core.Path.{_≡_};
+ghost use mathlib.Core.List.{[], _∷_};
+ghost use Prim.Native.Nat.{_+_, _≤_, _<_};
+ghost use lib.ListN.{length};
+ghost use lib.Seq.{sets};
+ghost use Rattle.formats.specs.Format.{byte, num, dec};
+ghost use Rattle.formats.specs.Items.{walk, lits, bits, bitsLine};
+ghost use Rattle.readers.specs.Answers.{digitAt, numAt, stepOf, stepWalk, fieldWalk};
+
+// The position after what was read, or the place where it goes wrong.
+pub enum Step {
+    Next(usize),
+    Refused(usize),
+}
+
+// A number and the position after it, or no number.
+pub enum Num {
+    Value(usize, usize),
+    Bad,
+}
+
+// A number that a byte follows, and the position after both, or the place where they go wrong.
+pub enum Field {
+    Got(usize, usize),
+    Stop(usize),
+}
+
+// The value of the digit at i, and 10 where there is none.
+fn digit_at(s: &[u8], i: usize) -> usize
+    ensures { λ r. ⌜ r ≡ digitAt (now (s .entry)) i ⌝ }
+{
+    if s.len() <= i {
+        return 10;
+    }
+    let c = s[i];
+    if c < 48 {
+        return 10;
+    }
+    if 57 < c {
+        return 10;
+    }
+    (c - 48) as usize
+}
+
+// The number at a position.
+pub fn number(s: &[u8], at: usize) -> Num
+    ensures { λ r. ⌜ r ≡ numAt (now (s .entry)) at ⌝ }
+{
+    let a = digit_at(s, at);
+    if 10 <= a {
+        return Num::Bad;
+    }
+    if a == 0 {
+        return Num::Value(0, at + 1);
+    }
+    let b = digit_at(s, at + 1);
+    if 10 <= b {
+        return Num::Value(a, at + 1);
+    }
+    let c = digit_at(s, at + 2);
+    if 10 <= c {
+        return Num::Value(a * 10 + b, at + 2);
+    }
+    let d = digit_at(s, at + 3);
+    if 10 <= d {
+        return Num::Value((a * 10 + b) * 10 + c, at + 3);
+    }
+    Num::Value(((a * 10 + b) * 10 + c) * 10 + d, at + 4)
+}
+
+// The fixed bytes pat at a position.
+pub fn literal(s: &[u8], at: usize, pat: &[u8]) -> Step
+    ensures { λ r. ⌜ stepWalk r ≡ walk (lits (now (pat .entry))) (now (s .entry)) at ⌝ }
+{
+    let mut q = at;
+    let mut i = 0;
+    while i < pat.len() {
+        let b = pat[i];
+        if s.len() <= q {
+            return Step::Refused(q);
+        }
+        if s[q] != b {
+            return Step::Refused(q);
+        }
+        q += 1;
+        i += 1;
+    }
+    Step::Next(q)
+}
+
+// A number at a position, with the byte b after it.
+pub fn number_then(s: &[u8], at: usize, b: u8) -> Field
+    ensures { λ r. ⌜ fieldWalk r ≡ walk (num ∷ byte b ∷ []) (now (s .entry)) at ⌝ }
+{
+    let found = number(s, at);
+    match found {
+        Num::Bad => Field::Stop(at),
+        Num::Value(v, q) => {
+            if s.len() <= q {
+                return Field::Stop(q);
+            }
+            if s[q] != b {
+                return Field::Stop(q);
+            }
+            Field::Got(v, q + 1)
+        }
+    }
+}
+
+// The byte b at a position.
+pub fn byte_is(s: &[u8], at: usize, b: u8) -> Step
+    ensures { λ r. ⌜ stepWalk r ≡ walk (byte b ∷ []) (now (s .entry)) at ⌝ }
+{
+    if s.len() <= at {
+        return Step::Refused(at);
+    }
+    if s[at] != b {
+        return Step::Refused(at);
+    }
+    Step::Next(at + 1)
+}
+
+// n bit characters at a position.
+pub fn bit_run(s: &[u8], at: usize, n: usize) -> Step
+    ensures { λ r. ⌜ r ≡ stepOf (walk (bits n) (now (s .entry)) at) ⌝ }
+{
+    let mut q = at;
+    let mut i = 0;
+    while i < n {
+        if s.len() <= q {
+            return Step::Refused(q);
+        }
+        let c = s[q];
+        if c < 48 {
+            return Step::Refused(q);
+        }
+        if 49 < c {
+            return Step::Refused(q);
+        }
+        q += 1;
+        i += 1;
+    }
+    Step::Next(q)
+}
+
+// A space and n bit characters at a position.
+pub fn bits_part(s: &[u8], at: usize, n: usize) -> Step
+    ensures { λ r. ⌜ r ≡ stepOf (walk (byte 32 ∷ bits n) (now (s .entry)) at) ⌝ }
+{
+    let space = byte_is(s, at, 32);
+    let Step::Next(i) = space else {
+        return space;
+    };
+    bit_run(s, i, n)
+}
+
+// Writes the digits of v, which is below 10,000, from a position on, and answers the position after them.
+fn decimal(out: &mut [u8], at: usize, v: usize) -> usize
+    requires { ⌜ v < 10000 ⌝ }
+    requires { ⌜ at + 4 ≤ length (now out) ⌝ }
+    ensures { λ r. ⌜ r ≡ at + length (dec v) ⌝ }
+    ensures { λ _. ⌜ now (out .exit) ≡ sets (now (out .entry)) at (dec v) ⌝ }
+{
+    if v < 10 {
+        out[at] = (48 + v) as u8;
+        return at + 1;
+    }
+    if v < 100 {
+        out[at] = (48 + v / 10) as u8;
+        out[at + 1] = (48 + v % 10) as u8;
+        return at + 2;
+    }
+    if v < 1000 {
+        out[at] = (48 + v / 100) as u8;
+        out[at + 1] = (48 + v / 10 % 10) as u8;
+        out[at + 2] = (48 + v % 10) as u8;
+        return at + 3;
+    }
+    out[at] = (48 + v / 1000) as u8;
+    out[at + 1] = (48 + v / 100 % 10) as u8;
+    out[at + 2] = (48 + v / 10 % 10) as u8;
+    out[at + 3] = (48 + v % 10) as u8;
+    at + 4
+}
+
+// The digits of p at a position.
+pub fn number_is(s: &[u8], at: usize, p: usize) -> Step
+    requires { ⌜ p < 10000 ⌝ }
+    ensures { λ r. ⌜ stepWalk r ≡ walk (lits (dec p)) (now (s .entry)) at ⌝ }
+{
+    let mut text = [0u8; 4];
+    let n = decimal(&mut text, 0, p);
+    literal(s, at, &text[..n])
+}
+
+// The line of the number p and n bits.
+pub fn bits_line(s: &[u8], at: usize, n: usize, p: usize) -> Step
+    requires { ⌜ p < 10000 ⌝ }
+    ensures { λ r. ⌜ r ≡ stepOf (walk (bitsLine n p) (now (s .entry)) at) ⌝ }
+{
+    let number = number_is(s, at, p);
+    let Step::Next(i) = number else {
+        return number;
+    };
+    let part = bits_part(s, i, n);
+    let Step::Next(e) = part else {
+        return part;
+    };
+    byte_is(s, e, 10)
+}
