@@ -1,0 +1,2 @@
+pub mod KitText
+pub mod Reader
