@@ -17,8 +17,8 @@ use Rattle.staircase.specs.Frame.{Frame, Site, bitAt, flip, groups, frameOf}
 use Rattle.staircase.specs.Frame.Site.{unsent, inInfo, inRed}
 use Rattle.staircase.specs.Decoder.{allSent, flipAll}
 use Rattle.staircase.proofs.Flip.{Received, flipAll-received}
-use Rattle.rules.specs.declared.Design.{Design}
-use Rattle.rules.specs.Sizes.{orderOf}
+use Rattle.design.specs.declared.Design.{Design}
+use Rattle.design.specs.Sizes.{orderOf}
 use Rattle.correct.specs.Sites.{Inside, accepted}
 use Rattle.rules.specs.Received.{FrameFits}
 

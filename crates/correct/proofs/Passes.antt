@@ -25,9 +25,9 @@ use Rattle.staircase.proofs.Flip.{Received}
 use Rattle.staircase.proofs.Fill.{small-product}
 use Rattle.staircase.proofs.Rounds.{correctWords-last, correctWords-few, correctWords-received}
 use Rattle.staircase.proofs.Apart.{Apart, correctWords-apart, rows-before-apart, columns-before-apart}
-use Rattle.rules.specs.declared.Design.{Design}
-use Rattle.rules.specs.Sizes.{paramsOf, listsOf}
-use Rattle.rules.proofs.Generator.{proper-of}
+use Rattle.design.specs.declared.Design.{Design}
+use Rattle.design.specs.Sizes.{paramsOf, listsOf}
+use Rattle.design.proofs.Generator.{proper-of}
 use Rattle.correct.specs.Sites.{wordSites}
 use Rattle.rules.specs.Received.{FrameFits}
 use Rattle.correct.specs.Ready.{GroupReady, remainderOf, wordRemainders}

@@ -21,8 +21,8 @@ use Rattle.staircase.specs.Rules.{entries}
 use Rattle.staircase.proofs.Fill.{small-product}
 use Rattle.staircase.proofs.System.{tabulate-at}
 use Rattle.staircase.proofs.Positions.{row-at-before, row-at-odd, row-at-self, row-at-parity, column-at-odd, column-at-even, column-at-self, column-at-parity}
-use Rattle.rules.specs.declared.Design.{Design}
-use Rattle.rules.specs.Answers.{Allowed}
+use Rattle.design.specs.declared.Design.{Design}
+use Rattle.design.specs.Answers.{Allowed}
 use Rattle.correct.specs.Sites.{wordSites}
 
 pub block-none : (s : Params) (L b k : ℕ) → b < 1 → unsent ≡ blockAt s L b k

@@ -21,9 +21,9 @@ use Rattle.staircase.proofs.System.{Proper}
 use Rattle.staircase.proofs.Flip.{read-bits, read-length}
 use Rattle.staircase.proofs.Errors.{errorPositions-positions, positions-below}
 use Rattle.staircase.proofs.Sites.{rowSites-length, columnSites-length}
-use Rattle.rules.specs.declared.Design.{Design}
-use Rattle.rules.specs.Sizes.{paramsOf, listsOf}
-use Rattle.rules.proofs.Generator.{proper-of}
+use Rattle.design.specs.declared.Design.{Design}
+use Rattle.design.specs.Sizes.{paramsOf, listsOf}
+use Rattle.design.proofs.Generator.{proper-of}
 use Rattle.locator.specs.declared.Located.{Located}
 use Rattle.locator.specs.declared.Located.the-variants.{Nowhere, One, Two, Three}
 use Rattle.locator.specs.Located.{located, positionsOf}

@@ -12,9 +12,9 @@ use Rattle.bch.specs.Polynomial.{remainder}
 use Rattle.staircase.specs.Lists.{tabulate}
 use Rattle.staircase.specs.Design.{Params, Interleavers, wordLength, most-blocks}
 use Rattle.staircase.specs.Frame.{Frame, Site, groups, read}
-use Rattle.rules.specs.declared.Design.{Design}
-use Rattle.rules.specs.Answers.{Allowed}
-use Rattle.rules.specs.Sizes.{paramsOf}
+use Rattle.design.specs.declared.Design.{Design}
+use Rattle.design.specs.Answers.{Allowed}
+use Rattle.design.specs.Sizes.{paramsOf}
 use Rattle.rules.specs.Received.{ListsFit}
 use Rattle.locator.specs.Located.{Tables}
 use Rattle.correct.specs.Sites.{wordSites}

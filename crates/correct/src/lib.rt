@@ -12,13 +12,13 @@ ghost use Rattle.staircase.specs.Design.{most-blocks, wordLength};
 ghost use Rattle.staircase.specs.Frame.{blockAt, flip, groups, rowSites, columnSites, frameOf};
 ghost use Rattle.staircase.specs.Frame.Site.{unsent, inRed};
 ghost use Rattle.staircase.specs.Decoder.{allSent, correction, flipAll, Progress, round};
-ghost use Rattle.rules.specs.Answers.{Allowed};
-ghost use Rattle.rules.specs.Sizes.{paramsOf, orderOf, listsOf};
+ghost use Rattle.design.specs.Answers.{Allowed};
+ghost use Rattle.design.specs.Sizes.{paramsOf, orderOf, listsOf};
 ghost use Rattle.correct.specs.Sites.{siteOf, Inside, accepted, wordSites, lineWords};
 ghost use Rattle.rules.specs.Received.{ListsFit, FrameFits};
 ghost use Rattle.correct.specs.Ready.{GroupReady, remainderOf, wordRemainders};
+use design::Design;
 use locator::Located;
-use rules::Design;
 
 // Where a bit of a word stands: nowhere, in a byte of the information or in a byte of the redundancy.
 pub enum Spot {

@@ -26,7 +26,7 @@ use Rattle.staircase.proofs.System.{tabulate-length}
 use Rattle.staircase.proofs.Fill.{small-product}
 use Rattle.staircase.proofs.Redundancy.{concat-last, concat-length}
 use Rattle.staircase.proofs.Rounds.{correctWords-append, correctWords-from, correctWords-few}
-use Rattle.rules.specs.declared.Design.{Design}
+use Rattle.design.specs.declared.Design.{Design}
 use Rattle.rules.specs.Received.{Received, FrameFits}
 use Rattle.words.specs.Words.{nonzeros, WordTable, groupWords, rowRemainders, columnRemainders}
 use Rattle.words.proofs.Count.{group-count, next-group, all-groups}

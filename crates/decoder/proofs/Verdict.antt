@@ -16,16 +16,16 @@ use Rattle.staircase.specs.Rules.{Verdict, _then_, designRules, countRule, roun
 use Rattle.staircase.specs.Rules.Verdict.{accepted, refused}
 use Rattle.staircase.specs.Calls.{Corrected, correctedBy, decodeVerdict, decodeCall}
 use Rattle.staircase.proofs.Rules.{then-first, then-rest, refuse-false}
-use Rattle.rules.specs.declared.Refusal.{Refusal}
-use Rattle.rules.specs.declared.Check.{Check}
-use Rattle.rules.specs.declared.Check.the-variants as check
-use Rattle.rules.specs.declared.Design.{Design}
-use Rattle.rules.specs.declared.Designed.{Designed}
-use Rattle.rules.specs.declared.Designed.the-variants as designed
-use Rattle.rules.specs.Answers.{verdictOf, designVerdict, DesignIs, Allowed}
-use Rattle.rules.specs.Sizes.{paramsOf, orderOf, listsOf}
+use Rattle.design.specs.declared.Refusal.{Refusal}
+use Rattle.design.specs.declared.Check.{Check}
+use Rattle.design.specs.declared.Check.the-variants as check
+use Rattle.design.specs.declared.Design.{Design}
+use Rattle.design.specs.declared.Designed.{Designed}
+use Rattle.design.specs.declared.Designed.the-variants as designed
+use Rattle.design.specs.Answers.{verdictOf, designVerdict, DesignIs, Allowed}
+use Rattle.design.specs.Sizes.{paramsOf, orderOf, listsOf}
 use Rattle.rules.specs.Received.{Received}
-use Rattle.rules.proofs.Answers.{refused-then, check-refused, check-passed, design-refused, design-made, made-params}
+use Rattle.design.proofs.Answers.{refused-then, check-refused, check-passed, design-refused, design-made, made-params}
 use Rattle.words.specs.Checks.{contentRules, receivedRules}
 use Rattle.words.proofs.Verdict as words
 use Rattle.decoder.specs.declared.Decoding.{Decoding}

@@ -19,11 +19,11 @@ use Rattle.staircase.specs.Rules.Verdict.{accepted}
 use Rattle.staircase.specs.Calls.{correctedBy}
 use Rattle.staircase.proofs.Flip as flip
 use Rattle.staircase.proofs.Rounds.{runRounds-received}
-use Rattle.rules.specs.declared.Design.{Design}
-use Rattle.rules.specs.Answers.{Allowed}
-use Rattle.rules.specs.Sizes.{paramsOf}
+use Rattle.design.specs.declared.Design.{Design}
+use Rattle.design.specs.Answers.{Allowed}
+use Rattle.design.specs.Sizes.{paramsOf}
 use Rattle.rules.specs.Received.{FrameFits, Received}
-use Rattle.rules.proofs.Generator.{code-of}
+use Rattle.design.proofs.Generator.{code-of}
 use Rattle.locator.specs.Located.{Tables}
 use Rattle.correct.proofs.Flips.{received}
 use Rattle.decoder.specs.declared.Counts.{Counts}

@@ -12,7 +12,7 @@ use Rattle.staircase.specs.Decoder.{Decoded, decoded}
 use Rattle.staircase.specs.Rules.{Verdict, _then_, countRule, roundsRule}
 use Rattle.staircase.specs.Rules.Verdict.{accepted}
 use Rattle.staircase.specs.Calls.{Corrected, correctedBy}
-use Rattle.rules.specs.Answers.{refusalVerdict}
+use Rattle.design.specs.Answers.{refusalVerdict}
 use Rattle.words.specs.Checks.{receivedRules}
 use Rattle.decoder.specs.declared.Decoding.{Decoding}
 use Rattle.decoder.specs.declared.Decoding.the-variants as decoding

@@ -5,7 +5,7 @@ use mathlib.Core.List.{List}
 use Prim.Native.Nat.{ℕ, _≤_, _<_}
 use Rattle.staircase.specs.Design.{most-blocks}
 use Rattle.staircase.specs.Frame.{groups}
-use Rattle.rules.specs.declared.Design.{Design}
+use Rattle.design.specs.declared.Design.{Design}
 use Rattle.correct.specs.Ready.{GroupReady}
 
 pub record Ready (d : Design) (L : ℕ) (own parity positions syndromes field : List ℕ) : Type 0 where

@@ -13,18 +13,18 @@ ghost use Rattle.staircase.specs.Design.{wordLength};
 ghost use Rattle.staircase.specs.Frame.{Frame, frameOf, outsideAmong, words, outside};
 ghost use Rattle.staircase.specs.Decoder.{Progress, Decoded, round, runRounds, roundsAllowed};
 ghost use Rattle.staircase.specs.Calls.{decodeCall};
-ghost use Rattle.rules.specs.Answers.{verdictOf, Allowed};
-ghost use Rattle.rules.specs.Sizes.{paramsOf, orderOf, listsOf};
+ghost use Rattle.design.specs.Answers.{verdictOf, Allowed};
+ghost use Rattle.design.specs.Sizes.{paramsOf, orderOf, listsOf};
 ghost use Rattle.words.specs.Words.{WordTable, groupWords};
 ghost use Rattle.rules.specs.Received.{FrameFits, Received};
 ghost use Rattle.correct.specs.Ready.{GroupReady};
 ghost use Rattle.decoder.specs.Answers.{correctedOf, correctedFrame, refusedFrame, frameRules};
 ghost use Rattle.decoder.specs.Ready.{Ready};
 ghost use Rattle.decoder.specs.declared.Decoding.the-variants as Decoding;
-use rules::Check;
-use rules::Design;
-use rules::Designed;
-use rules::Refusal;
+use design::Check;
+use design::Design;
+use design::Designed;
+use design::Refusal;
 
 // What decoding a frame has done: rounds made, bits flipped, words outside the code at the end.
 pub struct Counts {
@@ -388,11 +388,11 @@ fn check_frame(
     ensures { λ a. ⌜ verdictOf a ≡ frameRules (paramsOf d) blocks rounds (now (own .entry)) (now (parity .entry)) (now (info .entry)) (now (red .entry))
         (length (now (work .entry))) ⌝ }
 {
-    let count = rules::check_count(blocks);
+    let count = design::check_count(blocks);
     let Check::Passed = count else {
         return count;
     };
-    let limit = rules::check_rounds(rounds);
+    let limit = design::check_rounds(rounds);
     let Check::Passed = limit else {
         return limit;
     };
@@ -433,7 +433,7 @@ pub fn decode(
 {
     let designed = Design::new(m, t, size);
     let Designed::Made(d) = designed else {
-        return refused_frame(rules::design_check(designed));
+        return refused_frame(design::design_check(designed));
     };
     let frame = check_frame(
         d,

@@ -12,16 +12,17 @@ use Rattle.staircase.specs.Rules.{Verdict, _then_, designRules, countRule, leng
 use Rattle.staircase.specs.Rules.Verdict.{accepted, refused}
 use Rattle.staircase.specs.Calls.{encodeVerdict, encodedBy, encodeCall}
 use Rattle.staircase.proofs.Rules.{then-first, then-rest}
-use Rattle.rules.specs.declared.Refusal.{Refusal}
-use Rattle.rules.specs.declared.Check.{Check}
-use Rattle.rules.specs.declared.Check.the-variants as check
-use Rattle.rules.specs.declared.Design.{Design}
-use Rattle.rules.specs.declared.Designed.{Designed}
-use Rattle.rules.specs.declared.Designed.the-variants as designed
-use Rattle.rules.specs.Sizes.{paramsOf, listsOf}
-use Rattle.rules.specs.Answers.{verdictOf, designVerdict, DesignIs, Allowed}
-use Rattle.rules.proofs.Answers.{refused-then, check-refused, check-passed, design-refused, design-made, made-params}
-use Rattle.rules.proofs.Accepted.{count-limits, frame-lengths, lists-permute, bytes-bits}
+use Rattle.design.specs.declared.Refusal.{Refusal}
+use Rattle.design.specs.declared.Check.{Check}
+use Rattle.design.specs.declared.Check.the-variants as check
+use Rattle.design.specs.declared.Design.{Design}
+use Rattle.design.specs.declared.Designed.{Designed}
+use Rattle.design.specs.declared.Designed.the-variants as designed
+use Rattle.design.specs.Sizes.{paramsOf, listsOf}
+use Rattle.design.specs.Answers.{verdictOf, designVerdict, DesignIs, Allowed}
+use Rattle.design.proofs.Answers.{refused-then, check-refused, check-passed, design-refused, design-made, made-params}
+use Rattle.design.proofs.Accepted.{count-limits, frame-lengths}
+use Rattle.rules.proofs.Accepted.{lists-permute, bytes-bits}
 use Rattle.kit.proofs.Verdict.{lengths-fit}
 use Rattle.encoder.specs.Groups.{FrameFits}
 use Rattle.encoder.specs.Checks.{contentRules, lengthRules, frameRules}

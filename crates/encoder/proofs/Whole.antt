@@ -15,9 +15,9 @@ use Rattle.staircase.specs.Frame.{groups, redundancy}
 use Rattle.staircase.specs.Rules.{entries}
 use Rattle.staircase.proofs.System.{Proper}
 use Rattle.staircase.proofs.Permutation.{preimage-sent}
-use Rattle.rules.specs.declared.Design.{Design}
-use Rattle.rules.specs.Sizes.{paramsOf, orderOf, listsOf}
-use Rattle.rules.proofs.Generator.{proper-of}
+use Rattle.design.specs.declared.Design.{Design}
+use Rattle.design.specs.Sizes.{paramsOf, orderOf, listsOf}
+use Rattle.design.proofs.Generator.{proper-of}
 use Rattle.kit.proofs.Whole.{r-small}
 use Rattle.encoder.specs.Groups.{groupFrom, Ready, FrameFits}
 use Rattle.encoder.proofs.Groups.{groups-are}

@@ -13,8 +13,8 @@ use Rattle.staircase.specs.System.{rowBytes}
 use Rattle.staircase.specs.Demand2.{Permutes}
 use Rattle.staircase.specs.Frame.{groups}
 use Rattle.staircase.specs.Rules.{entries, infoLength, redLength}
-use Rattle.rules.specs.declared.Design.{Design}
-use Rattle.rules.specs.Answers.{Allowed}
+use Rattle.design.specs.declared.Design.{Design}
+use Rattle.design.specs.Answers.{Allowed}
 use Rattle.blocks.specs.Blocks.{sent, blockBytes, sentBit}
 use Rattle.group.specs.Group.{groupOf}
 

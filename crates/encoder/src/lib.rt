@@ -13,13 +13,13 @@ ghost use Rattle.staircase.specs.Design.{most-blocks};
 ghost use Rattle.staircase.specs.Frame.{groups, redundancy};
 ghost use Rattle.staircase.specs.Demand2.{FitsOrder};
 ghost use Rattle.staircase.specs.Calls.{encodeCall};
-ghost use Rattle.rules.specs.Sizes.{paramsOf, orderOf, listsOf};
-ghost use Rattle.rules.specs.Answers.{verdictOf, Allowed};
+ghost use Rattle.design.specs.Sizes.{paramsOf, orderOf, listsOf};
+ghost use Rattle.design.specs.Answers.{verdictOf, Allowed};
 ghost use Rattle.encoder.specs.Groups.{groupFrom, Ready, FrameFits};
 ghost use Rattle.encoder.specs.Checks.{contentRules, lengthRules, frameRules};
-use rules::Check;
-use rules::Design;
-use rules::Designed;
+use design::Check;
+use design::Design;
+use design::Designed;
 
 // Makes the redundancy of the group that i groups precede.
 fn group_at(
@@ -138,7 +138,7 @@ fn check_contents(
 {
     let n = d.order();
     let rb = d.row_bytes();
-    let working = rules::check_length(kit::WORKING, work.len(), n * rb);
+    let working = design::check_length(kit::WORKING, work.len(), n * rb);
     let Check::Passed = working else {
         return working;
     };
@@ -168,7 +168,7 @@ fn check_lengths(
     let Check::Passed = kit else {
         return kit;
     };
-    let frame = rules::check_frame_lengths(d, blocks, info, red);
+    let frame = design::check_frame_lengths(d, blocks, info, red);
     let Check::Passed = frame else {
         return frame;
     };
@@ -190,7 +190,7 @@ fn check_frame(
     ensures { λ a. ⌜ verdictOf a ≡ frameRules (paramsOf d) blocks (now (own .entry)) (now (parity .entry)) (now (inverse .entry)) (now (info .entry))
         (now (red .entry)) (length (now (work .entry))) ⌝ }
 {
-    let count = rules::check_count(blocks);
+    let count = design::check_count(blocks);
     let Check::Passed = count else {
         return count;
     };
@@ -219,7 +219,7 @@ pub fn encode(
 {
     let designed = Design::new(m, t, size);
     let Designed::Made(d) = designed else {
-        return rules::design_check(designed);
+        return design::design_check(designed);
     };
     let frame = check_frame(d, blocks, own, parity, inverse, info, &red[..], work);
     let Check::Passed = frame else {

@@ -11,14 +11,14 @@ ghost use mathlib.Core.List.{[], _∷_};
 ghost use lib.ListN.{length};
 ghost use Rattle.staircase.specs.Frame.{Frame, frameOf};
 ghost use Rattle.staircase.specs.Calls.{kitVerdict, encodeCall, wordsCall, decodeCall};
-ghost use Rattle.rules.specs.Answers.{refusalVerdict, verdictOf};
+ghost use Rattle.design.specs.Answers.{refusalVerdict, verdictOf};
 ghost use Rattle.words.specs.Checks.{countedOf};
 ghost use Rattle.decoder.specs.Answers.{correctedOf};
 ghost use Rattle.host.specs.Number.{number, told, listed};
 use decoder::Counts;
 use decoder::Decoding;
-use rules::Check;
-use rules::Refusal;
+use design::Check;
+use design::Refusal;
 use words::WordCount;
 
 // The number of a refusal's rule.

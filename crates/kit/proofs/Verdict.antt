@@ -21,16 +21,16 @@ use Rattle.staircase.specs.Rules.Verdict.{accepted, refused}
 use Rattle.staircase.specs.Calls.{kitVerdict}
 use Rattle.staircase.specs.Demand2.{FitsOrder}
 use Rattle.staircase.proofs.Rules.{then-first, then-rest}
-use Rattle.rules.specs.declared.Refusal.{Refusal}
-use Rattle.rules.specs.declared.Check.{Check}
-use Rattle.rules.specs.declared.Check.the-variants as check
-use Rattle.rules.specs.declared.Design.{Design}
-use Rattle.rules.specs.declared.Designed.{Designed}
-use Rattle.rules.specs.declared.Designed.the-variants as designed
-use Rattle.rules.specs.Sizes.{paramsOf, orderOf, listsOf}
-use Rattle.rules.specs.Answers.{verdictOf, designVerdict, DesignIs, Allowed, DesignAllowed}
-use Rattle.rules.proofs.Answers.{refused-then, passed-then, design-refused, design-made, made-params}
-use Rattle.rules.proofs.Accepted.{length-equal, list-lengths}
+use Rattle.design.specs.declared.Refusal.{Refusal}
+use Rattle.design.specs.declared.Check.{Check}
+use Rattle.design.specs.declared.Check.the-variants as check
+use Rattle.design.specs.declared.Design.{Design}
+use Rattle.design.specs.declared.Designed.{Designed}
+use Rattle.design.specs.declared.Designed.the-variants as designed
+use Rattle.design.specs.Sizes.{paramsOf, orderOf, listsOf}
+use Rattle.design.specs.Answers.{verdictOf, designVerdict, DesignIs, Allowed, DesignAllowed}
+use Rattle.design.proofs.Answers.{refused-then, passed-then, design-refused, design-made, made-params}
+use Rattle.design.proofs.Accepted.{length-equal, list-lengths}
 
 -- ---- rule 9
 

@@ -17,15 +17,15 @@ use Rattle.staircase.specs.Design.{wordLength}
 use Rattle.staircase.specs.System.{preimage, systemEntry, inverseEntry}
 use Rattle.staircase.specs.Rules.{entries, wrongEntry}
 use Rattle.staircase.proofs.Fill.{small-product}
-use Rattle.rules.specs.declared.Design.{Design}
-use Rattle.rules.specs.Sizes.{paramsOf, orderOf, listsOf}
-use Rattle.rules.specs.Answers.{Allowed}
+use Rattle.design.specs.declared.Design.{Design}
+use Rattle.design.specs.Sizes.{paramsOf, orderOf, listsOf}
+use Rattle.design.specs.Answers.{Allowed}
 use Rattle.matrix.specs.Packed.{Planes}
 use Rattle.system.proofs.Link.{PartOf}
 use Rattle.kit.specs.Products.{leftWrong, rightWrong, unstackOf}
 use Rattle.kit.specs.Fits.{KitFits}
 use Rattle.kit.proofs.Search.{firstWhere-same}
-use Rattle.rules.proofs.Generator.{proper-of}
+use Rattle.design.proofs.Generator.{proper-of}
 use Rattle.kit.proofs.Link.{left-is, right-is}
 
 module _ (d : Design) (a : Allowed d) where

@@ -8,9 +8,9 @@ use Prim.Native.Nat.{ℕ, _*_}
 use lib.ListN.{length, getD}
 use Rattle.staircase.specs.System.{rowBytes}
 use Rattle.staircase.specs.Demand2.{Permutes}
-use Rattle.rules.specs.declared.Design.{Design}
-use Rattle.rules.specs.Answers.{Allowed}
-use Rattle.rules.specs.Sizes.{orderOf, listsOf}
+use Rattle.design.specs.declared.Design.{Design}
+use Rattle.design.specs.Answers.{Allowed}
+use Rattle.design.specs.Sizes.{orderOf, listsOf}
 
 pub record KitSized (d : Design) (own parity inverse work : List ℕ) : Type 0 where
   pub allowed : Allowed d

@@ -15,14 +15,14 @@ ghost use Rattle.staircase.specs.Design.{params, wordLength};
 ghost use Rattle.staircase.specs.System.{rowBytes, systemEntry, inverseEntry};
 ghost use Rattle.staircase.specs.Rules.{entries, wrongEntry, listLengths, kitLengths, inverseRule, kitRules};
 ghost use Rattle.staircase.specs.Calls.{kitVerdict};
-ghost use Rattle.rules.specs.Sizes.{paramsOf, orderOf, listsOf};
-ghost use Rattle.rules.specs.Answers.{verdictOf, Allowed};
+ghost use Rattle.design.specs.Sizes.{paramsOf, orderOf, listsOf};
+ghost use Rattle.design.specs.Answers.{verdictOf, Allowed};
 ghost use Rattle.kit.specs.Products.{leftWrong, rightWrong, unstackOf};
 ghost use Rattle.kit.specs.Fits.{KitSized, KitFits};
-use rules::Check;
-use rules::Design;
-use rules::Designed;
-use rules::Refusal;
+use design::Check;
+use design::Design;
+use design::Designed;
+use design::Refusal;
 
 // Rule 6: "1 self, 2 parity, 3 inverse, .., 6 working".
 const SELF: u64 = 1;
@@ -212,11 +212,11 @@ pub fn check_list_lengths(d: Design, own: &[u8], parity: &[u8]) -> Check
     ensures { λ a. ⌜ verdictOf a ≡ listLengths (paramsOf d) (now (own .entry)) (now (parity .entry)) ⌝ }
 {
     let n = d.order();
-    let first = rules::check_length(SELF, own.len(), 2 * n);
+    let first = design::check_length(SELF, own.len(), 2 * n);
     let Check::Passed = first else {
         return first;
     };
-    rules::check_length(PARITY, parity.len(), 2 * n)
+    design::check_length(PARITY, parity.len(), 2 * n)
 }
 
 // Rule 6 for the lists and the inverse of a kit.
@@ -230,7 +230,7 @@ pub fn check_kit_lengths(d: Design, own: &[u8], parity: &[u8], inverse: &[u8]) -
     };
     let n = d.order();
     let rb = d.row_bytes();
-    rules::check_length(INVERSE, inverse.len(), n * rb)
+    design::check_length(INVERSE, inverse.len(), n * rb)
 }
 
 // Judges a kit: rules 1 to 3 and 6 to 9, with the table's number and place of the first that refuses. The lists have two bytes an entry, the
@@ -248,7 +248,7 @@ pub fn check_kit(
 {
     let designed = Design::new(m, t, size);
     let Designed::Made(d) = designed else {
-        return rules::design_check(designed);
+        return design::design_check(designed);
     };
     let lengths = check_kit_lengths(d, own, parity, inverse);
     let Check::Passed = lengths else {
@@ -256,7 +256,7 @@ pub fn check_kit(
     };
     let n = d.order();
     let rb = d.row_bytes();
-    let working = rules::check_length(WORKING, work.len(), n * rb);
+    let working = design::check_length(WORKING, work.len(), n * rb);
     let Check::Passed = working else {
         return working;
     };

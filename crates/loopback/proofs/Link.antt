@@ -28,11 +28,11 @@ use Rattle.staircase.proofs.System.{tabulate-length, tabulate-at}
 use Rattle.staircase.proofs.Rules.{then-first, then-rest}
 use Rattle.staircase.proofs.Demand3.{proper-of}
 use Rattle.blocks.proofs.Sums.{part-length}
-use Rattle.rules.specs.declared.Refusal.{Refusal}
-use Rattle.rules.specs.declared.Refusal.the-variants.{Size, Long, Large, Count, Rounds, Length, Spare, Inverse, Bit}
-use Rattle.rules.specs.declared.Refusal.the-variants as refusal
-use Rattle.rules.specs.Answers.{refusalVerdict}
-use Rattle.rules.proofs.Accepted.{length-equal}
+use Rattle.design.specs.declared.Refusal.{Refusal}
+use Rattle.design.specs.declared.Refusal.the-variants.{Size, Long, Large, Count, Rounds, Length, Spare, Inverse, Bit}
+use Rattle.design.specs.declared.Refusal.the-variants as refusal
+use Rattle.design.specs.Answers.{refusalVerdict}
+use Rattle.design.proofs.Accepted.{length-equal}
 use Rattle.kit.proofs.Verdict.{lengths-fit}
 use Rattle.decoder.specs.declared.Counts.{Counts}
 use Rattle.decoder.specs.declared.Decoding.the-variants as decoding

@@ -15,7 +15,7 @@ use Rattle.staircase.specs.Frame.{Frame, frameOf}
 use Rattle.staircase.specs.Rules.{Verdict, wordWork}
 use Rattle.staircase.specs.Rules.Verdict.{accepted, refused}
 use Rattle.staircase.specs.Calls.{Encoded, encodeCall, Counts, Corrected, decodeCall}
-use Rattle.rules.specs.Answers.{refusalVerdict}
+use Rattle.design.specs.Answers.{refusalVerdict}
 use Rattle.loopback.specs.declared.Looped.{Looped}
 use Rattle.loopback.specs.declared.Looped.the-variants as looped
 

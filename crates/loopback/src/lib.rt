@@ -14,8 +14,8 @@ ghost use Rattle.decoder.specs.Answers.{correctedOf};
 ghost use Rattle.loopback.specs.Link.{turned, afterDecoding, loopbackCall, resultOf};
 use decoder::Counts;
 use decoder::Decoding;
-use rules::Check;
-use rules::Refusal;
+use design::Check;
+use design::Refusal;
 
 // The answer of the loopback: the refusal of the encoder or of the decoder, or the decoder's counts.
 pub enum Looped {

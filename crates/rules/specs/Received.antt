@@ -11,9 +11,9 @@ use Rattle.bch.specs.Polynomial.{Bits}
 use Rattle.staircase.specs.Design.{most-blocks}
 use Rattle.staircase.specs.Frame.{groups}
 use Rattle.staircase.specs.Demand2.{Permutes}
-use Rattle.rules.specs.declared.Design.{Design}
-use Rattle.rules.specs.Answers.{Allowed}
-use Rattle.rules.specs.Sizes.{orderOf, listsOf}
+use Rattle.design.specs.declared.Design.{Design}
+use Rattle.design.specs.Answers.{Allowed}
+use Rattle.design.specs.Sizes.{orderOf, listsOf}
 
 pub record ListsFit (d : Design) (own parity : List ℕ) : Type 0 where
   pub ownLength : length own ≡ 2 * orderOf d

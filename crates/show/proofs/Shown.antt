@@ -13,14 +13,14 @@ use Rattle.staircase.specs.Rules.{Verdict, Part, _then_, designRules}
 use Rattle.staircase.specs.Rules.Verdict.{accepted, refused}
 use Rattle.staircase.specs.Calls.{stretch, shownBy, showVerdict, showCall}
 use Rattle.staircase.proofs.Rules.{then-first, then-rest, then-accepted}
-use Rattle.rules.specs.declared.Refusal.{Refusal}
-use Rattle.rules.specs.declared.Check.{Check}
-use Rattle.rules.specs.declared.Check.the-variants as check
-use Rattle.rules.specs.declared.Design.{Design}
-use Rattle.rules.specs.declared.Designed.{Designed}
-use Rattle.rules.specs.declared.Designed.the-variants as designed
-use Rattle.rules.specs.Answers.{verdictOf, designVerdict, DesignIs}
-use Rattle.rules.proofs.Answers.{refused-then, check-refused, check-passed, design-refused, design-made, made-params}
+use Rattle.design.specs.declared.Refusal.{Refusal}
+use Rattle.design.specs.declared.Check.{Check}
+use Rattle.design.specs.declared.Check.the-variants as check
+use Rattle.design.specs.declared.Design.{Design}
+use Rattle.design.specs.declared.Designed.{Designed}
+use Rattle.design.specs.declared.Designed.the-variants as designed
+use Rattle.design.specs.Answers.{verdictOf, designVerdict, DesignIs}
+use Rattle.design.proofs.Answers.{refused-then, check-refused, check-passed, design-refused, design-made, made-params}
 use Rattle.show.specs.Show.{frameVerdict, HasPart}
 use Rattle.show.proofs.Accepted.{accepted-part}
 

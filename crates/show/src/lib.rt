@@ -11,13 +11,13 @@ ghost use lib.ListN.{take, drop};
 ghost use Rattle.staircase.specs.Design.{params, most-blocks};
 ghost use Rattle.staircase.specs.Rules.{refuse, outOfRange, partRule};
 ghost use Rattle.staircase.specs.Calls.{stretch, showCall};
-ghost use Rattle.rules.specs.Answers.{verdictOf};
+ghost use Rattle.design.specs.Answers.{verdictOf};
 ghost use Rattle.show.specs.Answers.{partOf};
 ghost use Rattle.show.specs.Show.{frameVerdict, HasStretch, HasPart};
-use rules::Check;
-use rules::Design;
-use rules::Designed;
-use rules::Refusal;
+use design::Check;
+use design::Design;
+use design::Designed;
+use design::Refusal;
 
 // What is shown: a block or a group, by its number from 1.
 pub enum Part {
@@ -44,7 +44,7 @@ fn check_part(blocks: u64, part: Part) -> Check
     requires { ⌜ blocks ≤ most-blocks ⌝ }
     ensures { λ a. ⌜ verdictOf a ≡ partRule blocks (partOf part) ⌝ }
 {
-    let groups = rules::group_count(blocks);
+    let groups = design::group_count(blocks);
     match part {
         Part::Block(b) => check_number(blocks, b),
         Part::Group(i) => check_number(groups, i),
@@ -56,7 +56,7 @@ fn check_frame(d: Design, blocks: u64, part: Part, info: &[u8], red: &[u8]) -> C
     ensures { λ a. ⌜ verdictOf a
         ≡ frameVerdict (params (d .m) (d .t) (d .size)) blocks (partOf part) (now (info .entry)) (now (red .entry)) ⌝ }
 {
-    let count = rules::check_count(blocks);
+    let count = design::check_count(blocks);
     let Check::Passed = count else {
         return count;
     };
@@ -64,7 +64,7 @@ fn check_frame(d: Design, blocks: u64, part: Part, info: &[u8], red: &[u8]) -> C
     let Check::Passed = number else {
         return number;
     };
-    rules::check_frame_lengths(d, blocks, info, red)
+    design::check_frame_lengths(d, blocks, info, red)
 }
 
 // The stretch of n bytes with this number, counted from 1, of the lent bytes.
@@ -105,7 +105,7 @@ pub fn check_show(
 {
     let a = Design::new(m, t, size);
     let Designed::Made(d) = a else {
-        return rules::design_check(a);
+        return design::design_check(a);
     };
     check_frame(d, blocks, part, info, red)
 }

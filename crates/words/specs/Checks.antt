@@ -10,7 +10,7 @@ use Rattle.staircase.specs.Design.{Params}
 use Rattle.staircase.specs.Rules.{Verdict, _then_, countRule, lengthRule, listLengths, frameLengths, wordWork, interleavers, listRule, frameBits}
 use Rattle.staircase.specs.Rules.Verdict.{accepted}
 use Rattle.staircase.specs.Calls.{Counted}
-use Rattle.rules.specs.Answers.{refusalVerdict}
+use Rattle.design.specs.Answers.{refusalVerdict}
 use Rattle.words.specs.declared.WordCount.{WordCount}
 use Rattle.words.specs.declared.WordCount.the-variants as count
 

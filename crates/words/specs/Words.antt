@@ -16,8 +16,8 @@ use Rattle.bch.specs.Polynomial.{Bits, remainder}
 use Rattle.staircase.specs.Lists.{tabulate}
 use Rattle.staircase.specs.Design.{Params, Interleavers, most-blocks}
 use Rattle.staircase.specs.Frame.{Frame, Site, rowSites, columnSites, read}
-use Rattle.rules.specs.declared.Design.{Design}
-use Rattle.rules.specs.Sizes.{paramsOf}
+use Rattle.design.specs.declared.Design.{Design}
+use Rattle.design.specs.Sizes.{paramsOf}
 use Rattle.blocks.specs.Blocks.{sent, blockBytes, sentBit, columnSum, rowSum, Powers}
 
 -- "A codeword is a word that the generator divides": a word is outside the code where its remainder is not 0

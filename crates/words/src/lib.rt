@@ -21,15 +21,15 @@ ghost use Rattle.staircase.specs.Design.{most-blocks};
 ghost use Rattle.staircase.specs.Frame.{groups, outsideAmong, outside, frameOf};
 ghost use Rattle.staircase.specs.Rules.{entries};
 ghost use Rattle.staircase.specs.Calls.{countedBy, wordsCall};
-ghost use Rattle.rules.specs.Answers.{verdictOf, Allowed};
-ghost use Rattle.rules.specs.Sizes.{paramsOf, orderOf, listsOf};
+ghost use Rattle.design.specs.Answers.{verdictOf, Allowed};
+ghost use Rattle.design.specs.Sizes.{paramsOf, orderOf, listsOf};
 ghost use Rattle.rules.specs.Received.{Received};
 ghost use Rattle.words.specs.Words.{rowRemainders, columnRemainders, nonzeros, groupWords, blockRows, blockColumns, WordTable, BlocksLent};
 ghost use Rattle.words.specs.Checks.{contentRules, receivedRules, frameRules, countedOf};
-use rules::Check;
-use rules::Design;
-use rules::Designed;
-use rules::Refusal;
+use design::Check;
+use design::Design;
+use design::Designed;
+use design::Refusal;
 
 // The answer of the word checker: the number of words outside the code, or a refusal.
 pub enum WordCount {
@@ -291,7 +291,7 @@ fn check_contents(
         ≡ contentRules (paramsOf d) (now (own .entry)) (now (parity .entry)) (now (info .entry)) (now (red .entry)) (length (now (work .entry))) ⌝ }
 {
     let n = d.order();
-    let working = rules::check_length(kit::WORKING, work.len(), n);
+    let working = design::check_length(kit::WORKING, work.len(), n);
     let Check::Passed = working else {
         return working;
     };
@@ -325,7 +325,7 @@ pub fn check_received(
     let Check::Passed = lists else {
         return lists;
     };
-    let frame = rules::check_frame_lengths(d, blocks, info, red);
+    let frame = design::check_frame_lengths(d, blocks, info, red);
     let Check::Passed = frame else {
         return frame;
     };
@@ -346,7 +346,7 @@ fn check_frame(
     ensures { λ a. ⌜ verdictOf a ≡ frameRules (paramsOf d) blocks (now (own .entry)) (now (parity .entry)) (now (info .entry)) (now (red .entry))
         (length (now (work .entry))) ⌝ }
 {
-    let count = rules::check_count(blocks);
+    let count = design::check_count(blocks);
     let Check::Passed = count else {
         return count;
     };
@@ -402,7 +402,7 @@ pub fn check_words(
 {
     let designed = Design::new(m, t, size);
     let Designed::Made(d) = designed else {
-        return refused_count(rules::design_check(designed));
+        return refused_count(design::design_check(designed));
     };
     let frame = check_frame(d, blocks, own, parity, info, red, &mut work[..]);
     let Check::Passed = frame else {

@@ -4,7 +4,7 @@ use mathlib.Core.Path.{_≡_, sym, ap, _∙_, subst}
 use Prim.Native.Nat.{ℕ, _+_, _-_, _*_, _<_}
 use Rattle.staircase.specs.Frame.Site.{inInfo}
 use Rattle.staircase.proofs.Fill.{small-product}
-use Rattle.rules.specs.Sizes.{paramsOf}
+use Rattle.design.specs.Sizes.{paramsOf}
 use Rattle.correct.specs.Sites.{siteOf, Inside}
 use Rattle.correct.proofs.Places.{block-none, block-past, block-one, stretch-fits}
 use borrow.Author.Needs.{needs}

@@ -6,7 +6,7 @@ use Prim.Native.Nat.{ℕ, _+_, _-_, _<_, _≤_}
 use lib.ListN.{length}
 use Rattle.staircase.specs.Lists.{tabulate}
 use Rattle.staircase.specs.Decoder.{Progress, round}
-use Rattle.rules.specs.Sizes.{paramsOf, listsOf}
+use Rattle.design.specs.Sizes.{paramsOf, listsOf}
 use Rattle.staircase.specs.Frame.{frameOf}
 use Rattle.correct.specs.Sites.{wordSites, lineWords}
 use Rattle.correct.specs.Ready.{remainderOf}

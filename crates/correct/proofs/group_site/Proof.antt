@@ -5,7 +5,7 @@ use Prim.Native.Nat.{ℕ, _+_, _*_, _<_}
 use Rattle.staircase.specs.Frame.{groups}
 use Rattle.staircase.specs.Frame.Site.{inRed}
 use Rattle.staircase.proofs.Fill.{small-product}
-use Rattle.rules.specs.Sizes.{orderOf}
+use Rattle.design.specs.Sizes.{orderOf}
 use Rattle.correct.specs.Sites.{siteOf, Inside}
 use Rattle.correct.proofs.Places.{stretch-fits}
 use borrow.Author.Needs.{needs}

@@ -1,8 +1,8 @@
 -- A refusal of rule 4 is the answer, then one of rule 5; else that of the rest.
 -- Assumes nothing.
 use mathlib.Core.Path.{sym, _∙_}
-use Rattle.rules.proofs.Answers.{refused-then, passed-then, check-passed}
-use Rattle.rules.proofs.Accepted.{count-limits}
+use Rattle.design.proofs.Answers.{refused-then, passed-then, check-passed}
+use Rattle.design.proofs.Accepted.{count-limits}
 use Rattle.decoder.specs.Answers.{frameRules}
 use borrow.Author.Needs.{needs}
 use Rattle.decoder.proofs.check_frame.Statement.{statement}

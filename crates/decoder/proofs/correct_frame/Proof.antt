@@ -5,7 +5,7 @@ use mathlib.Core.Path.{ap, _∙_}
 use Prim.Native.Nat.{ℕ, _*_, _%_, _^_}
 use lib.Pow.{pow-mono}
 use Rattle.blocks.proofs.Sums.{part-length}
-use Rattle.rules.proofs.Sizes.{shl-one}
+use Rattle.design.proofs.Sizes.{shl-one}
 use Rattle.kit.proofs.Whole.{bits-small}
 use borrow.Author.Needs.{needs}
 use Rattle.decoder.proofs.correct_frame.Statement.{statement}

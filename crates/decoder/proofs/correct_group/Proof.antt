@@ -5,7 +5,7 @@ use mathlib.Core.Path.{_≡_, sym, ap, _∙_}
 use mathlib.Core.Bool.{false}
 use Rattle.staircase.specs.Frame.{frameOf}
 use Rattle.staircase.specs.Decoder.{Progress}
-use Rattle.rules.specs.Sizes.{paramsOf, listsOf}
+use Rattle.design.specs.Sizes.{paramsOf, listsOf}
 use Rattle.correct.specs.Sites.{lineWords}
 use Rattle.correct.proofs.Passes.{kept-fits}
 use Rattle.decoder.proofs.Groups.{received-of, table-of, row-remainders, column-remainders, group-round, group-few, rows-length, columns-length, group-wrong}

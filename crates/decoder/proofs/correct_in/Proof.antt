@@ -4,7 +4,7 @@ use native.Mathlib.Omega.{arith}
 use borrow.Author.Needs.{needs}
 use mathlib.Core.Path.{refl, _∙_}
 use Rattle.staircase.specs.Frame.{frameOf, words}
-use Rattle.rules.specs.Sizes.{paramsOf, listsOf}
+use Rattle.design.specs.Sizes.{paramsOf, listsOf}
 use Rattle.decoder.proofs.Whole.{tables-of, ready-of, rounds-fit, corrected-is}
 use Rattle.decoder.proofs.correct_in.Statement.{statement}
 use Rattle.decoder.proofs.correct_in.Tie as tie

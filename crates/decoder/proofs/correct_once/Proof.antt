@@ -8,7 +8,7 @@ use lib.ListN.{length}
 use Rattle.staircase.specs.Lists.{concat}
 use Rattle.staircase.specs.Frame.{frameOf, groups, words, outsideAmong}
 use Rattle.staircase.specs.Decoder.{Progress, round}
-use Rattle.rules.specs.Sizes.{paramsOf, orderOf, listsOf}
+use Rattle.design.specs.Sizes.{paramsOf, orderOf, listsOf}
 use Rattle.words.specs.Words.{groupWords}
 use Rattle.words.proofs.Count.{none-yet}
 use Rattle.correct.proofs.Passes.{kept-fits}

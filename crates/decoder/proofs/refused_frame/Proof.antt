@@ -3,8 +3,8 @@
 use mathlib.Core.Path.{sym, ap}
 use Rattle.staircase.specs.Frame.{Frame}
 use Rattle.staircase.specs.Rules.{Verdict}
-use Rattle.rules.specs.Answers.{verdictOf}
-use Rattle.rules.proofs.Answers.{check-passed}
+use Rattle.design.specs.Answers.{verdictOf}
+use Rattle.design.proofs.Answers.{check-passed}
 use Rattle.decoder.specs.Answers.{correctedOf, refusedFrame}
 use borrow.Author.Needs.{needs}
 use Rattle.decoder.proofs.refused_frame.Statement.{statement}

@@ -7,7 +7,7 @@ use Prim.Native.Nat.{_*_, _-_, _≤_}
 use lib.ListN.{length}
 use Rattle.staircase.specs.Frame.{frameOf, words}
 use Rattle.staircase.specs.Decoder.{Progress, runRounds}
-use Rattle.rules.specs.Sizes.{paramsOf, orderOf, listsOf}
+use Rattle.design.specs.Sizes.{paramsOf, orderOf, listsOf}
 use Rattle.rules.specs.Received.{FrameFits}
 use Rattle.correct.proofs.Passes.{kept-fits}
 use Rattle.decoder.proofs.Groups.{words-few}

@@ -2,7 +2,7 @@
 -- Assumes nothing.
 use borrow.Author.Needs.{needs}
 use mathlib.Core.Path.{sym, _∙_}
-use Rattle.rules.proofs.Answers.{refused-then, passed-then, check-passed}
+use Rattle.design.proofs.Answers.{refused-then, passed-then, check-passed}
 use Rattle.kit.proofs.Verdict.{lengths-fit}
 use Rattle.encoder.specs.Checks.{lengthRules}
 use Rattle.encoder.proofs.check_lengths.Statement.{statement}

@@ -3,7 +3,7 @@
 use borrow.Author.Needs.{needs}
 use mathlib.Core.Path.{sym, _∙_}
 use lib.ListN.{length}
-use Rattle.rules.proofs.Answers.{check-passed}
+use Rattle.design.proofs.Answers.{check-passed}
 use Rattle.kit.proofs.Verdict.{made-allowed}
 use Rattle.encoder.proofs.Verdict.{frame-fits, encode-design, encode-frame, encode-made}
 use Rattle.encoder.proofs.encode.Statement.{statement}

@@ -13,7 +13,7 @@ use Rattle.bch.specs.Code.{generator}
 use Rattle.staircase.specs.Frame.{groups}
 use Rattle.staircase.specs.Rules.{entries}
 use Rattle.staircase.specs.Demand2.{Permutes}
-use Rattle.rules.specs.Sizes.{paramsOf, orderOf}
+use Rattle.design.specs.Sizes.{paramsOf, orderOf}
 use Rattle.kit.proofs.Parts.{part-fits, part-is}
 use Rattle.kit.proofs.Whole.{bits-small}
 use Rattle.encoder.proofs.Whole.{frame-ready, frame-made}

@@ -2,8 +2,8 @@
 -- Assumes nothing.
 use borrow.Author.Needs.{needs}
 use mathlib.Core.Path.{sym, ap, _∙_}
-use Rattle.rules.specs.declared.Check.{Check}
-use Rattle.rules.specs.Answers.{verdictOf}
+use Rattle.design.specs.declared.Check.{Check}
+use Rattle.design.specs.Answers.{verdictOf}
 use Rattle.host.specs.Number.{number}
 use Rattle.host.proofs.number_of.Statement.{statement}
 use Rattle.host.proofs.number_of.Tie as tie

@@ -2,8 +2,8 @@
 -- Assumes nothing.
 use borrow.Author.Needs.{needs}
 use mathlib.Core.Path.{sym, ap}
-use Rattle.rules.specs.declared.Refusal.{Refusal}
-use Rattle.rules.specs.Answers.{refusalVerdict}
+use Rattle.design.specs.declared.Refusal.{Refusal}
+use Rattle.design.specs.Answers.{refusalVerdict}
 use Rattle.host.specs.Number.{number}
 use Rattle.host.proofs.rule_of.Statement.{statement}
 use Rattle.host.proofs.rule_of.Tie as tie

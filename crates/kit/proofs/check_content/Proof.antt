@@ -6,8 +6,8 @@ use mathlib.Core.Path.{_≡_, sym, ap, _∙_}
 use Prim.Native.Nat.{ℕ, _*_}
 use Rattle.staircase.specs.Rules.{kitRules}
 use Rattle.staircase.specs.System.{rowBytes}
-use Rattle.rules.proofs.Answers.{refused-then, passed-then, check-passed}
-use Rattle.rules.specs.Sizes.{paramsOf, orderOf, listsOf}
+use Rattle.design.proofs.Answers.{refused-then, passed-then, check-passed}
+use Rattle.design.specs.Sizes.{paramsOf, orderOf, listsOf}
 use Rattle.rules.proofs.Accepted.{lists-permute}
 use Rattle.kit.proofs.Whole.{order-positive}
 use Rattle.kit.proofs.Verdict.{lists-rule, spare-rule}

@@ -5,8 +5,8 @@ use borrow.Author.Needs.{needs}
 use mathlib.Core.Path.{_≡_, ap, _∙_}
 use Prim.Native.Nat.{ℕ, _+_, _*_, _≤_}
 use Rattle.staircase.specs.Rules.Verdict.{refused}
-use Rattle.rules.specs.Sizes.{paramsOf, orderOf, listsOf}
-use Rattle.rules.specs.Answers.{refusalVerdict, verdictOf}
+use Rattle.design.specs.Sizes.{paramsOf, orderOf, listsOf}
+use Rattle.design.specs.Answers.{refusalVerdict, verdictOf}
 use Rattle.kit.proofs.Sizes.{square-small}
 use Rattle.kit.proofs.Verdict.{inverse-left, inverse-right, inverse-none}
 use Rattle.kit.proofs.check_inverse.Statement.{statement}

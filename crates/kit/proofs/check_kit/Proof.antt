@@ -7,8 +7,8 @@ use Prim.Native.Nat.{ℕ, _*_}
 use lib.ListN.{length}
 use Rattle.staircase.specs.Rules.{lengthRule, kitWork}
 use Rattle.staircase.proofs.Fill.{small-product}
-use Rattle.rules.proofs.Answers.{check-passed}
-use Rattle.rules.proofs.Accepted.{length-equal}
+use Rattle.design.proofs.Answers.{check-passed}
+use Rattle.design.proofs.Accepted.{length-equal}
 use Rattle.kit.proofs.Verdict.{lengths-fit, made-allowed, kit-design, kit-lengths, kit-working, kit-content}
 use Rattle.kit.proofs.check_kit.Statement.{statement}
 use Rattle.kit.proofs.check_kit.Tie as tie

@@ -7,7 +7,7 @@ use Prim.Native.Nat.{ℕ, _*_}
 use lib.ListN.{length}
 use Rattle.staircase.specs.Rules.{lengthRule, kitLengths}
 use Rattle.staircase.proofs.Fill.{small-product}
-use Rattle.rules.proofs.Answers.{refused-then, passed-then}
+use Rattle.design.proofs.Answers.{refused-then, passed-then}
 use Rattle.kit.proofs.check_kit_lengths.Statement.{statement}
 use Rattle.kit.proofs.check_kit_lengths.Tie as tie
 

@@ -5,8 +5,8 @@ use mathlib.Core.Path.{_≡_, ap, _∙_}
 use Prim.Native.Nat.{ℕ, _*_}
 use lib.ListN.{length}
 use Rattle.staircase.specs.Rules.{lengthRule, listLengths}
-use Rattle.rules.proofs.Answers.{refused-then, passed-then}
-use Rattle.rules.specs.Sizes.{orderOf}
+use Rattle.design.proofs.Answers.{refused-then, passed-then}
+use Rattle.design.specs.Sizes.{orderOf}
 use Rattle.kit.proofs.check_list_lengths.Statement.{statement}
 use Rattle.kit.proofs.check_list_lengths.Tie as tie
 

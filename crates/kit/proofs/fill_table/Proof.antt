@@ -6,7 +6,7 @@ use mathlib.Core.Path.{_≡_, ap₂, _∙_, subst₂}
 use Prim.Native.Nat.{ℕ, _*_, _/_, _^_, _≤_}
 use Rattle.bch.specs.Powers.{PositionPowers}
 use Rattle.bch.proofs.Bch.{degree, degree-positive}
-use Rattle.rules.proofs.Generator.{code-of}
+use Rattle.design.proofs.Generator.{code-of}
 use Rattle.kit.proofs.Whole.{r-small, shl-one}
 use Rattle.kit.proofs.fill_table.Statement.{statement}
 use Rattle.kit.proofs.fill_table.Tie as tie

@@ -8,8 +8,8 @@ use lib.ListN.{length}
 use Rattle.staircase.specs.Design.{params, order}
 use Rattle.staircase.specs.Calls.{decodeCall}
 use Rattle.staircase.specs.Rules.{wordWork}
-use Rattle.rules.specs.Answers.{verdictOf}
-use Rattle.rules.proofs.Answers.{check-passed}
+use Rattle.design.specs.Answers.{verdictOf}
+use Rattle.design.proofs.Answers.{check-passed}
 use Rattle.loopback.specs.Link.{afterDecoding}
 use Rattle.loopback.proofs.Link.{looped-refused, looped-decoded, own-length, working-fits}
 use borrow.Author.Needs.{needs}

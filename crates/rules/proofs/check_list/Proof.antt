@@ -11,7 +11,7 @@ use Rattle.staircase.specs.Rules.{entries, badEntry}
 use Rattle.staircase.proofs.Rules.{refuseFirst-accepted}
 use Rattle.rules.proofs.FirstPlace.{refuseFirst-refused}
 use Rattle.rules.proofs.Entries.{entry-at, Marked, marked-none, marked-more, too-high, repeated, new-entry}
-use Rattle.rules.specs.Answers.{refusalVerdict, verdictOf}
+use Rattle.design.specs.Answers.{refusalVerdict, verdictOf}
 use Rattle.rules.proofs.check_list.Statement.{statement}
 use Rattle.rules.proofs.check_list.Tie as tie
 

@@ -11,9 +11,9 @@ use Rattle.staircase.specs.System.{rowBytes}
 use Rattle.staircase.specs.Rules.{spareRow}
 use Rattle.staircase.proofs.Rules.{refuseFirst-accepted}
 use Rattle.rules.proofs.FirstPlace.{refuseFirst-refused}
-use Rattle.rules.proofs.Sizes.{shl-one}
+use Rattle.design.proofs.Sizes.{shl-one}
 use Rattle.rules.proofs.Spare.{usedBits, spare-none, spare-some}
-use Rattle.rules.specs.Answers.{refusalVerdict, verdictOf}
+use Rattle.design.specs.Answers.{refusalVerdict, verdictOf}
 use Rattle.rules.proofs.check_spare.Statement.{statement}
 use Rattle.rules.proofs.check_spare.Tie as tie
 

@@ -6,9 +6,9 @@ use mathlib.Core.Path.{_≡_, sym, ap, _∙_}
 use Prim.Native.Nat.{ℕ, _*_}
 use lib.ListN.{length}
 use Rattle.staircase.specs.Rules.{lengthRule, wordWork, frameBits}
-use Rattle.rules.proofs.Answers.{refused-then, passed-then, check-passed}
-use Rattle.rules.proofs.Accepted.{length-equal}
-use Rattle.rules.specs.Sizes.{orderOf}
+use Rattle.design.proofs.Answers.{refused-then, passed-then, check-passed}
+use Rattle.design.proofs.Accepted.{length-equal}
+use Rattle.design.specs.Sizes.{orderOf}
 use Rattle.kit.proofs.Verdict.{lists-rule}
 use Rattle.words.specs.Checks.{contentRules}
 use Rattle.words.proofs.check_contents.Statement.{statement}

@@ -2,9 +2,9 @@
 -- Assumes nothing.
 use borrow.Author.Needs.{needs}
 use mathlib.Core.Path.{sym, _∙_}
-use Rattle.rules.proofs.Answers.{refused-then, passed-then, check-passed}
-use Rattle.rules.proofs.Accepted.{list-lengths}
-use Rattle.rules.specs.Sizes.{paramsOf}
+use Rattle.design.proofs.Answers.{refused-then, passed-then, check-passed}
+use Rattle.design.proofs.Accepted.{list-lengths}
+use Rattle.design.specs.Sizes.{paramsOf}
 use Rattle.words.specs.Checks.{receivedRules}
 use Rattle.words.proofs.Verdict.{lengths-small}
 use Rattle.words.proofs.check_received.Statement.{statement}

@@ -6,7 +6,7 @@ use Prim.Native.Nat.{_+_, _-_, _*_, _≤_}
 use native.Mathlib.Omega.{arith}
 use lib.ListN.{length, take, drop}
 use Rattle.remainders.proofs.Rows.{row-bits}
-use Rattle.rules.specs.Sizes.{orderOf}
+use Rattle.design.specs.Sizes.{orderOf}
 use Rattle.blocks.proofs.Sums.{part-length}
 use Rattle.words.proofs.Groups.{blocks-lent, direct-asked, group-end, columns-made}
 use Rattle.words.proofs.column_remainders.Statement.{statement}

@@ -6,7 +6,7 @@ use native.Mathlib.Omega.{arith}
 use lib.ListN.{length}
 use Rattle.staircase.specs.Lists.{concat}
 use Rattle.staircase.specs.Frame.{groups, outsideAmong, frameOf}
-use Rattle.rules.specs.Sizes.{paramsOf, listsOf}
+use Rattle.design.specs.Sizes.{paramsOf, listsOf}
 use Rattle.words.specs.Words.{groupWords}
 use Rattle.words.proofs.Count.{none-yet, next-group, all-groups}
 use Rattle.words.proofs.count_groups.Statement.{statement}

@@ -5,7 +5,7 @@ use borrow.Author.Needs.{needs}
 use mathlib.Core.Path.{_≡_, ap, ap₂, _∙_}
 use Prim.Native.Nat.{_+_, _≤_}
 use Rattle.staircase.specs.Frame.{outsideAmong, frameOf}
-use Rattle.rules.specs.Sizes.{paramsOf, listsOf}
+use Rattle.design.specs.Sizes.{paramsOf, listsOf}
 use Rattle.words.specs.Words.{nonzeros, groupWords}
 use Rattle.words.proofs.Count.{group-count, group-bound}
 use Rattle.words.proofs.group_outside.Statement.{statement}

@@ -4,8 +4,8 @@ use borrow.Author.Needs.{needs}
 use mathlib.Core.Path.{sym, ap, _∙_}
 use Rattle.staircase.specs.Rules.{Verdict}
 use Rattle.staircase.specs.Calls.{countedBy}
-use Rattle.rules.specs.Answers.{verdictOf}
-use Rattle.rules.proofs.Answers.{check-passed}
+use Rattle.design.specs.Answers.{verdictOf}
+use Rattle.design.proofs.Answers.{check-passed}
 use Rattle.words.specs.Checks.{countedOf}
 use Rattle.words.proofs.Verdict.{counted-refused}
 use Rattle.words.proofs.refused_count.Statement.{statement}

@@ -5,11 +5,11 @@ use Prim.Native.Nat.{_*_}
 use native.Mathlib.Omega.{arith}
 use Rattle.staircase.specs.Design.{most-blocks}
 use Rattle.staircase.specs.Rules.{frameLengths}
-use Rattle.rules.proofs.Answers.{refused-then, passed-then}
+use Rattle.design.proofs.Answers.{refused-then, passed-then}
 use Rattle.staircase.proofs.Fill.{small-product}
 use borrow.Author.Needs.{needs}
-use Rattle.rules.proofs.check_frame_lengths.Statement.{statement}
-use Rattle.rules.proofs.check_frame_lengths.Tie as tie
+use Rattle.design.proofs.check_frame_lengths.Statement.{statement}
+use Rattle.design.proofs.check_frame_lengths.Tie as tie
 
 area-requires : tie.Need-area-requires
 area-requires c κs = search needs

@@ -1,11 +1,11 @@
 -- Each case is a law of the answer.
 -- Assumes nothing.
 use mathlib.Core.Path.{sym}
-use Rattle.rules.specs.Answers.{verdictOf}
-use Rattle.rules.proofs.Answers.{design-refused, design-made}
+use Rattle.design.specs.Answers.{verdictOf}
+use Rattle.design.proofs.Answers.{design-refused, design-made}
 use borrow.Author.Needs.{needs}
-use Rattle.rules.proofs.design_check.Statement.{statement}
-use Rattle.rules.proofs.design_check.Tie as tie
+use Rattle.design.proofs.design_check.Statement.{statement}
+use Rattle.design.proofs.design_check.Tie as tie
 
 enum-told : tie.Need-enum-told
 enum-told c = search needs

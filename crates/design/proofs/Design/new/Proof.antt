@@ -3,14 +3,14 @@
 use Prim.Native.Nat.{_+_, _-_, _*_, _^_, _≤_}
 use mathlib.Core.Path.{sym, _∙_, refl}
 use native.Mathlib.Omega.{arith}
-use Rattle.rules.specs.Answers.{refusalVerdict, designVerdict, DesignIs, DesignAllowed}
-use Rattle.rules.proofs.Sizes.{Sizes, sizes, no-m, no-t, no-M, too-long, too-large, accepts}
+use Rattle.design.specs.Answers.{refusalVerdict, designVerdict, DesignIs, DesignAllowed}
+use Rattle.design.proofs.Sizes.{Sizes, sizes, no-m, no-t, no-M, too-long, too-large, accepts}
 use borrow.Author.Needs.{needs}
-use Rattle.rules.proofs.Design.new.Statement.{statement}
-use Rattle.rules.proofs.Design.new.Tie as tie
-use Rattle.rules.proofs.Design.new.Reads as reads
-use Rattle.rules.proofs.Design.new.Lts as lts
-use Rattle.rules.proofs.out_of_range.Reads as out-of-range-reads
+use Rattle.design.proofs.Design.new.Statement.{statement}
+use Rattle.design.proofs.Design.new.Tie as tie
+use Rattle.design.proofs.Design.new.Reads as reads
+use Rattle.design.proofs.Design.new.Lts as lts
+use Rattle.design.proofs.out_of_range.Reads as out-of-range-reads
 
 in-range : (c : lts.Else3 (out-of-range-reads.Asked, out-of-range-reads.Learnt) reads.Pre reads.Post)
     → (let a = c .before .before .before .before .before .before .args in Sizes (a .m) (a .t) (a .size))

@@ -6,9 +6,9 @@ use native.Mathlib.Omega.{arith}
 use lib.Pow.{pow-pos}
 use Rattle.bch.proofs.Bch.{Code, degree, degree-positive}
 use Rattle.staircase.proofs.System.{Proper}
-use Rattle.rules.specs.declared.Design.{Design}
-use Rattle.rules.specs.Answers.{Allowed}
-use Rattle.rules.specs.Sizes.{paramsOf}
+use Rattle.design.specs.declared.Design.{Design}
+use Rattle.design.specs.Answers.{Allowed}
+use Rattle.design.specs.Sizes.{paramsOf}
 
 pub code-of : (d : Design) → Allowed d → Code (d .m) (d .t)
 code-of d a =

@@ -12,14 +12,14 @@ use native.Mathlib.Omega.{arith}
 use Rattle.staircase.specs.Design.{params}
 use Rattle.staircase.specs.Rules.{Verdict, _then_}
 use Rattle.staircase.specs.Rules.Verdict.{accepted, refused}
-use Rattle.rules.specs.declared.Refusal.{Refusal}
-use Rattle.rules.specs.declared.Refusal.the-variants.{Size, Long, Large, Count, Rounds, Length, List, Spare, Inverse, Bit}
-use Rattle.rules.specs.declared.Check.{Check}
-use Rattle.rules.specs.declared.Check.the-variants as check
-use Rattle.rules.specs.declared.Design.{Design}
-use Rattle.rules.specs.declared.Designed.{Designed}
-use Rattle.rules.specs.declared.Designed.the-variants as designed
-use Rattle.rules.specs.Answers.{refusalVerdict, verdictOf, designVerdict, DesignIs}
+use Rattle.design.specs.declared.Refusal.{Refusal}
+use Rattle.design.specs.declared.Refusal.the-variants.{Size, Long, Large, Count, Rounds, Length, List, Spare, Inverse, Bit}
+use Rattle.design.specs.declared.Check.{Check}
+use Rattle.design.specs.declared.Check.the-variants as check
+use Rattle.design.specs.declared.Design.{Design}
+use Rattle.design.specs.declared.Designed.{Designed}
+use Rattle.design.specs.declared.Designed.the-variants as designed
+use Rattle.design.specs.Answers.{refusalVerdict, verdictOf, designVerdict, DesignIs}
 
 refusal-stays : (r : Refusal) (v : Verdict) → refusalVerdict r ≡ (refusalVerdict r then v)
 unfolding refusalVerdict

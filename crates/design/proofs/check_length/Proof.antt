@@ -2,9 +2,9 @@
 -- Assumes nothing.
 use native.Mathlib.Omega.{arith}
 use borrow.Author.Tests.{eq-eqb, ne-eqb}
-use Rattle.rules.specs.Answers.{refusalVerdict, verdictOf}
-use Rattle.rules.proofs.check_length.Statement.{statement}
-use Rattle.rules.proofs.check_length.Tie as tie
+use Rattle.design.specs.Answers.{refusalVerdict, verdictOf}
+use Rattle.design.proofs.check_length.Statement.{statement}
+use Rattle.design.proofs.check_length.Tie as tie
 
 returns : tie.Need-returns
 unfolding verdictOf refusalVerdict

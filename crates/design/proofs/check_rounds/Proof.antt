@@ -3,9 +3,9 @@
 use native.Mathlib.Omega.{arith}
 use borrow.Author.Tests.{lt-ltb, le-ltb}
 use Rattle.staircase.specs.Rules.{roundsRule}
-use Rattle.rules.specs.Answers.{refusalVerdict, verdictOf}
-use Rattle.rules.proofs.check_rounds.Statement.{statement}
-use Rattle.rules.proofs.check_rounds.Tie as tie
+use Rattle.design.specs.Answers.{refusalVerdict, verdictOf}
+use Rattle.design.proofs.check_rounds.Statement.{statement}
+use Rattle.design.proofs.check_rounds.Tie as tie
 
 returns : tie.Need-returns
 unfolding roundsRule verdictOf refusalVerdict

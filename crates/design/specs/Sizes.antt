@@ -6,7 +6,7 @@ use mathlib.Core.List.{List}
 use Prim.Native.Nat.{ℕ}
 use Rattle.staircase.specs.Design.{Params, Interleavers, params, order}
 use Rattle.staircase.specs.Rules.{interleavers}
-use Rattle.rules.specs.declared.Design.{Design}
+use Rattle.design.specs.declared.Design.{Design}
 
 abbrev pub paramsOf : Design → Params
 paramsOf d = params (d .m) (d .t) (d .size)

@@ -1,8 +1,8 @@
 -- The two tests of the code are those of `outOfRange`.
 -- Assumes nothing.
 use borrow.Author.Tests.{lt-ltb, le-ltb}
-use Rattle.rules.proofs.out_of_range.Statement.{statement}
-use Rattle.rules.proofs.out_of_range.Tie as tie
+use Rattle.design.proofs.out_of_range.Statement.{statement}
+use Rattle.design.proofs.out_of_range.Tie as tie
 
 returns : tie.Need-returns
 returns c = rw (lt-ltb (c .before .args .x) (c .before .args .low) (c .if1 .taken))

@@ -4,10 +4,10 @@ use mathlib.Core.Path.{_≡_, sym, _∙_}
 use mathlib.Core.Bool.{true, false}
 use Rattle.staircase.specs.Design.{most-blocks}
 use Rattle.staircase.specs.Rules.{outOfRange, countRule}
-use Rattle.rules.specs.Answers.{refusalVerdict, verdictOf}
+use Rattle.design.specs.Answers.{refusalVerdict, verdictOf}
 use borrow.Author.Needs.{needs}
-use Rattle.rules.proofs.check_count.Statement.{statement}
-use Rattle.rules.proofs.check_count.Tie as tie
+use Rattle.design.proofs.check_count.Statement.{statement}
+use Rattle.design.proofs.check_count.Tie as tie
 
 out-of-range-requires : tie.Need-out-of-range-requires
 out-of-range-requires c κs = search needs

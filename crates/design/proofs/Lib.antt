@@ -1,0 +1,4 @@
+pub mod Answers
+pub mod Accepted
+pub mod Sizes
+pub mod Generator

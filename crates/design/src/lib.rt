@@ -1,0 +1,220 @@
+// The design of a feed-forward staircase code, the refusals, and those rules of document 01's table that speak of numbers alone.
+//   Design::new(m, t, size)                     rules 1 to 3: the design, or its refusal
+//   r, n, k, order, area, row_bytes             the sizes of a design
+//   check_count(blocks), check_rounds(rounds)   rules 4 and 5
+//   design_check(a)                             the answer of `Design::new` as a check's
+//   check_length(place, have, want)             rule 6, for one slice
+//   group_count, check_frame_lengths            the groups of a frame, and rule 6 for its two buffers
+//
+// An answer is an enum. `refusalVerdict`, `verdictOf` and `designVerdict` of specs/ give the table's number and place of each case, and each
+// contract says that the answer is the verdict of the rule in the crate `staircase`, for every argument that the `requires` line lets in.
+//
+// `Design::new` tests the ranges before it multiplies, so any three numbers may be given. A design's fields have the smallest types that hold
+// the limits, so its sizes fit whatever the fields hold.
+ghost use mathlib.Core.Path.{_≡_};
+ghost use Prim.Native.Nat.{_+_, _*_, _/_, _≤_, _<_};
+ghost use Rattle.staircase.specs.Design.{params, most-blocks};
+ghost use Rattle.staircase.specs.Frame.{groups};
+ghost use Rattle.staircase.specs.Rules.{outOfRange, designRules, countRule, roundsRule, lengthRule, frameLengths};
+ghost use Rattle.design.specs.Answers.{verdictOf, designVerdict, DesignIs, DesignAllowed};
+
+// A refusal: a rule of the table, by its name there, with the place.
+pub enum Refusal {
+    Size(u64),
+    Long(u64),
+    Large(u64),
+    Count(u64),
+    Rounds(u64),
+    Length(u64),
+    List(u64),
+    Spare(u64),
+    Inverse(u64),
+    Bit(u64),
+}
+
+// The answer of a check.
+pub enum Check {
+    Passed,
+    Refused(Refusal),
+}
+
+// A design: its field's degree m, the errors t that a word may have, and M, the rows and columns of a block, as `size`.
+pub struct Design {
+    pub m: u8,
+    pub t: u8,
+    pub size: u16,
+}
+
+// The answer of `Design::new`.
+pub enum Designed {
+    Made(Design),
+    Refused(Refusal),
+}
+
+// "L from 1 to 4,096"
+const MOST_BLOCKS: u64 = 4096;
+
+// Rule 5: "above 64".
+const MOST_ROUNDS: u64 = 64;
+
+// Rule 6: "1 self, 2 parity, 3 inverse, 4 information, 5 redundancy, 6 working".
+const INFORMATION: u64 = 4;
+
+const REDUNDANCY: u64 = 5;
+
+// `x` is not from `low` to `high`.
+fn out_of_range(low: u64, high: u64, x: u64) -> bool
+    ensures { λ a. ⌜ a ≡ outOfRange low high x ⌝ }
+{
+    if x < low {
+        return true;
+    }
+    high < x
+}
+
+// "these limits belong to the design itself"
+impl Design {
+    pub const LEAST_M: u64 = 4;
+
+    pub const MOST_M: u64 = 10;
+
+    pub const MOST_T: u64 = 3;
+
+    pub const MOST_SIZE: u64 = 500;
+
+    pub const MOST_ORDER: u64 = 4096;
+
+    // The design of m, t and M = `size`, or the first of rules 1 to 3 that refuses it. A design that is made keeps to the limits. Constant work.
+    pub fn new(m: u64, t: u64, size: u64) -> Designed
+        ensures { λ a. ⌜ (designVerdict a ≡ designRules m t size) × DesignIs a m t size × DesignAllowed a ⌝ }
+    {
+        if out_of_range(Design::LEAST_M, Design::MOST_M, m) {
+            return Designed::Refused(Refusal::Size(1));
+        }
+        if out_of_range(1, Design::MOST_T, t) {
+            return Designed::Refused(Refusal::Size(2));
+        }
+        if out_of_range(1, Design::MOST_SIZE, size) {
+            return Designed::Refused(Refusal::Size(3));
+        }
+        let r = m * t;
+        let n = 2 * size + 2 * r;
+        let longest = (1 << m) - 1;
+        if longest < n {
+            return Designed::Refused(Refusal::Long(n));
+        }
+        let order = size * r;
+        if Design::MOST_ORDER < order {
+            return Designed::Refused(Refusal::Large(order));
+        }
+        Designed::Made(Design {
+            m: m as u8,
+            t: t as u8,
+            size: size as u16,
+        })
+    }
+
+    // r, the redundancy bits of a word. Constant work, as in the functions below.
+    pub fn r(self) -> usize
+        ensures { λ a. ⌜ (a ≡ self .m * self .t) × (a < 65536) ⌝ }
+    {
+        (self.m as usize) * (self.t as usize)
+    }
+
+    // n, the bits of a word.
+    pub fn n(self) -> usize
+        ensures { λ a. ⌜ (a ≡ 2 * self .size + 2 * (self .m * self .t)) × (a < 262144) ⌝ }
+    {
+        2 * (self.size as usize) + 2 * self.r()
+    }
+
+    // k, the information bits of a word.
+    pub fn k(self) -> usize
+        ensures { λ a. ⌜ (a ≡ 2 * self .size + self .m * self .t) × (a < 262144) ⌝ }
+    {
+        2 * (self.size as usize) + self.r()
+    }
+
+    // M × r: entries of a list, bits of Y and of P, rows of the inverse.
+    pub fn order(self) -> usize
+        ensures { λ a. ⌜ (a ≡ self .size * (self .m * self .t)) × (a < 4294967296) ⌝ }
+    {
+        (self.size as usize) * self.r()
+    }
+
+    // M × M: bits of a block.
+    pub fn area(self) -> usize
+        ensures { λ a. ⌜ (a ≡ self .size * self .size) × (a < 4294967296) ⌝ }
+    {
+        (self.size as usize) * (self.size as usize)
+    }
+
+    // Bytes of a row of the inverse: M × r bits, rounded up.
+    pub fn row_bytes(self) -> usize
+        ensures { λ a. ⌜ (a ≡ (self .size * (self .m * self .t) + 7) / 8) × (a ≤ 536870912) ⌝ }
+    {
+        (self.order() + 7) / 8
+    }
+}
+
+// Rule 4 for a number of blocks. Constant work.
+pub fn check_count(blocks: u64) -> Check
+    ensures { λ a. ⌜ verdictOf a ≡ countRule blocks ⌝ }
+{
+    if out_of_range(1, MOST_BLOCKS, blocks) {
+        return Check::Refused(Refusal::Count(blocks));
+    }
+    Check::Passed
+}
+
+// Rule 5 for a number of rounds. Constant work.
+pub fn check_rounds(rounds: u64) -> Check
+    ensures { λ a. ⌜ verdictOf a ≡ roundsRule rounds ⌝ }
+{
+    if MOST_ROUNDS < rounds {
+        return Check::Refused(Refusal::Rounds(rounds));
+    }
+    Check::Passed
+}
+
+// Rule 6 for the slice that the rule calls `place`, which has `have` bytes where `want` are due. Constant work.
+pub fn check_length(place: u64, have: usize, want: usize) -> Check
+    ensures { λ a. ⌜ verdictOf a ≡ lengthRule place have want ⌝ }
+{
+    if have != want {
+        return Check::Refused(Refusal::Length(place));
+    }
+    Check::Passed
+}
+
+// The answer of `Design::new` as a check's. Constant work, as in the two functions below.
+pub fn design_check(a: Designed) -> Check
+    ensures { λ c. ⌜ verdictOf c ≡ designVerdict a ⌝ }
+{
+    match a {
+        Designed::Made(_) => Check::Passed,
+        Designed::Refused(r) => Check::Refused(r),
+    }
+}
+
+// G, the groups of a frame of `blocks` blocks.
+pub fn group_count(blocks: u64) -> u64
+    requires { ⌜ blocks ≤ most-blocks ⌝ }
+    ensures { λ a. ⌜ a ≡ groups blocks ⌝ }
+{
+    (blocks + 1) / 2
+}
+
+// Rule 6 for the lent information and redundancy of a frame of `blocks` blocks.
+pub fn check_frame_lengths(d: Design, blocks: u64, info: &[u8], red: &[u8]) -> Check
+    requires { ⌜ blocks ≤ most-blocks ⌝ }
+    ensures { λ a. ⌜ verdictOf a ≡ frameLengths (params (d .m) (d .t) (d .size)) blocks (now (info .entry)) (now (red .entry)) ⌝ }
+{
+    let info_length = (blocks as usize) * d.area();
+    let red_length = (group_count(blocks) as usize) * (2 * d.order());
+    let a = check_length(INFORMATION, info.len(), info_length);
+    let Check::Passed = a else {
+        return a;
+    };
+    check_length(REDUNDANCY, red.len(), red_length)
+}
