@@ -4,15 +4,15 @@ use Prim.Native.Nat.{ℕ, zero, suc, _+_, _-_, _≤_, _<_}
 use mathlib.Core.Path.{_≡_, refl, sym, _∙_}
 use mathlib.Core.List.{List, [], _∷_}
 use native.Mathlib.Omega.{arith}
-use lib.ListN.{length, getD, drop}
-use lib.Seq.{drop-cons}
+use lib.ListN.{length, getD, take, drop, drop-of-length-le}
+use lib.Seq.{drop-cons, sets, sets-eq, take-at}
 use native.Mathlib.Numerals.{add-one}
-use lib.ListN.{drop-of-length-le}
-use Rattle.formats.specs.Format.{Item, byte, num, item, numLen, numPiece, value}
+use Rattle.formats.specs.Format.{Item, byte, num, item, dec, numLen, numPiece, value}
 use Rattle.formats.specs.Items.{lits, stuck, past, prep, stride, walk}
 use Rattle.readers.specs.Answers.{numAt, numOf}
 use Rattle.readers.specs.declared.Num.{Num}
 use Rattle.readers.specs.declared.Num.the-variants.{Value, Bad}
+use Rattle.writers.proofs.Decimal.{dec-short}
 use Rattle.formats.proofs.Walking.{walk-end, walk-this, walk-other}
 
 module _ (is : List Item) (s : List ℕ) (at : ℕ) where
@@ -65,3 +65,7 @@ module _ (pat s : List ℕ) (i q : ℕ) where
   pub lit-done : length pat ≤ i → walk (lits (drop i pat)) s q ≡ past [] q
   unfolding walk
   lit-done h = rw (drop-of-length-le pat {i = i} h)
+
+-- The digits of a number, written at the start of a buffer.
+pub written-front : (l l′ : List ℕ) (n v : ℕ) → n ≡ 0 + length (dec v) → l′ ≡ sets l 0 (dec v) → 20 ≤ length l → take n l′ ≡ dec v
+written-front l l′ n v e f h = rw (f, sets-eq (dec v) l 0 (omega (arith, dec-short v))) (take-at (dec v) _ n (omega arith))

@@ -8,9 +8,7 @@
 // from the start of s. Contracts cite `walk` of the crate `formats`. No length is required of s: a position grows only where a byte was there.
 ghost use mathlib.Core.Path.{_≡_};
 ghost use mathlib.Core.List.{[], _∷_};
-ghost use Prim.Native.Nat.{_+_, _≤_, _<_};
-ghost use lib.ListN.{length};
-ghost use lib.Seq.{sets};
+ghost use Prim.Native.Nat.{_<_};
 ghost use Rattle.formats.specs.Format.{byte, num, dec};
 ghost use Rattle.formats.specs.Items.{walk, lits, bits, bitsLine};
 ghost use Rattle.readers.specs.Answers.{digitAt, numAt, stepOf, stepWalk, fieldWalk};
@@ -162,42 +160,13 @@ pub fn bits_part(s: &[u8], at: usize, n: usize) -> Step
     bit_run(s, i, n)
 }
 
-// Writes the digits of v, which is below 10,000, from a position on, and answers the position after them.
-fn decimal(out: &mut [u8], at: usize, v: usize) -> usize
-    requires { ⌜ v < 10000 ⌝ }
-    requires { ⌜ at + 4 ≤ length (now out) ⌝ }
-    ensures { λ r. ⌜ r ≡ at + length (dec v) ⌝ }
-    ensures { λ _. ⌜ now (out .exit) ≡ sets (now (out .entry)) at (dec v) ⌝ }
-{
-    if v < 10 {
-        out[at] = (48 + v) as u8;
-        return at + 1;
-    }
-    if v < 100 {
-        out[at] = (48 + v / 10) as u8;
-        out[at + 1] = (48 + v % 10) as u8;
-        return at + 2;
-    }
-    if v < 1000 {
-        out[at] = (48 + v / 100) as u8;
-        out[at + 1] = (48 + v / 10 % 10) as u8;
-        out[at + 2] = (48 + v % 10) as u8;
-        return at + 3;
-    }
-    out[at] = (48 + v / 1000) as u8;
-    out[at + 1] = (48 + v / 100 % 10) as u8;
-    out[at + 2] = (48 + v / 10 % 10) as u8;
-    out[at + 3] = (48 + v % 10) as u8;
-    at + 4
-}
-
 // The digits of p at a position.
 pub fn number_is(s: &[u8], at: usize, p: usize) -> Step
     requires { ⌜ p < 10000 ⌝ }
     ensures { λ r. ⌜ stepWalk r ≡ walk (lits (dec p)) (now (s .entry)) at ⌝ }
 {
-    let mut text = [0u8; 4];
-    let n = decimal(&mut text, 0, p);
+    let mut text = [0u8; 20];
+    let n = writers::put_number(&mut text, 0, p as u64);
     literal(s, at, &text[..n])
 }
 

@@ -1,0 +1,5 @@
+pub mod Chars
+pub mod Decimal
+pub mod Lines
+pub mod Placing
+pub mod Storing

@@ -1,0 +1,60 @@
+-- The test is that of the room for the two lines: 22 bytes of names, the digits, two spaces and the line feed.
+-- Assumes nothing.
+use native.Mathlib.Omega.{arith}
+use Prim.Native.Nat.{_+_}
+use Rattle.writers.proofs.Decimal.{dec-short}
+use Rattle.writers.specs.Written.{countsText}
+use Rattle.writers.proofs.Placing.{counts-length, told-room, told-none, with-room, without-room}
+use borrow.Author.Needs.{needs}
+use Rattle.writers.proofs.count_lines.Statement.{statement}
+use Rattle.writers.proofs.count_lines.Tie as tie
+
+digits-requires : tie.Need-digits-requires
+digits-requires c κs = search needs
+
+digits-requires-2 : tie.Need-digits-requires-2
+digits-requires-2 c κs = search needs
+
+digits-requires-3 : tie.Need-digits-requires-3
+digits-requires-3 c κs = search needs
+
+add-has-room : tie.Need-add-has-room
+add-has-room c = omega (arith, dec-short (c .before .before .before .before .args .rounds), c .before .before .digits .ensures)
+
+has-room-requires : tie.Need-has-room-requires
+has-room-requires c κs = search needs
+
+put-counts-requires : tie.Need-put-counts-requires
+put-counts-requires c κs =
+    let a = c .before .before .before .before .before .before .before .args in
+    told-room (a .out .now) (countsText (a .rounds) (a .turned) (a .outside)) (a .at) (c .before .before .before .before .before .digits .result + 25 + (c .before .before .before .before .digits2 .result + c .before .before .before .digits3 .result)) (c .before .before .has-room .ensures) (c .before .if1 .taken) (omega (arith, counts-length (a .rounds) (a .turned) (a .outside), c .before .before .before .before .before .digits .ensures, c .before .before .before .before .digits2 .ensures, c .before .before .before .digits3 .ensures))
+
+same-length : tie.Need-same-length
+same-length c = search needs
+
+returns : tie.Need-returns
+returns c =
+    let a = c .before .before .before .before .before .before .before .before .before .before .args in
+    with-room (a .out .now) (a .at) (countsText (a .rounds) (a .turned) (a .outside))
+    (told-room (a .out .now) (countsText (a .rounds) (a .turned) (a .outside)) (a .at) (c .before .before .before .before .before .before .before .before .digits .result + 25 + (c .before .before .before .before .before .before .before .digits2 .result + c .before .before .before .before .before .before .digits3 .result)) (c .before .before .before .before .before .has-room .ensures) (c .before .before .before .before .if1 .taken) (omega (arith, counts-length (a .rounds) (a .turned) (a .outside), c .before .before .before .before .before .before .before .before .digits .ensures, c .before .before .before .before .before .before .before .digits2 .ensures, c .before .before .before .before .before .before .digits3 .ensures)))
+    (c .before .before .put-counts .ensures)
+
+returns-2 : tie.Need-returns-2
+returns-2 c =
+    let a = c .before .before .before .before .before .before .args in
+    without-room (a .out .now) (a .at) (countsText (a .rounds) (a .turned) (a .outside))
+    (told-none (a .out .now) (countsText (a .rounds) (a .turned) (a .outside)) (a .at) (c .before .before .before .before .digits .result + 25 + (c .before .before .before .digits2 .result + c .before .before .digits3 .result)) (c .before .has-room .ensures) (c .if1 .left) (omega (arith, counts-length (a .rounds) (a .turned) (a .outside), c .before .before .before .before .digits .ensures, c .before .before .before .digits2 .ensures, c .before .before .digits3 .ensures)))
+
+pub count-lines-spec : {M : Type 1} → statement M
+count-lines-spec =
+    tie.close
+    (tie.spec
+    digits-requires
+    digits-requires-2
+    digits-requires-3
+    add-has-room
+    has-room-requires
+    put-counts-requires
+    same-length
+    returns
+    returns-2)
