@@ -1,2 +1,3 @@
 pub mod KitText
 pub mod Reader
+pub mod Answers

@@ -2,7 +2,7 @@
 -- Assumes nothing.
 use Prim.Native.Nat.{ℕ, zero, suc, _+_, _-_, _*_, _≤_, _<_}
 use mathlib.Core.Path.{_≡_, refl, sym, ap, _∙_}
-use mathlib.Core.List.{List, [], _∷_, _++_}
+use mathlib.Core.List.{List, [], _++_}
 use native.Mathlib.Omega.{arith}
 use native.Mathlib.Nat.{add-sub-cancel-left}
 use native.Mathlib.Numerals.{add-one, sub-one}
@@ -55,18 +55,20 @@ blocks-next area p (suc k) from info h =
     rw (add-sub-cancel-left from area, sub-one (suc k), add-one p, ← drop-drop area from info) refl
 
 -- The line that is next has room, and once it is written those behind it are left.
-module _ (area p k from : ℕ) (info : List ℕ) (some : 0 < k) {o₀ whole o : List ℕ} {at q : ℕ} (h : Rest o₀ at whole o q (blockLines area p k (drop from info))) where
+module _ (area p k from : ℕ) (info : List ℕ) (some : 0 < k) {o₀ whole o : List ℕ} {at q : ℕ}
+    (h : Rest o₀ at whole o q (blockLines area p k (drop from info))) where
   abbrev line : List ℕ
   line = bitsText p (take (from + area - from) (drop from info))
 
   abbrev behind : List ℕ
   behind = blockLines area (p + 1) (k - 1) (drop (from + area) info)
 
-  pub block-room : at + length whole ≤ length o₀ → q + length (bitsText p (take (from + area - from) (drop from info))) ≤ length o
-  block-room l = rest-room line behind (blocks-next area p k from info some) h l
+  pub block-room : at + length whole ≤ length o₀ → q + (length (dec p) + 2 + length (take (from + area - from) (drop from info))) ≤ length o
+  block-room l = omega (arith, rest-room line behind (blocks-next area p k from info some) h l, bits-length p (take (from + area - from) (drop from info)))
 
   pub block-written : {o₁ : List ℕ} {r : ℕ}
-      → (r ≡ q + length (bitsText p (take (from + area - from) (drop from info)))) × (o₁ ≡ sets o q (bitsText p (take (from + area - from) (drop from info))))
+      → (r ≡ q + length (bitsText p (take (from + area - from) (drop from info)))) ×
+      (o₁ ≡ sets o q (bitsText p (take (from + area - from) (drop from info))))
       → Rest o₀ at whole o₁ r (blockLines area (p + 1) (k - 1) (drop (from + area) info))
   block-written e = rest-more line behind (blocks-next area p k from info some) h e
 
@@ -83,7 +85,8 @@ groups-next n p zero from red h = absurd (omega arith)
 groups-next n p (suc k) from red h =
     rw (add-sub-cancel-left from n, add-sub-cancel-left (from + n) n, sub-one (suc k), add-one p, ← drop-drop n (from + n) red, ← drop-drop n from red) refl
 
-module _ (n p k from : ℕ) (red : List ℕ) (some : 0 < k) {o₀ whole o : List ℕ} {at q : ℕ} (h : Rest o₀ at whole o q (groupLines n p k (drop from red))) where
+module _ (n p k from : ℕ) (red : List ℕ) (some : 0 < k) {o₀ whole o : List ℕ} {at q : ℕ}
+    (h : Rest o₀ at whole o q (groupLines n p k (drop from red))) where
   abbrev line-of-group : List ℕ
   line-of-group = groupLineText p (take (from + n - from) (drop from red)) (take (from + n + n - (from + n)) (drop (from + n) red))
 
@@ -91,8 +94,13 @@ module _ (n p k from : ℕ) (red : List ℕ) (some : 0 < k) {o₀ whole o : List
   behind-group = groupLines n (p + 1) (k - 1) (drop (from + n + n) red)
 
   pub group-room : at + length whole ≤ length o₀
-      → q + length (groupLineText p (take (from + n - from) (drop from red)) (take (from + n + n - (from + n)) (drop (from + n) red))) ≤ length o
-  group-room l = rest-room line-of-group behind-group (groups-next n p k from red some) h l
+      → q + (length (dec p) + 3 + (length (take (from + n - from) (drop from red)) + length (take (from + n + n - (from + n)) (drop (from + n) red)))) ≤ length o
+  group-room l =
+      omega (
+        arith,
+        rest-room line-of-group behind-group (groups-next n p k from red some) h l,
+        group-length p (take (from + n - from) (drop from red)) (take (from + n + n - (from + n)) (drop (from + n) red)),
+      )
 
   pub group-written : {o₁ : List ℕ} {r : ℕ}
       → (r ≡ q + length (groupLineText p (take (from + n - from) (drop from red)) (take (from + n + n - (from + n)) (drop (from + n) red))))
@@ -141,7 +149,8 @@ block-lines-length area p (suc k) bits h e =
     let f : length bits ≡ area + k * area = omega (arith, e) in
     let t : length (take area bits) ≡ area = length-take-le area bits (omega arith) in
     let d : length (drop area bits) ≡ k * area = omega (arith, length-drop area bits) in
-    let i : length (blockLines area (suc p) k (drop area bits)) ≤ k * (area + 6) = block-lines-length area (suc p) k (drop area bits) (omega arith) d in
+    let i : length (blockLines area (suc p) k (drop area bits)) ≤ k * (area + 6) = block-lines-length area (suc p) k (drop area bits)
+    (omega arith) d in
     omega (arith, i, t, bits-length p (take area bits), dec-four p (omega arith), length-append (bitsText p (take area bits)) (blockLines area (suc p) k (drop area bits)))
 
 group-lines-length : (n p k : ℕ) (bits : List ℕ) → p + k ≤ 10000 → length bits ≡ k * (2 * n) → length (groupLines n p k bits) ≤ k * (2 * n + 7)

@@ -1,7 +1,7 @@
 -- Texts put together from their parts, their lengths, and a text where there is room for it or not.
 -- Assumes nothing.
 use Prim.Native.Nat.{ℕ, _+_, _-_, _≤_, _<_}
-use mathlib.Core.Path.{_≡_, refl, sym, ap, _∙_}
+use mathlib.Core.Path.{_≡_, refl, sym, _∙_}
 use mathlib.Core.List.{List, [], _∷_, _++_}
 use mathlib.Core.Bool.{Bool, true, false}
 use native.Mathlib.Omega.{arith}
@@ -29,76 +29,83 @@ bits-length p vs = omega (arith, part-length (dec p) 32 (chars vs ++ (10 ∷ [])
 
 pub group-length : (p : ℕ) (ys ps : List ℕ) → length (groupLineText p ys ps) ≡ length (dec p) + 3 + (length ys + length ps)
 unfolding groupLineText
-group-length p ys ps = omega (arith, part-length (dec p) 32 (chars ys ++ (32 ∷ (chars ps ++ (10 ∷ [])))), part-length (chars ys) 32 (chars ps ++ (10 ∷ [])), snoc-length (chars ps) 10, length-chars ys, length-chars ps)
+group-length p ys ps =
+    let first = part-length (dec p) 32 (chars ys ++ (32 ∷ (chars ps ++ (10 ∷ [])))) in
+    let second = part-length (chars ys) 32 (chars ps ++ (10 ∷ [])) in
+    omega (arith, first, second, snoc-length (chars ps) 10, length-chars ys, length-chars ps)
 
 pub refusal-length : (rule place : ℕ) → length (refusalText rule place) ≡ 16 + (length (dec rule) + length (dec place))
 unfolding refusalText
 refusal-length rule place = omega (arith, part-length (dec rule) 32 (dec place ++ (10 ∷ [])), snoc-length (dec place) 10)
 
-pub counts-length : (rounds turned outside : ℕ) → length (countsText rounds turned outside) ≡ 25 + (length (dec rounds) + (length (dec turned) + length (dec outside)))
+pub counts-length : (rounds turned outside : ℕ) → length (countsText rounds turned outside) ≡ 25 +
+    (length (dec rounds) + (length (dec turned) + length (dec outside)))
 unfolding countsText
-counts-length rounds turned outside = omega (arith, part-length (dec rounds) 32 (dec turned ++ (32 ∷ (dec outside ++ (10 ∷ [])))), part-length (dec turned) 32 (dec outside ++ (10 ∷ [])), snoc-length (dec outside) 10)
+counts-length rounds turned outside =
+    let first = part-length (dec rounds) 32 (dec turned ++ (32 ∷ (dec outside ++ (10 ∷ [])))) in
+    let second = part-length (dec turned) 32 (dec outside ++ (10 ∷ [])) in
+    omega (arith, first, second, snoc-length (dec outside) 10)
 
--- The same as sums of the parts that are written one after another.
-pub block-parts : (p : ℕ) (vs : List ℕ) → length (bitsText p vs) ≡ length (dec p ++ (32 ∷ [])) + length (chars vs ++ (10 ∷ []))
-block-parts p vs = omega (arith, bits-length p vs, snoc-length (dec p) 32, snoc-length (chars vs) 10, length-chars vs)
+-- THE PARTS. Each is n bytes with one byte behind them.
+-- The bytes, and the byte behind them.
+pub put-snoc : (o xs : List ℕ) (b at n : ℕ) {o₁ o₂ : List ℕ} {i r : ℕ} → length xs ≡ n → (i ≡ at + n) × (o₁ ≡ sets o at xs)
+    → (r ≡ i + 1) × (o₂ ≡ sets o₁ i (b ∷ [])) → (r ≡ at + (n + 1)) × (o₂ ≡ sets o at (xs ++ (b ∷ [])))
+put-snoc o xs b at n {o₁} {o₂} {i} {r} e p q =
+    let p′ : i ≡ at + length xs = omega (arith, p .0, e) in
+    (omega (arith, p .0, q .0), put-then o xs (b ∷ []) at (p′, p .1) q .1)
 
-pub group-parts : (p : ℕ) (ys ps : List ℕ)
-    → length (groupLineText p ys ps) ≡ length (dec p ++ (32 ∷ [])) + (length (chars ys ++ (32 ∷ [])) + length (chars ps ++ (10 ∷ [])))
-group-parts p ys ps =
-    omega (arith, group-length p ys ps, snoc-length (dec p) 32, snoc-length (chars ys) 32, snoc-length (chars ps) 10, length-chars ys, length-chars ps)
-
-pub refusal-parts : (rule place : ℕ) → length (refusalText rule place) ≡ 14 + (length (dec rule ++ (32 ∷ [])) + length (dec place ++ (10 ∷ [])))
-refusal-parts rule place = omega (arith, refusal-length rule place, snoc-length (dec rule) 32, snoc-length (dec place) 10)
-
-pub counts-parts : (rounds turned outside : ℕ) → length (countsText rounds turned outside)
-    ≡ 22 + (length (dec rounds ++ (32 ∷ [])) + (length (dec turned ++ (32 ∷ [])) + length (dec outside ++ (10 ∷ []))))
-counts-parts rounds turned outside =
-    omega (arith, counts-length rounds turned outside, snoc-length (dec rounds) 32, snoc-length (dec turned) 32, snoc-length (dec outside) 10)
-
--- THE PARTS.
--- A part with the byte behind it, and what follows.
-put-part : (o xs : List ℕ) (b : ℕ) (ys : List ℕ) (at : ℕ) {o₁ o₂ : List ℕ} {i r : ℕ}
-    → (i ≡ at + length (xs ++ (b ∷ []))) × (o₁ ≡ sets o at (xs ++ (b ∷ [])))
-    → (r ≡ i + length ys) × (o₂ ≡ sets o₁ i ys)
+-- A part, and what follows.
+put-part : (o xs : List ℕ) (b at n : ℕ) (ys : List ℕ) {o₁ o₂ : List ℕ} {i r : ℕ} → length xs ≡ n
+    → (i ≡ at + (n + 1)) × (o₁ ≡ sets o at (xs ++ (b ∷ []))) → (r ≡ i + length ys) × (o₂ ≡ sets o₁ i ys)
     → (r ≡ at + length (xs ++ (b ∷ ys))) × (o₂ ≡ sets o at (xs ++ (b ∷ ys)))
-put-part o xs b ys at p q = rw (← append-snoc xs b ys) (put-then o (xs ++ (b ∷ [])) ys at p q)
+put-part o xs b at n ys {o₁} {o₂} {i} {r} e p q =
+    let p′ : i ≡ at + length (xs ++ (b ∷ [])) = omega (arith, p .0, e, snoc-length xs b) in
+    rw (← append-snoc xs b ys) (put-then o (xs ++ (b ∷ [])) ys at (p′, p .1) q)
+
+-- A part with nothing behind it.
+last-part : (xs : List ℕ) (b i n : ℕ) {r : ℕ} → length xs ≡ n → r ≡ i + (n + 1) → r ≡ i + length (xs ++ (b ∷ []))
+last-part xs b i n e p = omega (arith, p, e, snoc-length xs b)
 
 pub block-put : (o : List ℕ) (at p : ℕ) (vs : List ℕ) {o₁ o₂ : List ℕ} {i r : ℕ}
-    → (i ≡ at + length (dec p ++ (32 ∷ []))) × (o₁ ≡ sets o at (dec p ++ (32 ∷ [])))
-    → (r ≡ i + length (chars vs ++ (10 ∷ []))) × (o₂ ≡ sets o₁ i (chars vs ++ (10 ∷ [])))
+    → (i ≡ at + (length (dec p) + 1)) × (o₁ ≡ sets o at (dec p ++ (32 ∷ [])))
+    → (r ≡ i + (length vs + 1)) × (o₂ ≡ sets o₁ i (chars vs ++ (10 ∷ [])))
     → (r ≡ at + length (bitsText p vs)) × (o₂ ≡ sets o at (bitsText p vs))
 unfolding bitsText
-block-put o at p vs a b = put-part o (dec p) 32 (chars vs ++ (10 ∷ [])) at a b
+block-put o at p vs {o₁} {o₂} {i} {r} a b =
+    put-part o (dec p) 32 at (length (dec p)) (chars vs ++ (10 ∷ [])) refl a (last-part (chars vs) 10 i (length vs) (length-chars vs) (b .0), b .1)
 
 pub group-put : (o : List ℕ) (at p : ℕ) (ys ps : List ℕ) {o₁ o₂ o₃ : List ℕ} {i j r : ℕ}
-    → (i ≡ at + length (dec p ++ (32 ∷ []))) × (o₁ ≡ sets o at (dec p ++ (32 ∷ [])))
-    → (j ≡ i + length (chars ys ++ (32 ∷ []))) × (o₂ ≡ sets o₁ i (chars ys ++ (32 ∷ [])))
-    → (r ≡ j + length (chars ps ++ (10 ∷ []))) × (o₃ ≡ sets o₂ j (chars ps ++ (10 ∷ [])))
+    → (i ≡ at + (length (dec p) + 1)) × (o₁ ≡ sets o at (dec p ++ (32 ∷ [])))
+    → (j ≡ i + (length ys + 1)) × (o₂ ≡ sets o₁ i (chars ys ++ (32 ∷ [])))
+    → (r ≡ j + (length ps + 1)) × (o₃ ≡ sets o₂ j (chars ps ++ (10 ∷ [])))
     → (r ≡ at + length (groupLineText p ys ps)) × (o₃ ≡ sets o at (groupLineText p ys ps))
 unfolding groupLineText
 group-put o at p ys ps {o₁} {o₂} {o₃} {i} {j} {r} a b c =
-    put-part o (dec p) 32 (chars ys ++ (32 ∷ (chars ps ++ (10 ∷ [])))) at a (put-part o₁ (chars ys) 32 (chars ps ++ (10 ∷ [])) i b c)
+    put-part o (dec p) 32 at (length (dec p)) (chars ys ++ (32 ∷ (chars ps ++ (10 ∷ [])))) refl a
+    (put-part o₁ (chars ys) 32 i (length ys) (chars ps ++ (10 ∷ [])) (length-chars ys) b (last-part (chars ps) 10 j (length ps) (length-chars ps) (c .0), c .1))
 
+-- Two numbers behind a line of names, and three.
 pub refusal-put : (o : List ℕ) (at rule place : ℕ) {o₁ o₂ o₃ : List ℕ} {i j r : ℕ}
     → (i ≡ at + length refusalNames) × (o₁ ≡ sets o at refusalNames)
-    → (j ≡ i + length (dec rule ++ (32 ∷ []))) × (o₂ ≡ sets o₁ i (dec rule ++ (32 ∷ [])))
-    → (r ≡ j + length (dec place ++ (10 ∷ []))) × (o₃ ≡ sets o₂ j (dec place ++ (10 ∷ [])))
+    → (j ≡ i + (length (dec rule) + 1)) × (o₂ ≡ sets o₁ i (dec rule ++ (32 ∷ [])))
+    → (r ≡ j + (length (dec place) + 1)) × (o₃ ≡ sets o₂ j (dec place ++ (10 ∷ [])))
     → (r ≡ at + length (refusalText rule place)) × (o₃ ≡ sets o at (refusalText rule place))
 unfolding refusalText
 refusal-put o at rule place {o₁} {o₂} {o₃} {i} {j} {r} a b c =
-    put-then o refusalNames (dec rule ++ (32 ∷ (dec place ++ (10 ∷ [])))) at a (put-part o₁ (dec rule) 32 (dec place ++ (10 ∷ [])) i b c)
+    put-then o refusalNames (dec rule ++ (32 ∷ (dec place ++ (10 ∷ [])))) at a
+    (put-part o₁ (dec rule) 32 i (length (dec rule)) (dec place ++ (10 ∷ [])) refl b (last-part (dec place) 10 j (length (dec place)) refl (c .0), c .1))
 
 pub counts-put : (o : List ℕ) (at rounds turned outside : ℕ) {o₁ o₂ o₃ o₄ : List ℕ} {i j k r : ℕ}
     → (i ≡ at + length countNames) × (o₁ ≡ sets o at countNames)
-    → (j ≡ i + length (dec rounds ++ (32 ∷ []))) × (o₂ ≡ sets o₁ i (dec rounds ++ (32 ∷ [])))
-    → (k ≡ j + length (dec turned ++ (32 ∷ []))) × (o₃ ≡ sets o₂ j (dec turned ++ (32 ∷ [])))
-    → (r ≡ k + length (dec outside ++ (10 ∷ []))) × (o₄ ≡ sets o₃ k (dec outside ++ (10 ∷ [])))
+    → (j ≡ i + (length (dec rounds) + 1)) × (o₂ ≡ sets o₁ i (dec rounds ++ (32 ∷ [])))
+    → (k ≡ j + (length (dec turned) + 1)) × (o₃ ≡ sets o₂ j (dec turned ++ (32 ∷ [])))
+    → (r ≡ k + (length (dec outside) + 1)) × (o₄ ≡ sets o₃ k (dec outside ++ (10 ∷ [])))
     → (r ≡ at + length (countsText rounds turned outside)) × (o₄ ≡ sets o at (countsText rounds turned outside))
 unfolding countsText
 counts-put o at rounds turned outside {o₁} {o₂} {o₃} {o₄} {i} {j} {k} {r} a b c d =
     put-then o countNames (dec rounds ++ (32 ∷ (dec turned ++ (32 ∷ (dec outside ++ (10 ∷ [])))))) at a
-    (put-part o₁ (dec rounds) 32 (dec turned ++ (32 ∷ (dec outside ++ (10 ∷ [])))) i b (put-part o₂ (dec turned) 32 (dec outside ++ (10 ∷ [])) j c d))
+    (put-part o₁ (dec rounds) 32 i (length (dec rounds)) (dec turned ++ (32 ∷ (dec outside ++ (10 ∷ [])))) refl b
+    (put-part o₂ (dec turned) 32 j (length (dec turned)) (dec outside ++ (10 ∷ [])) refl c (last-part (dec outside) 10 k (length (dec outside)) refl (d .0), d .1)))
 
 -- ROOM OR NOT.
 -- Three parts behind a position: no room for them, and room exactly if there is room for the last behind the others.
@@ -128,17 +135,18 @@ pub after-none : (o : List ℕ) (at : ℕ) (t : List ℕ) → length o < at + le
 unfolding after
 after-none o at t h = rw (lt-leb (at + length t) (length o) h)
 
--- What a function answers and leaves where there is room, and where there is none.
-pub with-room : (o : List ℕ) (at : ℕ) (t : List ℕ) {o₁ : List ℕ} {r : ℕ} → at + length t ≤ length o
+-- A test of the room for n bytes told that there is room, or that there is none: what is then answered and left, of a text of n bytes.
+pub told-room : (o : List ℕ) (at n : ℕ) {b : Bool} → b ≡ leb (at + n) (length o) → b ≡ true → at + n ≤ length o
+told-room o at n e h = leb-true (at + n) (length o) (sym e ∙ h)
+
+pub told-put : (o : List ℕ) (at : ℕ) (t : List ℕ) (n : ℕ) {b : Bool} {o₁ : List ℕ} {r : ℕ} → b ≡ leb (at + n) (length o) → b ≡ true → length t ≡ n
     → (r ≡ at + length t) × (o₁ ≡ sets o at t) → (r ≡ after o at t) × (o₁ ≡ puts o at t)
-with-room o at t h p = (p .0 ∙ sym (after-room o at t h), p .1 ∙ sym (puts-room o at t h))
+told-put o at t n e h l p =
+    let room : at + length t ≤ length o = omega (arith, told-room o at n e h, l) in
+    (p .0 ∙ sym (after-room o at t room), p .1 ∙ sym (puts-room o at t room))
 
-pub without-room : (o : List ℕ) (at : ℕ) (t : List ℕ) → length o < at + length t → (at ≡ after o at t) × (o ≡ puts o at t)
-without-room o at t h = (sym (after-none o at t h), sym (puts-none o at t h))
-
--- A test of the room for n bytes, where the text has n.
-pub told-room : (o t : List ℕ) (at n : ℕ) {b : Bool} → b ≡ leb (at + n) (length o) → b ≡ true → length t ≡ n → at + length t ≤ length o
-told-room o t at n e h l = omega (arith, leb-true (at + n) (length o) (sym e ∙ h), l)
-
-pub told-none : (o t : List ℕ) (at n : ℕ) {b : Bool} → b ≡ leb (at + n) (length o) → b ≡ false → length t ≡ n → length o < at + length t
-told-none o t at n e h l = omega (arith, leb-false (at + n) (length o) (sym e ∙ h), l)
+pub told-kept : (o : List ℕ) (at : ℕ) (t : List ℕ) (n : ℕ) {b : Bool} → b ≡ leb (at + n) (length o) → b ≡ false → length t ≡ n
+    → (at ≡ after o at t) × (o ≡ puts o at t)
+told-kept o at t n e h l =
+    let none : length o < at + length t = omega (arith, leb-false (at + n) (length o) (sym e ∙ h), l) in
+    (sym (after-none o at t none), sym (puts-none o at t none))

@@ -46,7 +46,8 @@ pub put-last : (o : List ℕ) (at v : ℕ) {o₁ : List ℕ} {i : ℕ} → 10 �
 put-last o at v {o₁} {i} l h p = rw (dec-more v l h) (put-then o (dec (v / 10)) ((48 + v % 10) ∷ []) at p (put-byte o₁ i (48 + v % 10)))
 
 -- A text copied byte by byte, one byte more: what is left of it, written behind what stands there, gives the same bytes.
-pub copy-more : (o t : List ℕ) (at i : ℕ) → i < length t → sets o (at + i) (drop i t) ≡ sets (set o (at + i) (getD t i 0)) (at + (i + 1)) (drop (i + 1) t)
+pub copy-more : (o t : List ℕ) (at i : ℕ) → i < length t → sets o (at + i) (drop i t) ≡ sets (set o (at + i) (getD t i 0)) (at + (i + 1))
+    (drop (i + 1) t)
 copy-more o t at i h =
     let e : suc (at + i) ≡ at + (i + 1) = omega arith in
     ap (sets o (at + i)) (drop-cons t i 0 h)

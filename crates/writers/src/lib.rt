@@ -101,7 +101,7 @@ fn put_bytes(out: &mut [u8], at: usize, text: &[u8]) -> usize
 // Writes the characters of bits, for which there is room, from a position on, and answers the position after them.
 fn put_bits(out: &mut [u8], at: usize, bits: &[u8]) -> usize
     requires { ⌜ at + length (now bits) ≤ length (now out) ⌝ }
-    ensures { λ r. ⌜ r ≡ at + length (chars (now (bits .entry))) ⌝ }
+    ensures { λ r. ⌜ r ≡ at + length (now (bits .entry)) ⌝ }
     ensures { λ _. ⌜ now (out .exit) ≡ sets (now (out .entry)) at (chars (now (bits .entry))) ⌝ }
 {
     for i in 0..bits.len() {
@@ -112,8 +112,8 @@ fn put_bits(out: &mut [u8], at: usize, bits: &[u8]) -> usize
 
 // A number and the byte behind it.
 fn put_field(out: &mut [u8], at: usize, v: u64, end: u8) -> usize
-    requires { ⌜ at + length (dec v ++ (end ∷ [])) ≤ length (now out) ⌝ }
-    ensures { λ r. ⌜ r ≡ at + length (dec v ++ (end ∷ [])) ⌝ }
+    requires { ⌜ at + (length (dec v) + 1) ≤ length (now out) ⌝ }
+    ensures { λ r. ⌜ r ≡ at + (length (dec v) + 1) ⌝ }
     ensures { λ _. ⌜ now (out .exit) ≡ sets (now (out .entry)) at (dec v ++ (end ∷ [])) ⌝ }
 {
     let i = put_digits(out, at, v);
@@ -122,8 +122,8 @@ fn put_field(out: &mut [u8], at: usize, v: u64, end: u8) -> usize
 
 // The characters of bits and the byte behind them.
 fn put_run(out: &mut [u8], at: usize, bits: &[u8], end: u8) -> usize
-    requires { ⌜ at + length (chars (now bits) ++ (end ∷ [])) ≤ length (now out) ⌝ }
-    ensures { λ r. ⌜ r ≡ at + length (chars (now (bits .entry)) ++ (end ∷ [])) ⌝ }
+    requires { ⌜ at + (length (now bits) + 1) ≤ length (now out) ⌝ }
+    ensures { λ r. ⌜ r ≡ at + (length (now (bits .entry)) + 1) ⌝ }
     ensures { λ _. ⌜ now (out .exit) ≡ sets (now (out .entry)) at (chars (now (bits .entry)) ++ (end ∷ [])) ⌝ }
 {
     let i = put_bits(out, at, bits);
@@ -132,7 +132,7 @@ fn put_run(out: &mut [u8], at: usize, bits: &[u8], end: u8) -> usize
 
 // The line of a block, for which there is room.
 fn put_block(out: &mut [u8], at: usize, number: u64, bits: &[u8]) -> usize
-    requires { ⌜ at + length (bitsText number (now bits)) ≤ length (now out) ⌝ }
+    requires { ⌜ at + (length (dec number) + 2 + length (now bits)) ≤ length (now out) ⌝ }
     ensures { λ r. ⌜ r ≡ at + length (bitsText number (now (bits .entry))) ⌝ }
     ensures { λ _. ⌜ now (out .exit) ≡ sets (now (out .entry)) at (bitsText number (now (bits .entry))) ⌝ }
 {
@@ -142,7 +142,7 @@ fn put_block(out: &mut [u8], at: usize, number: u64, bits: &[u8]) -> usize
 
 // The line of a group, for which there is room.
 fn put_group(out: &mut [u8], at: usize, number: u64, own: &[u8], parity: &[u8]) -> usize
-    requires { ⌜ at + length (groupLineText number (now own) (now parity)) ≤ length (now out) ⌝ }
+    requires { ⌜ at + (length (dec number) + 3 + (length (now own) + length (now parity))) ≤ length (now out) ⌝ }
     ensures { λ r. ⌜ r ≡ at + length (groupLineText number (now (own .entry)) (now (parity .entry))) ⌝ }
     ensures { λ _. ⌜ now (out .exit) ≡ sets (now (out .entry)) at (groupLineText number (now (own .entry)) (now (parity .entry))) ⌝ }
 {
@@ -153,7 +153,7 @@ fn put_group(out: &mut [u8], at: usize, number: u64, own: &[u8], parity: &[u8]) 
 
 // The two lines of a refusal, for which there is room.
 fn put_refusal(out: &mut [u8], at: usize, rule: u64, place: u64) -> usize
-    requires { ⌜ at + length (refusalText rule place) ≤ length (now out) ⌝ }
+    requires { ⌜ at + (16 + (length (dec rule) + length (dec place))) ≤ length (now out) ⌝ }
     ensures { λ r. ⌜ r ≡ at + length (refusalText rule place) ⌝ }
     ensures { λ _. ⌜ now (out .exit) ≡ sets (now (out .entry)) at (refusalText rule place) ⌝ }
 {
@@ -164,7 +164,7 @@ fn put_refusal(out: &mut [u8], at: usize, rule: u64, place: u64) -> usize
 
 // The two lines of the counts, for which there is room.
 fn put_counts(out: &mut [u8], at: usize, rounds: u64, turned: u64, outside: u64) -> usize
-    requires { ⌜ at + length (countsText rounds turned outside) ≤ length (now out) ⌝ }
+    requires { ⌜ at + (25 + (length (dec rounds) + (length (dec turned) + length (dec outside)))) ≤ length (now out) ⌝ }
     ensures { λ r. ⌜ r ≡ at + length (countsText rounds turned outside) ⌝ }
     ensures { λ _. ⌜ now (out .exit) ≡ sets (now (out .entry)) at (countsText rounds turned outside) ⌝ }
 {
@@ -184,13 +184,13 @@ fn put_block_lines(out: &mut [u8], at: usize, area: usize, count: usize, info: &
 {
     let mut q = at;
     let mut from: usize = 0;
-    let mut number: u64 = 1;
+    let mut block: u64 = 1;
     let mut left = count;
     while 0 < left {
         let e = from + area;
-        q = put_block(out, q, number, &info[from..e]);
+        q = put_block(out, q, block, &info[from..e]);
         from = e;
-        number += 1;
+        block += 1;
         left -= 1;
     }
     q
@@ -206,14 +206,14 @@ fn put_group_lines(out: &mut [u8], at: usize, n: usize, count: usize, red: &[u8]
 {
     let mut q = at;
     let mut from: usize = 0;
-    let mut number: u64 = 1;
+    let mut group: u64 = 1;
     let mut left = count;
     while 0 < left {
         let mid = from + n;
         let e = mid + n;
-        q = put_group(out, q, number, &red[from..mid], &red[mid..e]);
+        q = put_group(out, q, group, &red[from..mid], &red[mid..e]);
         from = e;
-        number += 1;
+        group += 1;
         left -= 1;
     }
     q

@@ -1,11 +1,11 @@
 -- The test is that of the room for the line: digits, space, bits and line feed.
 -- Assumes nothing.
-use native.Mathlib.Omega.{arith}
 use Prim.Native.Nat.{_+_}
+use Rattle.writers.proofs.Placing.{bits-length, told-room, told-put, told-kept}
+use native.Mathlib.Omega.{arith}
 use lib.ListN.{length}
 use Rattle.writers.proofs.Decimal.{dec-short}
 use Rattle.writers.specs.Written.{bitsText}
-use Rattle.writers.proofs.Placing.{bits-length, told-room, told-none, with-room, without-room}
 use borrow.Author.Needs.{needs}
 use Rattle.writers.proofs.block_line.Statement.{statement}
 use Rattle.writers.proofs.block_line.Tie as tie
@@ -22,7 +22,9 @@ has-room-requires c κs = search needs
 put-block-requires : tie.Need-put-block-requires
 put-block-requires c κs =
     let a = c .before .before .before .before .before .before .args in
-    told-room (a .out .now) (bitsText (a .number) (a .bits .now)) (a .at) (c .before .before .before .digits .result + 2 + (length (a .bits .now) + 0)) (c .before .before .has-room .ensures) (c .before .if1 .taken) (omega (arith, bits-length (a .number) (a .bits .now), c .before .before .before .digits .ensures))
+    let d = c .before .before .before .digits in
+    let room = told-room (a .out .now) (a .at) (d .result + 2 + (length (a .bits .now) + 0)) (c .before .before .has-room .ensures) (c .before .if1 .taken) in
+    omega (arith, room, d .ensures)
 
 same-length : tie.Need-same-length
 same-length c = search needs
@@ -30,15 +32,19 @@ same-length c = search needs
 returns : tie.Need-returns
 returns c =
     let a = c .before .before .before .before .before .before .before .before .before .args in
-    with-room (a .out .now) (a .at) (bitsText (a .number) (a .bits .now))
-    (told-room (a .out .now) (bitsText (a .number) (a .bits .now)) (a .at) (c .before .before .before .before .before .before .digits .result + 2 + (length (a .bits .now) + 0)) (c .before .before .before .before .before .has-room .ensures) (c .before .before .before .before .if1 .taken) (omega (arith, bits-length (a .number) (a .bits .now), c .before .before .before .before .before .before .digits .ensures)))
+    let d = c .before .before .before .before .before .before .digits in
+    told-put (a .out .now) (a .at) (bitsText (a .number) (a .bits .now)) (d .result + 2 + (length (a .bits .now) + 0)) (c .before .before .before .before .before .has-room .ensures)
+    (c .before .before .before .before .if1 .taken)
+    (omega (arith, bits-length (a .number) (a .bits .now), d .ensures))
     (c .before .before .put-block .ensures)
 
 returns-2 : tie.Need-returns-2
 returns-2 c =
     let a = c .before .before .before .before .before .args in
-    without-room (a .out .now) (a .at) (bitsText (a .number) (a .bits .now))
-    (told-none (a .out .now) (bitsText (a .number) (a .bits .now)) (a .at) (c .before .before .digits .result + 2 + (length (a .bits .now) + 0)) (c .before .has-room .ensures) (c .if1 .left) (omega (arith, bits-length (a .number) (a .bits .now), c .before .before .digits .ensures)))
+    let d = c .before .before .digits in
+    told-kept (a .out .now) (a .at) (bitsText (a .number) (a .bits .now)) (d .result + 2 + (length (a .bits .now) + 0)) (c .before .has-room .ensures)
+    (c .if1 .left)
+    (omega (arith, bits-length (a .number) (a .bits .now), d .ensures))
 
 pub block-line-spec : {M : Type 1} → statement M
 block-line-spec =

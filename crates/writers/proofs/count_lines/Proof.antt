@@ -1,10 +1,10 @@
 -- The test is that of the room for the two lines: 22 bytes of names, the digits, two spaces and the line feed.
 -- Assumes nothing.
-use native.Mathlib.Omega.{arith}
 use Prim.Native.Nat.{_+_}
+use Rattle.writers.proofs.Placing.{counts-length, told-room, told-put, told-kept}
+use native.Mathlib.Omega.{arith}
 use Rattle.writers.proofs.Decimal.{dec-short}
 use Rattle.writers.specs.Written.{countsText}
-use Rattle.writers.proofs.Placing.{counts-length, told-room, told-none, with-room, without-room}
 use borrow.Author.Needs.{needs}
 use Rattle.writers.proofs.count_lines.Statement.{statement}
 use Rattle.writers.proofs.count_lines.Tie as tie
@@ -27,7 +27,11 @@ has-room-requires c κs = search needs
 put-counts-requires : tie.Need-put-counts-requires
 put-counts-requires c κs =
     let a = c .before .before .before .before .before .before .before .args in
-    told-room (a .out .now) (countsText (a .rounds) (a .turned) (a .outside)) (a .at) (c .before .before .before .before .before .digits .result + 25 + (c .before .before .before .before .digits2 .result + c .before .before .before .digits3 .result)) (c .before .before .has-room .ensures) (c .before .if1 .taken) (omega (arith, counts-length (a .rounds) (a .turned) (a .outside), c .before .before .before .before .before .digits .ensures, c .before .before .before .before .digits2 .ensures, c .before .before .before .digits3 .ensures))
+    let d = c .before .before .before .before .before .digits in
+    let e = c .before .before .before .before .digits2 in
+    let f = c .before .before .before .digits3 in
+    let room = told-room (a .out .now) (a .at) (d .result + 25 + (e .result + f .result)) (c .before .before .has-room .ensures) (c .before .if1 .taken) in
+    omega (arith, room, d .ensures, e .ensures, f .ensures)
 
 same-length : tie.Need-same-length
 same-length c = search needs
@@ -35,15 +39,23 @@ same-length c = search needs
 returns : tie.Need-returns
 returns c =
     let a = c .before .before .before .before .before .before .before .before .before .before .args in
-    with-room (a .out .now) (a .at) (countsText (a .rounds) (a .turned) (a .outside))
-    (told-room (a .out .now) (countsText (a .rounds) (a .turned) (a .outside)) (a .at) (c .before .before .before .before .before .before .before .before .digits .result + 25 + (c .before .before .before .before .before .before .before .digits2 .result + c .before .before .before .before .before .before .digits3 .result)) (c .before .before .before .before .before .has-room .ensures) (c .before .before .before .before .if1 .taken) (omega (arith, counts-length (a .rounds) (a .turned) (a .outside), c .before .before .before .before .before .before .before .before .digits .ensures, c .before .before .before .before .before .before .before .digits2 .ensures, c .before .before .before .before .before .before .digits3 .ensures)))
+    let d = c .before .before .before .before .before .before .before .before .digits in
+    let e = c .before .before .before .before .before .before .before .digits2 in
+    let f = c .before .before .before .before .before .before .digits3 in
+    told-put (a .out .now) (a .at) (countsText (a .rounds) (a .turned) (a .outside)) (d .result + 25 + (e .result + f .result)) (c .before .before .before .before .before .has-room .ensures)
+    (c .before .before .before .before .if1 .taken)
+    (omega (arith, counts-length (a .rounds) (a .turned) (a .outside), d .ensures, e .ensures, f .ensures))
     (c .before .before .put-counts .ensures)
 
 returns-2 : tie.Need-returns-2
 returns-2 c =
     let a = c .before .before .before .before .before .before .args in
-    without-room (a .out .now) (a .at) (countsText (a .rounds) (a .turned) (a .outside))
-    (told-none (a .out .now) (countsText (a .rounds) (a .turned) (a .outside)) (a .at) (c .before .before .before .before .digits .result + 25 + (c .before .before .before .digits2 .result + c .before .before .digits3 .result)) (c .before .has-room .ensures) (c .if1 .left) (omega (arith, counts-length (a .rounds) (a .turned) (a .outside), c .before .before .before .before .digits .ensures, c .before .before .before .digits2 .ensures, c .before .before .digits3 .ensures)))
+    let d = c .before .before .before .before .digits in
+    let e = c .before .before .before .digits2 in
+    let f = c .before .before .digits3 in
+    told-kept (a .out .now) (a .at) (countsText (a .rounds) (a .turned) (a .outside)) (d .result + 25 + (e .result + f .result)) (c .before .has-room .ensures)
+    (c .if1 .left)
+    (omega (arith, counts-length (a .rounds) (a .turned) (a .outside), d .ensures, e .ensures, f .ensures))
 
 pub count-lines-spec : {M : Type 1} → statement M
 count-lines-spec =

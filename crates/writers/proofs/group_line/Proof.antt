@@ -1,11 +1,11 @@
 -- The test is that of the room for the line: digits, Y, P, two spaces and the line feed.
 -- Assumes nothing.
-use native.Mathlib.Omega.{arith}
 use Prim.Native.Nat.{_+_}
+use Rattle.writers.proofs.Placing.{group-length, told-room, told-put, told-kept}
+use native.Mathlib.Omega.{arith}
 use lib.ListN.{length}
 use Rattle.writers.proofs.Decimal.{dec-short}
 use Rattle.writers.specs.Written.{groupLineText}
-use Rattle.writers.proofs.Placing.{group-length, told-room, told-none, with-room, without-room}
 use borrow.Author.Needs.{needs}
 use Rattle.writers.proofs.group_line.Statement.{statement}
 use Rattle.writers.proofs.group_line.Tie as tie
@@ -22,7 +22,9 @@ has-room-requires c κs = search needs
 put-group-requires : tie.Need-put-group-requires
 put-group-requires c κs =
     let a = c .before .before .before .before .before .before .before .args in
-    told-room (a .out .now) (groupLineText (a .number) (a .own .now) (a .parity .now)) (a .at) (c .before .before .before .digits .result + 3 + (length (a .own .now) + length (a .parity .now))) (c .before .before .has-room .ensures) (c .before .if1 .taken) (omega (arith, group-length (a .number) (a .own .now) (a .parity .now), c .before .before .before .digits .ensures))
+    let d = c .before .before .before .digits in
+    let room = told-room (a .out .now) (a .at) (d .result + 3 + (length (a .own .now) + length (a .parity .now))) (c .before .before .has-room .ensures) (c .before .if1 .taken) in
+    omega (arith, room, d .ensures)
 
 same-length : tie.Need-same-length
 same-length c = search needs
@@ -30,15 +32,19 @@ same-length c = search needs
 returns : tie.Need-returns
 returns c =
     let a = c .before .before .before .before .before .before .before .before .before .before .args in
-    with-room (a .out .now) (a .at) (groupLineText (a .number) (a .own .now) (a .parity .now))
-    (told-room (a .out .now) (groupLineText (a .number) (a .own .now) (a .parity .now)) (a .at) (c .before .before .before .before .before .before .digits .result + 3 + (length (a .own .now) + length (a .parity .now))) (c .before .before .before .before .before .has-room .ensures) (c .before .before .before .before .if1 .taken) (omega (arith, group-length (a .number) (a .own .now) (a .parity .now), c .before .before .before .before .before .before .digits .ensures)))
+    let d = c .before .before .before .before .before .before .digits in
+    told-put (a .out .now) (a .at) (groupLineText (a .number) (a .own .now) (a .parity .now)) (d .result + 3 + (length (a .own .now) + length (a .parity .now))) (c .before .before .before .before .before .has-room .ensures)
+    (c .before .before .before .before .if1 .taken)
+    (omega (arith, group-length (a .number) (a .own .now) (a .parity .now), d .ensures))
     (c .before .before .put-group .ensures)
 
 returns-2 : tie.Need-returns-2
 returns-2 c =
     let a = c .before .before .before .before .before .before .args in
-    without-room (a .out .now) (a .at) (groupLineText (a .number) (a .own .now) (a .parity .now))
-    (told-none (a .out .now) (groupLineText (a .number) (a .own .now) (a .parity .now)) (a .at) (c .before .before .digits .result + 3 + (length (a .own .now) + length (a .parity .now))) (c .before .has-room .ensures) (c .if1 .left) (omega (arith, group-length (a .number) (a .own .now) (a .parity .now), c .before .before .digits .ensures)))
+    let d = c .before .before .digits in
+    told-kept (a .out .now) (a .at) (groupLineText (a .number) (a .own .now) (a .parity .now)) (d .result + 3 + (length (a .own .now) + length (a .parity .now))) (c .before .has-room .ensures)
+    (c .if1 .left)
+    (omega (arith, group-length (a .number) (a .own .now) (a .parity .now), d .ensures))
 
 pub group-line-spec : {M : Type 1} → statement M
 group-line-spec =

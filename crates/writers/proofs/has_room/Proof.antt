@@ -16,7 +16,9 @@ returns-3 : tie.Need-returns-3
 returns-3 c = let a = c .before .before .before .args in no-fit (a .len) (a .at + (a .a + (a .b + a .c))) (omega arith)
 
 returns-4 : tie.Need-returns-4
-returns-4 c = let a = c .before .before .before .args in last-fits (a .len) (a .at) (a .a) (a .b) (a .c) (c .before .before .if1 .left) (c .before .if2 .left) (c .if3 .left)
+returns-4 c =
+    let a = c .before .before .before .args in
+    last-fits (a .len) (a .at) (a .a) (a .b) (a .c) (c .before .before .if1 .left) (c .before .if2 .left) (c .if3 .left)
 
 pub has-room-spec : {M : Type 1} → statement M
 has-room-spec = tie.close (tie.spec returns returns-2 returns-3 returns-4)

@@ -12,7 +12,8 @@ use Rattle.writers.proofs.put_bits.Statement.{statement}
 use Rattle.writers.proofs.put_bits.Tie as tie
 
 abbrev Inv-loop : tie.InvT-loop
-Inv-loop out₀ at bits i₀ i-end out i = (i-end ≡ length bits) × (i ≤ length bits) × (length out ≡ length out₀) × (sets out (at + i) (drop i (chars bits)) ≡ sets out₀ at (chars bits))
+Inv-loop out₀ at bits i₀ i-end out i = (i-end ≡ length bits) × (i ≤ length bits) × (length out ≡ length out₀) ×
+    (sets out (at + i) (drop i (chars bits)) ≡ sets out₀ at (chars bits))
 
 abbrev μ-loop : tie.MeasureT-loop
 μ-loop out₀ at bits i₀ i-end out i = length bits - i
@@ -47,7 +48,8 @@ loop-again c =
       l .inv .0,
       omega arith,
       length-set (l .out) (a .at + l .i) v ∙ l .inv .2,
-      ap (λ (x : ℕ). sets (set (l .out) (a .at + l .i) x) (a .at + (l .i + 1)) (drop (l .i + 1) (chars (a .bits .now)))) (sym (chars-at (a .bits .now) (l .i) h))
+      ap (λ (x : ℕ). sets (set (l .out) (a .at + l .i) x) (a .at + (l .i + 1)) (drop (l .i + 1) (chars (a .bits .now))))
+          (sym (chars-at (a .bits .now) (l .i) h))
           ∙ sym (copy-more (l .out) (chars (a .bits .now)) (a .at) (l .i) (omega (arith, length-chars (a .bits .now))))
           ∙ l .inv .3,
     )
@@ -61,10 +63,8 @@ same-length c = c .before .loop .inv .2
 returns : tie.Need-returns Inv-loop μ-loop
 returns c =
     let a = c .before .before .args in
-    let l = c .before .loop in (
-      omega (arith, length-chars (a .bits .now)),
-      sym (copy-end (l .out) (chars (a .bits .now)) (a .at) (l .i) (omega (arith, length-chars (a .bits .now)))) ∙ l .inv .3,
-    )
+    let l = c .before .loop in
+    (refl, sym (copy-end (l .out) (chars (a .bits .now)) (a .at) (l .i) (omega (arith, length-chars (a .bits .now)))) ∙ l .inv .3)
 
 pub put-bits-spec : {M : Type 1} → statement M
 put-bits-spec =

@@ -10,16 +10,21 @@ use Rattle.writers.proofs.put_block_lines.Statement.{statement}
 use Rattle.writers.proofs.put_block_lines.Tie as tie
 
 abbrev Inv-loop : tie.InvT-loop
-Inv-loop out₀ at area count info q₀ from₀ number₀ left₀ out q from number left = (number + left ≡ count + 1) × (from + left * area ≡ length info) × Rest out₀ at (blockLines area 1 count info) out q (blockLines area number left (drop from info))
+Inv-loop out₀ at area count info q₀ from₀ block₀ left₀ out q from block left = (block + left ≡ count + 1) ×
+    (from + left * area ≡ length info) × Rest out₀ at (blockLines area 1 count info) out q (blockLines area block left (drop from info))
 
 abbrev μ-loop : tie.MeasureT-loop
-μ-loop out₀ at area count info q₀ from₀ number₀ left₀ out q from number left = left
+μ-loop out₀ at area count info q₀ from₀ block₀ left₀ out q from block left = left
 
 loop-holds : tie.Need-loop-holds Inv-loop μ-loop
-loop-holds c = let a = c .before .before .args in (omega arith, omega (arith, c .before .before .pre .0), rest-start (a .out .now) (a .at) (blockLines (a .area) 1 (a .count) (a .info .now)))
+loop-holds c =
+    let a = c .before .before .args in
+    (omega arith, omega (arith, c .before .before .pre .0), rest-start (a .out .now) (a .at) (blockLines (a .area) 1 (a .count) (a .info .now)))
 
 add-e : tie.Need-add-e Inv-loop μ-loop
-add-e c = let l = c .before .loop in omega (arith, l .inv .1, one-less (l .left) (c .before .before .before .before .args .area) (c .loop-test .taken))
+add-e c =
+    let l = c .before .loop in
+    omega (arith, l .inv .1, one-less (l .left) (c .before .before .before .before .args .area) (c .loop-test .taken))
 
 sub-put-block : tie.Need-sub-put-block Inv-loop μ-loop
 sub-put-block c = omega arith
@@ -28,16 +33,19 @@ part-put-block-start : tie.Need-part-put-block-start Inv-loop μ-loop
 part-put-block-start c = omega arith
 
 part-put-block-end : tie.Need-part-put-block-end Inv-loop μ-loop
-part-put-block-end c = let l = c .before .before .loop in omega (arith, l .inv .1, one-less (l .left) (c .before .before .before .before .before .args .area) (c .before .loop-test .taken))
+part-put-block-end c =
+    let l = c .before .before .loop in
+    omega (arith, l .inv .1, one-less (l .left) (c .before .before .before .before .before .args .area) (c .before .loop-test .taken))
 
 put-block-requires : tie.Need-put-block-requires Inv-loop μ-loop
 put-block-requires c κs =
     let a = c .before .before .before .before .before .before .args in
     let l = c .before .before .before .loop in
-    block-room (a .area) (l .number) (l .left) (l .from) (a .info .now) (c .before .before .loop-test .taken) (l .inv .2) (c .before .before .before .before .before .before .pre .1 .1)
+    block-room (a .area) (l .block) (l .left) (l .from) (a .info .now) (c .before .before .loop-test .taken) (l .inv .2)
+    (c .before .before .before .before .before .before .pre .1 .1)
 
-add-number : tie.Need-add-number Inv-loop μ-loop
-add-number c = omega (arith, c .before .before .before .before .before .before .loop .inv .0, c .before .before .before .before .before .before .before .before .before .pre .1 .0)
+add-block : tie.Need-add-block Inv-loop μ-loop
+add-block c = omega (arith, c .before .before .before .before .before .before .loop .inv .0, c .before .before .before .before .before .before .before .before .before .pre .1 .0)
 
 sub-left : tie.Need-sub-left Inv-loop μ-loop
 sub-left c = omega arith
@@ -52,7 +60,7 @@ loop-again c =
     let some : 0 < l .left = c .before .before .before .before .before .loop-test .taken in (
       omega (arith, l .inv .0),
       omega (arith, l .inv .1, one-less (l .left) (a .area) some),
-      block-written (a .area) (l .number) (l .left) (l .from) (a .info .now) some (l .inv .2) (c .before .before .put-block .ensures),
+      block-written (a .area) (l .block) (l .left) (l .from) (a .info .now) some (l .inv .2) (c .before .before .put-block .ensures),
     )
 
 same-length : tie.Need-same-length Inv-loop μ-loop
@@ -62,7 +70,7 @@ returns : tie.Need-returns Inv-loop μ-loop
 returns c =
     let a = c .before .before .before .before .args in
     let l = c .before .loop in
-    rest-end (blocks-none (a .area) (l .number) (l .left) (drop (l .from) (a .info .now)) (c .loop-test .left)) (l .inv .2)
+    rest-end (blocks-none (a .area) (l .block) (l .left) (drop (l .from) (a .info .now)) (c .loop-test .left)) (l .inv .2)
 
 pub put-block-lines-spec : {M : Type 1} → statement M
 put-block-lines-spec =
@@ -76,7 +84,7 @@ put-block-lines-spec =
     part-put-block-start
     part-put-block-end
     put-block-requires
-    add-number
+    add-block
     sub-left
     loop-less
     loop-again

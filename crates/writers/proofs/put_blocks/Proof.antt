@@ -22,7 +22,10 @@ same-length : tie.Need-same-length
 same-length c = search needs
 
 returns : tie.Need-returns
-returns c = let a = c .before .before .before .before .before .before .before .before .before .before .before .args in block-text-put (a .out .now) (a .at) (a .area) (a .count) (a .info .now) (c .before .before .before .before .before .before .put-bytes .ensures) (c .before .before .put-block-lines .ensures)
+returns c =
+    let a = c .before .before .before .before .before .before .before .before .before .before .before .args in
+    block-text-put (a .out .now) (a .at) (a .area) (a .count) (a .info .now) (c .before .before .before .before .before .before .put-bytes .ensures)
+    (c .before .before .put-block-lines .ensures)
 
 pub put-blocks-spec : {M : Type 1} → statement M
 put-blocks-spec =

@@ -10,7 +10,8 @@ use Rattle.writers.proofs.put_bytes.Statement.{statement}
 use Rattle.writers.proofs.put_bytes.Tie as tie
 
 abbrev Inv-loop : tie.InvT-loop
-Inv-loop out₀ at text i₀ i-end out i = (i-end ≡ length text) × (i ≤ length text) × (length out ≡ length out₀) × (sets out (at + i) (drop i text) ≡ sets out₀ at text)
+Inv-loop out₀ at text i₀ i-end out i = (i-end ≡ length text) × (i ≤ length text) × (length out ≡ length out₀) ×
+    (sets out (at + i) (drop i text) ≡ sets out₀ at text)
 
 abbrev μ-loop : tie.MeasureT-loop
 μ-loop out₀ at text i₀ i-end out i = length text - i

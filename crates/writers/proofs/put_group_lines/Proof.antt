@@ -10,19 +10,26 @@ use Rattle.writers.proofs.put_group_lines.Statement.{statement}
 use Rattle.writers.proofs.put_group_lines.Tie as tie
 
 abbrev Inv-loop : tie.InvT-loop
-Inv-loop out₀ at n count red q₀ from₀ number₀ left₀ out q from number left = (number + left ≡ count + 1) × (from + left * (2 * n) ≡ length red) × Rest out₀ at (groupLines n 1 count red) out q (groupLines n number left (drop from red))
+Inv-loop out₀ at n count red q₀ from₀ group₀ left₀ out q from group left = (group + left ≡ count + 1) ×
+    (from + left * (2 * n) ≡ length red) × Rest out₀ at (groupLines n 1 count red) out q (groupLines n group left (drop from red))
 
 abbrev μ-loop : tie.MeasureT-loop
-μ-loop out₀ at n count red q₀ from₀ number₀ left₀ out q from number left = left
+μ-loop out₀ at n count red q₀ from₀ group₀ left₀ out q from group left = left
 
 loop-holds : tie.Need-loop-holds Inv-loop μ-loop
-loop-holds c = let a = c .before .before .args in (omega arith, omega (arith, c .before .before .pre .0), rest-start (a .out .now) (a .at) (groupLines (a .n) 1 (a .count) (a .red .now)))
+loop-holds c =
+    let a = c .before .before .args in
+    (omega arith, omega (arith, c .before .before .pre .0), rest-start (a .out .now) (a .at) (groupLines (a .n) 1 (a .count) (a .red .now)))
 
 add-mid : tie.Need-add-mid Inv-loop μ-loop
-add-mid c = let l = c .before .loop in omega (arith, l .inv .1, one-less (l .left) (2 * c .before .before .before .before .args .n) (c .loop-test .taken))
+add-mid c =
+    let l = c .before .loop in
+    omega (arith, l .inv .1, one-less (l .left) (2 * c .before .before .before .before .args .n) (c .loop-test .taken))
 
 add-e : tie.Need-add-e Inv-loop μ-loop
-add-e c = let l = c .before .loop in omega (arith, l .inv .1, one-less (l .left) (2 * c .before .before .before .before .args .n) (c .loop-test .taken))
+add-e c =
+    let l = c .before .loop in
+    omega (arith, l .inv .1, one-less (l .left) (2 * c .before .before .before .before .args .n) (c .loop-test .taken))
 
 sub-put-group : tie.Need-sub-put-group Inv-loop μ-loop
 sub-put-group c = omega arith
@@ -31,7 +38,9 @@ part-put-group-start : tie.Need-part-put-group-start Inv-loop μ-loop
 part-put-group-start c = omega arith
 
 part-put-group-end : tie.Need-part-put-group-end Inv-loop μ-loop
-part-put-group-end c = let l = c .before .before .loop in omega (arith, l .inv .1, one-less (l .left) (2 * c .before .before .before .before .before .args .n) (c .before .loop-test .taken))
+part-put-group-end c =
+    let l = c .before .before .loop in
+    omega (arith, l .inv .1, one-less (l .left) (2 * c .before .before .before .before .before .args .n) (c .before .loop-test .taken))
 
 sub-put-group-2 : tie.Need-sub-put-group-2 Inv-loop μ-loop
 sub-put-group-2 c = omega arith
@@ -40,16 +49,18 @@ part-put-group-start-2 : tie.Need-part-put-group-start-2 Inv-loop μ-loop
 part-put-group-start-2 c = omega arith
 
 part-put-group-end-2 : tie.Need-part-put-group-end-2 Inv-loop μ-loop
-part-put-group-end-2 c = let l = c .before .before .before .loop in omega (arith, l .inv .1, one-less (l .left) (2 * c .before .before .before .before .before .before .args .n) (c .before .before .loop-test .taken))
+part-put-group-end-2 c =
+    let l = c .before .before .before .loop in
+    omega (arith, l .inv .1, one-less (l .left) (2 * c .before .before .before .before .before .before .args .n) (c .before .before .loop-test .taken))
 
 put-group-requires : tie.Need-put-group-requires Inv-loop μ-loop
 put-group-requires c κs =
     let a = c .before .before .before .before .before .before .before .args in
     let l = c .before .before .before .before .loop in
-    group-room (a .n) (l .number) (l .left) (l .from) (a .red .now) (c .before .before .before .loop-test .taken) (l .inv .2) (c .before .before .before .before .before .before .before .pre .1 .1)
+    omega (arith, group-room (a .n) (l .group) (l .left) (l .from) (a .red .now) (c .before .before .before .loop-test .taken) (l .inv .2) (c .before .before .before .before .before .before .before .pre .1 .1))
 
-add-number : tie.Need-add-number Inv-loop μ-loop
-add-number c = omega (arith, c .before .before .before .before .before .before .before .loop .inv .0, c .before .before .before .before .before .before .before .before .before .before .pre .1 .0)
+add-group : tie.Need-add-group Inv-loop μ-loop
+add-group c = omega (arith, c .before .before .before .before .before .before .before .loop .inv .0, c .before .before .before .before .before .before .before .before .before .before .pre .1 .0)
 
 sub-left : tie.Need-sub-left Inv-loop μ-loop
 sub-left c = omega arith
@@ -61,10 +72,11 @@ loop-again : tie.Need-loop-again Inv-loop μ-loop
 loop-again c =
     let a = c .before .before .before .before .before .before .before .before .before .before .args in
     let l = c .before .before .before .before .before .before .before .loop in
-    let some : 0 < l .left = c .before .before .before .before .before .before .loop-test .taken in (
+    let some : 0 < l .left = c .before .before .before .before .before .before .loop-test .taken in
+    let width = one-less (l .left) (2 * a .n) some in (
       omega (arith, l .inv .0),
-      omega (arith, l .inv .1, one-less (l .left) (2 * a .n) some),
-      group-written (a .n) (l .number) (l .left) (l .from) (a .red .now) some (l .inv .2) (c .before .before .put-group .ensures),
+      omega (arith, l .inv .1, width),
+      group-written (a .n) (l .group) (l .left) (l .from) (a .red .now) some (l .inv .2) (c .before .before .put-group .ensures),
     )
 
 same-length : tie.Need-same-length Inv-loop μ-loop
@@ -74,7 +86,7 @@ returns : tie.Need-returns Inv-loop μ-loop
 returns c =
     let a = c .before .before .before .before .args in
     let l = c .before .loop in
-    rest-end (groups-none (a .n) (l .number) (l .left) (drop (l .from) (a .red .now)) (c .loop-test .left)) (l .inv .2)
+    rest-end (groups-none (a .n) (l .group) (l .left) (drop (l .from) (a .red .now)) (c .loop-test .left)) (l .inv .2)
 
 pub put-group-lines-spec : {M : Type 1} → statement M
 put-group-lines-spec =
@@ -92,7 +104,7 @@ put-group-lines-spec =
     part-put-group-start-2
     part-put-group-end-2
     put-group-requires
-    add-number
+    add-group
     sub-left
     loop-less
     loop-again

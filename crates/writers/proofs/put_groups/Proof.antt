@@ -22,7 +22,10 @@ same-length : tie.Need-same-length
 same-length c = search needs
 
 returns : tie.Need-returns
-returns c = let a = c .before .before .before .before .before .before .before .before .before .before .before .args in group-text-put (a .out .now) (a .at) (a .n) (a .count) (a .red .now) (c .before .before .before .before .before .before .put-bytes .ensures) (c .before .before .put-group-lines .ensures)
+returns c =
+    let a = c .before .before .before .before .before .before .before .before .before .before .before .args in
+    group-text-put (a .out .now) (a .at) (a .n) (a .count) (a .red .now) (c .before .before .before .before .before .before .put-bytes .ensures)
+    (c .before .before .put-group-lines .ensures)
 
 pub put-groups-spec : {M : Type 1} → statement M
 put-groups-spec =

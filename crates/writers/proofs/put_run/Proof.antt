@@ -1,26 +1,28 @@
 -- The characters, and the byte behind them.
 -- Assumes nothing.
+use lib.ListN.{length}
+use Rattle.writers.proofs.Placing.{put-snoc}
 use native.Mathlib.Omega.{arith}
-use mathlib.Core.List.{[], _∷_}
 use Rattle.writers.specs.Written.{chars}
 use Rattle.writers.proofs.Chars.{length-chars}
-use Rattle.writers.proofs.Placing.{snoc-length}
-use Rattle.writers.proofs.Storing.{put-then}
 use borrow.Author.Needs.{needs}
 use Rattle.writers.proofs.put_run.Statement.{statement}
 use Rattle.writers.proofs.put_run.Tie as tie
 
 put-bits-requires : tie.Need-put-bits-requires
-put-bits-requires c κs = let a = c .before .before .before .args in omega (arith, snoc-length (chars (a .bits .now)) (a .end), length-chars (a .bits .now))
+put-bits-requires c κs = omega arith
 
 put-byte-requires : tie.Need-put-byte-requires
-put-byte-requires c κs = let a = c .before .before .before .before .before .before .before .args in omega (arith, snoc-length (chars (a .bits .now)) (a .end), c .before .before .before .put-bits .ensures .0)
+put-byte-requires c κs = omega (arith, c .before .before .before .put-bits .ensures .0)
 
 same-length : tie.Need-same-length
 same-length c = search needs
 
 returns : tie.Need-returns
-returns c = let a = c .before .before .before .before .before .before .before .before .before .before .args in put-then (a .out .now) (chars (a .bits .now)) (a .end ∷ []) (a .at) (c .before .before .before .before .before .before .put-bits .ensures) (c .before .before .put-byte .ensures)
+returns c =
+    let a = c .before .before .before .before .before .before .before .before .before .before .args in
+    put-snoc (a .out .now) (chars (a .bits .now)) (a .end) (a .at) (length (a .bits .now)) (length-chars (a .bits .now))
+    (c .before .before .before .before .before .before .put-bits .ensures) (c .before .before .put-byte .ensures)
 
 pub put-run-spec : {M : Type 1} → statement M
 put-run-spec = tie.close (tie.spec put-bits-requires put-byte-requires same-length returns)

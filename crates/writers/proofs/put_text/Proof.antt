@@ -1,9 +1,9 @@
 -- The test is that of the room for the text.
 -- Assumes nothing.
-use native.Mathlib.Omega.{arith}
 use Prim.Native.Nat.{_+_}
+use Rattle.writers.proofs.Placing.{told-room, told-put, told-kept}
+use native.Mathlib.Omega.{arith}
 use lib.ListN.{length}
-use Rattle.writers.proofs.Placing.{told-room, told-none, with-room, without-room}
 use borrow.Author.Needs.{needs}
 use Rattle.writers.proofs.put_text.Statement.{statement}
 use Rattle.writers.proofs.put_text.Tie as tie
@@ -14,7 +14,7 @@ has-room-requires c κs = search needs
 put-bytes-requires : tie.Need-put-bytes-requires
 put-bytes-requires c κs =
     let a = c .before .before .before .before .before .args in
-    told-room (a .out .now) (a .text .now) (a .at) (length (a .text .now) + (0 + 0)) (c .before .before .has-room .ensures) (c .before .if1 .taken) (omega arith)
+    omega (arith, told-room (a .out .now) (a .at) (length (a .text .now) + (0 + 0)) (c .before .before .has-room .ensures) (c .before .if1 .taken))
 
 same-length : tie.Need-same-length
 same-length c = search needs
@@ -22,15 +22,13 @@ same-length c = search needs
 returns : tie.Need-returns
 returns c =
     let a = c .before .before .before .before .before .before .before .before .args in
-    with-room (a .out .now) (a .at) (a .text .now)
-    (told-room (a .out .now) (a .text .now) (a .at) (length (a .text .now) + (0 + 0)) (c .before .before .before .before .before .has-room .ensures) (c .before .before .before .before .if1 .taken) (omega arith))
-    (c .before .before .put-bytes .ensures)
+    told-put (a .out .now) (a .at) (a .text .now) (length (a .text .now) + (0 + 0)) (c .before .before .before .before .before .has-room .ensures)
+    (c .before .before .before .before .if1 .taken) (omega arith) (c .before .before .put-bytes .ensures)
 
 returns-2 : tie.Need-returns-2
 returns-2 c =
     let a = c .before .before .before .before .args in
-    without-room (a .out .now) (a .at) (a .text .now)
-    (told-none (a .out .now) (a .text .now) (a .at) (length (a .text .now) + (0 + 0)) (c .before .has-room .ensures) (c .if1 .left) (omega arith))
+    told-kept (a .out .now) (a .at) (a .text .now) (length (a .text .now) + (0 + 0)) (c .before .has-room .ensures) (c .if1 .left) (omega arith)
 
 pub put-text-spec : {M : Type 1} → statement M
 put-text-spec =

@@ -1,9 +1,9 @@
 -- The test is that of the room for the two lines: fourteen bytes of names, the digits, the space and the line feed.
 -- Assumes nothing.
-use native.Mathlib.Omega.{arith}
 use Prim.Native.Nat.{_+_}
+use Rattle.writers.proofs.Placing.{refusal-length, told-room, told-put, told-kept}
+use native.Mathlib.Omega.{arith}
 use Rattle.writers.specs.Written.{refusalText}
-use Rattle.writers.proofs.Placing.{refusal-length, told-room, told-none, with-room, without-room}
 use borrow.Author.Needs.{needs}
 use Rattle.writers.proofs.refusal_lines.Statement.{statement}
 use Rattle.writers.proofs.refusal_lines.Tie as tie
@@ -20,7 +20,10 @@ has-room-requires c κs = search needs
 put-refusal-requires : tie.Need-put-refusal-requires
 put-refusal-requires c κs =
     let a = c .before .before .before .before .before .before .args in
-    told-room (a .out .now) (refusalText (a .rule) (a .place)) (a .at) (16 + (c .before .before .before .before .digits .result + c .before .before .before .digits2 .result)) (c .before .before .has-room .ensures) (c .before .if1 .taken) (omega (arith, refusal-length (a .rule) (a .place), c .before .before .before .before .digits .ensures, c .before .before .before .digits2 .ensures))
+    let d = c .before .before .before .before .digits in
+    let e = c .before .before .before .digits2 in
+    let room = told-room (a .out .now) (a .at) (16 + (d .result + e .result)) (c .before .before .has-room .ensures) (c .before .if1 .taken) in
+    omega (arith, room, d .ensures, e .ensures)
 
 same-length : tie.Need-same-length
 same-length c = search needs
@@ -28,15 +31,21 @@ same-length c = search needs
 returns : tie.Need-returns
 returns c =
     let a = c .before .before .before .before .before .before .before .before .before .args in
-    with-room (a .out .now) (a .at) (refusalText (a .rule) (a .place))
-    (told-room (a .out .now) (refusalText (a .rule) (a .place)) (a .at) (16 + (c .before .before .before .before .before .before .before .digits .result + c .before .before .before .before .before .before .digits2 .result)) (c .before .before .before .before .before .has-room .ensures) (c .before .before .before .before .if1 .taken) (omega (arith, refusal-length (a .rule) (a .place), c .before .before .before .before .before .before .before .digits .ensures, c .before .before .before .before .before .before .digits2 .ensures)))
+    let d = c .before .before .before .before .before .before .before .digits in
+    let e = c .before .before .before .before .before .before .digits2 in
+    told-put (a .out .now) (a .at) (refusalText (a .rule) (a .place)) (16 + (d .result + e .result)) (c .before .before .before .before .before .has-room .ensures)
+    (c .before .before .before .before .if1 .taken)
+    (omega (arith, refusal-length (a .rule) (a .place), d .ensures, e .ensures))
     (c .before .before .put-refusal .ensures)
 
 returns-2 : tie.Need-returns-2
 returns-2 c =
     let a = c .before .before .before .before .before .args in
-    without-room (a .out .now) (a .at) (refusalText (a .rule) (a .place))
-    (told-none (a .out .now) (refusalText (a .rule) (a .place)) (a .at) (16 + (c .before .before .before .digits .result + c .before .before .digits2 .result)) (c .before .has-room .ensures) (c .if1 .left) (omega (arith, refusal-length (a .rule) (a .place), c .before .before .before .digits .ensures, c .before .before .digits2 .ensures)))
+    let d = c .before .before .before .digits in
+    let e = c .before .before .digits2 in
+    told-kept (a .out .now) (a .at) (refusalText (a .rule) (a .place)) (16 + (d .result + e .result)) (c .before .has-room .ensures)
+    (c .if1 .left)
+    (omega (arith, refusal-length (a .rule) (a .place), d .ensures, e .ensures))
 
 pub refusal-lines-spec : {M : Type 1} → statement M
 refusal-lines-spec =

@@ -1,0 +1,253 @@
+-- The reader's verdict and what it leaves, as the code has it.
+--   lengths-first .. lengths-third    `check_lengths`
+--   Leaves                            the answer and the three slices are those of the definition
+--   read-none .. read-whole           `read_kit`
+--   Ready                             what the filling requires
+-- Assumes nothing.
+use Prim.Native.Nat.{ℕ, _+_, _*_, _/_, _≤_, _<_}
+use mathlib.Core.Path.{_≡_, refl, sym, ap, _∙_}
+use mathlib.Core.Logic.{_≢_}
+use mathlib.Core.List.{List, _++_}
+use native.Mathlib.Omega.{arith}
+use lib.ListN.{length, take, drop}
+use lib.Seq.{take-at, drop-at}
+use Rattle.formats.specs.Items.{Walk, stuck, past, walk, values, Passes, bitsLines}
+use Rattle.readers.specs.Verdicts.{valuesOf, kept}
+use Rattle.staircase.specs.Rules.{Verdict, _then_, designRules, lengthRule, listLengths, kitLengths}
+use Rattle.staircase.specs.Rules.Verdict.{accepted, refused}
+use Rattle.staircase.specs.Design.{Params, order}
+use Rattle.staircase.specs.System.{rowBytes}
+use Rattle.staircase.proofs.Rules.{then-first, then-rest}
+use Rattle.design.specs.declared.Design.{Design}
+use Rattle.design.specs.declared.Refusal.{Refusal}
+use Rattle.design.specs.declared.Check.{Check}
+use Rattle.design.specs.declared.Check.the-variants as check
+use Rattle.design.specs.Answers.{refusalVerdict, verdictOf}
+use Rattle.design.specs.Sizes.{paramsOf}
+use Rattle.design.proofs.Answers.{refused-then, passed-then, check-refused}
+use Rattle.design.proofs.Accepted.{length-equal, list-lengths}
+use Rattle.kittext.specs.KitText.{pairLines, firsts, seconds, packs, packRows}
+use Rattle.kittext.specs.Reader.{headNumber, kitParams, headRule, bodyScan, bodyRule, selfOf, parityOf, inverseOf, readVerdict, readKitCall, kitScanVerdict, KitDesign}
+use Rattle.kittext.specs.Answers.{frontRule, frontVerdict, FrontIs, restRule, restVerdict, RestParts}
+use Rattle.kittext.specs.declared.KitScan.{KitScan}
+use Rattle.kittext.specs.declared.KitScan.the-variants.{Kit, Refused, Broken}
+use Rattle.kittext.specs.declared.Front.{Front}
+use Rattle.kittext.specs.declared.Front.the-variants.{Starts, Ruled, NoStart}
+use Rattle.kittext.specs.declared.Rest.{Rest}
+use Rattle.kittext.specs.declared.Rest.the-variants.{Whole, NotWhole}
+use Rattle.kittext.proofs.Counting.{pairs-walked}
+use Rattle.kittext.proofs.ScanLaws.{then-three, refusal-first, Opens, front-broken, front-refused, opens, small-order, order-is, body-is, rule-is, kit-design}
+
+-- ---- rule 6
+
+module _ (d : Design) (own parity w : List ℕ) (n : ℕ) (en : n ≡ d .size * (d .m * d .t)) (x : Check) (ex : verdictOf x ≡ lengthRule 1 (length own) (2 * n)) where
+  abbrev A : Verdict
+  A = lengthRule 1 (length own) (2 * order (paramsOf d))
+
+  abbrev B : Verdict
+  B = lengthRule 2 (length parity) (2 * order (paramsOf d))
+
+  abbrev C : Verdict
+  C = lengthRule 3 (length w) (order (paramsOf d) * rowBytes (order (paramsOf d)))
+
+  ordered : (A then (B then C)) ≡ kitLengths (paramsOf d) own parity w
+  unfolding kitLengths listLengths
+  ordered = sym (then-three A B C)
+
+  first-is : verdictOf x ≡ A
+  first-is = ex ∙ ap (λ (k : ℕ). lengthRule 1 (length own) (2 * k)) en
+
+  pub lengths-first : (r : Refusal) → x ≡ check.Refused r → verdictOf x ≡ kitLengths (paramsOf d) own parity w
+  lengths-first r f = refused-then (B then C) first-is f ∙ ordered
+
+  module _ (px : x ≡ check.Passed) (y : Check) (ey : verdictOf y ≡ lengthRule 2 (length parity) (2 * n)) where
+    second-is : verdictOf y ≡ B
+    second-is = ey ∙ ap (λ (k : ℕ). lengthRule 2 (length parity) (2 * k)) en
+
+    after-first : (B then C) ≡ kitLengths (paramsOf d) own parity w
+    after-first = passed-then (B then C) first-is px ∙ ordered
+
+    pub lengths-second : (r : Refusal) → y ≡ check.Refused r → verdictOf y ≡ kitLengths (paramsOf d) own parity w
+    lengths-second r f = refused-then C second-is f ∙ after-first
+
+    pub lengths-third : y ≡ check.Passed → (b : ℕ) → b ≡ (d .size * (d .m * d .t) + 7) / 8 → (z : Check) → verdictOf z ≡ lengthRule 3 (length w) (n * b)
+        → verdictOf z ≡ kitLengths (paramsOf d) own parity w
+    lengths-third py b eb z ez =
+        ez ∙ ap (λ (k : ℕ). lengthRule 3 (length w) (k * b)) en ∙ ap (λ (k : ℕ). lengthRule 3 (length w) (order (paramsOf d) * k)) eb
+        ∙ passed-then C second-is py ∙ after-first
+
+-- ---- the call
+
+abbrev pub Leaves : KitScan → List ℕ → List ℕ → List ℕ → List ℕ → List ℕ → List ℕ → List ℕ → Type 0
+Leaves a s own parity w own′ parity′ w′ =
+    (kitScanVerdict a ≡ (readKitCall s own parity w) .verdict)
+    × (KitDesign a s
+    × ((own′ ≡ (readKitCall s own parity w) .self)
+    × ((parity′ ≡ (readKitCall s own parity w) .parity)
+    × (w′ ≡ (readKitCall s own parity w) .inverse))))
+
+kept-old : (v : Verdict) (new old : List ℕ) → v ≢ accepted → old ≡ kept v new old
+unfolding kept
+kept-old accepted new old h = absurd (h refl)
+kept-old (refused n p) new old h = refl
+
+kept-new : (v : Verdict) (new old : List ℕ) → v ≡ accepted → new ≡ kept v new old
+unfolding kept
+kept-new accepted new old h = refl
+kept-new (refused n p) new old h = cc
+
+module _ (a : KitScan) (s own parity w : List ℕ) (e : kitScanVerdict a ≡ readVerdict s own parity w) (d : KitDesign a s) where
+  leaves-old : kitScanVerdict a ≢ accepted → Leaves a s own parity w own parity w
+  unfolding readKitCall
+  leaves-old h =
+      let n : readVerdict s own parity w ≢ accepted = λ z. h (e ∙ z) in
+      let v : Verdict = readVerdict s own parity w in
+      (e, (d, (kept-old v (selfOf s) own n, (kept-old v (parityOf s) parity n, kept-old v (inverseOf s) w n))))
+
+  leaves-new : kitScanVerdict a ≡ accepted → (own′ parity′ w′ : List ℕ) → own′ ≡ selfOf s → parity′ ≡ parityOf s → w′ ≡ inverseOf s
+      → Leaves a s own parity w own′ parity′ w′
+  unfolding readKitCall
+  leaves-new h own′ parity′ w′ f g i =
+      let n : readVerdict s own parity w ≡ accepted = sym e ∙ h in
+      let v : Verdict = readVerdict s own parity w in
+      (e, (d, (f ∙ kept-new v (selfOf s) own n, (g ∙ kept-new v (parityOf s) parity n, i ∙ kept-new v (inverseOf s) w n))))
+
+pub refusal-not : (r : Refusal) → refusalVerdict r ≢ accepted
+unfolding verdictOf
+refusal-not r = check-refused {x = check.Refused r} refl
+
+refused-not : (n p : ℕ) → refused n p ≢ accepted
+refused-not n p e = let z : _≡_ {A = ℕ} 0 1 = cc in omega arith
+
+module _ (s own parity w : List ℕ) where
+  read-parts : readVerdict s own parity w ≡ (frontRule s then (kitLengths (kitParams s) own parity w then bodyRule s))
+  unfolding readVerdict frontRule
+  read-parts =
+      sym (then-three (headRule s) (designRules (headNumber s 0) (headNumber s 1) (headNumber s 2)) (kitLengths (kitParams s) own parity w then bodyRule s))
+
+  from-front : (v : Verdict) → frontRule s ≡ v → (v then (kitLengths (kitParams s) own parity w then bodyRule s)) ≡ readVerdict s own parity w
+  from-front v e = sym (read-parts ∙ ap (λ (u : Verdict). u then (kitLengths (kitParams s) own parity w then bodyRule s)) e)
+
+  module _ (f : Front) (ef : (frontVerdict f ≡ frontRule s) × FrontIs f s) where
+    pub read-none : (q : ℕ) → f ≡ NoStart q → Leaves (Broken q) s own parity w own parity w
+    unfolding kitScanVerdict KitDesign
+    read-none q g = leaves-old (Broken q) s own parity w (from-front (refused 11 q) (front-broken s f ef q g)) tt (refused-not 11 q)
+
+    pub read-ruled : (r : Refusal) → f ≡ Ruled r → Leaves (Refused r) s own parity w own parity w
+    unfolding kitScanVerdict KitDesign
+    read-ruled r g =
+        leaves-old (Refused r) s own parity w
+        (sym (refusal-first r (kitLengths (kitParams s) own parity w then bodyRule s)) ∙ from-front (refusalVerdict r) (front-refused s f ef r g))
+        tt
+        (refusal-not r)
+
+    module _ (d : Design) (at : ℕ) (g : f ≡ Starts d at) (x : Check) (ex : verdictOf x ≡ kitLengths (paramsOf d) own parity w) where
+      open-is : Opens s d at
+      open-is = opens s f ef d at g
+
+      sizes-are : paramsOf d ≡ kitParams s
+      sizes-are = rw (open-is .m-is, open-is .t-is, open-is .M-is)
+
+      lengths-are : verdictOf x ≡ kitLengths (kitParams s) own parity w
+      lengths-are = ex ∙ ap (λ (k : Params). kitLengths k own parity w) sizes-are
+
+      pub read-lengths : (r : Refusal) → x ≡ check.Refused r → Leaves (Refused r) s own parity w own parity w
+      unfolding kitScanVerdict KitDesign verdictOf
+      read-lengths r h =
+          leaves-old (Refused r) s own parity w
+          (sym (ap verdictOf h) ∙ refused-then (bodyRule s) lengths-are h ∙ from-front accepted (open-is .rule))
+          tt
+          (refusal-not r)
+
+      module _ (px : x ≡ check.Passed) (n : ℕ) (en : (n ≡ d .size * (d .m * d .t)) × (n < 4294967296)) where
+        pub read-small : n ≤ 4096
+        read-small = small-order s d at open-is n (en .0)
+
+        module _ (y : Rest) (ey : (restVerdict y ≡ restRule n s at) × RestParts y n s at) where
+          rest-is : restVerdict y ≡ readVerdict s own parity w
+          rest-is = ey .0 ∙ sym (rule-is s d at open-is n (en .0)) ∙ passed-then (bodyRule s) lengths-are px ∙ from-front accepted (open-is .rule)
+
+          pub read-not : (q : ℕ) → y ≡ NotWhole q → Leaves (Broken q) s own parity w own parity w
+          unfolding kitScanVerdict KitDesign restVerdict
+          read-not q h = leaves-old (Broken q) s own parity w (sym (ap restVerdict h) ∙ rest-is) tt (refused-not 11 q)
+
+          module _ (i j : ℕ) (h : y ≡ Whole i j) where
+            parts : RestParts (Whole i j) n s at
+            parts = rw h at (ey .1)
+
+            lengths-ok : kitLengths (paramsOf d) own parity w ≡ accepted
+            unfolding verdictOf
+            lengths-ok = sym ex ∙ ap verdictOf px
+
+            list-ok : (length own ≡ 2 * n) × (length parity ≡ 2 * n)
+            unfolding kitLengths
+            list-ok =
+                rw (en .0)
+                (list-lengths (paramsOf d) own parity
+                (then-first (listLengths (paramsOf d) own parity) (lengthRule 3 (length w) (order (paramsOf d) * rowBytes (order (paramsOf d)))) lengths-ok))
+
+            inverse-ok : length w ≡ n * rowBytes n
+            unfolding kitLengths
+            inverse-ok =
+                rw (en .0)
+                (length-equal 3 (length w) (order (paramsOf d) * rowBytes (order (paramsOf d)))
+                (then-rest (listLengths (paramsOf d) own parity) (lengthRule 3 (length w) (order (paramsOf d) * rowBytes (order (paramsOf d)))) lengths-ok))
+
+            -- what the filling requires
+            pub lists-ready : (n ≤ 4096) × (Passes (walk (pairLines 0 n) s i) × ((length own ≡ 2 * n) × (length parity ≡ 2 * n)))
+            unfolding RestParts
+            lists-ready = (read-small, (parts .0, list-ok))
+
+            pub inverse-ready : (n ≤ 4096) × (Passes (walk (bitsLines n 0 n) s j) × (length w ≡ n * rowBytes n))
+            unfolding RestParts
+            inverse-ready = (read-small, (parts .1, inverse-ok))
+
+            abbrev Ws : List ℕ
+            Ws = values (walk (pairLines 0 n) s i)
+
+            abbrev Us : List ℕ
+            Us = values (walk (bitsLines n 0 n) s j)
+
+            order-ok : n ≡ order (kitParams s)
+            order-ok = order-is s d at open-is n (en .0)
+
+            shows : valuesOf (bodyScan s) ≡ Ws ++ Us
+            unfolding RestParts
+            shows = ap valuesOf (body-is s d at open-is n (en .0)) ∙ parts .2
+
+            passes-past : (v : Walk) → Passes v → (q : ℕ) × (v ≡ past (values v) q)
+            passes-past (stuck q) k = absurd k
+            passes-past (past ws q) k = (q, refl)
+
+            count : length Ws ≡ 2 * n
+            count =
+                let (q, e) = passes-past (walk (pairLines 0 n) s i) (lists-ready .1 .0) in
+                pairs-walked n s i Ws q (omega (arith, read-small)) e
+
+            first-part : take (2 * order (kitParams s)) (valuesOf (bodyScan s)) ≡ Ws
+            first-part = ap (λ (k : ℕ). take (2 * k) (valuesOf (bodyScan s))) (sym order-ok) ∙ ap (take (2 * n)) shows ∙ take-at Ws Us (2 * n) count
+
+            last-part : drop (2 * order (kitParams s)) (valuesOf (bodyScan s)) ≡ Us
+            last-part = ap (λ (k : ℕ). drop (2 * k) (valuesOf (bodyScan s))) (sym order-ok) ∙ ap (drop (2 * n)) shows ∙ drop-at Ws Us (2 * n) count
+
+            self-is : packs (firsts Ws) ≡ selfOf s
+            unfolding selfOf
+            self-is = sym (ap (λ (l : List ℕ). packs (firsts l)) first-part)
+
+            parity-is : packs (seconds Ws) ≡ parityOf s
+            unfolding parityOf
+            parity-is = sym (ap (λ (l : List ℕ). packs (seconds l)) first-part)
+
+            inverse-is : packRows n n Us ≡ inverseOf s
+            unfolding inverseOf
+            inverse-is = ap (λ (k : ℕ). packRows k k Us) order-ok ∙ sym (ap (packRows (order (kitParams s)) (order (kitParams s))) last-part)
+
+            pub read-whole : (own′ parity′ w′ : List ℕ) → own′ ≡ packs (firsts (values (walk (pairLines 0 n) s i)))
+                → parity′ ≡ packs (seconds (values (walk (pairLines 0 n) s i))) → w′ ≡ packRows n n (values (walk (bitsLines n 0 n) s j))
+                → Leaves (Kit d) s own parity w own′ parity′ w′
+            unfolding kitScanVerdict restVerdict
+            read-whole own′ parity′ w′ a b c =
+                leaves-new (Kit d) s own parity w (sym (ap restVerdict h) ∙ rest-is) (kit-design s d at open-is n (en .0)) refl own′ parity′ w′
+                (a ∙ self-is)
+                (b ∙ parity-is)
+                (c ∙ inverse-is)

@@ -1,0 +1,85 @@
+"""The examples under examples/, made by the independent reading of document 01 in tests/second_kit.py.
+
+A folder has kit.txt, blocks.txt and groups.txt, which `frame` prints for them; received.txt, a damaged copy of both texts, and mended.txt, which
+`mend` prints for it.
+
+    python3 tests/examples.py           writes the files
+    python3 tests/examples.py --check   exits 0 exactly when each file has these bytes
+"""
+import os
+import sys
+
+from second_kit import Design, Frame, decode, encode, inverse, system, turn
+
+FOLDER = os.path.join(os.path.dirname(os.path.abspath(__file__)), "..", "examples")
+
+
+def bits(values):
+    return "".join(map(str, values))
+
+
+def table(names, rows):
+    return "".join(" ".join(map(str, row)) + "\n" for row in [names.split(), *rows])
+
+
+def kit_text(m, t, M, lists, W):
+    return (table("m t M", [(m, t, M)])
+            + table("place self parity", [(p, *pair) for p, pair in enumerate(zip(*lists))])
+            + table("row inverse", [(i, bits(row)) for i, row in enumerate(W)]))
+
+
+def block_text(frame):
+    area, information = frame.design.M ** 2, frame.information()
+    return table("block bits", [(b + 1, bits(information[b * area:(b + 1) * area])) for b in range(frame.L)])
+
+
+def group_text(frame):
+    order, redundancy = frame.design.M * frame.design.r, frame.redundancy()
+    parts = [bits(redundancy[k:k + order]) for k in range(0, len(redundancy), order)]
+    return table("group self parity", [(i, parts[2 * i - 2], parts[2 * i - 1]) for i in frame.groups])
+
+
+def example(m, t, M, lists, information, wrong):
+    """A kit, a frame of this information, and its copy with the bits at the places `wrong` turned (redundancy counts on)."""
+    design = Design(m, t, M)
+    W = inverse(system(design, lists))
+    frame = Frame(design, lists, len(information) // M ** 2)
+    frame.load(information + frame.redundancy())
+    encode(frame, W)
+    yield "kit.txt", kit_text(m, t, M, lists, W)
+    yield "blocks.txt", block_text(frame)
+    yield "groups.txt", group_text(frame)
+    frame.load(turn(frame.information() + frame.redundancy(), wrong))
+    yield "received.txt", block_text(frame) + group_text(frame)
+    counts = decode(frame, 0)
+    yield "mended.txt", block_text(frame) + group_text(frame) + table("rounds turned outside", [counts])
+
+
+def examples():
+    # Document 01's kit K and its four blocks, with one wrong bit in P of group 1.
+    yield "k", example(4, 1, 1, ((1, 0, 2, 3), (3, 0, 1, 2)), [0, 1, 0, 0], [4 + 7])
+    # Two errors a word, M = 2, an odd number of blocks; wrong bits in two blocks, in Y and in P.
+    lists = ((18, 7, 14, 1, 17, 12, 0, 4, 15, 11, 2, 3, 13, 16, 8, 6, 10, 9, 19, 5),
+             (8, 6, 11, 16, 14, 17, 3, 15, 19, 12, 7, 13, 5, 4, 1, 18, 0, 9, 10, 2))
+    yield "two", example(5, 2, 2, lists, [1, 0, 1, 1, 0, 1, 1, 0, 0, 0, 1, 0], [1, 7, 12 + 3, 12 + 24, 12 + 46])
+
+
+def main(arguments):
+    wrong = 0
+    for name, files in examples():
+        for file, text in files:
+            path = os.path.join(FOLDER, name, file)
+            if arguments == ["--check"]:
+                with open(path, encoding="ascii", newline="") as found:
+                    if found.read() != text:
+                        print(f"examples/{name}/{file} is not the one of the independent reading")
+                        wrong += 1
+            else:
+                os.makedirs(os.path.dirname(path), exist_ok=True)
+                with open(path, "w", encoding="ascii", newline="") as out:
+                    out.write(text)
+    return 1 if wrong else 0
+
+
+if __name__ == "__main__":
+    sys.exit(main(sys.argv[1:]))
