@@ -1,5 +1,6 @@
 -- Items put together: the values and the bytes of each part, and how many values the lines of a kit text have.
 --   Split, fit-split             the values of two lists of items, and what they spell
+--   fit-none, lits-first         fixed bytes have no values
 --   tidy-oks                     a tidy list has bytes below 256
 --   pairs-count, rows-count      2 values a line of the lists, n a line of the rows
 --   row-count                    n of one row's line
@@ -57,6 +58,11 @@ pub fit-none : (b ws : List ℕ) → Fit (lits b) ws → ws ≡ []
 fit-none [] [] h = refl
 fit-none [] (w ∷ ws) h = absurd h
 fit-none (x ∷ b) ws h = fit-none b ws h
+
+-- fixed bytes, and items after them
+pub lits-first : (b : List ℕ) (is : List Item) (ws : List ℕ) → Fit (lits b ++ is) ws → Fit is ws × (spell (lits b ++ is) ws ≡ b ++ spell is ws)
+lits-first [] is ws h = (h, refl)
+lits-first (x ∷ b) is ws h = let r = lits-first b is ws h in (r .0, ap (λ (l : List ℕ). x ∷ l) (r .1))
 
 pub tidy-oks : (is : List Item) → Tidy is → Oks is
 tidy-oks [] h = tt

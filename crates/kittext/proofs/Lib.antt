@@ -8,3 +8,7 @@ pub mod Filling
 pub mod Packing
 pub mod RowFilling
 pub mod ReadLaws
+pub mod KitTexts
+pub mod Rendering
+pub mod Promises
+pub mod Examples

@@ -29,9 +29,6 @@ binary-small zero (c ∷ l) h = absurd (omega arith)
 binary-small (suc k) (c ∷ l) h = let i = binary-small k l (omega arith) in omega arith
 
 module _ (s : List ℕ) (at c : ℕ) (small : c ≤ 8) (room : at + c ≤ length s) where
-  abbrev Part : List ℕ
-  Part = take c (drop at s)
-
   part-length : length (take c (drop at s)) ≡ c
   part-length = length-take-le c (drop at s) (omega (arith, length-drop at s))
 
@@ -102,9 +99,6 @@ part-part : (m k n : ℕ) (l : List ℕ) → take m (drop k (take n l)) ≡ take
 part-part m k n l = ap (take m) (drop-take k n l) ∙ take-min m (n - k) (drop k l)
 
 module _ (s : List ℕ) (at n : ℕ) (o : List ℕ) (from b c v : ℕ) (ec : c ≡ min (n - b * 8) 8) (ev : v ≡ binary (lows (take c (drop (at + b * 8) s)))) (room : at + b * 8 + c ≤ length s) where
-  abbrev Bits : List ℕ
-  Bits = lows (take n (drop at s))
-
   byte-is : v ≡ binary (take 8 (drop (b * 8) (lows (take n (drop at s)))))
   byte-is =
       ev ∙ ap (λ (i : ℕ). binary (lows (take i (drop (at + b * 8) s)))) ec

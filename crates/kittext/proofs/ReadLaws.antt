@@ -2,7 +2,7 @@
 --   lengths-first .. lengths-third    `check_lengths`
 --   Leaves                            the answer and the three slices are those of the definition
 --   read-none .. read-whole           `read_kit`
---   Ready                             what the filling requires
+--   lists-ready, inverse-ready        what the filling requires
 -- Assumes nothing.
 use Prim.Native.Nat.{ℕ, _+_, _*_, _/_, _≤_, _<_}
 use mathlib.Core.Path.{_≡_, refl, sym, ap, _∙_}

@@ -1,3 +1,4 @@
 pub mod KitText
 pub mod Reader
 pub mod Answers
+pub mod Rendered

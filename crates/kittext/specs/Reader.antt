@@ -14,8 +14,6 @@ use Rattle.formats.specs.Format.{Scan, end}
 use Rattle.formats.specs.Items.{walk, values, seq, scanAt}
 use Rattle.staircase.specs.Design.{Params, params, order}
 use Rattle.staircase.specs.Rules.{Verdict, _then_, designRules, kitLengths}
-use Rattle.design.specs.declared.Design.{Design}
-use Rattle.design.specs.declared.Refusal.{Refusal}
 use Rattle.design.specs.Answers.{refusalVerdict, Allowed}
 use Rattle.staircase.specs.Rules.Verdict.{accepted, refused}
 use Rattle.readers.specs.Verdicts.{walkRule, scanRule, passed, valuesOf, kept}

@@ -164,9 +164,9 @@ fn pairs(s: &[u8], at: usize, n: usize) -> Step
     ensures { λ r. ⌜ r ≡ stepOf (walk (pairLines 0 n) (now (s .entry)) at) ⌝ }
 {
     let mut q = at;
-    let mut p = 0;
-    while p < n {
-        let line = pair_line(s, q, p);
+    let mut place = 0;
+    while place < n {
+        let line = pair_line(s, q, place);
         match line {
             Line::NoPair(k) => {
                 return Step::Refused(k);
@@ -175,7 +175,7 @@ fn pairs(s: &[u8], at: usize, n: usize) -> Step
                 q = e;
             }
         }
-        p += 1;
+        place += 1;
     }
     Step::Next(q)
 }
@@ -186,18 +186,18 @@ fn rows(s: &[u8], at: usize, n: usize) -> Step
     ensures { λ r. ⌜ r ≡ stepOf (walk (bitsLines n 0 n) (now (s .entry)) at) ⌝ }
 {
     let mut q = at;
-    let mut p = 0;
-    while p < n {
-        let line = readers::bits_line(s, q, n, p);
+    let mut row = 0;
+    while row < n {
+        let line = readers::bits_line(s, q, n, row);
         match line {
-            Step::Refused(k) => {
-                return Step::Refused(k);
+            Step::Refused(stop) => {
+                return Step::Refused(stop);
             }
             Step::Next(e) => {
                 q = e;
             }
         }
-        p += 1;
+        row += 1;
     }
     Step::Next(q)
 }
@@ -396,17 +396,17 @@ pub fn read_kit(text: &[u8], own: &mut [u8], parity: &mut [u8], inverse: &mut [u
 {
     let start = read_front(text);
     match start {
-        Front::NoStart(q) => KitScan::Broken(q as u64),
-        Front::Ruled(r) => KitScan::Refused(r),
+        Front::NoStart(place) => KitScan::Broken(place as u64),
+        Front::Ruled(refusal) => KitScan::Refused(refusal),
         Front::Starts(d, at) => {
             let lengths = check_lengths(d, own, parity, inverse);
             match lengths {
-                Check::Refused(r) => KitScan::Refused(r),
+                Check::Refused(refusal) => KitScan::Refused(refusal),
                 Check::Passed => {
                     let n = d.order();
                     let whole = judge_rest(text, at, n);
                     match whole {
-                        Rest::NotWhole(q) => KitScan::Broken(q as u64),
+                        Rest::NotWhole(place) => KitScan::Broken(place as u64),
                         Rest::Whole(i, j) => {
                             fill_lists(text, i, n, own, parity);
                             fill_inverse(text, j, n, inverse);

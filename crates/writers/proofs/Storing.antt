@@ -7,7 +7,7 @@ use native.Mathlib.Omega.{arith}
 use native.Mathlib.Nat.{add-zero}
 use native.Mathlib.Numerals.{add-one}
 use lib.ListN.{length, set, drop, getD, length-append, drop-of-length-le}
-use lib.Seq.{sets, length-sets, drop-cons}
+use lib.Seq.{sets, drop-cons}
 use Rattle.formats.specs.Format.{dec}
 use Rattle.formats.proofs.Digits.{dec1}
 use Rattle.writers.proofs.Decimal.{dec-more}
@@ -26,11 +26,6 @@ put-then o xs ys at {o₁} {o₂} {i} {r} p q = (
   omega (arith, p .0, q .0, length-append xs ys),
   q .1 ∙ ap (λ (l : List ℕ). sets l i ys) (p .1) ∙ ap (λ (k : ℕ). sets (sets o at xs) k ys) (p .0) ∙ sym (sets-append xs ys o at),
 )
-
--- What has room for two texts has room for the second behind the first.
-pub room-then : (o xs ys : List ℕ) (at : ℕ) {o₁ : List ℕ} {i : ℕ} → (i ≡ at + length xs) × (o₁ ≡ sets o at xs)
-    → at + length (xs ++ ys) ≤ length o → i + length ys ≤ length o₁
-room-then o xs ys at {o₁} {i} p h = omega (arith, p .0, ap length (p .1), length-sets o at xs, length-append xs ys, h)
 
 -- One byte.
 pub put-byte : (o : List ℕ) (at v : ℕ) → (at + 1 ≡ at + length (v ∷ [])) × (set o at v ≡ sets o at (v ∷ []))

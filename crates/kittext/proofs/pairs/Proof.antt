@@ -32,8 +32,8 @@ returns c = sym (c .before .before .before .before .before .loop .inv .1 ∙ ap 
 enum-known-line-2 : tie.Need-enum-known-line-2 Inv-loop μ-loop
 enum-known-line-2 c = search needs
 
-add-p : tie.Need-add-p Inv-loop μ-loop
-add-p c = omega arith
+add-place : tie.Need-add-place Inv-loop μ-loop
+add-place c = omega arith
 
 loop-less : tie.Need-loop-less Inv-loop μ-loop
 loop-less c = omega arith
@@ -55,7 +55,7 @@ pairs-spec =
     enum-known-line
     returns
     enum-known-line-2
-    add-p
+    add-place
     loop-less
     loop-again
     returns-2)

@@ -31,8 +31,8 @@ returns c = sym (c .before .before .before .before .before .loop .inv .1 ∙ row
 enum-known-line-2 : tie.Need-enum-known-line-2 Inv-loop μ-loop
 enum-known-line-2 c = search needs
 
-add-p : tie.Need-add-p Inv-loop μ-loop
-add-p c = omega arith
+add-row : tie.Need-add-row Inv-loop μ-loop
+add-row c = omega arith
 
 loop-less : tie.Need-loop-less Inv-loop μ-loop
 loop-less c = omega arith
@@ -54,7 +54,7 @@ rows-spec =
     enum-known-line
     returns
     enum-known-line-2
-    add-p
+    add-row
     loop-less
     loop-again
     returns-2)
