@@ -2,7 +2,6 @@
 --   timesX-over         x times v, where the degree has come to d
 --   powerMod-none       x^0 is 1
 --   powerMod-next       x^(e + 1) is x times x^e
---   bit-one, bit-none   a bit times a number
 --   xorSum-more         one term more
 --   Added               the entries before n have f added, the others are as they were
 --   added-more          one entry more
@@ -10,7 +9,7 @@
 use mathlib.Core.Path.{_≡_, sym, ap, ap₂, _∙_}
 use mathlib.Core.List.{List}
 use Prim.Native.Nat.{ℕ, suc, _+_, _*_, _/_, _%_, _^_, _≤_, _<_}
-use native.Mathlib.Nat.{zero-mul, one-mul, div-eq-of-lt-le}
+use native.Mathlib.Nat.{one-mul, div-eq-of-lt-le}
 use native.Mathlib.Numerals.{add-one}
 use native.Mathlib.Omega.{arith}
 use lib.Bits.{bitXor}
@@ -35,12 +34,6 @@ unfolding powerMod iterate
 powerMod-next g r e k v h l = ap (timesX g r) h ∙ ap (powerMod g r) (sym l)
 
 -- ---- sums
-pub bit-one : (b v : ℕ) → b ≡ 1 → v ≡ b * v
-bit-one b v e = sym (ap (λ (n : ℕ). n * v) e ∙ one-mul v)
-
-pub bit-none : (b v : ℕ) → b < 2 → (b ≡ 1 → ⊥) → 0 ≡ b * v
-bit-none b v h d = let e : b ≡ 0 = omega arith in sym (ap (λ (n : ℕ). n * v) e ∙ zero-mul v)
-
 pub xorSum-more : (n s : ℕ) (f : ℕ → ℕ) → s ≡ xorSum n f → bitXor s (f n) ≡ xorSum (n + 1) f
 unfolding xorSum _⊕_
 xorSum-more n s f e = ap (λ (k : ℕ). bitXor k (f n)) e ∙ ap (λ (k : ℕ). xorSum k f) (sym (add-one n))

@@ -10,7 +10,7 @@
 // exclusive ors, with no division, and parts of a word that stand in several buffers are added one after the other. The words that run
 // across the rows of a block are added row by row, in the order in which the block stands in memory.
 //
-// The hot loops have no jump at a bit: `dot` masks the entry with the bit spread over 32, and `add_bits` chooses the value before it adds it.
+// The hot loops have no jump at a bit: `dot` and `add_bits` mask the entry with the bit spread over 32.
 ghost use mathlib.Core.Path.{_≡_};
 ghost use Prim.Native.Nat.{ℕ, _+_, _*_, _/_, _^_, _≤_, _<_};
 ghost use lib.ListN.{length, getD, replicate};
@@ -94,8 +94,7 @@ fn add_bits(acc: &mut [u32], bits: &[u8], x: u32)
         × ((a : ℕ) → a < length (now (acc .entry)) → getD (now (acc .exit)) a 0 ≡ getD (now (acc .entry)) a 0 ⊕ getD (now (bits .entry)) a 0 * x) ⌝ }
 {
     for a in 0..acc.len() {
-        let v = if bits[a] == 1 { x } else { 0 };
-        acc[a] = acc[a] ^ v;
+        acc[a] = acc[a] ^ (bits[a] as u32) * 4294967295 & x;
     }
 }
 

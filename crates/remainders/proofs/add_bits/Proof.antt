@@ -1,11 +1,11 @@
 -- The loop's invariant: the first `a` entries are added to, the others as they were. The measure is the number of entries left.
 -- Assumes nothing.
-use mathlib.Core.Path.{_≡_, refl, _∙_}
-use mathlib.Core.Logic.{⊎-elim}
+use mathlib.Core.Path.{_≡_, refl}
 use Prim.Native.Nat.{_-_, _*_, _≤_}
 use native.Mathlib.Omega.{arith}
 use lib.ListN.{length, getD, length-set}
-use Rattle.remainders.proofs.Tables.{bit-one, bit-none, Added, added-more}
+use Rattle.remainders.proofs.Tables.{Added, added-more}
+use Rattle.remainders.proofs.Bounds.{spread-bit}
 use Rattle.remainders.proofs.add_bits.Statement.{statement}
 use Rattle.remainders.proofs.add_bits.Tie as tie
 
@@ -19,17 +19,23 @@ abbrev μ-loop : tie.MeasureT-loop
 loop-holds : tie.Need-loop-holds Inv-loop μ-loop
 loop-holds c = (omega arith, omega arith, omega arith, λ k. (λ l. absurd (omega arith), λ l. refl))
 
-shared-slice-read-if1 : tie.Need-shared-slice-read-if1 Inv-loop μ-loop
-shared-slice-read-if1 c = omega arith
-
 mul-acc : tie.Need-mul-acc Inv-loop μ-loop
 mul-acc c = omega arith
 
 slice-read-acc : tie.Need-slice-read-acc Inv-loop μ-loop
 slice-read-acc c = omega arith
 
+shared-slice-read-acc : tie.Need-shared-slice-read-acc Inv-loop μ-loop
+shared-slice-read-acc c = omega arith
+
+cast-acc : tie.Need-cast-acc Inv-loop μ-loop
+cast-acc c = omega (arith, c .before .before .before .before .pre .1 (c .before .before .before .loop .a))
+
 mul-acc-2 : tie.Need-mul-acc-2 Inv-loop μ-loop
-mul-acc-2 c = omega arith
+mul-acc-2 c = omega (arith, c .before .before .before .before .pre .1 (c .before .before .before .loop .a))
+
+mul-acc-3 : tie.Need-mul-acc-3 Inv-loop μ-loop
+mul-acc-3 c = omega (arith, c .before .before .before .before .pre .1 (c .before .before .before .loop .a))
 
 slice-write-acc : tie.Need-slice-write-acc Inv-loop μ-loop
 slice-write-acc c = omega arith
@@ -42,18 +48,14 @@ loop-less c = omega arith
 
 loop-again : tie.Need-loop-again Inv-loop μ-loop
 loop-again c =
-    let a = c .before .before .before .before .before .before .args in
-    let l = c .before .before .before .before .before .loop in
-    let b = getD (a .bits .now) (l .a) 0 in
-    let v = c .before .before .if1 .v in
-    let bit = c .before .before .before .before .before .before .pre .1 (l .a) in
-    let h : v ≡ b * a .x =
-    ⊎-elim (λ w. w .1 ∙ bit-one b (a .x) (w .0 .taken)) (λ w. w .1 ∙ bit-none b (a .x) bit (w .0 .left)) (c .before .before .if1 .came)
-    in (
+    let a = c .before .before .before .before .args in
+    let l = c .before .before .before .loop in
+    let b = getD (a .bits .now) (l .a) 0 in (
       omega arith,
       omega arith,
       simp length-set (omega arith),
-      added-more (a .acc .now) (l .acc) (λ k. getD (a .bits .now) k 0 * a .x) (l .a) v (omega arith) (l .inv .3) h,
+      added-more (a .acc .now) (l .acc) (λ k. getD (a .bits .now) k 0 * a .x) (l .a) _ (omega arith) (l .inv .3)
+          (spread-bit b (a .x) (c .before .before .before .before .pre .1 (l .a)) (omega arith)),
     )
 
 same-length : tie.Need-same-length Inv-loop μ-loop
@@ -69,10 +71,12 @@ add-bits-spec =
     Inv-loop
     μ-loop
     loop-holds
-    shared-slice-read-if1
     mul-acc
     slice-read-acc
+    shared-slice-read-acc
+    cast-acc
     mul-acc-2
+    mul-acc-3
     slice-write-acc
     add-a
     loop-less
