@@ -7,7 +7,7 @@
 // has counted those outside the code, too.
 ghost use mathlib.Core.Path.{_≡_};
 ghost use mathlib.Core.Bool.{true};
-ghost use Prim.Native.Nat.{_*_, _^_, _≤_};
+ghost use Prim.Native.Nat.{_+_, _*_, _^_, _≤_};
 ghost use lib.ListN.{length};
 ghost use Rattle.staircase.specs.Design.{wordLength};
 ghost use Rattle.staircase.specs.Frame.{Frame, frameOf, outsideAmong, words, outside};
@@ -293,16 +293,18 @@ fn correct_in(
     sums: &mut [u32],
 ) -> Counts
     requires { ⌜ Received d blocks (now own) (now parity) (now info) (now red) × (length (now work) ≡ orderOf d) × (rounds ≤ 64)
-        × (length (now positions) ≡ wordLength (paramsOf d)) × (length (now syndromes) ≡ wordLength (paramsOf d))
+        × (length (now positions) ≡ wordLength (paramsOf d)) × (length (now syndromes) ≡ wordLength (paramsOf d) + 128)
         × (length (now field) ≡ 4 * 2 ^ (d .m)) × (length (now sums) ≡ d .size) ⌝ }
     ensures { λ a. ⌜ correctedOf (Decoding.Decoded a) (frameOf (now (info .exit)) (now (red .exit)))
         ≡ correctedFrame (paramsOf d) (listsOf d (now (own .entry)) (now (parity .entry))) blocks rounds (frameOf (now (info .entry)) (now (red .entry))) ⌝ }
 {
     let m = d.m as usize;
+    let bits = positions.len();
     let limit = rounds_allowed(rounds);
     kit::fill_table(d, &mut positions[..]);
     field::fill_field(m, &mut field[..]);
-    field::fill_syndromes(m, &field[..], &mut syndromes[..]);
+    field::fill_syndromes(m, &field[..], &mut syndromes[0..bits]);
+    locator::fill_sums(m, d.r(), bits, &mut syndromes[..]);
     let made = run_rounds(
         d,
         blocks,
@@ -354,7 +356,7 @@ fn correct_frame(
     let size = d.size as usize;
     let quarter = 1 << (d.m as usize);
     let mut positions = [0u32; 1024];
-    let mut syndromes = [0u32; 1024];
+    let mut syndromes = [0u32; 1152];
     let mut field = [0u16; 4096];
     let mut sums = [0u32; 512];
     correct_in(
@@ -367,7 +369,7 @@ fn correct_frame(
         red,
         work,
         &mut positions[0..bits],
-        &mut syndromes[0..bits],
+        &mut syndromes[0..bits + 128],
         &mut field[0..4 * quarter],
         &mut sums[0..size],
     )

@@ -1,50 +1,65 @@
 -- The answers of the searches for three positions, and of `locate`, are what is located.
---   parts-of                            the tables of the field by quarters
+--   parts-of, sums-of                   the values of the positions and of four bits apart, and the tables of the field by quarters
 --   words-of, fields-of, degree-small   the tables apart, and their bound on r
 --   three-first, three-middle, three-last, three-found, three-none   what the searches for three positions answer
 --   no-defect, one-of-three, beyond     what one of three exponents says of the positions
 --   answer-zero, answer-one, answer-two, answer-none   what `locate` answers before it comes to three
 -- Assumes nothing.
-use mathlib.Core.Path.{_≡_, refl, sym, ap, _∙_}
+use mathlib.Core.Path.{_≡_, refl, sym, ap, _∙_, subst⁻¹}
 use mathlib.Core.Logic.{_≢_, _⊎_, inl, inr, ⊎-map}
 use mathlib.Core.List.{List}
-use Prim.Native.Nat.{ℕ, _-_, _*_, _/_, _%_, _≤_, _<_}
+use Prim.Native.Nat.{ℕ, _+_, _-_, _*_, _/_, _%_, _≤_, _<_}
 use native.Mathlib.Nat.{mul-le-mul}
 use native.Mathlib.Omega.{arith}
-use lib.ListN.{length, getD, take, drop}
+use lib.ListN.{length, getD, take, drop, length-drop}
+use lib.Seq.{length-take-le, take-all}
 use Rattle.bch.specs.Polynomial.{_⊕_}
 use Rattle.bch.specs.Field.{valueAt}
-use Rattle.bch.specs.Locator.{TripleOf, PowerIs, syndromes}
+use Rattle.bch.specs.Locator.{TripleOf, PowerIs, SyndromeTable, syndromes}
 use Rattle.bch.proofs.Sum.{⊕-comm, ⊕-assoc, ⊕-left-comm}
 use Rattle.bch.proofs.Locator.{quarter-powers, quarter-logs, quarter-halves}
 use Rattle.bch.proofs.Cubic.{cubic-defect}
 use Rattle.locator.specs.declared.Located.the-variants.{Nowhere, One, Two, Three}
 use Rattle.locator.specs.declared.Single.the-variants as single
 use Rattle.locator.specs.declared.Pair.the-variants as pair
-use Rattle.locator.specs.Located.{located, positionsOf, Tables}
+use Rattle.locator.specs.Located.{located, positionsOf, SumTable, Tables}
 use Rattle.locator.specs.Steps.{Parts, Fields, Words, NotOne, NotTwo, SingleIs, PairIs, CubicRootOf, OneOfThree}
 use Rattle.locator.proofs.Choices.{located-zero, located-one, located-two, located-three, NotThree, located-nowhere}
 use Rattle.locator.proofs.Values.{code-of, triple-of-positions}
 use Rattle.locator.proofs.Triples.{back, NotBefore, not-among, first-of-three}
 
 pub parts-of : {m t : ℕ} {positions values field : List ℕ} → Tables m t positions values field
-    → Parts m t positions values (take (length field / 4 - 1 - 0) field) (take (2 * (length field / 4) - length field / 4) (drop (length field / 4) field))
+    → Parts m t positions (take (length positions - 0) values) (take (length field / 4 - 1 - 0) field) (take (2 * (length field / 4) - length field / 4) (drop (length field / 4) field))
     (take (3 * (length field / 4) - 1 - 2 * (length field / 4)) (drop (2 * (length field / 4)) field))
-parts-of T = record {
-  m-low = T .m-low;
-  m-high = T .m-high;
-  t-low = T .t-low;
-  t-high = T .t-high;
-  fits = T .fits;
-  position = T .position;
-  r-fits = T .r-fits;
-  n-fits = T .n-fits;
-  as-long = T .as-long;
-  syndrome = T .syndrome;
-  power = quarter-powers (T .tables);
-  log = quarter-logs (T .tables);
-  half = quarter-halves (T .tables);
-}
+parts-of {m = m} {positions = positions} {values = values} T =
+    let e : length positions - 0 ≡ length positions = omega arith in
+    record {
+      m-low = T .m-low;
+      m-high = T .m-high;
+      t-low = T .t-low;
+      t-high = T .t-high;
+      fits = T .fits;
+      position = T .position;
+      r-fits = T .r-fits;
+      n-fits = T .n-fits;
+      as-long = length-take-le (length positions - 0) values (omega (arith, T .as-long)) ∙ e;
+      syndrome = subst⁻¹ (λ (z : ℕ). SyndromeTable m (take z values)) e (T .syndrome);
+      power = quarter-powers (T .tables);
+      log = quarter-logs (T .tables);
+      half = quarter-halves (T .tables);
+    }
+
+-- the entries after those of the positions
+pub sums-of : {m t : ℕ} {positions values field : List ℕ} → Tables m t positions values field
+    → (length (take (length positions + 128 - length positions) (drop (length positions) values)) ≡ 128)
+    × SumTable m (m * t) (take (length positions + 128 - length positions) (drop (length positions) values))
+sums-of {m = m} {t = t} {positions = positions} {values = values} T =
+    let n = length positions + 128 - length positions in
+    let e : n ≡ 128 = omega arith in
+    let l = length-drop (length positions) values in (
+      length-take-le n (drop (length positions) values) (omega (arith, T .as-long, l)) ∙ e,
+      subst⁻¹ (SumTable m (m * t)) (take-all n (drop (length positions) values) (omega (arith, T .as-long, l))) (T .sums),
+    )
 
 module _ {m t : ℕ} {positions values powers logs halves : List ℕ} (T : Parts m t positions values powers logs halves) where
   pub words-of : Words m t positions

@@ -2,6 +2,7 @@
 --   sumAt          the sum of a table's entries at some positions
 --   located        the positions whose entries have a given sum
 --   positionsOf    the positions that an answer of the code names
+--   SumTable       the values of the polynomials of four bits
 --   Tables         what the tables lent to `locate` hold
 -- Assumes nothing.
 use mathlib.Core.Path.{_≡_}
@@ -9,11 +10,11 @@ use mathlib.Core.Bool.{cond}
 use mathlib.Core.List.{List, [], _∷_}
 use Prim.Native.Nat.{ℕ, _+_, _-_, _*_, _^_, _≤_, _<_}
 use lib.Dec.{eqb}
-use lib.ListN.{length, getD}
+use lib.ListN.{length, getD, take, drop}
 use Rattle.bch.specs.Polynomial.{_⊕_}
 use Rattle.bch.specs.Code.{generator}
 use Rattle.bch.specs.Powers.{PositionPowers}
-use Rattle.bch.specs.Locator.{SyndromeTable, FieldTables}
+use Rattle.bch.specs.Locator.{syndromes, SyndromeTable, FieldTables}
 use Rattle.staircase.specs.Lists.{tabulate}
 use Rattle.staircase.specs.Decoder.{choices}
 use Rattle.locator.specs.declared.Located.{Located}
@@ -38,7 +39,11 @@ positionsOf (One p) = p ∷ []
 positionsOf (Two p q) = p ∷ q ∷ []
 positionsOf (Three j p q) = j ∷ p ∷ q ∷ []
 
--- m and t of a design, and the tables of its words and of its field
+-- entry 16 k + v has the values of the polynomial v times x^4k, for each four bits that a number of r bits has
+abbrev pub SumTable : ℕ → ℕ → List ℕ → Type 0
+SumTable m r sums = (k v : ℕ) → 4 * k < r → v < 16 → getD sums (16 * k + v) 0 ≡ syndromes m (v * 2 ^ (4 * k))
+
+-- m and t of a design, and the tables of its words and of its field; the values of the positions stand before those of four bits
 pub record Tables (m t : ℕ) (positions syndromes field : List ℕ) : Type 0 where
   pub m-low : 4 ≤ m
   pub m-high : m ≤ 10
@@ -48,6 +53,7 @@ pub record Tables (m t : ℕ) (positions syndromes field : List ℕ) : Type 0 wh
   pub position : PositionPowers (generator m t) (m * t) positions
   pub r-fits : m * t ≤ length positions
   pub n-fits : length positions ≤ 2 ^ m - 1
-  pub as-long : length syndromes ≡ length positions
-  pub syndrome : SyndromeTable m syndromes
+  pub as-long : length syndromes ≡ length positions + 128
+  pub syndrome : SyndromeTable m (take (length positions) syndromes)
+  pub sums : SumTable m (m * t) (drop (length positions) syndromes)
   pub tables : FieldTables m field

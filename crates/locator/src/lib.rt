@@ -1,6 +1,7 @@
 // The error positions of a received BCH word, at most three, from its remainder. The word itself is not read.
 //   Located   the positions, in rising order
 //   locate    finds them
+//   fill_sums makes a table from which the values of a remainder are read, four bits at a time
 //
 // The remainder is the sum of one table entry for each error, so the positions are those whose entries have that sum; the BCH bound leaves
 // at most one choice of them. A candidate counts only where its entries have the sum, so nothing wrong is located; the algebra shows that
@@ -15,10 +16,10 @@
 ghost use mathlib.Core.Path.{_≡_};
 ghost use mathlib.Core.Logic.{_≢_, _⊎_};
 ghost use Prim.Native.Nat.{_+_, _-_, _*_, _%_, _^_, _≤_, _<_};
-ghost use lib.ListN.{length};
+ghost use lib.ListN.{length, take, drop};
 ghost use Rattle.bch.specs.Field.{powerTable, valueAt};
 ghost use Rattle.bch.specs.Locator.{LogTable, CubicTable, PowerIs, SyndromeTable, syndromes};
-ghost use Rattle.locator.specs.Located.{located, positionsOf, Tables};
+ghost use Rattle.locator.specs.Located.{located, positionsOf, SumTable, Tables};
 ghost use Rattle.locator.specs.Steps.{Parts, Logs, Fields, Words, NotOne, NotTwo, SingleIs, PairIs, RootOf, ExponentsAre, CarryAre};
 ghost use Rattle.locator.specs.Steps.{CubicRootOf, OneOfThree};
 
@@ -57,15 +58,43 @@ fn wrap(x: usize, n: usize) -> usize
     if x < n { x } else { x - n }
 }
 
-// The values of the polynomial x, of r bits, at the root and at its cube: one table entry for each bit. The last entry is for the lowest.
-fn syndromes_of(m: usize, r: usize, x: u32, table: &[u32]) -> u32
-    requires { ⌜ (4 ≤ m) × (m ≤ 10) × (r ≤ 30) × (r ≤ length (now table)) × (x < 2 ^ r) × SyndromeTable m (now table) ⌝ }
+// The values of the polynomial x, of r bits, at the root and at its cube: one entry of the positions' table for each bit. The last entry is for the
+// lowest.
+fn values_by_bits(m: usize, r: usize, x: u32, table: &[u32]) -> u32
+    requires { ⌜ (4 ≤ m) × (m ≤ 10) × (r ≤ 32) × (r ≤ length (now table)) × (x < 2 ^ r) × SyndromeTable m (now table) ⌝ }
     ensures { λ a. ⌜ a ≡ syndromes m x ⌝ }
 {
     let n = table.len();
     let mut acc: u32 = 0;
     for k in 0..r {
         acc = acc ^ (x >> k) % 2 * table[n - 1 - k];
+    }
+    acc
+}
+
+// Fills the 128 entries of `table` that follow those of the n positions with the values of the polynomials of four bits, for remainders of r bits.
+// At most 32 steps for each entry.
+pub fn fill_sums(m: usize, r: usize, n: usize, table: &mut [u32])
+    requires { ⌜ (4 ≤ m) × (m ≤ 10) × (r ≤ 30) × (r + 3 ≤ n) × (length (now table) ≡ n + 128) × SyndromeTable m (take n (now table)) ⌝ }
+    ensures { λ a. ⌜ SyndromeTable m (take n (now (table .exit))) × SumTable m r (drop n (now (table .exit)))
+        × (length (now (table .exit)) ≡ length (now (table .entry))) ⌝ }
+{
+    let count = 16 * ((r + 3) / 4);
+    for p in 0..count {
+        let low = 4 * (p / 16);
+        let v = values_by_bits(m, low + 4, ((p % 16) as u32) << low, &table[0..n]);
+        table[n + p] = v;
+    }
+}
+
+// The values of the polynomial x, of r bits, at the root and at its cube: one entry of `sums` for each four bits.
+fn values_of(m: usize, r: usize, x: u32, sums: &[u32]) -> u32
+    requires { ⌜ (4 ≤ m) × (m ≤ 10) × (r ≤ 30) × (x < 2 ^ r) × (length (now sums) ≡ 128) × SumTable m r (now sums) ⌝ }
+    ensures { λ a. ⌜ a ≡ syndromes m x ⌝ }
+{
+    let mut acc: u32 = 0;
+    for k in 0..(r + 3) / 4 {
+        acc = acc ^ sums[16 * k + ((x >> 4 * k) % 16) as usize];
     }
     acc
 }
@@ -369,20 +398,21 @@ fn search(
     t: usize,
     remainder: u32,
     positions: &[u32],
-    syndromes: &[u32],
+    values: &[u32],
+    sums: &[u32],
     powers: &[u16],
     logs: &[u16],
     halves: &[u16],
     cubics: &[u16],
 ) -> Located
-    requires { ⌜ Parts m t (now positions) (now syndromes) (now powers) (now logs) (now halves) × (remainder < 2 ^ (m * t))
-        × CubicTable m (now cubics) ⌝ }
+    requires { ⌜ Parts m t (now positions) (now values) (now powers) (now logs) (now halves) × (remainder < 2 ^ (m * t))
+        × CubicTable m (now cubics) × (length (now sums) ≡ 128) × SumTable m (m * t) (now sums) ⌝ }
     ensures { λ a. ⌜ positionsOf a ≡ located (now (positions .entry)) t remainder ⌝ }
 {
     if remainder == 0 {
         return Located::Nowhere;
     }
-    let s = syndromes_of(m, m * t, remainder, syndromes);
+    let s = values_of(m, m * t, remainder, sums);
     let single = one(m, t, remainder, s, positions, logs);
     if let Single::At(p) = single {
         return Located::One(p);
@@ -403,7 +433,7 @@ fn search(
         remainder,
         s,
         positions,
-        syndromes,
+        values,
         powers,
         logs,
         halves,
@@ -412,8 +442,8 @@ fn search(
 }
 
 // The positions, at most t, whose entries have the sum `remainder`; `Nowhere` where there are no such, and where the remainder is 0. The lent
-// tables are the entries of the positions, their values at the root and its cube, and the tables of the field. The work grows with the
-// bits of the remainder, and for about one of 2^m remainders with the length of a word.
+// tables are the entries of the positions, their values at the root and its cube with those of `fill_sums`, and the tables of the field. The work
+// grows with the bits of the remainder, and for about one of 2^m remainders with the length of a word.
 pub fn locate(
     m: usize,
     t: usize,
@@ -425,13 +455,15 @@ pub fn locate(
     requires { ⌜ Tables m t (now positions) (now syndromes) (now field) × (remainder < 2 ^ (m * t)) ⌝ }
     ensures { λ a. ⌜ positionsOf a ≡ located (now (positions .entry)) t remainder ⌝ }
 {
+    let n = positions.len();
     let q = field.len() / 4;
     search(
         m,
         t,
         remainder,
         positions,
-        syndromes,
+        &syndromes[0..n],
+        &syndromes[n..n + 128],
         &field[0..q - 1],
         &field[q..2 * q],
         &field[2 * q..3 * q - 1],

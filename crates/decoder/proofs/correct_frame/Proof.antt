@@ -2,7 +2,7 @@
 -- Assumes nothing.
 use native.Mathlib.Omega.{arith}
 use mathlib.Core.Path.{ap, _∙_}
-use Prim.Native.Nat.{ℕ, _*_, _%_, _^_}
+use Prim.Native.Nat.{ℕ, _+_, _*_, _%_, _^_}
 use lib.Pow.{pow-mono}
 use Rattle.blocks.proofs.Sums.{part-length}
 use Rattle.design.proofs.Sizes.{shl-one}
@@ -30,8 +30,10 @@ part-positions-start : tie.Need-part-positions-start
 part-positions-start c = search needs
 
 part-positions-end : tie.Need-part-positions-end
-part-positions-end c =
-    omega (arith, bits-small (c .before .before .before .before .before .before .before .before .before .before .before .args .d) (c .before .before .before .before .before .before .before .before .before .before .before .pre .0 .allowed), c .before .before .before .before .before .n .ensures)
+part-positions-end c = omega (arith, bits-small (c .before .before .before .before .before .before .before .before .before .before .before .args .d) (c .before .before .before .before .before .before .before .before .before .before .before .pre .0 .allowed), c .before .before .before .before .before .n .ensures)
+
+add-correct-in : tie.Need-add-correct-in
+add-correct-in c = search needs
 
 sub-correct-in-2 : tie.Need-sub-correct-in-2
 sub-correct-in-2 c = search needs
@@ -40,12 +42,10 @@ part-syndromes-start : tie.Need-part-syndromes-start
 part-syndromes-start c = search needs
 
 part-syndromes-end : tie.Need-part-syndromes-end
-part-syndromes-end c =
-    omega (arith, bits-small (c .before .before .before .before .before .before .before .before .before .before .before .before .args .d) (c .before .before .before .before .before .before .before .before .before .before .before .before .pre .0 .allowed), c .before .before .before .before .before .before .n .ensures)
+part-syndromes-end c = omega (arith, bits-small (c .before .before .before .before .before .before .before .before .before .before .before .before .args .d) (c .before .before .before .before .before .before .before .before .before .before .before .before .pre .0 .allowed), c .before .before .before .before .before .before .n .ensures)
 
 mul-correct-in : tie.Need-mul-correct-in
-mul-correct-in c =
-    let h = c .before .before .before .before .before .before .before .before .before .before .before .before .before .pre .0 .allowed .m-high in omega (arith, shl-one (c .before .before .before .before .before .before .before .before .before .before .before .before .before .args .d .m) h, pow-mono {i = c .before .before .before .before .before .before .before .before .before .before .before .before .before .args .d .m} {j = 10} h)
+mul-correct-in c = let h = c .before .before .before .before .before .before .before .before .before .before .before .before .before .pre .0 .allowed .m-high in omega (arith, shl-one (c .before .before .before .before .before .before .before .before .before .before .before .before .before .args .d .m) h, pow-mono {i = c .before .before .before .before .before .before .before .before .before .before .before .before .before .args .d .m} {j = 10} h)
 
 sub-correct-in-3 : tie.Need-sub-correct-in-3
 sub-correct-in-3 c = search needs
@@ -54,8 +54,7 @@ part-field-start : tie.Need-part-field-start
 part-field-start c = search needs
 
 part-field-end : tie.Need-part-field-end
-part-field-end c =
-    let h = c .before .before .before .before .before .before .before .before .before .before .before .before .before .pre .0 .allowed .m-high in omega (arith, shl-one (c .before .before .before .before .before .before .before .before .before .before .before .before .before .args .d .m) h, pow-mono {i = c .before .before .before .before .before .before .before .before .before .before .before .before .before .args .d .m} {j = 10} h)
+part-field-end c = let h = c .before .before .before .before .before .before .before .before .before .before .before .before .before .pre .0 .allowed .m-high in omega (arith, shl-one (c .before .before .before .before .before .before .before .before .before .before .before .before .before .args .d .m) h, pow-mono {i = c .before .before .before .before .before .before .before .before .before .before .before .before .before .args .d .m} {j = 10} h)
 
 sub-correct-in-4 : tie.Need-sub-correct-in-4
 sub-correct-in-4 c = search needs
@@ -71,13 +70,14 @@ correct-in-requires c κs =
     let p = c .before .before .before .before .before .before .before .before .before .before .before .before .before .before .before .pre in
     let a = c .before .before .before .before .before .before .before .before .before .before .before .before .before .before .before .args in
     let h = p .0 .allowed .m-high in
+    let n = c .before .before .before .before .before .before .before .before .before .n .result in
     let q = 4 * ((1 * 2 ^ a .d .m) % 2 ^ 64) in
     let small = bits-small (a .d) (p .0 .allowed) in (
       p .0,
       p .1,
       p .2,
-      part-length _ 0 (c .before .before .before .before .before .before .before .before .before .n .result) (c .before .before .before .before .before .before .before .before .before .n .result) (omega arith) (omega (arith, small, c .before .before .before .before .before .before .before .before .before .n .ensures)) ∙ c .before .before .before .before .before .before .before .before .before .n .ensures .0,
-      part-length _ 0 (c .before .before .before .before .before .before .before .before .before .n .result) (c .before .before .before .before .before .before .before .before .before .n .result) (omega arith) (omega (arith, small, c .before .before .before .before .before .before .before .before .before .n .ensures)) ∙ c .before .before .before .before .before .before .before .before .before .n .ensures .0,
+      part-length _ 0 n n (omega arith) (omega (arith, small, c .before .before .before .before .before .before .before .before .before .n .ensures)) ∙ c .before .before .before .before .before .before .before .before .before .n .ensures .0,
+      part-length _ 0 (n + 128) (n + 128) (omega arith) (omega (arith, small, c .before .before .before .before .before .before .before .before .before .n .ensures)) ∙ ap (λ (z : ℕ). z + 128) (c .before .before .before .before .before .before .before .before .before .n .ensures .0),
       part-length _ 0 q q (omega arith) (omega (arith, shl-one (a .d .m) h, pow-mono {i = a .d .m} {j = 10} h)) ∙ ap (λ (z : ℕ). 4 * z) (shl-one (a .d .m) h),
       part-length _ 0 (a .d .size) (a .d .size) (omega arith) (omega (arith, p .0 .allowed .M-high)),
     )
@@ -105,6 +105,7 @@ correct-frame-spec =
     sub-correct-in
     part-positions-start
     part-positions-end
+    add-correct-in
     sub-correct-in-2
     part-syndromes-start
     part-syndromes-end

@@ -12,33 +12,33 @@ use Rattle.locator.proofs.search.Tie as tie
 
 returns : tie.Need-returns
 returns c =
-    let s = c .before .before .before .before .before .before .before in
+    let s = c .before .before .before .before .before .before .before .before in
     let a = s .args in
     answer-zero (s .pre .0) (a .remainder) (c .if1 .taken)
 
-mul-syndromes-of : tie.Need-mul-syndromes-of
-mul-syndromes-of c =
-    let s = c .before .before .before .before .before .before .before in
+mul-values-of : tie.Need-mul-values-of
+mul-values-of c =
+    let s = c .before .before .before .before .before .before .before .before in
     omega (arith, degree-small (s .pre .0))
 
-syndromes-of-requires : tie.Need-syndromes-of-requires
-syndromes-of-requires c κs =
-    let s = c .before .before .before .before .before .before .before in
+values-of-requires : tie.Need-values-of-requires
+values-of-requires c κs =
+    let s = c .before .before .before .before .before .before .before .before in
     let T = s .pre .0 in
-    (T .m-low, T .m-high, degree-small T, omega (arith, T .r-fits, T .as-long), s .pre .1, T .syndrome)
+    (T .m-low, T .m-high, degree-small T, s .pre .1, s .pre .3, s .pre .4)
 
 one-requires : tie.Need-one-requires
 one-requires c κs =
-    let s = c .before .before .before .before .before .before .before .before in
+    let s = c .before .before .before .before .before .before .before .before .before in
     let T = s .pre .0 in
-    (words-of T, T .log, c .syndromes-of .ensures)
+    (words-of T, T .log, c .values-of .ensures)
 
 enum-known-single : tie.Need-enum-known-single
 enum-known-single c = search needs
 
 returns-2 : tie.Need-returns-2
 returns-2 c =
-    let s = c .before .before .before .before .before .before .before .before .before .before .before .before in
+    let s = c .before .before .before .before .before .before .before .before .before .before .before .before .before in
     let a = s .args in
     let single = c .before .single in
     let one = c .before .before .before .one in
@@ -51,7 +51,7 @@ enum-told c = search needs
 returns-3 : tie.Need-returns-3
 unfolding SingleIs
 returns-3 c =
-    let s = c .before .before .before .before .before .before .before .before .before .before .before .before in
+    let s = c .before .before .before .before .before .before .before .before .before .before .before .before .before in
     let a = s .args in
     let enum-told = c .before .enum-told in
     let one = c .before .before .before .one in
@@ -61,17 +61,17 @@ returns-3 c =
 
 two-requires : tie.Need-two-requires
 two-requires c κs =
-    let s = c .before .before .before .before .before .before .before .before .before .before .before .before in
-    let syndromes-of = c .before .before .before .before .syndromes-of in
+    let s = c .before .before .before .before .before .before .before .before .before .before .before .before .before in
+    let values-of = c .before .before .before .before .values-of in
     let T = s .pre .0 in
-    (words-of T, fields-of T, omega arith, syndromes-of .ensures)
+    (words-of T, fields-of T, omega arith, values-of .ensures)
 
 enum-known-pair : tie.Need-enum-known-pair
 enum-known-pair c = search needs
 
 returns-4 : tie.Need-returns-4
 returns-4 c =
-    let s = c .before .before .before .before .before .before .before .before .before .before .before .before .before .before .before .before in
+    let s = c .before .before .before .before .before .before .before .before .before .before .before .before .before .before .before .before .before in
     let a = s .args in
     let pair = c .before .pair in
     let two = c .before .before .before .two in
@@ -84,7 +84,7 @@ enum-told-2 c = search needs
 returns-5 : tie.Need-returns-5
 unfolding SingleIs PairIs
 returns-5 c =
-    let s = c .before .before .before .before .before .before .before .before .before .before .before .before .before .before .before .before in
+    let s = c .before .before .before .before .before .before .before .before .before .before .before .before .before .before .before .before .before in
     let a = s .args in
     let enum-told = c .before .before .before .before .before .enum-told in
     let one = c .before .before .before .before .before .before .before .one in
@@ -98,18 +98,18 @@ returns-5 c =
 three-requires : tie.Need-three-requires
 unfolding SingleIs PairIs
 three-requires c κs =
-    let s = c .before .before .before .before .before .before .before .before .before .before .before .before .before .before .before .before in
+    let s = c .before .before .before .before .before .before .before .before .before .before .before .before .before .before .before .before .before in
     let a = s .args in
     let enum-told = c .before .before .before .before .before .enum-told in
     let one = c .before .before .before .before .before .before .before .one in
     let enum-told2 = c .before .enum-told2 in
     let two = c .before .before .before .two in
-    let syndromes-of = c .before .before .before .before .before .before .before .before .syndromes-of in
+    let values-of = c .before .before .before .before .before .before .before .before .values-of in
     let if1 = c .before .before .before .before .before .before .before .before .before .if1 in
     let T = s .pre .0 in
     let u = subst (λ (z : Single). SingleIs (a .positions .now) (a .remainder) z) (enum-told .given .1) (one .ensures) in
     let v = subst (λ (z : Pair). PairIs (a .positions .now) (a .remainder) z) (enum-told2 .given .1) (two .ensures) in
-    (T, omega (arith, T .t-high), syndromes-of .ensures, if1 .left, u, v, s .pre .2, s .pre .1)
+    (T, omega (arith, T .t-high), values-of .ensures, if1 .left, u, v, s .pre .2, s .pre .1)
 
 returns-6 : tie.Need-returns-6
 returns-6 c = c .three .ensures
@@ -119,8 +119,8 @@ search-spec =
     tie.close
     (tie.spec
     returns
-    mul-syndromes-of
-    syndromes-of-requires
+    mul-values-of
+    values-of-requires
     one-requires
     enum-known-single
     returns-2

@@ -10,8 +10,8 @@ use Rattle.bch.specs.Polynomial.{_⊕_}
 use Rattle.bch.specs.Field.{power}
 use Rattle.bch.specs.Powers.{xorSum}
 use Rattle.bch.proofs.Syndromes.{syndromes-bits}
-use Rattle.locator.proofs.syndromes_of.Statement.{statement}
-use Rattle.locator.proofs.syndromes_of.Tie as tie
+use Rattle.locator.proofs.values_by_bits.Statement.{statement}
+use Rattle.locator.proofs.values_by_bits.Tie as tie
 
 abbrev Inv-loop : tie.InvT-loop
 Inv-loop m r x table n acc₀ k₀ acc k =
@@ -78,8 +78,8 @@ returns c =
     l .inv .1 ∙ ap (λ (i : ℕ). xorSum i (λ (i : ℕ). (a .x / 2 ^ i % 2) * (power (a .m) i + 65536 * power (a .m) (3 * i)))) e
     ∙ sym (syndromes-bits (a .m) (s .pre .0) (s .pre .1) (a .r) (a .x) (s .pre .4))
 
-pub syndromes-of-spec : {M : Type 1} → statement M
-syndromes-of-spec =
+pub values-by-bits-spec : {M : Type 1} → statement M
+values-by-bits-spec =
     tie.close
     (tie.spec
     Inv-loop
