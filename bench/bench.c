@@ -10,17 +10,38 @@
 #include <string.h>
 #include <time.h>
 
+/* Each call answers 0, or the number of the rule that refuses. `answer` is a slice of as many entries as the line above the call names; one of
+   another length is left as it was. Entry 0 is the refusal's place. A refused call tells 0 in the others. No two slices may overlap. */
+
+/* place, r, n, k */
+uint64_t bauchleton_design(uint64_t m, uint64_t t, uint64_t size, uint64_t *answer, size_t answer_length);
+/* place */
 uint64_t bauchleton_check_kit(uint64_t m, uint64_t t, uint64_t size, const uint8_t *self, size_t self_length, const uint8_t *parity,
-                              size_t parity_length, const uint8_t *inverse, size_t inverse_length, uint8_t *work, size_t work_length);
+                              size_t parity_length, const uint8_t *inverse, size_t inverse_length, uint8_t *work, size_t work_length,
+                              uint64_t *answer, size_t answer_length);
+/* place */
 uint64_t bauchleton_encode(uint64_t m, uint64_t t, uint64_t size, uint64_t blocks, const uint8_t *self, size_t self_length,
                            const uint8_t *parity, size_t parity_length, const uint8_t *inverse, size_t inverse_length, const uint8_t *info,
-                           size_t info_length, uint8_t *red, size_t red_length, uint8_t *work, size_t work_length);
+                           size_t info_length, uint8_t *red, size_t red_length, uint8_t *work, size_t work_length, uint64_t *answer,
+                           size_t answer_length);
+/* place, words outside the code */
 uint64_t bauchleton_check_words(uint64_t m, uint64_t t, uint64_t size, uint64_t blocks, const uint8_t *self, size_t self_length,
                                 const uint8_t *parity, size_t parity_length, const uint8_t *info, size_t info_length, const uint8_t *red,
-                                size_t red_length, uint8_t *work, size_t work_length, uint64_t *counts, size_t counts_length);
+                                size_t red_length, uint8_t *work, size_t work_length, uint64_t *answer, size_t answer_length);
+/* place, rounds made, bits turned, words outside the code at the end */
 uint64_t bauchleton_decode(uint64_t m, uint64_t t, uint64_t size, uint64_t blocks, uint64_t rounds, const uint8_t *self, size_t self_length,
                            const uint8_t *parity, size_t parity_length, uint8_t *info, size_t info_length, uint8_t *red, size_t red_length,
-                           uint8_t *work, size_t work_length, uint64_t *counts, size_t counts_length);
+                           uint8_t *work, size_t work_length, uint64_t *answer, size_t answer_length);
+/* place, the call that was refused (1 the encoder, 2 the decoder, 0 neither), then as the decoder */
+uint64_t bauchleton_loopback(uint64_t m, uint64_t t, uint64_t size, uint64_t blocks, uint64_t rounds, const uint8_t *self, size_t self_length,
+                             const uint8_t *parity, size_t parity_length, const uint8_t *inverse, size_t inverse_length,
+                             const uint8_t *info_errors, size_t info_errors_length, const uint8_t *red_errors, size_t red_errors_length,
+                             uint8_t *info, size_t info_length, uint8_t *red, size_t red_length, uint8_t *work, size_t work_length,
+                             uint64_t *answer, size_t answer_length);
+/* place, length of the stretch; kind 0 is a block, any other a group */
+uint64_t bauchleton_show(uint64_t m, uint64_t t, uint64_t size, uint64_t blocks, uint64_t kind, uint64_t number, const uint8_t *info,
+                         size_t info_length, const uint8_t *red, size_t red_length, uint8_t *out, size_t out_length, uint64_t *answer,
+                         size_t answer_length);
 
 enum { SHORT = 32, LONG = 32 + 512, TURNS = 3, FRAME_TURNS = 40 };
 
@@ -56,7 +77,7 @@ static int time_frame(unsigned m, unsigned t, unsigned M, const plain_sizes *s, 
     uint8_t *received = lend(info + red), *mine = lend(info + red), *other = lend(info + red), *work = lend(s->size);
     plain_frame lent = { self, parity, other, other + info, list, list, info, red };
     double words[2] = { 1e9, 1e9 }, decode[RATES][2];
-    uint64_t counts[RATES][3], place, outside[2], results[3], state = 88172645463325252u;
+    uint64_t counts[RATES][3], place, outside, words_answer[2], decode_answer[4], state = 88172645463325252u;
     int differ = 0;
     for (unsigned e = 0; e < RATES; e++) {
         decode[e][0] = decode[e][1] = 1e9;
@@ -65,7 +86,7 @@ static int time_frame(unsigned m, unsigned t, unsigned M, const plain_sizes *s, 
         for (unsigned turn = 0; turn < FRAME_TURNS; turn++) {
             memcpy(other, received, info + red);
             double a = now();
-            differ |= plain_words(m, t, M, SHORT, &lent, &outside[0], &place) != 0;
+            differ |= plain_words(m, t, M, SHORT, &lent, &outside, &place) != 0;
             double b = now();
             differ |= plain_decode(m, t, M, SHORT, 0, &lent, counts[e], &place) != 0;
             double c = now();
@@ -74,14 +95,16 @@ static int time_frame(unsigned m, unsigned t, unsigned M, const plain_sizes *s, 
 
             memcpy(mine, received, info + red);
             a = now();
-            differ |= bauchleton_check_words(m, t, M, SHORT, self, list, parity, list, mine, info, mine + info, red, work, s->size, &outside[1],
-                                             1) != 0;
+            differ |= bauchleton_check_words(m, t, M, SHORT, self, list, parity, list, mine, info, mine + info, red, work, s->size,
+                                             words_answer, 2) != 0;
             b = now();
-            differ |= bauchleton_decode(m, t, M, SHORT, 0, self, list, parity, list, mine, info, mine + info, red, work, s->size, results, 3) != 0;
+            differ |= bauchleton_decode(m, t, M, SHORT, 0, self, list, parity, list, mine, info, mine + info, red, work, s->size,
+                                        decode_answer, 4) != 0;
             c = now();
             words[1] = least(words[1], b - a);
             decode[e][1] = least(decode[e][1], c - b);
-            differ |= outside[0] != outside[1] || memcmp(results, counts[e], sizeof results) != 0 || memcmp(mine, other, info + red) != 0;
+            differ |= words_answer[0] != 0 || words_answer[1] != outside || decode_answer[0] != 0
+                      || memcmp(decode_answer + 1, counts[e], sizeof counts[e]) != 0 || memcmp(mine, other, info + red) != 0;
         }
     }
     printf("  words outside %.0f us, plain %.0f us, ratio %.2f\n", words[1] * 1e6, words[0] * 1e6, words[1] / words[0]);
@@ -98,7 +121,7 @@ int main(void)
     for (unsigned i = 0; i < PLAIN_KITS; i++) {
         unsigned m = plain_kits[i].m, t = plain_kits[i].t, M = plain_kits[i].M;
         plain_sizes s;
-        uint64_t place, state = 88172645463325252u;
+        uint64_t place, answer[1], state = 88172645463325252u;
         if (plain_design(m, t, M, &s, &place))
             return 1;
         size_t lists = 2 * (size_t)s.size, matrix = s.size * (((size_t)s.size + 7) / 8), area = (size_t)M * M, group = 2 * (size_t)s.size;
@@ -115,7 +138,7 @@ int main(void)
             double a = now();
             differ |= plain_check_kit(m, t, M, self, parity, inverse, &place) != 0;
             double b = now();
-            differ |= bauchleton_check_kit(m, t, M, self, lists, parity, lists, inverse, matrix, work, matrix) != 0;
+            differ |= bauchleton_check_kit(m, t, M, self, lists, parity, lists, inverse, matrix, work, matrix, answer, 1) != 0 || answer[0] != 0;
             check[0] = least(check[0], b - a);
             check[1] = least(check[1], now() - b);
             for (unsigned l = 0; l < 2; l++) {
@@ -124,7 +147,7 @@ int main(void)
                 plain_encode(m, t, M, L, self, parity, inverse, info, other);
                 b = now();
                 differ |= bauchleton_encode(m, t, M, L, self, lists, parity, lists, inverse, matrix, info, L * area, red, L / 2 * group, work,
-                                            matrix) != 0;
+                                            matrix, answer, 1) != 0 || answer[0] != 0;
                 encode[0][l] = least(encode[0][l], b - a);
                 encode[1][l] = least(encode[1][l], now() - b);
                 differ |= memcmp(red, other, L / 2 * group) != 0;

@@ -1,0 +1,41 @@
+-- The encoder's verdict as the host is told it, and the redundancy that it leaves.
+-- Assumes nothing.
+use borrow.Author.Needs.{needs}
+use Rattle.host.proofs.Answers.{place-told}
+use Rattle.host.proofs.frames.bauchleton_encode.Statement.{statement}
+use Rattle.host.proofs.frames.bauchleton_encode.Tie as tie
+
+encode-requires : tie.Need-encode-requires
+encode-requires c κs = tt
+
+of-check-requires : tie.Need-of-check-requires
+of-check-requires c κs = tt
+
+tell-place-requires : tie.Need-tell-place-requires
+tell-place-requires c κs = tt
+
+same-length : tie.Need-same-length
+same-length c = search needs
+
+same-length-2 : tie.Need-same-length-2
+same-length-2 c = search needs
+
+same-length-3 : tie.Need-same-length-3
+same-length-3 c = search needs
+
+returns : tie.Need-returns
+returns c =
+    let t = place-told (c .before .before .before .before .before .before .before .before .before .before .before .before .before .before .before .before .before .before .before .args .answer .now) _ _ (c .before .before .before .before .of-check .ensures) (c .before .before .before .before .before .before .before .before .before .encode .ensures .0) (c .before .before .tell-place .ensures) in
+    (t .0, c .before .before .before .before .before .before .before .before .before .encode .ensures .1, t .1)
+
+pub bauchleton-encode-spec : {M : Type 1} → statement M
+bauchleton-encode-spec =
+    tie.close
+    (tie.spec
+    encode-requires
+    of-check-requires
+    tell-place-requires
+    same-length
+    same-length-2
+    same-length-3
+    returns)
