@@ -1,0 +1,9 @@
+pub mod Texts
+pub mod Judging
+pub mod Lengths
+pub mod Filling
+pub mod Parts
+pub mod Answering
+pub mod Calls
+pub mod Promises
+pub mod Examples

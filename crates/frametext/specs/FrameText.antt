@@ -4,7 +4,7 @@
 --   BlockText, FrameText           the same texts, said by the number of blocks
 -- `area` is M × M, `n` is M × r, `most` is the largest number of blocks. The mark at a text's end is its number of blocks.
 -- Assumes nothing.
-use Prim.Native.Nat.{ℕ, zero, suc, _+_, _-_, _/_, _≤_}
+use Prim.Native.Nat.{ℕ, zero, suc, _+_, _-_, _≤_}
 use mathlib.Core.List.{List, [], _∷_, _++_}
 use Rattle.formats.specs.Format.{Item, byte, Format, end, _▷_, opt, fork, dec}
 use Rattle.formats.specs.Items.{lits, seq, bits, bitsLine, bitsLines, Spells}

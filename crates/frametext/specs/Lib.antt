@@ -1,2 +1,3 @@
 pub mod FrameText
+pub mod Judged
 pub mod Reader

@@ -15,7 +15,6 @@ use Rattle.staircase.specs.Design.{most-blocks}
 use Rattle.staircase.specs.Frame.{groups}
 use Rattle.staircase.specs.Rules.{Verdict, _then_, lengthRule}
 use Rattle.staircase.specs.Rules.Verdict.{accepted, refused}
-use Rattle.design.specs.declared.Refusal.{Refusal}
 use Rattle.design.specs.Answers.{refusalVerdict}
 use Rattle.readers.specs.Verdicts.{scanRule, mark, valuesOf, kept}
 use Rattle.frametext.specs.FrameText.{blockFormat, frameFormat}

@@ -1,0 +1,182 @@
+-- What rule 12 means for block text and frame text, and what a caller knows of an accepted text. Stated over the definitions that the contracts cite.
+--   blocks-accepted, frame-accepted   accepted are exactly the texts of the format, with the bits that the reader gives
+--   blocks-place, frame-place         a refusal's place is the longest start that some text of the format shares
+--   blocks-hold, frame-holds          of an accepted text: the number of blocks, the lengths, bits alone, and how long it is at least
+-- Assumes nothing.
+use Prim.Native.Nat.{ℕ, _+_, _*_, _≤_, _<_}
+use mathlib.Core.Path.{_≡_, sym, ap, subst, _∙_}
+use mathlib.Core.List.{List, _∷_, _++_}
+use native.Mathlib.Omega.{arith}
+use native.Mathlib.Decide.{decLt}
+use lib.ListN.{length, getD, take, drop, take-append-drop, length-append, length-take, List·getD-eq-default}
+use lib.Seq.{take-at, drop-at, getD-take, getD-drop}
+use Rattle.bch.specs.Polynomial.{Bits}
+use Rattle.formats.specs.Format as format
+use Rattle.formats.specs.Format.{Item, byte, Text, Longest, Scan, read, scan}
+use Rattle.formats.specs.Items.{lits, bitsLines, spell}
+use Rattle.formats.proofs.Scan.{scan-complete, scan-longest, longest-same}
+use Rattle.staircase.specs.Design.{most-blocks}
+use Rattle.staircase.specs.Frame.{groups}
+use Rattle.staircase.specs.Rules.Verdict.{accepted, refused}
+use Rattle.readers.specs.Verdicts.{scanRule, mark, valuesOf}
+use Rattle.frametext.specs.FrameText.{blockNames, groupNames, blockFormat, frameFormat, groupLines, BlockText, FrameText}
+use Rattle.frametext.specs.Reader.{blockScan, blockRule, blockCount, blockInfo, frameScan, frameRule, frameCount, frameInfo, frameRed}
+use Rattle.frametext.proofs.Texts.{clear-blocks, clear-frame, blocks-union, union-blocks, frame-union, union-frame, blocks-read, frame-read}
+use Rattle.frametext.proofs.Lengths.{fit-length, lines-take, fit-bits, bare-append, lines-bare, groups-bare, spell-long, lines-long, groups-long}
+use Rattle.frametext.proofs.Parts.{frame-parts}
+
+-- ---- a scan by its rule
+
+rule-accepts : (x : Scan) → scanRule 12 x ≡ accepted → x ≡ read (mark x) (valuesOf x)
+unfolding scanRule mark valuesOf
+rule-accepts (format.refused q) e = let z : _≡_ {A = ℕ} 0 1 = cc in absurd (omega arith)
+rule-accepts (read l vs) e = mathlib.Core.Path.refl
+
+rule-refuses : (x : Scan) (k : ℕ) → scanRule 12 x ≡ refused 12 k → x ≡ format.refused k
+unfolding scanRule
+rule-refuses (format.refused q) k e = let z : q ≡ k = cc in ap format.refused z
+rule-refuses (read l vs) k e = let z : _≡_ {A = ℕ} 0 1 = cc in absurd (omega arith)
+
+is-accepted : (x : Scan) (L : ℕ) (vs : List ℕ) → x ≡ read L vs → (scanRule 12 x ≡ accepted) × (L ≡ mark x) × (vs ≡ valuesOf x)
+unfolding scanRule mark valuesOf
+is-accepted x L vs e = (ap (scanRule 12) e, sym (ap mark e), sym (ap valuesOf e))
+
+-- ---- block text
+
+-- s is a block text for this M
+abbrev pub SomeBlocks : ℕ → List ℕ → Type 0
+SomeBlocks M s = (L : ℕ) × (vs : List ℕ) × BlockText (M * M) most-blocks L vs s
+
+-- A text is accepted exactly where it is a block text. What the reader gives, written as block text, is the text; and no other number of blocks
+-- and no other bits make this text.
+pub blocks-accepted : (M : ℕ) (s : List ℕ)
+    → (blockRule M s ≡ accepted → BlockText (M * M) most-blocks (blockCount M s) (blockInfo M s) s)
+    × ((L : ℕ) (vs : List ℕ) → BlockText (M * M) most-blocks L vs s → (blockRule M s ≡ accepted) × (L ≡ blockCount M s) × (vs ≡ blockInfo M s))
+unfolding blockRule blockCount blockInfo blockScan
+blocks-accepted M s = (
+  λ e. blocks-read (M * M) most-blocks (blockCount M s) (blockInfo M s) s (omega arith) (omega arith) (rule-accepts (blockScan M s) e),
+  λ L vs b. is-accepted (blockScan M s) L vs
+      (scan-complete (blockFormat (M * M) most-blocks) L vs s (clear-blocks (M * M) most-blocks (omega arith) (omega arith)) (union-blocks (M * M) most-blocks L vs s b)),
+)
+
+-- "12 .. length of the longest start that some block text shares": the place of a refusal.
+pub blocks-place : (M : ℕ) (s : List ℕ) (k : ℕ) → blockRule M s ≡ refused 12 k → Longest (SomeBlocks M) s k
+unfolding blockRule blockScan
+blocks-place M s k e =
+    longest-same (Text (blockFormat (M * M) most-blocks)) (SomeBlocks M)
+    (λ y x. (x .0, x .1, blocks-union (M * M) most-blocks (x .0) (x .1) y (omega arith) (x .2)))
+    (λ y x. (x .0, x .1, union-blocks (M * M) most-blocks (x .0) (x .1) y (x .2)))
+    s k (scan-longest (blockFormat (M * M) most-blocks) s k (clear-blocks (M * M) most-blocks (omega arith) (omega arith)) (rule-refuses (blockScan M s) k e))
+
+-- What holds of a block text with the number of blocks L and the bits vs.
+pub record BlocksHold (M L : ℕ) (vs s : List ℕ) : Type 0 where
+  pub some : 1 ≤ L
+  pub few : L ≤ most-blocks
+  pub info-length : length vs ≡ L * (M * M)
+  pub info-bits : Bits vs
+  pub text-length : L * (M * M + 3) ≤ length s
+
+-- An accepted text has 1 to 4,096 blocks, M × M bits for each, and at least M × M + 3 bytes for each.
+pub blocks-hold : (M : ℕ) (s : List ℕ) → blockRule M s ≡ accepted → BlocksHold M (blockCount M s) (blockInfo M s) s
+blocks-hold M s e = go (blockCount M s) (blockInfo M s) (blocks-accepted M s .0 e)
+  where
+    go : (L : ℕ) (vs : List ℕ) → BlockText (M * M) most-blocks L vs s → BlocksHold M L vs s
+    go L vs b =
+        let is : List Item = bitsLines (M * M) 1 L in
+        let names : List Item = lits blockNames in
+        let long : length (names ++ is) ≤ length (spell (names ++ is) vs) = spell-long (names ++ is) vs (b .spells .0) in
+        let same : length s ≡ length (spell (names ++ is) vs) = ap length (b .spells .1) in
+        record {
+          some = b .some;
+          few = b .few;
+          info-length = fit-length is vs (b .spells .0) ∙ lines-take (M * M) 1 L;
+          info-bits = fit-bits is vs (lines-bare (M * M) 1 L) (b .spells .0);
+          text-length = omega (arith, length-append names is, lines-long (M * M) 1 L);
+        }
+
+-- ---- frame text
+
+-- s is a frame text for this M and r
+abbrev pub SomeFrame : ℕ → ℕ → List ℕ → Type 0
+SomeFrame M r s = (L : ℕ) × (vs : List ℕ) × FrameText (M * M) (M * r) most-blocks L vs s
+
+frame-values : (M r : ℕ) (s : List ℕ) → frameInfo M r s ++ frameRed M r s ≡ valuesOf (frameScan M r s)
+unfolding frameInfo frameRed
+frame-values M r s = take-append-drop (frameCount M r s * (M * M)) (valuesOf (frameScan M r s))
+
+-- The same for frame text: the bits are those of the blocks and behind them those of the groups.
+pub frame-accepted : (M r : ℕ) (s : List ℕ)
+    → (frameRule M r s ≡ accepted → FrameText (M * M) (M * r) most-blocks (frameCount M r s) (frameInfo M r s ++ frameRed M r s) s)
+    × ((L : ℕ) (vs : List ℕ) → FrameText (M * M) (M * r) most-blocks L vs s
+    → (frameRule M r s ≡ accepted) × (L ≡ frameCount M r s) × (vs ≡ frameInfo M r s ++ frameRed M r s))
+unfolding frameRule frameCount frameScan
+frame-accepted M r s = (
+  λ e.
+      subst (λ (vs : List ℕ). FrameText (M * M) (M * r) most-blocks (mark (frameScan M r s)) vs s) (sym (frame-values M r s))
+      (frame-read (M * M) (M * r) most-blocks (mark (frameScan M r s)) (valuesOf (frameScan M r s)) s (omega arith) (omega arith) (rule-accepts (frameScan M r s) e)),
+  λ L vs b.
+      let c = clear-frame (M * M) (M * r) most-blocks (omega arith) (omega arith) in
+      let t = is-accepted (frameScan M r s) L vs
+      (scan-complete (frameFormat (M * M) (M * r) most-blocks) L vs s c (union-frame (M * M) (M * r) most-blocks L vs s b)) in
+      (t .0, t .1, t .2 ∙ sym (frame-values M r s)),
+)
+
+-- "For `mend`, 12 covers both texts": the place of a refusal is the longest start that some frame text shares.
+pub frame-place : (M r : ℕ) (s : List ℕ) (k : ℕ) → frameRule M r s ≡ refused 12 k → Longest (SomeFrame M r) s k
+unfolding frameRule frameScan
+frame-place M r s k e =
+    let c = clear-frame (M * M) (M * r) most-blocks (omega arith) (omega arith) in
+    longest-same (Text (frameFormat (M * M) (M * r) most-blocks)) (SomeFrame M r)
+    (λ y x. (x .0, x .1, frame-union (M * M) (M * r) most-blocks (x .0) (x .1) y (omega arith) (x .2)))
+    (λ y x. (x .0, x .1, union-frame (M * M) (M * r) most-blocks (x .0) (x .1) y (x .2)))
+    s k (scan-longest (frameFormat (M * M) (M * r) most-blocks) s k c (rule-refuses (frameScan M r s) k e))
+
+-- What holds of a frame text with the number of blocks L, the information vs and the redundancy ws.
+pub record FrameHolds (M r L : ℕ) (vs ws s : List ℕ) : Type 0 where
+  pub some : 1 ≤ L
+  pub few : L ≤ most-blocks
+  pub info-length : length vs ≡ L * (M * M)
+  pub red-length : length ws ≡ groups L * (2 * (M * r))
+  pub info-bits : Bits vs
+  pub red-bits : Bits ws
+  pub text-length : L * (M * M + 3) + groups L * (2 * (M * r) + 4) ≤ length s
+
+bits-drop : (n : ℕ) (l : List ℕ) → Bits l → Bits (drop n l)
+bits-drop n l h k = rw (getD-drop n l k 0) (h (n + k))
+
+bits-take : (n : ℕ) (l : List ℕ) → Bits l → Bits (take n l)
+bits-take n l h k = go (decLt k n)
+  where
+    go : Dec (k < n) → getD (take n l) k 0 < 2
+    go (yes a) = rw (getD-take n l k 0 a) (h k)
+    go (no a) = rw (List·getD-eq-default (take n l) 0 {n = k} (omega (arith, length-take n l))) (omega arith)
+
+-- An accepted text has 1 to 4,096 blocks with M × M bits each and at least M × M + 3 bytes, and G groups with twice M × r bits each and at least
+-- twice M × r + 4 bytes.
+pub frame-holds : (M r : ℕ) (s : List ℕ) → frameRule M r s ≡ accepted → FrameHolds M r (frameCount M r s) (frameInfo M r s) (frameRed M r s) s
+unfolding frameRule frameCount frameInfo frameRed frameScan
+frame-holds M r s e = go (mark (frameScan M r s)) (valuesOf (frameScan M r s)) (rule-accepts (frameScan M r s) e)
+  where
+    go : (L : ℕ) (vs : List ℕ) → scan (frameFormat (M * M) (M * r) most-blocks) s ≡ read L vs → FrameHolds M r L (take (L * (M * M)) vs) (drop (L * (M * M)) vs) s
+    go L vs x =
+        let p = frame-parts (M * M) (M * r) L vs s x in
+        let b = frame-read (M * M) (M * r) most-blocks L vs s (omega arith) (omega arith) x in
+        let is : List Item = bitsLines (M * M) 1 L in
+        let js : List Item = groupLines (M * r) 1 (groups L) in
+        let first : List Item = lits blockNames ++ is in
+        let second : List Item = byte 103 ∷ (lits groupNames ++ js) in
+        let bits : Bits vs = fit-bits (is ++ second) vs (bare-append is second (lines-bare (M * M) 1 L) (groups-bare (M * r) 1 (groups L))) (b .spells .0) in
+        let info : take (L * (M * M)) vs ≡ p .info = ap (λ (l : List ℕ). take (L * (M * M)) l) (p .whole) ∙ take-at (p .info) (p .red) (L * (M * M)) (p .info-size) in
+        let red : drop (L * (M * M)) vs ≡ p .red = ap (λ (l : List ℕ). drop (L * (M * M)) l) (p .whole) ∙ drop-at (p .info) (p .red) (L * (M * M)) (p .info-size) in
+        let long : length (first ++ second) ≤ length (spell (first ++ second) vs) = spell-long (first ++ second) vs (b .spells .0) in
+        let same : length s ≡ length (spell (first ++ second) vs) = ap length (b .spells .1) in
+        record {
+          some = b .some;
+          few = b .few;
+          info-length = ap length info ∙ p .info-size;
+          red-length = ap length red ∙ p .red-size;
+          info-bits = bits-take (L * (M * M)) vs bits;
+          red-bits = bits-drop (L * (M * M)) vs bits;
+          text-length =
+              omega (arith, length-append first second, length-append (lits blockNames) is, length-append (lits groupNames) js, lines-long (M * M) 1 L, groups-long (M * r) 1 (groups L));
+        }

@@ -1,0 +1,278 @@
+-- Block text and frame text: the formats are clear, and their texts are the unions over the number of blocks.
+--   clear-blocks, clear-frame     the formats are clear, so the scan decides them
+--   blocks-union, union-blocks    a text of the block format is a block text of some number of blocks, and the other way round
+--   frame-union, union-frame      the same of frame text
+--   fit-append, fit-split         items put together, with their values
+-- Assumes nothing.
+use Prim.Native.Nat.{ℕ, zero, suc, _+_, _-_, _≤_, _<_}
+use mathlib.Core.Path.{_≡_, refl, sym, ap, subst, _∙_}
+use mathlib.Core.List.{List, [], _∷_, _++_, append-assoc, append-nil}
+use mathlib.Core.Logic.{inl, inr}
+use native.Mathlib.Omega.{arith}
+use borrow.Author.Tests.{ne-eqb}
+use lib.Dec.{eqb}
+use Rattle.formats.specs.Format.{dec, Item, byte, num, bit, Format, end, _▷_, Renders, read, scan, Avoids, Begins, Clear}
+use Rattle.formats.specs.Items.{lits, seq, bits, bitsLine, bitsLines, spell, Fit, Spells}
+use Rattle.formats.proofs.Scan.{dec-head, scan-sound}
+use Rattle.formats.proofs.Spelling.{seq-renders, renders-seq, Spelt, Tidy, clear-seq, tidy-append, tidy-dec, tidy-bits, tidy-bitsLine}
+use Rattle.staircase.specs.Frame.{groups}
+use Rattle.frametext.specs.FrameText.{blockNames, blockTail, blockFormat, groupNames, groupLine, groupLines, groupTail, frameTail, frameFormat}
+use Rattle.frametext.specs.FrameText.{blockItems, groupItems, BlockText, FrameText}
+
+-- CLEAR.
+begins-row : (area p : ℕ) (F : Format) → p < 10000 → Begins (seq (bitsLine area p) F)
+unfolding bitsLine
+begins-row area p F h = let d = dec-head p h in rw (d .3) tt
+
+avoids-row : (area p : ℕ) (F : Format) → p < 10000 → Avoids (eqb 103) (seq (bitsLine area p) F)
+unfolding bitsLine
+avoids-row area p F h = let d = dec-head p h in rw (d .3) (ne-eqb 103 (48 + d .0) (λ e. omega (arith, d .2)))
+
+clear-blockTail : (area k i : ℕ) → i + k < 10000 → Clear (blockTail area k i)
+unfolding blockTail
+clear-blockTail area zero i h = tt
+clear-blockTail area (suc k) i h = (
+  begins-row area (suc i) (blockTail area k (suc i)) (omega arith),
+  clear-seq (bitsLine area (suc i)) (blockTail area k (suc i)) (tidy-bitsLine area (suc i) (omega arith)) (clear-blockTail area k (suc i) (omega arith)),
+)
+
+pub clear-blocks : (area most : ℕ) → 1 ≤ most → most < 10000 → Clear (blockFormat area most)
+unfolding blockFormat
+clear-blocks area most l h =
+    clear-seq (lits blockNames) (seq (bitsLine area 1) (blockTail area (most - 1) 1)) (omega arith)
+    (clear-seq (bitsLine area 1) (blockTail area (most - 1) 1) (tidy-bitsLine area 1 (omega arith)) (clear-blockTail area (most - 1) 1 (omega arith)))
+
+pub tidy-groupLine : (n p : ℕ) → p < 10000 → Tidy (groupLine n p)
+unfolding groupLine
+tidy-groupLine n p h =
+    let last : Tidy ((byte 32 ∷ bits n) ++ (byte 10 ∷ [])) = tidy-append (byte 32 ∷ bits n) (byte 10 ∷ []) (omega arith, tidy-bits n) (omega arith, tt) in
+    tidy-append (lits (dec p)) ((byte 32 ∷ bits n) ++ ((byte 32 ∷ bits n) ++ (byte 10 ∷ []))) (tidy-dec p h)
+    (tidy-append (byte 32 ∷ bits n) ((byte 32 ∷ bits n) ++ (byte 10 ∷ [])) (omega arith, tidy-bits n) last)
+
+pub tidy-groupLines : (n k p : ℕ) → p + k ≤ 10000 → Tidy (groupLines n p k)
+unfolding groupLines
+tidy-groupLines n zero p h = tt
+tidy-groupLines n (suc k) p h = tidy-append (groupLine n p) (groupLines n (suc p) k) (tidy-groupLine n p (omega arith)) (tidy-groupLines n k (suc p) (omega arith))
+
+clear-groups : (area L : ℕ) → L < 10000 → Clear (groupTail area L)
+unfolding groupTail
+clear-groups area L h =
+    clear-seq (lits groupNames ++ groupLines area 1 (groups L)) (end L)
+    (tidy-append (lits groupNames) (groupLines area 1 (groups L)) (omega arith) (tidy-groupLines area (groups L) 1 (omega arith))) tt
+
+clear-frameTail : (area order k i : ℕ) → i + k < 10000 → Clear (frameTail area order k i)
+unfolding frameTail
+clear-frameTail area order zero i h = (omega arith, clear-groups order i (omega arith))
+clear-frameTail area order (suc k) i h = (
+  omega arith,
+  avoids-row area (suc i) (frameTail area order k (suc i)) (omega arith),
+  clear-groups order i (omega arith),
+  clear-seq (bitsLine area (suc i)) (frameTail area order k (suc i)) (tidy-bitsLine area (suc i) (omega arith)) (clear-frameTail area order k (suc i) (omega arith)),
+)
+
+pub clear-frame : (area order most : ℕ) → 1 ≤ most → most < 10000 → Clear (frameFormat area order most)
+unfolding frameFormat
+clear-frame area order most l h =
+    clear-seq (lits blockNames) (seq (bitsLine area 1) (frameTail area order (most - 1) 1)) (omega arith)
+    (clear-seq (bitsLine area 1) (frameTail area order (most - 1) 1) (tidy-bitsLine area 1 (omega arith)) (clear-frameTail area order (most - 1) 1 (omega arith)))
+
+-- LISTS OF ITEMS PUT TOGETHER.
+pub fit-append : (is js : List Item) (ws us : List ℕ) → Fit is ws → Fit js us → Fit (is ++ js) (ws ++ us) × (spell (is ++ js) (ws ++ us) ≡ spell is ws ++ spell js us)
+fit-append [] js [] us f g = (g, refl)
+fit-append [] js (w ∷ ws) us f g = absurd f
+fit-append (byte b ∷ is) js ws us f g = let (h, e) = fit-append is js ws us f g in (h, ap (λ (l : List ℕ). b ∷ l) e)
+fit-append (num ∷ is) js [] us f g = absurd f
+fit-append (num ∷ is) js (w ∷ ws) us f g =
+    let (h, e) = fit-append is js ws us (f .1) g in
+    ((f .0, h), ap (λ (l : List ℕ). dec w ++ l) e ∙ sym (append-assoc (dec w) (spell is ws) (spell js us)))
+fit-append (bit ∷ is) js [] us f g = absurd f
+fit-append (bit ∷ is) js (w ∷ ws) us f g = let (h, e) = fit-append is js ws us (f .1) g in ((f .0, h), ap (λ (l : List ℕ). (48 + w) ∷ l) e)
+
+abbrev pub Split : List Item → List Item → List ℕ → Type 0
+Split is js vs = (ws : List ℕ) × (us : List ℕ) × Fit is ws × Fit js us × (vs ≡ ws ++ us)
+
+split-cons : (i : Item) (is js : List Item) (v : ℕ) (vs : List ℕ) → ((ws : List ℕ) → Fit is ws → Fit (i ∷ is) (v ∷ ws)) → Split is js vs → Split (i ∷ is) js (v ∷ vs)
+split-cons i is js v vs up (ws, us, f, g, e) = (v ∷ ws, us, up ws f, g, ap (λ (l : List ℕ). v ∷ l) e)
+
+pub fit-split : (is js : List Item) (vs : List ℕ) → Fit (is ++ js) vs → Split is js vs
+fit-split [] js vs f = ([], vs, tt, f, refl)
+fit-split (byte b ∷ is) js vs f = fit-split is js vs f
+fit-split (num ∷ is) js [] f = absurd f
+fit-split (num ∷ is) js (v ∷ vs) f = split-cons num is js v vs (λ ws g. (f .0, g)) (fit-split is js vs (f .1))
+fit-split (bit ∷ is) js [] f = absurd f
+fit-split (bit ∷ is) js (v ∷ vs) f = split-cons bit is js v vs (λ ws g. (f .0, g)) (fit-split is js vs (f .1))
+
+-- BLOCK TEXT IS THE UNION.
+abbrev Lines : ℕ → ℕ → ℕ → ℕ → List ℕ → List ℕ → Type 0
+Lines area k i L vs s = (j : ℕ) × (j ≤ k) × (L ≡ i + j) × Spells (bitsLines area (suc i) j) vs s
+
+no-line : (area k i L : ℕ) (vs s : List ℕ) → L ≡ i → vs ≡ [] → s ≡ [] → Lines area k i L vs s
+unfolding bitsLines
+no-line area k i L vs s a b c = (0, omega arith, omega arith, (rw b tt, c))
+
+more-lines : (area k i L : ℕ) (vs s ws us t : List ℕ) → Fit (bitsLine area (suc i)) ws → vs ≡ ws ++ us → s ≡ spell (bitsLine area (suc i)) ws ++ t
+    → Lines area k (suc i) L us t → Lines area (suc k) i L vs s
+unfolding bitsLines
+more-lines area k i L vs s ws us t f e g (j, h, l, (m, n)) =
+    let (x, y) = fit-append (bitsLine area (suc i)) (bitsLines area (suc (suc i)) j) ws us f m in
+    (suc j, omega arith, omega arith, (rw e x, rw (g, e, n) (sym y)))
+
+pub tail-lines : (area k i L : ℕ) (vs s : List ℕ) → Renders (blockTail area k i) L vs s → Lines area k i L vs s
+unfolding blockTail
+tail-lines area zero i L vs s (a, b, c) = no-line area 0 i L vs s a b c
+tail-lines area (suc k) i L vs s (inl (a, b, c)) = no-line area (suc k) i L vs s a b c
+tail-lines area (suc k) i L vs s (inr r) = go (renders-seq (bitsLine area (suc i)) (blockTail area k (suc i)) L vs s r) (λ us t. tail-lines area k (suc i) L us t)
+  where
+    go : Spelt (bitsLine area (suc i)) (blockTail area k (suc i)) L vs s → ((us t : List ℕ) → Renders (blockTail area k (suc i)) L us t → Lines area k (suc i) L us t)
+        → Lines area (suc k) i L vs s
+    go (ws, us, t, f, e, g, x) ih = more-lines area k i L vs s ws us t f e g (ih us t x)
+
+pub lines-tail : (area k i L j : ℕ) (vs s : List ℕ) → j ≤ k → L ≡ i + j → Spells (bitsLines area (suc i) j) vs s → Renders (blockTail area k i) L vs s
+unfolding blockTail bitsLines
+lines-tail area zero i L zero [] s h e (f, g) = (omega arith, refl, g)
+lines-tail area zero i L zero (v ∷ vs) s h e (f, g) = absurd f
+lines-tail area zero i L (suc j) vs s h e x = absurd (omega arith)
+lines-tail area (suc k) i L zero [] s h e (f, g) = inl (omega arith, refl, g)
+lines-tail area (suc k) i L zero (v ∷ vs) s h e (f, g) = absurd f
+lines-tail area (suc k) i L (suc j) vs s h e (f, g) =
+    inr (go (fit-split (bitsLine area (suc i)) (bitsLines area (suc (suc i)) j) vs f) (λ us t. lines-tail area k (suc i) L j us t (omega arith) (omega arith)))
+  where
+    go : Split (bitsLine area (suc i)) (bitsLines area (suc (suc i)) j) vs
+        → ((us t : List ℕ) → Spells (bitsLines area (suc (suc i)) j) us t → Renders (blockTail area k (suc i)) L us t)
+        → Renders (seq (bitsLine area (suc i)) (blockTail area k (suc i))) L vs s
+    go (ws, us, m, n, w) ih =
+        let x = fit-append (bitsLine area (suc i)) (bitsLines area (suc (suc i)) j) ws us m n .1 in
+        rw (g, w, x) (seq-renders (bitsLine area (suc i)) (blockTail area k (suc i)) L ws us (spell (bitsLines area (suc (suc i)) j) us) m (ih us (spell (bitsLines area (suc (suc i)) j) us) (n, refl)))
+
+-- A header and the first line before the rest, taken off and put on.
+abbrev Front : ℕ → List Item
+Front area = lits blockNames ++ bitsLine area 1
+
+pub blocks-union : (area most L : ℕ) (vs s : List ℕ) → 1 ≤ most → Renders (blockFormat area most) L vs s → BlockText area most L vs s
+unfolding blockFormat bitsLines
+blocks-union area most L vs s l r = go (renders-seq (Front area) (blockTail area (most - 1) 1) L vs s r)
+  where
+    go2 : (ws us t : List ℕ) → Fit (Front area) ws → vs ≡ ws ++ us → s ≡ spell (Front area) ws ++ t → Lines area (most - 1) 1 L us t → BlockText area most L vs s
+    go2 ws us t f e g (j, h, w, (m, n)) =
+        let (x, y) = fit-append (Front area) (bitsLines area 2 j) ws us f m in
+        let z : L ≡ suc j = omega arith in
+        record { some = omega arith; few = omega arith; spells = rw z (rw e x, rw (g, e, n) (sym y)) }
+
+    go : Spelt (Front area) (blockTail area (most - 1) 1) L vs s → BlockText area most L vs s
+    go (ws, us, t, f, e, g, x) = go2 ws us t f e g (tail-lines area (most - 1) 1 L us t x)
+
+pub union-blocks : (area most L : ℕ) (vs s : List ℕ) → BlockText area most L vs s → Renders (blockFormat area most) L vs s
+unfolding blockFormat bitsLines
+union-blocks area most zero vs s b = absurd (omega (arith, b .some))
+union-blocks area most (suc j) vs s b = go (fit-split (Front area) (bitsLines area 2 j) vs (b .spells .0))
+  where
+    go : Split (Front area) (bitsLines area 2 j) vs → Renders (seq (lits blockNames) (seq (bitsLine area 1) (blockTail area (most - 1) 1))) (suc j) vs s
+    go (ws, us, m, n, w) =
+        let x = fit-append (Front area) (bitsLines area 2 j) ws us m n .1 in
+        let e : s ≡ spell (Front area) ws ++ spell (bitsLines area 2 j) us = b .spells .1 ∙ ap (spell (Front area ++ bitsLines area 2 j)) w ∙ x in
+        let r = lines-tail area (most - 1) 1 (suc j) j us (spell (bitsLines area 2 j) us) (omega (arith, b .few)) (omega arith) (n, refl) in
+        rw (e, w) (seq-renders (Front area) (blockTail area (most - 1) 1) (suc j) ws us (spell (bitsLines area 2 j) us) m r)
+
+-- FRAME TEXT IS THE UNION.
+abbrev Groups : ℕ → ℕ → List Item
+Groups order L = groupItems order (groups L)
+
+abbrev FrameLines : ℕ → ℕ → ℕ → ℕ → ℕ → List ℕ → List ℕ → Type 0
+FrameLines area order k i L vs s = (j : ℕ) × (j ≤ k) × (L ≡ i + j) × Spells (bitsLines area (suc i) j ++ Groups order L) vs s
+
+closed : (is : List Item) (i L : ℕ) (vs s : List ℕ) → Spelt is (end i) L vs s → (L ≡ i) × Spells is vs s
+closed is i L vs s (ws, us, t, f, e, g, (a, b, c)) =
+    let x : vs ≡ ws = e ∙ ap (λ (z : List ℕ). ws ++ z) b ∙ append-nil ws in
+    (a, (rw x f, g ∙ ap (λ (z : List ℕ). spell is ws ++ z) c ∙ append-nil (spell is ws) ∙ ap (spell is) (sym x)))
+
+last-group : (area order k i L : ℕ) (vs s : List ℕ) → Renders (byte 103 ▷ groupTail order i) L vs s → FrameLines area order k i L vs s
+unfolding groupTail bitsLines
+last-group area order k i L vs s r =
+    let (a, x) = closed (Groups order i) i L vs s (renders-seq (Groups order i) (end i) L vs s r) in
+    (0, omega arith, omega arith, rw a x)
+
+more-frame : (area order k i L : ℕ) (vs s ws us t : List ℕ) → Fit (bitsLine area (suc i)) ws → vs ≡ ws ++ us → s ≡ spell (bitsLine area (suc i)) ws ++ t
+    → FrameLines area order k (suc i) L us t → FrameLines area order (suc k) i L vs s
+unfolding bitsLines
+more-frame area order k i L vs s ws us t f e g (j, h, l, (m, n)) =
+    let (x, y) = fit-append (bitsLine area (suc i)) (bitsLines area (suc (suc i)) j ++ Groups order L) ws us f m in
+    (suc j, omega arith, omega arith, rw append-assoc (rw e x, rw (g, e, n) (sym y)))
+
+pub frame-lines : (area order k i L : ℕ) (vs s : List ℕ) → Renders (frameTail area order k i) L vs s → FrameLines area order k i L vs s
+unfolding frameTail
+frame-lines area order zero i L vs s r = last-group area order 0 i L vs s r
+frame-lines area order (suc k) i L vs s (inl (t, e, r)) = last-group area order (suc k) i L vs s ([], 103 ∷ [], vs, t, (refl, refl), refl, e, r)
+frame-lines area order (suc k) i L vs s (inr r) = go (renders-seq (bitsLine area (suc i)) (frameTail area order k (suc i)) L vs s r) (λ us t. frame-lines area order k (suc i) L us t)
+  where
+    go : Spelt (bitsLine area (suc i)) (frameTail area order k (suc i)) L vs s → ((us t : List ℕ) → Renders (frameTail area order k (suc i)) L us t → FrameLines area order k (suc i) L us t)
+        → FrameLines area order (suc k) i L vs s
+    go (ws, us, t, f, e, g, x) ih = more-frame area order k i L vs s ws us t f e g (ih us t x)
+
+-- The group text after its first byte.
+open-group : (order i L : ℕ) (vs s : List ℕ) → L ≡ i → Spells (Groups order L) vs s → (t : List ℕ) × (s ≡ 103 ∷ t) × Renders (groupTail order i) L vs t
+unfolding groupTail
+open-group order i L vs s a (f, g) =
+    let is : List Item = lits groupNames ++ groupLines order 1 (groups i) in
+    let f′ : Fit is vs = rw a at f in
+    let g′ : s ≡ 103 ∷ spell is vs = rw a at g in
+    (spell is vs, g′, rw (← append-nil (spell is vs)) (subst (λ (v : List ℕ). Renders (seq is (end i)) L v (spell is vs ++ [])) (append-nil vs) (seq-renders is (end i) L vs [] [] f′ (a, refl, refl))))
+
+pub lines-frame : (area order k i L j : ℕ) (vs s : List ℕ) → j ≤ k → L ≡ i + j → Spells (bitsLines area (suc i) j ++ Groups order L) vs s → Renders (frameTail area order k i) L vs s
+unfolding frameTail bitsLines
+lines-frame area order zero i L zero vs s h e x = let (t, a, r) = open-group order i L vs s (omega arith) x in ([], 103 ∷ [], vs, t, (refl, refl), refl, a, r)
+lines-frame area order zero i L (suc j) vs s h e x = absurd (omega arith)
+lines-frame area order (suc k) i L zero vs s h e x = inl (open-group order i L vs s (omega arith) x)
+lines-frame area order (suc k) i L (suc j) vs s h e x =
+    let y = rw append-assoc at x in
+    inr (go (y .1) (fit-split (bitsLine area (suc i)) (bitsLines area (suc (suc i)) j ++ Groups order L) vs (y .0)) (λ us t. lines-frame area order k (suc i) L j us t (omega arith) (omega arith)))
+  where
+    go : s ≡ spell (bitsLine area (suc i) ++ (bitsLines area (suc (suc i)) j ++ Groups order L)) vs → Split (bitsLine area (suc i)) (bitsLines area (suc (suc i)) j ++ Groups order L) vs
+        → ((us t : List ℕ) → Spells (bitsLines area (suc (suc i)) j ++ Groups order L) us t → Renders (frameTail area order k (suc i)) L us t)
+        → Renders (seq (bitsLine area (suc i)) (frameTail area order k (suc i))) L vs s
+    go g (ws, us, m, n, w) ih =
+        let R : List Item = bitsLines area (suc (suc i)) j ++ Groups order L in
+        let x = fit-append (bitsLine area (suc i)) R ws us m n .1 in
+        rw (g, w, x) (seq-renders (bitsLine area (suc i)) (frameTail area order k (suc i)) L ws us (spell R us) m (ih us (spell R us) (n, refl)))
+
+pub frame-union : (area order most L : ℕ) (vs s : List ℕ) → 1 ≤ most → Renders (frameFormat area order most) L vs s → FrameText area order most L vs s
+unfolding frameFormat bitsLines
+frame-union area order most L vs s l r = go (renders-seq (Front area) (frameTail area order (most - 1) 1) L vs s r)
+  where
+    go2 : (ws us t : List ℕ) → Fit (Front area) ws → vs ≡ ws ++ us → s ≡ spell (Front area) ws ++ t → FrameLines area order (most - 1) 1 L us t → FrameText area order most L vs s
+    go2 ws us t f e g (j, h, w, (m, n)) =
+        let R : List Item = bitsLines area 2 j ++ Groups order L in
+        let (x, y) = fit-append (Front area) R ws us f m in
+        let z : L ≡ suc j = omega arith in
+        let a : Spells (Front area ++ R) vs s = (rw e x, rw (g, e, n) (sym y)) in
+        record { some = omega arith; few = omega arith; spells = subst (λ (is : List Item). Spells is vs s) (same L j z) a }
+      where
+        same : (L j : ℕ) → L ≡ suc j → Front area ++ (bitsLines area 2 j ++ Groups order L) ≡ blockItems area L ++ Groups order L
+        same L j z = sym (append-assoc (Front area) (bitsLines area 2 j) (Groups order L)) ∙ ap (λ (n : ℕ). blockItems area n ++ Groups order L) (sym z)
+
+    go : Spelt (Front area) (frameTail area order (most - 1) 1) L vs s → FrameText area order most L vs s
+    go (ws, us, t, f, e, g, x) = go2 ws us t f e g (frame-lines area order (most - 1) 1 L us t x)
+
+pub union-frame : (area order most L : ℕ) (vs s : List ℕ) → FrameText area order most L vs s → Renders (frameFormat area order most) L vs s
+unfolding frameFormat bitsLines
+union-frame area order most zero vs s b = absurd (omega (arith, b .some))
+union-frame area order most (suc j) vs s b = go (b .few) (subst (λ (is : List Item). Spells is vs s) (append-assoc (Front area) (bitsLines area 2 j) (Groups order (suc j))) (b .spells))
+  where
+    go2 : suc j ≤ most → s ≡ spell (Front area ++ (bitsLines area 2 j ++ Groups order (suc j))) vs → Split (Front area) (bitsLines area 2 j ++ Groups order (suc j)) vs
+        → Renders (seq (Front area) (frameTail area order (most - 1) 1)) (suc j) vs s
+    go2 h g (ws, us, m, n, w) =
+        let R : List Item = bitsLines area 2 j ++ Groups order (suc j) in
+        let x = fit-append (Front area) R ws us m n .1 in
+        let e : s ≡ spell (Front area) ws ++ spell R us = g ∙ ap (spell (Front area ++ R)) w ∙ x in
+        let r = lines-frame area order (most - 1) 1 (suc j) j us (spell R us) (omega arith) (omega arith) (n, refl) in
+        rw (e, w) (seq-renders (Front area) (frameTail area order (most - 1) 1) (suc j) ws us (spell R us) m r)
+
+    go : suc j ≤ most → Spells (Front area ++ (bitsLines area 2 j ++ Groups order (suc j))) vs s → Renders (seq (Front area) (frameTail area order (most - 1) 1)) (suc j) vs s
+    go h (f, g) = go2 h g (fit-split (Front area) (bitsLines area 2 j ++ Groups order (suc j)) vs f)
+
+-- WHAT THE SCAN ACCEPTS is a text of its number of blocks, with the values that it reads.
+pub blocks-read : (area most L : ℕ) (vs s : List ℕ) → 1 ≤ most → most < 10000 → scan (blockFormat area most) s ≡ read L vs → BlockText area most L vs s
+blocks-read area most L vs s l h e = blocks-union area most L vs s l (scan-sound (blockFormat area most) L vs s (clear-blocks area most l h) e)
+
+pub frame-read : (area order most L : ℕ) (vs s : List ℕ) → 1 ≤ most → most < 10000 → scan (frameFormat area order most) s ≡ read L vs
+    → FrameText area order most L vs s
+frame-read area order most L vs s l h e = frame-union area order most L vs s l (scan-sound (frameFormat area order most) L vs s (clear-frame area order most l h) e)

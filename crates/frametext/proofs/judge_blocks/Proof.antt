@@ -1,0 +1,46 @@
+-- The front, and then the rest.
+-- Assumes nothing.
+use Rattle.frametext.proofs.Judging.{blocks-wrong, blocks-on}
+use Rattle.staircase.specs.Design.{most-blocks}
+use borrow.Author.Needs.{needs}
+use Rattle.frametext.proofs.judge_blocks.Statement.{statement}
+use Rattle.frametext.proofs.judge_blocks.Tie as tie
+use Rattle.frametext.proofs.judge_blocks.Reads as reads
+use Rattle.frametext.proofs.judge_blocks.Lts as lts
+use Rattle.frametext.proofs.front.Reads as front-reads
+use Rattle.frametext.proofs.more_blocks.Reads as more-blocks-reads
+
+-- src/lib.rt:74:9
+front-requires : tie.Need-front-requires
+front-requires c κs = search needs
+
+-- src/lib.rt:76:23
+enum-known-first : tie.Need-enum-known-first
+enum-known-first c = search needs
+
+-- src/lib.rt:77:20
+enum-known-first-2 : tie.Need-enum-known-first-2
+enum-known-first-2 c = search needs
+
+-- src/lib.rt:77:26
+more-blocks-requires : tie.Need-more-blocks-requires
+more-blocks-requires c κs = search needs
+
+-- src/lib.rt:71:1
+returns : tie.Need-returns
+returns c = blocks-wrong _ most-blocks _ _ (c .before .before .before .front .ensures) _ (c .before .first .given .1)
+
+-- src/lib.rt:71:1
+returns-2 : tie.Need-returns-2
+returns-2 c = blocks-on _ most-blocks _ _ (c .before .before .before .before .front .ensures) _ (c .before .before .first2 .given .1) _ (c .more-blocks .ensures)
+
+pub judge-blocks-spec : {M : Type 1} → statement M
+judge-blocks-spec =
+    tie.close
+    (tie.spec
+    front-requires
+    enum-known-first
+    enum-known-first-2
+    more-blocks-requires
+    returns
+    returns-2)

@@ -1,0 +1,46 @@
+-- The front, and then the rest.
+-- Assumes nothing.
+use Rattle.frametext.proofs.Judging.{frame-wrong, frame-on}
+use Rattle.staircase.specs.Design.{most-blocks}
+use borrow.Author.Needs.{needs}
+use Rattle.frametext.proofs.judge_frame.Statement.{statement}
+use Rattle.frametext.proofs.judge_frame.Tie as tie
+use Rattle.frametext.proofs.judge_frame.Reads as reads
+use Rattle.frametext.proofs.judge_frame.Lts as lts
+use Rattle.frametext.proofs.front.Reads as front-reads
+use Rattle.frametext.proofs.more_frame.Reads as more-frame-reads
+
+-- src/lib.rt:193:9
+front-requires : tie.Need-front-requires
+front-requires c κs = search needs
+
+-- src/lib.rt:195:23
+enum-known-first : tie.Need-enum-known-first
+enum-known-first c = search needs
+
+-- src/lib.rt:196:20
+enum-known-first-2 : tie.Need-enum-known-first-2
+enum-known-first-2 c = search needs
+
+-- src/lib.rt:196:26
+more-frame-requires : tie.Need-more-frame-requires
+more-frame-requires c κs = search needs
+
+-- src/lib.rt:190:1
+returns : tie.Need-returns
+returns c = frame-wrong _ most-blocks _ _ (c .before .before .before .front .ensures) _ _ (c .before .first .given .1)
+
+-- src/lib.rt:190:1
+returns-2 : tie.Need-returns-2
+returns-2 c = frame-on _ most-blocks _ _ (c .before .before .before .before .front .ensures) _ _ (c .before .before .first2 .given .1) _ (c .more-frame .ensures)
+
+pub judge-frame-spec : {M : Type 1} → statement M
+judge-frame-spec =
+    tie.close
+    (tie.spec
+    front-requires
+    enum-known-first
+    enum-known-first-2
+    more-frame-requires
+    returns
+    returns-2)
