@@ -1,4 +1,7 @@
 -- What the reading calls answer and leave, as the code returns it: the text goes wrong, a length is refused, or all is written.
+--   length-due                              a length that passed is the one that is due
+--   blocks-refused, blocks-length, blocks-filled   the three cases of block text; blocks-few, blocks-pass for its lines
+--   frame-refused, frame-length, frame-filled      those of frame text; frame-few .. frame-room for its lines
 -- Assumes nothing.
 use Prim.Native.Nat.{ℕ, _+_, _*_, _≤_}
 use mathlib.Core.Path.{_≡_, refl, sym, ap, subst, _∙_}
@@ -69,6 +72,10 @@ module _ (x : Scan) (u : Verdict) where
         let d : (scanRule 12 x then u) ≡ accepted = due ∙ sym g ∙ check-passed f in
         ((sym d, sym (ap mark e)), λ new old. ap (λ (v : Verdict). kept v new old) d)
 
+-- a length that passed is the one that is due
+pub length-due : (p have want : ℕ) (c : Check) → verdictOf c ≡ lengthRule p have want → c ≡ check.Passed → have ≡ want
+length-due p have want c h k = length-equal p have want (sym h ∙ check-passed k)
+
 -- ---- block text
 
 -- the answer of the call, and what it leaves
@@ -103,9 +110,6 @@ module _ (M area : ℕ) (s : List ℕ) (f : Found) (ea : area ≡ M * M) (e : fo
     blocks-pass = subst Passes (sym (text .lines)) tt
 
     module _ (info : List ℕ) (c : Check) (h : verdictOf c ≡ lengthRule 4 (length info) (n * area)) where
-      pub blocks-room : c ≡ check.Passed → length info ≡ n * area
-      blocks-room k = length-equal 4 (length info) (n * area) (sym h ∙ check-passed k)
-
       due-length : verdictOf c ≡ lengthRule 4 (length info) (mark x * (M * M))
       unfolding mark
       due-length =

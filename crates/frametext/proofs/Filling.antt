@@ -1,8 +1,12 @@
 -- The bits of a judged text, as the code writes them: what is written so far are the values of what is read so far.
---   bit-there, bit-next, bits-done    bits one after the other
 --   byte-there                        a fixed byte of a walk that passes is there
---   first-passes, then-passes         of a walk that passes, both parts pass
---   part-next                         a part of a slice with the values of the next items
+--   bit-there, bit-next, bits-all     bits one after the other
+--   line-wrong .. line-filled         the line of a block: its number, its bits, a line feed
+--   half-lent, half-filled            a part of a slice with the values of a walk
+--   group-wrong .. both-filled        the line of a group, with the two halves of a slice
+--   row-passes, row-filled            the lines of blocks, a part of the slice for each
+--   group-given .. group-next         the lines of groups
+--   none-filled, all-filled           before the first line and after the last
 -- Assumes nothing.
 use Prim.Native.Nat.{ℕ, suc, _+_, _-_, _*_, _≤_, _<_}
 use mathlib.Core.Path.{_≡_, sym, ap, ap₂, subst, _∙_}
@@ -16,7 +20,7 @@ use borrow.Rule.Slice.PartMut.{putMid, mid-len, same-len-mid}
 use lib.ListN.{length, getD, set, take, drop, length-append, length-drop, drop-of-length-le}
 use lib.Seq.{length-take-le, take-all, take-at, drop-at, take-suc-set}
 use Rattle.formats.specs.Format.{Item, byte, bit, dec}
-use Rattle.formats.specs.Items.{lits, bits, bitsLine, bitsLines, Walk, stuck, past, prep, walk, onward, Passes}
+use Rattle.formats.specs.Items.{lits, bits, bitsLine, bitsLines, Walk, stuck, past, prep, walk, onward, values, Passes}
 use Rattle.formats.proofs.Walking.{prep-nil, prep-prep, walk-append, walk-end, walk-this, walk-other, walk-bit}
 use Rattle.readers.specs.Answers.{stepWalk}
 use Rattle.readers.specs.declared.Step.{Step}
@@ -43,13 +47,13 @@ onward-first : (w : Walk) (k : ℕ → Walk) → Passes (onward w k) → Passes 
 onward-first (stuck q) k p = p
 onward-first (past ws q) k p = tt
 
-pub first-passes : (is js : List Item) (s : List ℕ) (at : ℕ) → Passes (walk (is ++ js) s at) → Passes (walk is s at)
+first-passes : (is js : List Item) (s : List ℕ) (at : ℕ) → Passes (walk (is ++ js) s at) → Passes (walk is s at)
 first-passes is js s at p = onward-first (walk is s at) (λ q. walk js s q) (subst Passes (walk-append is js s at) p)
 
-pub then-walk : (is js : List Item) (s : List ℕ) (at : ℕ) (ys : List ℕ) (q : ℕ) → past ys q ≡ walk is s at → walk (is ++ js) s at ≡ prep ys (walk js s q)
+then-walk : (is js : List Item) (s : List ℕ) (at : ℕ) (ys : List ℕ) (q : ℕ) → past ys q ≡ walk is s at → walk (is ++ js) s at ≡ prep ys (walk js s q)
 then-walk is js s at ys q e = walk-append is js s at ∙ ap (λ (w : Walk). onward w (λ r. walk js s r)) (sym e)
 
-pub then-passes : (is js : List Item) (s : List ℕ) (at : ℕ) (ys : List ℕ) (q : ℕ) → past ys q ≡ walk is s at
+then-passes : (is js : List Item) (s : List ℕ) (at : ℕ) (ys : List ℕ) (q : ℕ) → past ys q ≡ walk is s at
     → Passes (walk (is ++ js) s at) → Passes (walk js s q)
 then-passes is js s at ys q e p = rest-passes (walk (is ++ js) s at) (walk js s q) ys (then-walk is js s at ys q e) p
 
@@ -127,14 +131,14 @@ bits-none s n q out = let e : n ≡ n - 0 = omega arith in ap (λ (k : ℕ). wal
 
 -- the digits of p are there, and the walk goes on behind them
 module _ (p : ℕ) (is : List Item) (s : List ℕ) (at : ℕ) (ok : Passes (walk (lits (dec p) ++ is) s at)) (x : Step) (e : stepWalk x ≡ walk (lits (dec p)) s at) where
-  pub number-wrong : (q : ℕ) → x ≡ Refused q → ⊥
+  number-wrong : (q : ℕ) → x ≡ Refused q → ⊥
   number-wrong q f = stuck-not (walk (lits (dec p)) s at) q (sym e ∙ ap stepWalk f) (first-passes (lits (dec p)) is s at ok)
 
-  pub number-walk : (i : ℕ) → x ≡ Next i → walk (lits (dec p) ++ is) s at ≡ walk is s i
+  number-walk : (i : ℕ) → x ≡ Next i → walk (lits (dec p) ++ is) s at ≡ walk is s i
   number-walk i f = then-walk (lits (dec p)) is s at [] i (sym (ap stepWalk f) ∙ e) ∙ prep-nil (walk is s i)
 
 -- a line feed closes the line
-pub feed-walk : (is : List Item) (s : List ℕ) (at : ℕ) (ys : List ℕ) (q : ℕ) → Passes (walk (is ++ (byte 10 ∷ [])) s at) → past ys q ≡ walk is s at
+feed-walk : (is : List Item) (s : List ℕ) (at : ℕ) (ys : List ℕ) (q : ℕ) → Passes (walk (is ++ (byte 10 ∷ [])) s at) → past ys q ≡ walk is s at
     → (q < length s) × (past ys (q + 1) ≡ walk (is ++ (byte 10 ∷ [])) s at)
 unfolding walk
 feed-walk is s at ys q ok e =
@@ -182,7 +186,7 @@ module _ (n p : ℕ) (s : List ℕ) (at : ℕ) (ok : Passes (walk (groupLine n p
     unfolding groupLine
     first = subst Passes (number-walk p (Part n ++ Second) s at ok x e i f) ok
 
-    group-own : Passes (walk (byte 32 ∷ bits n) s i)
+    pub group-own : Passes (walk (byte 32 ∷ bits n) s i)
     group-own = first-passes (Part n) Second s i first
 
     module _ (ys : List ℕ) (j : ℕ) (g : past ys j ≡ walk (byte 32 ∷ bits n) s i) where
@@ -206,49 +210,62 @@ part-length out a k h = mid-len a (a + k) out h ∙ less a k
     less : (a k : ℕ) → a + k - a ≡ k
     less a k = omega arith
 
--- the two parts of a group, one after the other
-halves : (n : ℕ) (out ys zs : List ℕ) → length out ≡ 2 * n → length ys ≡ n → length zs ≡ n → putMid n (n + n - n) (putMid 0 (n - 0) out ys) zs ≡ ys ++ zs
-halves n out ys zs l a b =
-    ap₂ (λ (u v : List ℕ). u ++ (zs ++ v)) (take-at ys (drop (n - 0) out) n a) rest ∙ ap (λ (v : List ℕ). ys ++ v) (append-nil zs)
+-- the values of a walk, written from a place on
+module _ (s : List ℕ) (at n from : ℕ) (out : List ℕ) (h : from + n ≤ length out) where
+  abbrev W : Walk
+  W = walk (byte 32 ∷ bits n) s at
+
+  lent : length (take (from + n - from) (drop from out)) ≡ n
+  lent = part-length out from n h
+
+  pub half-lent : Passes (walk (byte 32 ∷ bits n) s at) → Passes (walk (byte 32 ∷ bits (length (take (from + n - from) (drop from out)))) s at)
+  half-lent p = subst (λ (k : ℕ). Passes (walk (byte 32 ∷ bits k) s at)) (sym lent) p
+
+  pub half-filled : (ys : List ℕ) (q : ℕ) → past ys q ≡ walk (byte 32 ∷ bits (length (take (from + n - from) (drop from out)))) s at
+      → (past (values (walk (byte 32 ∷ bits n) s at)) q ≡ walk (byte 32 ∷ bits n) s at)
+      × (putMid from (from + n - from) out ys ≡ take from out ++ (values (walk (byte 32 ∷ bits n) s at) ++ drop n (drop from out)))
+  half-filled ys q g =
+      let w : past ys q ≡ W = g ∙ ap (λ (k : ℕ). walk (byte 32 ∷ bits k) s at) lent in
+      let v : ys ≡ values W = ap values w in
+      (ap (λ (z : List ℕ). past z q) (sym v) ∙ w, ap₂ (λ (z : List ℕ) (k : ℕ). take from out ++ (z ++ drop k (drop from out))) v (less from n))
+    where
+      less : (a k : ℕ) → a + k - a ≡ k
+      less a k = omega arith
+
+-- both halves of a slice
+halves : (n : ℕ) (out mid end ys zs : List ℕ) → length out ≡ 2 * n → length ys ≡ n → length zs ≡ n
+    → mid ≡ take 0 out ++ (ys ++ drop n (drop 0 out)) → end ≡ take n mid ++ (zs ++ drop n (drop n mid)) → end ≡ ys ++ zs
+halves n out mid end ys zs l a b d e =
+    e ∙ ap₂ (λ (u v : List ℕ). u ++ (zs ++ v)) (ap (λ (m : List ℕ). take n m) d ∙ take-at ys (drop n out) n a) rest ∙ ap (λ (v : List ℕ). ys ++ v) (append-nil zs)
   where
-    rest : drop (n + n - n) (drop n (ys ++ drop (n - 0) out)) ≡ []
+    rest : drop n (drop n mid) ≡ []
     rest =
-        ap (λ (v : List ℕ). drop (n + n - n) v) (drop-at ys (drop (n - 0) out) n a)
-        ∙ drop-of-length-le (drop (n - 0) out) {i = n + n - n} (omega (arith, length-drop (n - 0) out))
+        ap (λ (m : List ℕ). drop n (drop n m)) d ∙ ap (λ (v : List ℕ). drop n v) (drop-at ys (drop n out) n a)
+        ∙ drop-of-length-le (drop n out) {i = n} (omega (arith, length-drop n out))
 
-module _ (n p : ℕ) (s : List ℕ) (at : ℕ) (ok : Passes (walk (groupLine n p) s at)) (x : Step) (e : stepWalk x ≡ walk (lits (dec p)) s at)
-    (i : ℕ) (f : x ≡ Next i) (out : List ℕ) (l : length out ≡ 2 * n) where
-  whole : (n : ℕ) → n - 0 ≡ n
-  whole n = omega arith
+module _ (n p : ℕ) (s : List ℕ) (at : ℕ) (ok : Passes (walk (groupLine n p) s at)) (x : Step) (e : stepWalk x ≡ walk (lits (dec p)) s at) (i : ℕ)
+    (f : x ≡ Next i) (j : ℕ) (g : past (values (walk (byte 32 ∷ bits n) s i)) j ≡ walk (byte 32 ∷ bits n) s i) where
+  abbrev own : List ℕ
+  own = values (walk (byte 32 ∷ bits n) s i)
 
-  lent : length (take (n - 0) (drop 0 out)) ≡ n
-  lent = mid-len 0 n out (omega arith) ∙ whole n
+  abbrev parity : List ℕ
+  parity = values (walk (byte 32 ∷ bits n) s j)
 
   sized : (at : ℕ) (ys : List ℕ) (q : ℕ) → past ys q ≡ walk (byte 32 ∷ bits n) s at → length ys ≡ n
   sized at ys q g = passed-length (Part n) s at ys q (omega arith, tidy-bits n) g ∙ part-takes n
 
-  pub own-lent : Passes (walk (byte 32 ∷ bits (length (take (n - 0) (drop 0 out)))) s i)
-  own-lent = subst (λ (k : ℕ). Passes (walk (byte 32 ∷ bits k) s i)) (sym lent) (group-own n p s at ok x e i f)
+  pub parity-there : Passes (walk (byte 32 ∷ bits n) s j)
+  parity-there = group-parity n p s at ok x e i f own j g
 
-  module _ (ys : List ℕ) (j : ℕ) (g : past ys j ≡ walk (byte 32 ∷ bits (length (take (n - 0) (drop 0 out)))) s i) where
-    own : past ys j ≡ walk (byte 32 ∷ bits n) s i
-    own = g ∙ ap (λ (k : ℕ). walk (byte 32 ∷ bits k) s i) lent
+  module _ (q : ℕ) (h : past (values (walk (byte 32 ∷ bits n) s j)) q ≡ walk (byte 32 ∷ bits n) s j) where
+    pub feed-there : q < length s
+    feed-there = group-filled n p s at ok x e i f own j g parity q h .0
 
-    kept : length (putMid 0 (n - 0) out ys) ≡ 2 * n
-    kept = same-len-mid 0 (n - 0) out ys (sized i ys j own ∙ sym lent) ∙ l
-
-    lent-next : length (take (n + n - n) (drop n (putMid 0 (n - 0) out ys))) ≡ n
-    lent-next = part-length (putMid 0 (n - 0) out ys) n n (omega (arith, kept))
-
-    pub parity-lent : Passes (walk (byte 32 ∷ bits (length (take (n + n - n) (drop n (putMid 0 (n - 0) out ys))))) s j)
-    parity-lent = subst (λ (k : ℕ). Passes (walk (byte 32 ∷ bits k) s j)) (sym lent-next) (group-parity n p s at ok x e i f ys j own)
-
-    pub both-filled : (zs : List ℕ) (q : ℕ) → past zs q ≡ walk (byte 32 ∷ bits (length (take (n + n - n) (drop n (putMid 0 (n - 0) out ys))))) s j
-        → (q < length s) × (past (putMid n (n + n - n) (putMid 0 (n - 0) out ys) zs) (q + 1) ≡ walk (groupLine n p) s at)
-    both-filled zs q h =
-        let parity : past zs q ≡ walk (byte 32 ∷ bits n) s j = h ∙ ap (λ (k : ℕ). walk (byte 32 ∷ bits k) s j) lent-next in
-        let (m, w) = group-filled n p s at ok x e i f ys j own zs q parity in
-        (m, ap (λ (z : List ℕ). past z (q + 1)) (halves n out ys zs l (sized i ys j own) (sized j zs q parity)) ∙ w)
+    pub both-filled : (out mid end : List ℕ) → length out ≡ 2 * n → mid ≡ take 0 out ++ (values (walk (byte 32 ∷ bits n) s i) ++ drop n (drop 0 out))
+        → end ≡ take n mid ++ (values (walk (byte 32 ∷ bits n) s j) ++ drop n (drop n mid)) → past end (q + 1) ≡ walk (groupLine n p) s at
+    both-filled out mid end l a b =
+        ap (λ (z : List ℕ). past z (q + 1)) (halves n out mid end own parity l (sized i own j g) (sized j parity q h) a b)
+        ∙ group-filled n p s at ok x e i f own j g parity q h .1
 
 -- ---- lines, of W values each: i are written, and w is the walk of all
 
@@ -257,14 +274,14 @@ module _ (is js rest : List Item) (W i : ℕ) (s : List ℕ) (q : ℕ) (out : Li
   here : w ≡ prep (take (i * W) out) (walk (is ++ js) s q)
   here = e ∙ ap (λ (z : List Item). prep (take (i * W) out) (walk z s q)) r
 
-  pub next-passes : Passes w → Passes (walk is s q)
+  next-passes : Passes w → Passes (walk is s q)
   next-passes p = first-passes is js s q (rest-passes w (walk (is ++ js) s q) (take (i * W) out) here p)
 
   module _ (ys : List ℕ) (k : ℕ) (l : length ys ≡ W) (h : i * W + W ≤ length out) where
-    pub next-length : length (putMid (i * W) (i * W + W - i * W) out ys) ≡ length out
+    next-length : length (putMid (i * W) (i * W + W - i * W) out ys) ≡ length out
     next-length = same-len-mid (i * W) (i * W + W - i * W) out ys (l ∙ sym (part-length out (i * W) W h))
 
-    pub next-filled : past ys k ≡ walk is s q → w ≡ prep (take ((i + 1) * W) (putMid (i * W) (i * W + W - i * W) out ys)) (walk js s k)
+    next-filled : past ys k ≡ walk is s q → w ≡ prep (take ((i + 1) * W) (putMid (i * W) (i * W + W - i * W) out ys)) (walk js s k)
     next-filled g =
         here ∙ ap (prep (take (i * W) out)) (then-walk is js s q ys k g) ∙ prep-prep (take (i * W) out) ys (walk js s k)
         ∙ ap (λ (z : List ℕ). prep z (walk js s k)) (sym taken)
@@ -293,7 +310,7 @@ all-filled is W i n s q out w z h g l e =
 
 -- ---- the lines of blocks, of which i are left behind
 
-pub rows-suc : (n N i : ℕ) → i < N → bitsLines n (i + 1) (N - i) ≡ bitsLine n (i + 1) ++ bitsLines n (i + 1 + 1) (N - (i + 1))
+rows-suc : (n N i : ℕ) → i < N → bitsLines n (i + 1) (N - i) ≡ bitsLine n (i + 1) ++ bitsLines n (i + 1 + 1) (N - (i + 1))
 unfolding bitsLines
 rows-suc n N i h =
     let e : N - i ≡ suc (N - (i + 1)) = omega arith in

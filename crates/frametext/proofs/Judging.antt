@@ -2,8 +2,11 @@
 -- and a byte that decides how it goes on.
 --   then-wrong, then-next         items before a format
 --   end-there, end-over           the end of a text
+--   front-wrong, front-on         the header and the first line, of either text
 --   tail-there .. tail-next       block text after a line
---   lines-done .. lines-next      the lines of the groups
+--   lines-all .. lines-next       the lines of the groups
+--   group-number .. group-end     the line of a group
+--   names-wrong .. groups-over    group text
 --   frame-group .. frame-next     frame text after a line
 -- Assumes nothing.
 use Prim.Native.Nat.{ℕ, suc, _+_, _-_, _≤_, _<_}
@@ -27,7 +30,7 @@ use Rattle.readers.specs.declared.Step.{Step}
 use Rattle.readers.specs.declared.Step.the-variants.{Next, Refused}
 use Rattle.readers.proofs.Lines.{step-of, stops-first, goes-on}
 use Rattle.staircase.specs.Frame.{groups}
-use Rattle.frametext.specs.FrameText.{blockNames, blockTail, blockFormat, groupNames, groupLine, groupLines, groupTail, frameTail, frameFormat}
+use Rattle.frametext.specs.FrameText.{blockNames, blockTail, groupNames, groupLine, groupLines, groupTail, frameTail}
 
 -- ---- items before a format
 
@@ -44,50 +47,34 @@ continue-on (stuck r) k x q e f = let z : _≡_ {A = ℕ} 0 1 = cc in absurd (om
 continue-on (past ws r) k x q e f = let z : r ≡ q = cc in verdict-prefix ws (k r) ∙ ap (λ (y : ℕ). verdict (k y)) z
 
 module _ (is : List Item) (F : Format) (s : List ℕ) (at : ℕ) (x : Step) (e : x ≡ stepOf (walk is s at)) where
-  pub then-wrong : (q : ℕ) → x ≡ Refused q → scanAt (seq is F) s at ≡ refused q
+  then-wrong : (q : ℕ) → x ≡ Refused q → scanAt (seq is F) s at ≡ refused q
   then-wrong q f = scan-seq is F s at ∙ continue-stop (walk is s at) (λ r. scanAt F s r) x q e f
 
-  pub then-next : (k : ℕ) → x ≡ Next k → verdict (scanAt (seq is F) s at) ≡ verdict (scanAt F s k)
+  then-next : (k : ℕ) → x ≡ Next k → verdict (scanAt (seq is F) s at) ≡ verdict (scanAt F s k)
   then-next k f = ap verdict (scan-seq is F s at) ∙ continue-on (walk is s at) (λ r. scanAt F s r) x k e f
 
 -- ---- the end of a text
 
-pub end-there : (l : ℕ) (s : List ℕ) (q : ℕ) → length s ≤ q → scanAt (end l) s q ≡ read l []
+end-there : (l : ℕ) (s : List ℕ) (q : ℕ) → length s ≤ q → scanAt (end l) s q ≡ read l []
 unfolding scanAt
 end-there l s q h = rw (drop-of-length-le s {i = q} h)
 
-pub end-over : (l : ℕ) (s : List ℕ) (q : ℕ) → q < length s → scanAt (end l) s q ≡ refused q
+end-over : (l : ℕ) (s : List ℕ) (q : ℕ) → q < length s → scanAt (end l) s q ≡ refused q
 unfolding scanAt
 end-over l s q h = rw (drop-cons s q 0 h) (ap refused (add-zero q))
 
--- ---- a header, the first line, and the rest
+-- ---- a header, the first line, and any format behind them
 
 -- `block bits` and the line of block 1
 abbrev pub Front : ℕ → List Item
 Front area = lits blockNames ++ bitsLine area 1
 
-module _ (area most : ℕ) (s : List ℕ) (x : Step) (e : x ≡ stepOf (walk (Front area) s 0)) where
-  pub blocks-wrong : (q : ℕ) → x ≡ Refused q → refused q ≡ verdict (scan (blockFormat area most) s)
-  unfolding blockFormat
-  blocks-wrong q f =
-      sym (ap verdict (sym (scan-whole (blockFormat area most) s) ∙ then-wrong (Front area) (blockTail area (most - 1) 1) s 0 x e q f))
+module _ (area : ℕ) (F : Format) (s : List ℕ) (x : Step) (e : x ≡ stepOf (walk (Front area) s 0)) where
+  pub front-wrong : (q : ℕ) → x ≡ Refused q → refused q ≡ verdict (scan (seq (Front area) F) s)
+  front-wrong q f = sym (ap verdict (sym (scan-whole (seq (Front area) F) s) ∙ then-wrong (Front area) F s 0 x e q f))
 
-  pub blocks-on : (k : ℕ) → x ≡ Next k → (w : Scan) → w ≡ verdict (scanAt (blockTail area (most - 1) 1) s k) → w ≡ verdict (scan (blockFormat area most) s)
-  unfolding blockFormat
-  blocks-on k f w g =
-      g ∙ sym (ap verdict (sym (scan-whole (blockFormat area most) s)) ∙ then-next (Front area) (blockTail area (most - 1) 1) s 0 x e k f)
-
-  module _ (n : ℕ) where
-    pub frame-wrong : (q : ℕ) → x ≡ Refused q → refused q ≡ verdict (scan (frameFormat area n most) s)
-    unfolding frameFormat
-    frame-wrong q f =
-        sym (ap verdict (sym (scan-whole (frameFormat area n most) s) ∙ then-wrong (Front area) (frameTail area n (most - 1) 1) s 0 x e q f))
-
-    pub frame-on : (k : ℕ) → x ≡ Next k → (w : Scan) → w ≡ verdict (scanAt (frameTail area n (most - 1) 1) s k)
-        → w ≡ verdict (scan (frameFormat area n most) s)
-    unfolding frameFormat
-    frame-on k f w g =
-        g ∙ sym (ap verdict (sym (scan-whole (frameFormat area n most) s)) ∙ then-next (Front area) (frameTail area n (most - 1) 1) s 0 x e k f)
+  pub front-on : (k : ℕ) → x ≡ Next k → (w : Scan) → w ≡ verdict (scanAt F s k) → w ≡ verdict (scan (seq (Front area) F) s)
+  front-on k f w g = g ∙ sym (ap verdict (sym (scan-whole (seq (Front area) F) s)) ∙ then-next (Front area) F s 0 x e k f)
 
 -- ---- block text after i lines
 

@@ -37,19 +37,19 @@ fit-length (num ∷ is) (v ∷ vs) f = ap suc (fit-length is vs (f .1))
 fit-length (bit ∷ is) [] f = absurd f
 fit-length (bit ∷ is) (v ∷ vs) f = ap suc (fit-length is vs (f .1))
 
-pub takes-append : (is js : List Item) → takes (is ++ js) ≡ takes is + takes js
+takes-append : (is js : List Item) → takes (is ++ js) ≡ takes is + takes js
 unfolding takes
 takes-append [] js = sym (zero-add (takes js))
 takes-append (byte b ∷ is) js = takes-append is js
 takes-append (num ∷ is) js = ap suc (takes-append is js) ∙ sym (suc-add (takes is) (takes js))
 takes-append (bit ∷ is) js = ap suc (takes-append is js) ∙ sym (suc-add (takes is) (takes js))
 
-pub takes-lits : (bs : List ℕ) → takes (lits bs) ≡ 0
+takes-lits : (bs : List ℕ) → takes (lits bs) ≡ 0
 unfolding takes
 takes-lits [] = refl
 takes-lits (b ∷ bs) = takes-lits bs
 
-pub takes-bits : (n : ℕ) → takes (bits n) ≡ n
+takes-bits : (n : ℕ) → takes (bits n) ≡ n
 unfolding takes
 takes-bits zero = refl
 takes-bits (suc n) = ap suc (takes-bits n)
@@ -78,11 +78,11 @@ bare-append (byte x ∷ is) js b c = bare-append is js b c
 bare-append (num ∷ is) js b c = absurd b
 bare-append (bit ∷ is) js b c = bare-append is js b c
 
-pub bare-lits : (bs : List ℕ) → Bare (lits bs)
+bare-lits : (bs : List ℕ) → Bare (lits bs)
 bare-lits [] = tt
 bare-lits (b ∷ bs) = bare-lits bs
 
-pub bare-bits : (n : ℕ) → Bare (bits n)
+bare-bits : (n : ℕ) → Bare (bits n)
 bare-bits zero = tt
 bare-bits (suc n) = bare-bits n
 
@@ -106,7 +106,7 @@ lits-length (b ∷ bs) = ap suc (lits-length bs)
 
 -- ---- what a walk passes with
 
-pub tidy-oks : (is : List Item) → Tidy is → Oks is
+tidy-oks : (is : List Item) → Tidy is → Oks is
 tidy-oks [] h = tt
 tidy-oks (byte b ∷ is) h = (h .0, tidy-oks is (h .1))
 tidy-oks (bit ∷ is) h = (tt, tidy-oks is h)
@@ -142,7 +142,7 @@ lines-take n p (suc k) = takes-append (bitsLine n p) (bitsLines n (suc p) k) ∙
     sum : (a b : ℕ) → a ≡ n → b ≡ k * n → a + b ≡ suc k * n
     sum a b e f = omega (arith, suc-mul k n)
 
-pub line-bare : (n p : ℕ) → Bare (bitsLine n p)
+line-bare : (n p : ℕ) → Bare (bitsLine n p)
 unfolding bitsLine
 line-bare n p =
     bare-append (lits (dec p) ++ (byte 32 ∷ bits n)) (byte 10 ∷ []) (bare-append (lits (dec p)) (byte 32 ∷ bits n) (bare-lits (dec p)) (bare-bits n)) tt

@@ -4,7 +4,7 @@
 --   blocks-hold, frame-holds          of an accepted text: the number of blocks, the lengths, bits alone, and how long it is at least
 -- Assumes nothing.
 use Prim.Native.Nat.{ℕ, _+_, _*_, _≤_, _<_}
-use mathlib.Core.Path.{_≡_, sym, ap, subst, _∙_}
+use mathlib.Core.Path.{_≡_, refl, sym, ap, subst, _∙_}
 use mathlib.Core.List.{List, _∷_, _++_}
 use native.Mathlib.Omega.{arith}
 use native.Mathlib.Decide.{decLt}
@@ -30,7 +30,7 @@ use Rattle.frametext.proofs.Parts.{frame-parts}
 rule-accepts : (x : Scan) → scanRule 12 x ≡ accepted → x ≡ read (mark x) (valuesOf x)
 unfolding scanRule mark valuesOf
 rule-accepts (format.refused q) e = let z : _≡_ {A = ℕ} 0 1 = cc in absurd (omega arith)
-rule-accepts (read l vs) e = mathlib.Core.Path.refl
+rule-accepts (read l vs) e = refl
 
 rule-refuses : (x : Scan) (k : ℕ) → scanRule 12 x ≡ refused 12 k → x ≡ format.refused k
 unfolding scanRule
@@ -59,7 +59,7 @@ blocks-accepted M s = (
       (scan-complete (blockFormat (M * M) most-blocks) L vs s (clear-blocks (M * M) most-blocks (omega arith) (omega arith)) (union-blocks (M * M) most-blocks L vs s b)),
 )
 
--- "12 .. length of the longest start that some block text shares": the place of a refusal.
+-- "12 block text: the same for block text", that is "length of the longest start that some .. text shares": the place of a refusal.
 pub blocks-place : (M : ℕ) (s : List ℕ) (k : ℕ) → blockRule M s ≡ refused 12 k → Longest (SomeBlocks M) s k
 unfolding blockRule blockScan
 blocks-place M s k e =

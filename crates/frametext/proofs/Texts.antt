@@ -2,6 +2,7 @@
 --   clear-blocks, clear-frame     the formats are clear, so the scan decides them
 --   blocks-union, union-blocks    a text of the block format is a block text of some number of blocks, and the other way round
 --   frame-union, union-frame      the same of frame text
+--   blocks-read, frame-read       what the scan accepts is such a text
 --   fit-append, fit-split         items put together, with their values
 -- Assumes nothing.
 use Prim.Native.Nat.{ℕ, zero, suc, _+_, _-_, _≤_, _<_}
@@ -117,7 +118,7 @@ more-lines area k i L vs s ws us t f e g (j, h, l, (m, n)) =
     let (x, y) = fit-append (bitsLine area (suc i)) (bitsLines area (suc (suc i)) j) ws us f m in
     (suc j, omega arith, omega arith, (rw e x, rw (g, e, n) (sym y)))
 
-pub tail-lines : (area k i L : ℕ) (vs s : List ℕ) → Renders (blockTail area k i) L vs s → Lines area k i L vs s
+tail-lines : (area k i L : ℕ) (vs s : List ℕ) → Renders (blockTail area k i) L vs s → Lines area k i L vs s
 unfolding blockTail
 tail-lines area zero i L vs s (a, b, c) = no-line area 0 i L vs s a b c
 tail-lines area (suc k) i L vs s (inl (a, b, c)) = no-line area (suc k) i L vs s a b c
@@ -127,7 +128,7 @@ tail-lines area (suc k) i L vs s (inr r) = go (renders-seq (bitsLine area (suc i
         → Lines area (suc k) i L vs s
     go (ws, us, t, f, e, g, x) ih = more-lines area k i L vs s ws us t f e g (ih us t x)
 
-pub lines-tail : (area k i L j : ℕ) (vs s : List ℕ) → j ≤ k → L ≡ i + j → Spells (bitsLines area (suc i) j) vs s → Renders (blockTail area k i) L vs s
+lines-tail : (area k i L j : ℕ) (vs s : List ℕ) → j ≤ k → L ≡ i + j → Spells (bitsLines area (suc i) j) vs s → Renders (blockTail area k i) L vs s
 unfolding blockTail bitsLines
 lines-tail area zero i L zero [] s h e (f, g) = (omega arith, refl, g)
 lines-tail area zero i L zero (v ∷ vs) s h e (f, g) = absurd f
@@ -198,7 +199,7 @@ more-frame area order k i L vs s ws us t f e g (j, h, l, (m, n)) =
     let (x, y) = fit-append (bitsLine area (suc i)) (bitsLines area (suc (suc i)) j ++ Groups order L) ws us f m in
     (suc j, omega arith, omega arith, rw append-assoc (rw e x, rw (g, e, n) (sym y)))
 
-pub frame-lines : (area order k i L : ℕ) (vs s : List ℕ) → Renders (frameTail area order k i) L vs s → FrameLines area order k i L vs s
+frame-lines : (area order k i L : ℕ) (vs s : List ℕ) → Renders (frameTail area order k i) L vs s → FrameLines area order k i L vs s
 unfolding frameTail
 frame-lines area order zero i L vs s r = last-group area order 0 i L vs s r
 frame-lines area order (suc k) i L vs s (inl (t, e, r)) = last-group area order (suc k) i L vs s ([], 103 ∷ [], vs, t, (refl, refl), refl, e, r)
@@ -217,7 +218,7 @@ open-group order i L vs s a (f, g) =
     let g′ : s ≡ 103 ∷ spell is vs = rw a at g in
     (spell is vs, g′, rw (← append-nil (spell is vs)) (subst (λ (v : List ℕ). Renders (seq is (end i)) L v (spell is vs ++ [])) (append-nil vs) (seq-renders is (end i) L vs [] [] f′ (a, refl, refl))))
 
-pub lines-frame : (area order k i L j : ℕ) (vs s : List ℕ) → j ≤ k → L ≡ i + j → Spells (bitsLines area (suc i) j ++ Groups order L) vs s → Renders (frameTail area order k i) L vs s
+lines-frame : (area order k i L j : ℕ) (vs s : List ℕ) → j ≤ k → L ≡ i + j → Spells (bitsLines area (suc i) j ++ Groups order L) vs s → Renders (frameTail area order k i) L vs s
 unfolding frameTail bitsLines
 lines-frame area order zero i L zero vs s h e x = let (t, a, r) = open-group order i L vs s (omega arith) x in ([], 103 ∷ [], vs, t, (refl, refl), refl, a, r)
 lines-frame area order zero i L (suc j) vs s h e x = absurd (omega arith)

@@ -14,11 +14,11 @@
 // format with the bits that are read, and a refusal's place is the longest start that some text shares.
 ghost use mathlib.Core.Path.{_≡_};
 ghost use mathlib.Core.List.{_∷_, _++_};
-ghost use Prim.Native.Nat.{_-_, _*_, _≤_, _<_};
-ghost use lib.ListN.{length};
+ghost use Prim.Native.Nat.{_+_, _-_, _*_, _≤_, _<_};
+ghost use lib.ListN.{length, take, drop};
 ghost use Rattle.staircase.specs.Design.{most-blocks};
 ghost use Rattle.formats.specs.Format.{byte, scan};
-ghost use Rattle.formats.specs.Items.{lits, bits, bitsLine, bitsLines, past, Passes, walk, scanAt, verdict};
+ghost use Rattle.formats.specs.Items.{lits, bits, bitsLine, bitsLines, past, values, Passes, walk, scanAt, verdict};
 ghost use Rattle.readers.specs.Answers.{stepOf};
 ghost use Rattle.readers.specs.Verdicts.{scanRule, mark};
 ghost use Rattle.frametext.specs.FrameText.{blockNames, blockTail, blockFormat, groupLine, groupLines, groupTail, frameTail, frameFormat};
@@ -262,6 +262,15 @@ fn fill_lines(s: &[u8], at: usize, n: usize, area: usize, out: &mut [u8]) -> usi
     q
 }
 
+// The same for a space and n bits, written from the place `from` of a longer slice on.
+fn fill_half(s: &[u8], at: usize, n: usize, from: usize, out: &mut [u8]) -> usize
+    requires { ⌜ (from + n ≤ length (now out)) × Passes (walk (byte 32 ∷ bits n) (now s) at) ⌝ }
+    ensures { λ r. ⌜ past (values (walk (byte 32 ∷ bits n) (now (s .entry)) at)) r ≡ walk (byte 32 ∷ bits n) (now (s .entry)) at ⌝ }
+    ensures { λ _. ⌜ now (out .exit) ≡ take from (now (out .entry)) ++ (values (walk (byte 32 ∷ bits n) (now (s .entry)) at) ++ drop n (drop from (now (out .entry)))) ⌝ }
+{
+    fill_part(s, at, &mut out[from..from + n])
+}
+
 // The same for the line of group p: Y, then P, of n bits each.
 fn fill_group(s: &[u8], at: usize, p: usize, n: usize, out: &mut [u8]) -> usize
     requires { ⌜ (p < 10000) × (length (now out) ≡ 2 * n) × Passes (walk (groupLine n p) (now s) at) ⌝ }
@@ -271,8 +280,8 @@ fn fill_group(s: &[u8], at: usize, p: usize, n: usize, out: &mut [u8]) -> usize
     let Step::Next(i) = number else {
         return at;
     };
-    let j = fill_part(s, i, &mut out[0..n]);
-    let e = fill_part(s, j, &mut out[n..n + n]);
+    let j = fill_half(s, i, n, 0, &mut out[..]);
+    let e = fill_half(s, j, n, n, &mut out[..]);
     e + 1
 }
 
@@ -297,7 +306,7 @@ fn told(found: Found) -> Blocks
 {
     match found {
         Found::Count(n) => Blocks::Read(n as u64),
-        Found::Wrong(q) => Blocks::Broken(q as u64),
+        Found::Wrong(place) => Blocks::Broken(place as u64),
     }
 }
 
@@ -335,7 +344,9 @@ pub fn scan_frame(text: &[u8], d: Design) -> Blocks
     ensures { λ a. ⌜ blocksVerdict a ≡ frameRule (d .size) (d .m * d .t) (now (text .entry)) ⌝ }
     ensures { λ a. ⌜ CountIs a (frameCount (d .size) (d .m * d .t) (now (text .entry))) ⌝ }
 {
-    told(judge_frame(text, d.area(), d.order()))
+    let area = d.area();
+    let n = d.order();
+    told(judge_frame(text, area, n))
 }
 
 // Frame text, read into the lent information and redundancy.

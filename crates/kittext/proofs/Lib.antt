@@ -10,5 +10,7 @@ pub mod RowFilling
 pub mod ReadLaws
 pub mod KitTexts
 pub mod Rendering
+pub mod Judged
+pub mod Told
 pub mod Promises
 pub mod Examples

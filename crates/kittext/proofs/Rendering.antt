@@ -17,7 +17,7 @@ use Rattle.staircase.specs.Lists.{tabulate, concat}
 use Rattle.staircase.specs.System.{rowBytes, inverseEntry}
 use Rattle.staircase.specs.Rules.{entries}
 use Rattle.staircase.proofs.System.{tabulate-same}
-use Rattle.design.proofs.Entries.{entry-at}
+use Rattle.rules.proofs.Entries.{entry-at}
 use Rattle.kittext.specs.KitText.{pairLine, pairLines, firsts, seconds, packs, binary, pack, packRows}
 use Rattle.kittext.specs.Rendered.{pairText, rowText}
 use Rattle.kittext.proofs.Counting.{Split, fit-split, lits-first, pair-is, Run, row-items, row-count}

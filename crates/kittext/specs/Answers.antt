@@ -1,5 +1,6 @@
--- What the answers of the inner functions say.
+-- What the answers of the inner functions say, and the designs that are let through.
 --   headWalk, lineWalk          the walk that an answer tells
+--   Passing                     the designs that rules 1 to 3 let through
 --   frontRule                   the two lines, and then rules 1 to 3
 --   frontVerdict, FrontIs       the verdict of the two lines' answer; its design and position are those of the text
 --   restRule, tailRule          rule 11 for the rest from a position on, and for what follows the lists' lines
@@ -36,6 +37,10 @@ lineWalk (Pair a b q) = past (a ∷ b ∷ []) q
 lineWalk (NoPair q) = stuck q
 
 -- ---- the two lines
+
+-- the designs that rules 1 to 3 let through
+abbrev pub Passing : ℕ → ℕ → ℕ → Type 0
+Passing m t M = designRules m t M ≡ accepted
 
 -- "two lines (11 ..), then 1 to 3"
 unfoldable pub frontRule : List ℕ → Verdict

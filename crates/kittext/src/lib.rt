@@ -8,7 +8,7 @@
 //
 // Each inner function reads at a position of the whole text and answers the position after what it read, or the place where that goes wrong.
 // The rest is judged whole before a byte is written. The filling then reads the same lines again, knows that they are right, and needs no
-// refusal. Each byte of the text is read at most three times, so the work is that of the text's length and the slices' lengths.
+// refusal. Both go through the text once, so the work grows with the lengths of the text and of the slices.
 ghost use mathlib.Core.Path.{_≡_};
 ghost use mathlib.Core.List.{[], _∷_};
 ghost use Prim.Native.Nat.{_+_, _*_, _/_, _%_, _≤_, _<_, min};
@@ -215,7 +215,7 @@ fn rows_and_end(s: &[u8], at: usize, n: usize, i: usize) -> Rest
         Step::Next(j) => {
             let inverse = rows(s, j, n);
             match inverse {
-                Step::Refused(q) => Rest::NotWhole(q),
+                Step::Refused(stop) => Rest::NotWhole(stop),
                 Step::Next(e) => {
                     if e < s.len() {
                         return Rest::NotWhole(e);

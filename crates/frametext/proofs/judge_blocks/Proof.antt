@@ -1,7 +1,9 @@
 -- The front, and then the rest.
 -- Assumes nothing.
-use Rattle.frametext.proofs.Judging.{blocks-wrong, blocks-on}
+use Rattle.frametext.proofs.Judging.{front-wrong, front-on}
 use Rattle.staircase.specs.Design.{most-blocks}
+use Rattle.frametext.specs.FrameText.{blockTail, blockFormat}
+use Prim.Native.Nat.{_-_}
 use borrow.Author.Needs.{needs}
 use Rattle.frametext.proofs.judge_blocks.Statement.{statement}
 use Rattle.frametext.proofs.judge_blocks.Tie as tie
@@ -28,11 +30,13 @@ more-blocks-requires c κs = search needs
 
 -- src/lib.rt:71:1
 returns : tie.Need-returns
-returns c = blocks-wrong _ most-blocks _ _ (c .before .before .before .front .ensures) _ (c .before .first .given .1)
+unfolding blockFormat
+returns c = front-wrong _ (blockTail _ (most-blocks - 1) 1) _ _ (c .before .before .before .front .ensures) _ (c .before .first .given .1)
 
 -- src/lib.rt:71:1
 returns-2 : tie.Need-returns-2
-returns-2 c = blocks-on _ most-blocks _ _ (c .before .before .before .before .front .ensures) _ (c .before .before .first2 .given .1) _ (c .more-blocks .ensures)
+unfolding blockFormat
+returns-2 c = front-on _ (blockTail _ (most-blocks - 1) 1) _ _ (c .before .before .before .before .front .ensures) _ (c .before .before .first2 .given .1) _ (c .more-blocks .ensures)
 
 pub judge-blocks-spec : {M : Type 1} → statement M
 judge-blocks-spec =

@@ -1,7 +1,9 @@
 -- The front, and then the rest.
 -- Assumes nothing.
-use Rattle.frametext.proofs.Judging.{frame-wrong, frame-on}
+use Rattle.frametext.proofs.Judging.{front-wrong, front-on}
 use Rattle.staircase.specs.Design.{most-blocks}
+use Rattle.frametext.specs.FrameText.{frameTail, frameFormat}
+use Prim.Native.Nat.{_-_}
 use borrow.Author.Needs.{needs}
 use Rattle.frametext.proofs.judge_frame.Statement.{statement}
 use Rattle.frametext.proofs.judge_frame.Tie as tie
@@ -28,11 +30,13 @@ more-frame-requires c κs = search needs
 
 -- src/lib.rt:190:1
 returns : tie.Need-returns
-returns c = frame-wrong _ most-blocks _ _ (c .before .before .before .front .ensures) _ _ (c .before .first .given .1)
+unfolding frameFormat
+returns c = front-wrong _ (frameTail _ _ (most-blocks - 1) 1) _ _ (c .before .before .before .front .ensures) _ (c .before .first .given .1)
 
 -- src/lib.rt:190:1
 returns-2 : tie.Need-returns-2
-returns-2 c = frame-on _ most-blocks _ _ (c .before .before .before .before .front .ensures) _ _ (c .before .before .first2 .given .1) _ (c .more-frame .ensures)
+unfolding frameFormat
+returns-2 c = front-on _ (frameTail _ _ (most-blocks - 1) 1) _ _ (c .before .before .before .before .front .ensures) _ (c .before .before .first2 .given .1) _ (c .more-frame .ensures)
 
 pub judge-frame-spec : {M : Type 1} → statement M
 judge-frame-spec =

@@ -1,9 +1,10 @@
 -- Rule 12 first, then rule 6, then the bits.
 -- Assumes nothing.
-use Rattle.frametext.proofs.Calls.{blocks-refused, blocks-few, blocks-pass, blocks-room, blocks-length, blocks-filled}
+use Rattle.frametext.proofs.Calls.{blocks-refused, blocks-few, blocks-pass, length-due, blocks-length, blocks-filled}
 use Rattle.staircase.specs.Design.{most-blocks}
 use Rattle.staircase.proofs.Fill.{small-product}
 use native.Mathlib.Omega.{arith}
+use lib.ListN.{length}
 use borrow.Author.Needs.{needs}
 use Rattle.frametext.proofs.read_blocks.Statement.{statement}
 use Rattle.frametext.proofs.read_blocks.Tie as tie
@@ -65,7 +66,7 @@ fill-lines-requires c κs =
     let t = c .before .before .before .before .before .before .before .judge-blocks .ensures in
     let a = c .before .before .before .before .before .before .before .before .area .ensures .0 in
     let g = c .before .before .before .before .before .found .given .1 in
-    (blocks-few _ _ _ _ a t _ g, blocks-room _ _ _ _ a t _ g (c .before .before .before .before .before .before .before .before .before .before .before .args .info .now) _ (c .before .before .before .check-length .ensures) (c .before .enum-told2 .given .1), blocks-pass _ _ _ _ a t _ g)
+    (blocks-few _ _ _ _ a t _ g, length-due _ (length (c .before .before .before .before .before .before .before .before .before .before .before .args .info .now)) _ _ (c .before .before .before .check-length .ensures) (c .before .enum-told2 .given .1), blocks-pass _ _ _ _ a t _ g)
 
 -- src/lib.rt:313:1
 returns-2 : tie.Need-returns-2

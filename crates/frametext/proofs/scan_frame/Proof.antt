@@ -11,19 +11,19 @@ use Rattle.frametext.proofs.told.Reads as told-reads
 use Rattle.design.proofs.Design.area.Reads as area-reads
 use Rattle.design.proofs.Design.order.Reads as order-reads
 
--- src/lib.rt:338:28
+-- src/lib.rt:338:9
 area-requires : tie.Need-area-requires
 area-requires c κs = search needs
 
--- src/lib.rt:338:38
+-- src/lib.rt:339:9
 order-requires : tie.Need-order-requires
 order-requires c κs = search needs
 
--- src/lib.rt:338:10
+-- src/lib.rt:340:10
 judge-frame-requires : tie.Need-judge-frame-requires
 judge-frame-requires c κs = search needs
 
--- src/lib.rt:338:5
+-- src/lib.rt:340:5
 told-requires : tie.Need-told-requires
 told-requires c κs = search needs
 

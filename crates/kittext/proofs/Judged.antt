@@ -1,0 +1,141 @@
+-- The scan of a text by its two lines, and designs that rules 1 to 3 let through.
+--   passing-small, small            the sizes of designs that rules 1 to 3 let through
+--   not-eleven                      none of these rules has the number 11
+--   Found, two-lines                the two lines at the start of a text, or the place where they go wrong
+--   scan-stuck, scan-found          the verdict of either
+--   accepted-found                  an accepted text starts with two lines
+-- Assumes nothing.
+use Prim.Native.Nat.{ℕ, _-_, _*_, _^_, _≤_, _<_}
+use mathlib.Core.Path.{_≡_, refl, sym, ap, _∙_}
+use mathlib.Core.Bool.{Bool, true, false}
+use mathlib.Core.List.{List, [], _∷_}
+use mathlib.Core.Logic.{_⊎_, inl, inr}
+use native.Mathlib.Omega.{arith}
+use lib.Dec.{ltb}
+use lib.ListN.{getD}
+use borrow.Author.Tests.{ltb-false}
+use Rattle.formats.specs.Format as format
+use Rattle.formats.specs.Format.{Scan, scan}
+use Rattle.formats.specs.Items.{Walk, stuck, past, walk, scanAt}
+use Rattle.readers.specs.Verdicts.{scanRule}
+use Rattle.staircase.specs.Design.{params, order, wordLength}
+use Rattle.staircase.specs.Rules.{Verdict, _then_, refuse, outOfRange, sizeRule, longRule, largeRule, designRules}
+use Rattle.staircase.specs.Rules.Verdict.{accepted, refused}
+use Rattle.staircase.proofs.Rules.{then-first, then-rest, refuse-false, outOfRange-false, design-limits}
+use Rattle.kittext.specs.KitText.{headItems, kitFormat}
+use Rattle.kittext.specs.Reader.{headNumber, kitParams, bodyScan, bodyRule, scanKit}
+use Rattle.kittext.specs.Answers.{Passing, restFormat}
+use Rattle.kittext.proofs.KitTexts.{Small, head-three, kit-rest}
+use Rattle.kittext.proofs.TwoLines.{Shown, head-read, head-stuck}
+
+-- ---- designs that rules 1 to 3 let through
+
+pub passing-small : (m t M : ℕ) → Passing m t M → (M ≤ 500) × (M * (m * t) ≤ 4096)
+unfolding designRules sizeRule longRule largeRule
+passing-small m t M e =
+    let rm : Verdict = refuse (outOfRange 4 10 m) 1 1 in
+    let rt : Verdict = refuse (outOfRange 1 3 t) 1 2 in
+    let rM : Verdict = refuse (outOfRange 1 500 M) 1 3 in
+    let rn : Verdict = longRule m (params m t M) in
+    let ro : Verdict = refuse (ltb 4096 (M * (m * t))) 3 (M * (m * t)) in
+    let a : (rm then rt then rM) ≡ accepted = then-first (rm then rt then rM) (rn then ro) e in
+    let b : rM ≡ accepted = then-rest rt rM (then-rest rm (rt then rM) a) in
+    let c : ro ≡ accepted = then-rest rn ro (then-rest (rm then rt then rM) (rn then ro) e) in (
+      outOfRange-false 1 500 M (refuse-false (outOfRange 1 500 M) 1 3 b) .1,
+      ltb-false 4096 (M * (m * t)) (refuse-false (ltb 4096 (M * (m * t))) 3 (M * (m * t)) c),
+    )
+
+pub small : (m t M : ℕ) → Passing m t M → Small m t M
+small m t M e =
+    let l = design-limits m t M e in
+    let h = passing-small m t M e in
+    record { hm = omega (arith, l .m-high); ht = omega (arith, l .t-high); hM = omega (arith, h .0); hn = omega (arith, h .1) }
+
+-- no rule of these has the number 11
+abbrev Other : Verdict → Type 0
+Other accepted = Unit {0}
+Other (refused n p) = n < 11
+
+then-other : (u v : Verdict) → Other u → Other v → Other (u then v)
+then-other accepted v a b = b
+then-other (refused n p) v a b = a
+
+refuse-other : (b : Bool) (n p : ℕ) → n < 11 → Other (refuse b n p)
+refuse-other true n p h = h
+refuse-other false n p h = tt
+
+design-other : (m t M : ℕ) → Other (designRules m t M)
+unfolding designRules sizeRule longRule largeRule
+design-other m t M =
+    let rm : Verdict = refuse (outOfRange 4 10 m) 1 1 in
+    let rt : Verdict = refuse (outOfRange 1 3 t) 1 2 in
+    let rM : Verdict = refuse (outOfRange 1 500 M) 1 3 in
+    let rn : Verdict = longRule m (params m t M) in
+    let ro : Verdict = largeRule (params m t M) in
+    then-other (rm then rt then rM) (rn then ro)
+    (then-other rm (rt then rM) (refuse-other (outOfRange 4 10 m) 1 1 (omega arith))
+    (then-other rt rM (refuse-other (outOfRange 1 3 t) 1 2 (omega arith)) (refuse-other (outOfRange 1 500 M) 1 3 (omega arith))))
+    (then-other rn ro
+    (refuse-other (ltb (2 ^ m - 1) (wordLength (params m t M))) 2 (wordLength (params m t M)) (omega arith))
+    (refuse-other (ltb 4096 (M * (m * t))) 3 (M * (m * t)) (omega arith)))
+
+pub not-eleven : (m t M k : ℕ) → designRules m t M ≡ refused 11 k → ⊥
+not-eleven m t M k e = let h : Other (refused 11 k) = rw e at (design-other m t M) in omega arith
+
+-- ---- the two lines of a text, and what the scan makes of the rest
+
+pub record Found (s : List ℕ) : Type 0 where
+  pub m : ℕ
+  pub t : ℕ
+  pub M : ℕ
+  pub q : ℕ
+  pub lines : walk headItems s 0 ≡ past (m ∷ t ∷ M ∷ []) q
+
+pub two-lines : (s : List ℕ) → ((q : ℕ) × (walk headItems s 0 ≡ stuck q)) ⊎ Found s
+two-lines s = go (walk headItems s 0) refl
+  where
+    go : (w : Walk) → walk headItems s 0 ≡ w → ((q : ℕ) × (walk headItems s 0 ≡ stuck q)) ⊎ Found s
+    go (stuck q) e = inl (q, e)
+    go (past ws q) e =
+        inr
+        (record { m = getD ws 0 0; t = getD ws 1 0; M = getD ws 2 0; q = q; lines = e ∙ ap (λ (l : List ℕ). past l q) (head-three s ws q e) })
+
+pub scan-stuck : (s : List ℕ) (q : ℕ) → walk headItems s 0 ≡ stuck q → scanKit s ≡ refused 11 q
+unfolding scanKit
+scan-stuck s q e =
+    ap (λ (v : Verdict). v then designRules (headNumber s 0) (headNumber s 1) (headNumber s 2) then bodyRule s) (head-stuck s q e)
+
+module _ (s : List ℕ) (F : Found s) where
+  pub shown : Shown s (F .m) (F .t) (F .M) (F .q)
+  shown = head-read s (F .m) (F .t) (F .M) (F .q) (F .lines)
+
+  pub order-found : order (kitParams s) ≡ F .M * (F .m * F .t)
+  order-found = rw (shown .first, shown .second, shown .third)
+
+  pub body-found : bodyScan s ≡ scanAt (restFormat (F .M * (F .m * F .t))) s (F .q)
+  unfolding bodyScan
+  body-found = rw (shown .after, order-found)
+
+  pub scan-found : scanKit s ≡ (designRules (F .m) (F .t) (F .M) then scanRule 11 (scan (kitFormat (F .m) (F .t) (F .M)) s))
+  unfolding scanKit bodyRule
+  scan-found =
+      ap (λ (v : Verdict). v then designRules (headNumber s 0) (headNumber s 1) (headNumber s 2) then scanRule 11 (bodyScan s)) (shown .rule)
+      ∙ ap (λ (x : Scan). designRules (headNumber s 0) (headNumber s 1) (headNumber s 2) then scanRule 11 x) (body-found ∙ sym (kit-rest s (F .m) (F .t) (F .M) (F .q) (F .lines)))
+      ∙ rw (shown .first, shown .second, shown .third)
+
+pub accepted-found : (s : List ℕ) → scanKit s ≡ accepted → Found s
+accepted-found s e = go (two-lines s)
+  where
+    go : ((q : ℕ) × (walk headItems s 0 ≡ stuck q)) ⊎ Found s → Found s
+    go (inl (q, f)) = let g = scan-stuck s q f in let z : _≡_ {A = ℕ} 0 1 = cc in absurd (omega arith)
+    go (inr F) = F
+
+pub rule-read : (x : Scan) → scanRule 11 x ≡ accepted → (L : ℕ) × (vs : List ℕ) × (x ≡ format.read L vs)
+unfolding scanRule
+rule-read (format.refused k) e = let z : _≡_ {A = ℕ} 0 1 = cc in absurd (omega arith)
+rule-read (format.read L vs) e = (L, vs, refl)
+
+pub rule-refused : (x : Scan) (k : ℕ) → scanRule 11 x ≡ refused 11 k → x ≡ format.refused k
+unfolding scanRule
+rule-refused (format.refused j) k e = let z : j ≡ k = cc in ap format.refused z
+rule-refused (format.read L vs) k e = let z : _≡_ {A = ℕ} 0 1 = cc in absurd (omega arith)

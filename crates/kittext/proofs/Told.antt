@@ -1,0 +1,204 @@
+-- What an accepted text shows: the values of its lines, its bytes, and the lists and the inverse that the reader leaves.
+--   Told, kit-told                  the values of the lists' lines and of the rows' lines, and the text of them
+--   self-told .. inverse-told       the lists and the inverse
+--   halves, fit-long                lengths
+--   rendered                        the text of the lists and the inverse
+-- Assumes nothing.
+use Prim.Native.Nat.{ℕ, zero, suc, _+_, _-_, _*_, _≤_, _<_}
+use mathlib.Core.Path.{_≡_, refl, sym, ap, ap₂, _∙_}
+use mathlib.Core.List.{List, [], _∷_, _++_, append-nil}
+use native.Mathlib.Omega.{arith}
+use lib.ListN.{length, getD, take, drop, length-append}
+use lib.Seq.{take-at, drop-at}
+use Rattle.formats.specs.Format as format
+use Rattle.formats.specs.Format.{Item, byte, num, bit, dec, Scan, scan, end}
+use Rattle.formats.specs.Items.{Walk, stuck, past, walk, spell, Fit, bitsLines, seq, scanAt}
+use Rattle.formats.proofs.Items.{dec-long}
+use Rattle.formats.proofs.Spelling.{continue, scan-seq, walk-sound}
+use Rattle.readers.specs.Verdicts.{scanRule, valuesOf}
+use Rattle.staircase.specs.Design.{order}
+use Rattle.staircase.specs.Lists.{concat}
+use Rattle.staircase.specs.System.{inverseEntry}
+use Rattle.staircase.specs.Rules.{Verdict, _then_, designRules, entries}
+use Rattle.staircase.specs.Rules.Verdict.{accepted, refused}
+use Rattle.staircase.proofs.Rules.{then-first, then-rest}
+use Rattle.kittext.specs.KitText.{headBytes, listNames, rowNames, pairLines, kitBody, kitFormat, firsts, seconds, packs, packRows}
+use Rattle.kittext.specs.Reader.{headNumber, kitParams, bodyScan, scanKit, selfOf, parityOf, inverseOf}
+use Rattle.kittext.specs.Answers.{restFormat, tailItems}
+use Rattle.kittext.specs.Rendered.{pairText, rowText}
+use Rattle.kittext.proofs.Counting.{fit-split, lits-first, tidy-oks, pairs-count}
+use Rattle.kittext.proofs.KitTexts.{tidy-body, head-passed, kit-rest}
+use Rattle.kittext.proofs.Rendering.{concat-same, pairs-render, values-small, entry-of, row-same, rows-bits, rows-render, inverse-of}
+use Rattle.kittext.proofs.Judged.{passing-small, Found, shown, order-found, body-found, scan-found, accepted-found, rule-read}
+
+-- ---- what an accepted text shows
+
+-- the values of an accepted text: ps of the lists' lines and rs of the rows' lines
+pub record Told (s : List ℕ) (n : ℕ) : Type 0 where
+  pub order-is : order (kitParams s) ≡ n
+  pub ps : List ℕ
+  pub rs : List ℕ
+  pub pairs-fit : Fit (pairLines 0 n) ps
+  pub rows-fit : Fit (bitsLines n 0 n) rs
+  pub values-are : valuesOf (bodyScan s) ≡ ps ++ rs
+  pub text :
+      s ≡ headBytes (headNumber s 0) (headNumber s 1) (headNumber s 2) ++ (listNames ++ (spell (pairLines 0 n) ps ++ (rowNames ++ spell (bitsLines n 0 n) rs)))
+
+-- the parts of the rest
+pub record Body (n : ℕ) (vs : List ℕ) : Type 0 where
+  pub ps : List ℕ
+  pub rs : List ℕ
+  pub pairs-fit : Fit (pairLines 0 n) ps
+  pub rows-fit : Fit (bitsLines n 0 n) rs
+  pub values-are : vs ≡ ps ++ rs
+  pub spelt : spell (kitBody n) vs ≡ listNames ++ (spell (pairLines 0 n) ps ++ (rowNames ++ spell (bitsLines n 0 n) rs))
+
+body-parts : (n : ℕ) (vs : List ℕ) → Fit (kitBody n) vs → Body n vs
+unfolding kitBody
+body-parts n vs h =
+    let a = lits-first listNames (pairLines 0 n ++ tailItems n) vs h in
+    let S = fit-split (pairLines 0 n) (tailItems n) vs (a .0) in
+    let b = lits-first rowNames (bitsLines n 0 n) (S .vs) (S .right) in
+    record {
+      ps = S .us;
+      rs = S .vs;
+      pairs-fit = S .left;
+      rows-fit = b .0;
+      values-are = S .all;
+      spelt = a .1 ∙ ap (λ (l : List ℕ). listNames ++ l) (S .spelt ∙ ap (λ (l : List ℕ). spell (pairLines 0 n) (S .us) ++ l) (b .1));
+    }
+
+-- a text of items and nothing after them
+end-read : (s : List ℕ) (q L : ℕ) (vs : List ℕ) → scanAt (end 0) s q ≡ format.read L vs → (drop q s ≡ []) × (vs ≡ [])
+unfolding scanAt
+end-read s q L vs e = go (drop q s) e
+  where
+    go : (l : List ℕ) → Rattle.formats.specs.Items.moved q (scan (end 0) l) ≡ format.read L vs → (l ≡ []) × (vs ≡ [])
+    go [] f = (refl, cc)
+    go (x ∷ l) f = let z : _≡_ {A = ℕ} 0 1 = cc in absurd (omega arith)
+
+items-read : (is : List Item) (s : List ℕ) (q L : ℕ) (vs : List ℕ) → scanAt (seq is (end 0)) s q ≡ format.read L vs
+    → (e : ℕ) × (walk is s q ≡ past vs e) × (drop e s ≡ [])
+items-read is s q L vs f = go (walk is s q) refl (sym (scan-seq is (end 0) s q) ∙ f)
+  where
+    last : (ws : List ℕ) (e : ℕ) (x : Scan) → scanAt (end 0) s e ≡ x → Rattle.formats.proofs.Spelling.prefix ws x ≡ format.read L vs → (ws ≡ vs) × (drop e s ≡ [])
+    last ws e (format.refused k) g h = let z : _≡_ {A = ℕ} 0 1 = cc in absurd (omega arith)
+    last ws e (format.read l us) g h =
+        let (a, b) = end-read s e l us g in
+        let c : ws ++ us ≡ vs = cc in
+        (sym (append-nil ws) ∙ ap (λ (z : List ℕ). ws ++ z) (sym b) ∙ c, a)
+
+    go : (w : Walk) → walk is s q ≡ w → continue w (λ r. scanAt (end 0) s r) ≡ format.read L vs → (e : ℕ) × (walk is s q ≡ past vs e) × (drop e s ≡ [])
+    go (stuck k) e g = let z : _≡_ {A = ℕ} 0 1 = cc in absurd (omega arith)
+    go (past ws k) e g =
+        let (a, b) = last ws k (scanAt (end 0) s k) refl g in
+        (k, e ∙ ap (λ (z : List ℕ). past z k) a, b)
+
+pub kit-told : (s : List ℕ) → scanKit s ≡ accepted → Told s (order (kitParams s))
+unfolding valuesOf
+kit-told s acc = go (accepted-found s acc)
+  where
+    told : (n : ℕ) → order (kitParams s) ≡ n → Told s n → Told s (order (kitParams s))
+    told n e T = rw e T
+
+    go : Found s → Told s (order (kitParams s))
+    go F =
+        let S = shown s F in
+        let n : ℕ = F .M * (F .m * F .t) in
+        let d : Verdict = designRules (F .m) (F .t) (F .M) in
+        let r : Verdict = scanRule 11 (scan (kitFormat (F .m) (F .t) (F .M)) s) in
+        let g : (d then r) ≡ accepted = sym (scan-found s F) ∙ acc in
+        let (L, vs, h) = rule-read (scan (kitFormat (F .m) (F .t) (F .M)) s) (then-rest d r g) in
+        let p = passing-small (F .m) (F .t) (F .M) (then-first d r g) in
+        let b : scanAt (restFormat n) s (F .q) ≡ format.read L vs = sym (kit-rest s (F .m) (F .t) (F .M) (F .q) (F .lines)) ∙ h in
+        let (e, w, z) = items-read (kitBody n) s (F .q) L vs b in
+        let P = walk-sound (kitBody n) s (F .q) vs e (tidy-oks (kitBody n) (tidy-body n (omega (arith, p .1)))) w in
+        let B = body-parts n vs (P .fit) in
+        let H = head-passed s (F .m) (F .t) (F .M) (F .q) (F .lines) in
+        told n (order-found s F)
+        (record {
+          order-is = order-found s F;
+          ps = B .ps;
+          rs = B .rs;
+          pairs-fit = B .pairs-fit;
+          rows-fit = B .rows-fit;
+          values-are = ap valuesOf (body-found s F ∙ b) ∙ B .values-are;
+          text =
+              rw (S .first, S .second, S .third)
+              (H .spelt
+              ∙ ap (λ (l : List ℕ). headBytes (F .m) (F .t) (F .M) ++ l)
+              (P .spelt ∙ ap (λ (l : List ℕ). spell (kitBody n) vs ++ l) z ∙ append-nil (spell (kitBody n) vs) ∙ B .spelt));
+        })
+
+-- ---- its lists and its inverse
+
+pub halves : (k : ℕ) (l : List ℕ) → length l ≡ 2 * k → (length (firsts l) ≡ k) × (length (seconds l) ≡ k)
+unfolding firsts seconds
+halves zero [] e = (refl, refl)
+halves zero (a ∷ l) e = absurd (omega arith)
+halves (suc k) [] e = absurd (omega arith)
+halves (suc k) (a ∷ []) e = absurd (omega arith)
+halves (suc k) (a ∷ b ∷ l) e = let i = halves k l (omega arith) in (ap suc (i .0), ap suc (i .1))
+
+module _ (s : List ℕ) (n : ℕ) (T : Told s n) where
+  pub pairs-are : length (T .ps) ≡ 2 * n
+  pairs-are = pairs-count n 0 (T .ps) (T .pairs-fit)
+
+  pub lists-told : take (2 * order (kitParams s)) (valuesOf (bodyScan s)) ≡ T .ps
+  lists-told = rw (T .order-is, T .values-are) (take-at (T .ps) (T .rs) (2 * n) pairs-are)
+
+  pub rows-told : drop (2 * order (kitParams s)) (valuesOf (bodyScan s)) ≡ T .rs
+  rows-told = rw (T .order-is, T .values-are) (drop-at (T .ps) (T .rs) (2 * n) pairs-are)
+
+  pub self-told : selfOf s ≡ packs (firsts (T .ps))
+  unfolding selfOf
+  self-told = ap (λ (l : List ℕ). packs (firsts l)) lists-told
+
+  pub parity-told : parityOf s ≡ packs (seconds (T .ps))
+  unfolding parityOf
+  parity-told = ap (λ (l : List ℕ). packs (seconds l)) lists-told
+
+  pub inverse-told : inverseOf s ≡ packRows n n (T .rs)
+  unfolding inverseOf
+  inverse-told = ap (packRows (order (kitParams s)) (order (kitParams s))) rows-told ∙ ap (λ (k : ℕ). packRows k k (T .rs)) (T .order-is)
+
+-- each value shows at least one byte
+pub fit-long : (is : List Item) (ws : List ℕ) → Fit is ws → length ws ≤ length (spell is ws)
+fit-long [] [] h = omega arith
+fit-long [] (w ∷ ws) h = absurd h
+fit-long (byte b ∷ is) ws h = let i = fit-long is ws h in omega arith
+fit-long (num ∷ is) [] h = absurd h
+fit-long (num ∷ is) (w ∷ ws) h = let i = fit-long is ws (h .1) in omega (arith, dec-long w, length-append (dec w) (spell is ws))
+fit-long (bit ∷ is) [] h = absurd h
+fit-long (bit ∷ is) (w ∷ ws) h = let i = fit-long is ws (h .1) in omega arith
+
+-- ---- the text that the lists and the inverse show
+
+module _ (s : List ℕ) (n : ℕ) (T : Told s n) where
+  pair-at : (p : ℕ) → p < n
+      → pairText (0 + p) (getD (firsts (T .ps)) p 0) (getD (seconds (T .ps)) p 0) ≡ pairText p (getD (entries n (selfOf s)) p 0) (getD (entries n (parityOf s)) p 0)
+  pair-at p h =
+      let v = values-small n 0 (T .ps) (T .pairs-fit) p in
+      let z : 0 + p ≡ p = omega arith in
+      ap (λ (k : ℕ). pairText k (getD (firsts (T .ps)) p 0) (getD (seconds (T .ps)) p 0)) z
+      ∙ ap₂ (λ (a b : ℕ). pairText p a b)
+      (sym (ap (λ (l : List ℕ). getD (entries n l) p 0) (self-told s n T) ∙ entry-of n (firsts (T .ps)) p h (v .0)))
+      (sym (ap (λ (l : List ℕ). getD (entries n l) p 0) (parity-told s n T) ∙ entry-of n (seconds (T .ps)) p h (v .1)))
+
+  row-at : (i : ℕ) → i < n → rowText n (0 + i) (λ j. getD (T .rs) (i * n + j) 0) ≡ rowText n i (inverseEntry (inverseOf s) n i)
+  row-at i h =
+      let z : 0 + i ≡ i = omega arith in
+      ap (λ (k : ℕ). rowText n k (λ j. getD (T .rs) (i * n + j) 0)) z
+      ∙ row-same n i (λ j. getD (T .rs) (i * n + j) 0) (inverseEntry (inverseOf s) n i)
+      (λ j l.
+      sym (ap (λ (w : List ℕ). inverseEntry w n i j) (inverse-told s n T) ∙ inverse-of n (T .rs) (rows-bits n n 0 (T .rs) (T .rows-fit)) i j h l))
+
+  pub rendered : s
+      ≡ headBytes (headNumber s 0) (headNumber s 1) (headNumber s 2)
+      ++ (listNames
+      ++ (concat n (λ p. pairText p (getD (entries n (selfOf s)) p 0) (getD (entries n (parityOf s)) p 0)) ++ (rowNames ++ concat n (λ i. rowText n i (inverseEntry (inverseOf s) n i)))))
+  rendered =
+      T .text
+      ∙ ap₂ (λ (a b : List ℕ). headBytes (headNumber s 0) (headNumber s 1) (headNumber s 2) ++ (listNames ++ (a ++ (rowNames ++ b))))
+      (pairs-render n 0 (T .ps) (T .pairs-fit) ∙ concat-same n _ _ pair-at)
+      (rows-render n n 0 (T .rs) (T .rows-fit) ∙ concat-same n _ _ row-at)

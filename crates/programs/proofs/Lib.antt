@@ -1,0 +1,9 @@
+pub mod Judged
+pub mod Bounds
+pub mod Printing
+pub mod Starting
+pub mod Ready
+pub mod Outputs
+pub mod Framing
+pub mod Room
+pub mod Mending
