@@ -301,7 +301,7 @@ fn correct_in(
     let m = d.m as usize;
     let bits = positions.len();
     let limit = rounds_allowed(rounds);
-    kit::fill_table(d, &mut positions[..]);
+    positions::fill_table(d, &mut positions[..]);
     field::fill_field(m, &mut field[..]);
     field::fill_syndromes(m, &field[..], &mut syndromes[0..bits]);
     locator::fill_sums(m, d.r(), bits, &mut syndromes[..]);

@@ -1,4 +1,1 @@
-pub mod Groups
-pub mod Lending
-pub mod Whole
 pub mod Verdict

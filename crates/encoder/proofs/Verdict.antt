@@ -24,7 +24,7 @@ use Rattle.design.proofs.Answers.{refused-then, check-refused, check-passed, de
 use Rattle.design.proofs.Accepted.{count-limits, frame-lengths}
 use Rattle.rules.proofs.Accepted.{lists-permute, bytes-bits}
 use Rattle.kit.proofs.Verdict.{lengths-fit}
-use Rattle.encoder.specs.Groups.{FrameFits}
+use Rattle.frames.specs.Groups.{FrameFits}
 use Rattle.encoder.specs.Checks.{contentRules, lengthRules, frameRules}
 
 module _ (d : Design) (L : ℕ) (own parity w info red : List ℕ) (work : ℕ) (allowed : Allowed d) (e : frameRules (paramsOf d) L own parity w info red work ≡ accepted) where

@@ -22,7 +22,8 @@ use Rattle.matrix.specs.Packed.{packedBit}
 use Rattle.matrix.proofs.Product.{sum-spare}
 use Rattle.blocks.specs.Blocks.{partSum, columnSum, rowSum}
 use Rattle.blocks.proofs.Sums.{part-at}
-use Rattle.group.specs.Group.{digit, Packed, constantBit, productBit, productParity, selfBit, parityBit, groupOf}
+use Rattle.solution.specs.Bits.{digit, Packed, constantBit, productBit}
+use Rattle.group.specs.Group.{productParity, selfBit, parityBit, groupOf}
 
 module _ (inverse c part columns ys old : List ℕ) (size r : ℕ) (pos : 0 < size) (long : length part ≡ r) (wide : length columns ≡ size)
     (made : ys ≡ tabulate (size * r) (productBit inverse c size r)) where

@@ -23,7 +23,8 @@ use Rattle.staircase.proofs.System.{Proper, Binary, tabulate-at, tabulate-same,
 use Rattle.staircase.proofs.Entries.{columnRemainder, rowRemainder, columnParity-powers, rowParity-powers}
 use Rattle.blocks.specs.Blocks.{columnSum, rowSum, Powers}
 use Rattle.blocks.proofs.Link.{SameBlock, part-powers, columnSum-is, rowSum-is}
-use Rattle.group.specs.Group.{digit, constantBit, selfBit, parityBit, groupOf}
+use Rattle.solution.specs.Bits.{digit, constantBit}
+use Rattle.group.specs.Group.{selfBit, parityBit, groupOf}
 
 module _ (s : Params) (ok : Proper s) (table : List ℕ) (P : Powers s table) where
   no-y : (x : ℕ) (at : ℕ → ℕ) → x ⊕ xorSum (s .r) (λ b. zeros (at b) * powerMod (s .g) (s .r) (2 * s .r - 1 - b)) ≡ x

@@ -1,10 +1,6 @@
 -- A group's redundancy by what code has at hand: the table of powers of x that the positions of a word carry (its first M entries for the first
 -- block of a word, M for the second, r for X or Y), the place of Q that the parity list sends to each place of P (`sources`), and the packed inverse.
---   digit x r a           bit a of the r bits of a remainder x, the highest first
---   Packed                a packed row of bits by a rule
---   constantBit           entry k of the constant c
---   productBit            a bit of Y: the inverse times a packed constant
---   productParity         a bit of P after it
+--   productParity         a bit of P, from a packed constant
 --   selfBit, parityBit    a bit of Y and of P, by the blocks
 --   groupOf               the group: Y, then P
 --   Lent                  what is asked of the sizes and slices of a group
@@ -12,33 +8,14 @@
 use mathlib.Core.Path.{_≡_}
 use mathlib.Core.Bool.{Bool}
 use mathlib.Core.List.{List, _++_}
-use Prim.Native.Nat.{ℕ, _+_, _-_, _*_, _/_, _%_, _^_, _≤_, _<_}
+use Prim.Native.Nat.{ℕ, _+_, _*_, _/_, _%_, _≤_, _<_}
 use lib.ListN.{length, getD}
 use Rattle.bch.specs.Polynomial.{_⊕_, Bits}
 use Rattle.bch.specs.Powers.{xorSum}
-use Rattle.staircase.specs.Lists.{bitSum, sumBits, tabulate}
+use Rattle.staircase.specs.Lists.{sumBits, tabulate}
 use Rattle.staircase.specs.System.{Contents, rowBytes, inverseEntry}
-use Rattle.matrix.specs.Packed.{packedBit}
 use Rattle.blocks.specs.Blocks.{Sent, partSum, columnSum, rowSum}
-
-abbrev pub digit : ℕ → ℕ → ℕ → ℕ
-digit x r a = x / 2 ^ (r - 1 - a) % 2
-
--- a packed row of n bits by a rule, its spare bits 0
-abbrev pub Packed : ℕ → List ℕ → (ℕ → ℕ) → Type 0
-Packed n row f = ((k : ℕ) → k < n → packedBit row k ≡ f k) × ((k : ℕ) → n ≤ k → packedBit row k ≡ 0)
-
--- Entry k of the stack is row k mod r, column k / r of P: the digit of that column's remainder, plus the digit of a row's remainder that the
--- parity list brings there.
-unfoldable pub constantBit : List ℕ → List ℕ → List ℕ → ℕ → ℕ → ℕ → ℕ
-constantBit columns rows sources size r k =
-    let p : ℕ = getD sources (k % r * size + k / r) 0 in
-    bitSum (digit (getD columns (k / r) 0) r (k % r)) (digit (getD rows (p % size) 0) r (p / size))
-
--- the row of W that belongs to place q of Y, which is entry q mod M × r + q / M of the stack, times the constant, spare bits too
-abbrev pub productBit : List ℕ → List ℕ → ℕ → ℕ → Contents
-productBit inverse c size r q =
-    sumBits (8 * rowBytes (size * r)) (λ k. inverseEntry inverse (size * r) (q % size * r + q / size) k * packedBit c k)
+use Rattle.solution.specs.Bits.{digit, constantBit, productBit}
 
 -- P by a packed constant, from the remainders of the column words without Y, and the powers that the bits of Y carry
 abbrev pub productParity : List ℕ → List ℕ → List ℕ → List ℕ → ℕ → ℕ → Contents

@@ -1,23 +1,17 @@
 -- The verdicts that the kit checker's steps return are those of the table.
---   inverse-left, inverse-right, inverse-none   rule 9 by the first wrong entries
---   lists-rule, spare-rule                      rules 7 and 8 by the order that code has
---   lengths-fit                                 rule 6 passed: the lengths are right
---   made-allowed, design-then                   a design that was made
+--   lists-rule, spare-rule     rules 7 and 8 by the order that code has
+--   lengths-fit                rule 6 passed: the lengths are right
+--   made-allowed, design-then  a design that was made
 --   kit-design, kit-lengths, kit-working, kit-content   the call's verdict, step by step
 -- Assumes nothing.
 use mathlib.Core.Path.{_≡_, refl, sym, ap, _∙_}
-use mathlib.Core.Bool.{Bool}
 use mathlib.Core.List.{List}
-use Prim.Native.Nat.{ℕ, _+_, _*_, _≤_, _<_}
-use native.Mathlib.Nat.{zero-add}
-use lib.Dec.{ltb}
+use Prim.Native.Nat.{ℕ, _*_}
 use lib.ListN.{length}
-use borrow.Author.Tests.{lt-ltb, le-ltb}
-use Rattle.staircase.specs.Lists.{firstWhere}
-use Rattle.staircase.specs.Design.{Params, Interleavers, params, order}
-use Rattle.staircase.specs.System.{rowBytes, systemEntry, inverseEntry}
-use Rattle.staircase.specs.Rules.{Verdict, _then_, refuse, refuseFirst, designRules, lengthRule, listLengths, kitLengths, kitWork, entries, interleavers, badEntry, listRule, spareRow, spareRule, wrongEntry, inverseRule, kitRules}
-use Rattle.staircase.specs.Rules.Verdict.{accepted, refused}
+use Rattle.staircase.specs.Design.{Params, params, order}
+use Rattle.staircase.specs.System.{rowBytes}
+use Rattle.staircase.specs.Rules.{Verdict, _then_, refuseFirst, designRules, lengthRule, listLengths, kitLengths, kitWork, entries, interleavers, badEntry, listRule, spareRow, spareRule, kitRules}
+use Rattle.staircase.specs.Rules.Verdict.{accepted}
 use Rattle.staircase.specs.Calls.{kitVerdict}
 use Rattle.staircase.specs.Demand2.{FitsOrder}
 use Rattle.staircase.proofs.Rules.{then-first, then-rest}
@@ -31,41 +25,6 @@ use Rattle.design.specs.Sizes.{paramsOf, orderOf, listsOf}
 use Rattle.design.specs.Answers.{verdictOf, designVerdict, DesignIs, Allowed, DesignAllowed}
 use Rattle.design.proofs.Answers.{refused-then, passed-then, design-refused, design-made, made-params}
 use Rattle.design.proofs.Accepted.{length-equal, list-lengths}
-
--- ---- rule 9
-
-module _ (rule base N : ℕ) (f : ℕ → Bool) (x : ℕ) (e : x ≡ firstWhere N f) where
-  first-refused : x < N → refused rule (base + x) ≡ refuseFirst rule base N f
-  unfolding refuseFirst
-  first-refused h = sym (ap (λ (z : ℕ). refuse (ltb z N) rule (base + z)) (sym e) ∙ ap (λ (b : Bool). refuse b rule (base + x)) (lt-ltb x N h))
-
-  first-passed : N ≤ x → accepted ≡ refuseFirst rule base N f
-  unfolding refuseFirst
-  first-passed h = sym (ap (λ (z : ℕ). refuse (ltb z N) rule (base + z)) (sym e) ∙ ap (λ (b : Bool). refuse b rule (base + x)) (le-ltb x N h))
-
-module _ (s : Params) (l : Interleavers) (w : List ℕ) (x : ℕ) (e : x ≡ firstWhere (order s * order s) (wrongEntry (order s) (systemEntry s l) (inverseEntry w (order s)))) where
-  abbrev n : ℕ
-  n = order s
-
-  pub inverse-left : x < order s * order s → refused 9 x ≡ inverseRule s l w
-  unfolding inverseRule
-  inverse-left h =
-      ap (refused 9) (sym (zero-add x))
-      ∙ ap (λ (v : Verdict). v then refuseFirst 9 (n * n) (n * n) (wrongEntry n (inverseEntry w n) (systemEntry s l)))
-      (first-refused 9 0 (n * n) (wrongEntry n (systemEntry s l) (inverseEntry w n)) x e h)
-
-  module _ (clean : order s * order s ≤ x) (y : ℕ) (d : y ≡ firstWhere (order s * order s) (wrongEntry (order s) (inverseEntry w (order s)) (systemEntry s l))) where
-    second : refuseFirst 9 (n * n) (n * n) (wrongEntry n (inverseEntry w n) (systemEntry s l)) ≡ inverseRule s l w
-    unfolding inverseRule
-    second =
-        ap (λ (v : Verdict). v then refuseFirst 9 (n * n) (n * n) (wrongEntry n (inverseEntry w n) (systemEntry s l)))
-        (first-passed 9 0 (n * n) (wrongEntry n (systemEntry s l) (inverseEntry w n)) x e clean)
-
-    pub inverse-right : y < order s * order s → refused 9 (order s * order s + y) ≡ inverseRule s l w
-    inverse-right h = first-refused 9 (n * n) (n * n) (wrongEntry n (inverseEntry w n) (systemEntry s l)) y d h ∙ second
-
-    pub inverse-none : order s * order s ≤ y → accepted ≡ inverseRule s l w
-    inverse-none h = first-passed 9 (n * n) (n * n) (wrongEntry n (inverseEntry w n) (systemEntry s l)) y d h ∙ second
 
 -- ---- rules 6 to 8
 

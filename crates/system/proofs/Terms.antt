@@ -96,6 +96,9 @@ pub record Sized (size r e p : ℕ) : Type 0 where
   pub digit : e % r < r
   pub row : p / size < r
   pub column : p % size < size
+  pub digit-of-place : p % r < r
+  pub row-of-entry : e / size < r
+  pub column-of-entry : e % size < size
 
 factor-positive : (a b x : ℕ) → x < a * b → 0 < a
 factor-positive zero b x h = absurd (omega (arith, zero-mul b))
@@ -112,4 +115,7 @@ sized size r n e p d he hp =
       digit = mod-lt e hr;
       row = div-lt-iff-lt-mul hs .1 (omega (arith, mul-comm r size));
       column = mod-lt p hs;
+      digit-of-place = mod-lt p hr;
+      row-of-entry = div-lt-iff-lt-mul hs .1 (omega (arith, mul-comm r size));
+      column-of-entry = mod-lt e hs;
     }

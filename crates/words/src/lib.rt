@@ -369,7 +369,7 @@ fn count_received(
 {
     let bits = d.n();
     let mut table = [0u32; 1024];
-    kit::fill_table(d, &mut table[0..bits]);
+    positions::fill_table(d, &mut table[0..bits]);
     count_outside(d, blocks, own, parity, info, red, &table[0..bits], work)
 }
 

@@ -1,5 +1,6 @@
 -- Y is filled, read again for the remainders, and P is filled behind it.
 -- Assumes nothing.
+use native.Mathlib.Nat.{mul-pos}
 use native.Mathlib.Omega.{arith}
 use Rattle.group.proofs.Group.{front-half, both-halves}
 use Rattle.group.proofs.group_bits.Statement.{statement}
@@ -9,10 +10,10 @@ mul-n : tie.Need-mul-n
 mul-n c = omega arith
 
 sub-self-bits : tie.Need-sub-self-bits
-sub-self-bits c = omega arith
+sub-self-bits c = let p = c .before .before .before .before .before .pre in omega (arith, mul-pos (p .5) (p .6))
 
 part-self-bits-start : tie.Need-part-self-bits-start
-part-self-bits-start c = omega arith
+part-self-bits-start c = let p = c .before .before .before .before .before .pre in omega (arith, mul-pos (p .5) (p .6))
 
 part-self-bits-end : tie.Need-part-self-bits-end
 part-self-bits-end c = omega arith

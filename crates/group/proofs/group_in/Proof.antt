@@ -3,8 +3,8 @@
 use mathlib.Core.Path.{_∙_}
 use Prim.Native.Nat.{_+_, _*_}
 use native.Mathlib.Omega.{arith}
-use lib.ListN.{getD}
-use Rattle.blocks.specs.Blocks.{sentBit}
+use lib.ListN.{length, getD}
+use Rattle.blocks.specs.Blocks.{sentBit, Sent}
 use Rattle.blocks.proofs.Sums.{part-length, square}
 use Rattle.group.proofs.Group.{group-made}
 use Rattle.group.proofs.group_in.Statement.{statement}
@@ -27,12 +27,11 @@ row-sums-requires c κs =
     let s = c .before .before .before .before .before .before .before .before .before .before .before .before .before .before .before in
     let n = s .args .size in
     let l = s .pre .0 in
-    let w = s .pre .2 in (
-      square _ _ _ n (l .odd-block .0) w w,
-      l .odd-block .1,
-      λ e. (square _ _ _ n (l .before-block e .0) w w, l .before-block e .1),
-      omega arith,
-    )
+    let w = s .pre .2 in
+    let m = length (s .args .rows .now) in
+    let odd : Sent (s .args .has-before) (s .args .odd .now) (m * m) = λ e. (square _ _ _ n (l .odd-block .0) w w, l .odd-block .1) in
+    let before : Sent (s .args .has-before) (s .args .before .now) (m * m) = λ e. (square _ _ _ n (l .before-block e .0) w w, l .before-block e .1) in
+    (square _ _ _ n (l .odd-block .0) w w, l .odd-block .1, search (before, odd), omega arith)
 
 constant-bits-requires : tie.Need-constant-bits-requires
 constant-bits-requires c κs =

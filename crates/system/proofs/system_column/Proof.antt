@@ -91,7 +91,7 @@ spread-of-requires c κs =
     let z = sized (a .size) (length (a .part .now)) (a .n) (a .j) (a .x) (h .0) (h .1) (h .2) in
     let q = ap length (c .before .before .before .before .before .before .before .before .before .clear .ensures) ∙ length-replicate (length (c .before .before .before .before .before .before .before .before .before .before .before .before .before .before .args .column .now)) 0 in
     let d = c .before .before .before .before .run-of .ensures .0 in
-    (h .0, z .column, h .3, omega arith, omega arith, omega arith, h .7)
+    (h .0, omega arith, h .3, omega arith, omega arith, omega arith, h .7)
 
 same-length : tie.Need-same-length
 same-length c = search needs

@@ -1,0 +1,3 @@
+pub mod Groups
+pub mod Lending
+pub mod Whole

@@ -1,0 +1,3 @@
+pub mod Link
+pub mod Whole
+pub mod Verdict
