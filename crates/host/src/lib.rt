@@ -1,17 +1,17 @@
 // The calls for a host in C. A slice is a pointer and a length there, and no two slices of a call may overlap.
 //   kits     bauchleton_design, bauchleton_check_kit
-//   frames   bauchleton_encode, bauchleton_check_words, bauchleton_decode, bauchleton_loopback, bauchleton_show
+//   calls    bauchleton_encode, bauchleton_check_words, bauchleton_decode, bauchleton_loopback, bauchleton_show
 //
 // Each call answers 0, or the number of the rule of document 01's table that refuses. It is lent a slice `answer` of a fixed length, which is left as
 // it was where its length is another. Entry 0 is the refusal's place, 0 where nothing is refused; the others are what the call tells, 0 where it is
 // refused.
-mod frames;
+mod calls;
 mod kits;
 
-pub use frames::bauchleton_check_words;
-pub use frames::bauchleton_decode;
-pub use frames::bauchleton_encode;
-pub use frames::bauchleton_loopback;
-pub use frames::bauchleton_show;
+pub use calls::bauchleton_check_words;
+pub use calls::bauchleton_decode;
+pub use calls::bauchleton_encode;
+pub use calls::bauchleton_loopback;
+pub use calls::bauchleton_show;
 pub use kits::bauchleton_check_kit;
 pub use kits::bauchleton_design;

@@ -2,8 +2,8 @@
 -- Assumes nothing.
 use borrow.Author.Needs.{needs}
 use Rattle.host.proofs.Answers.{place-told}
-use Rattle.host.proofs.frames.bauchleton_encode.Statement.{statement}
-use Rattle.host.proofs.frames.bauchleton_encode.Tie as tie
+use Rattle.host.proofs.calls.bauchleton_encode.Statement.{statement}
+use Rattle.host.proofs.calls.bauchleton_encode.Tie as tie
 
 encode-requires : tie.Need-encode-requires
 encode-requires c κs = tt

@@ -8,8 +8,8 @@ use lib.ListN.{length, set, getD}
 use lib.Seq.{paste-zero, length-paste}
 use lib.Seq.{paste as pasting}
 use Rattle.host.proofs.Answers.{pasted-none, pasted-more, pasted-all}
-use Rattle.host.proofs.frames.paste.Statement.{statement}
-use Rattle.host.proofs.frames.paste.Tie as tie
+use Rattle.host.proofs.calls.paste.Statement.{statement}
+use Rattle.host.proofs.calls.paste.Tie as tie
 
 abbrev Inv-loop : tie.InvT-loop
 Inv-loop stretch out₀ k₀ k-end out k = (k-end ≡ length stretch) × (k ≤ length stretch) × (length stretch ≤ length out₀) × (out ≡ pasting out₀ 0 stretch k)

@@ -2,8 +2,8 @@
 -- Assumes nothing.
 use borrow.Author.Needs.{needs}
 use Rattle.host.proofs.Answers.{corrected-told}
-use Rattle.host.proofs.frames.bauchleton_decode.Statement.{statement}
-use Rattle.host.proofs.frames.bauchleton_decode.Tie as tie
+use Rattle.host.proofs.calls.bauchleton_decode.Statement.{statement}
+use Rattle.host.proofs.calls.bauchleton_decode.Tie as tie
 
 decode-requires : tie.Need-decode-requires
 decode-requires c κs = tt

@@ -2,8 +2,8 @@
 -- Assumes nothing.
 use Rattle.show.specs.Answers.{partOf}
 use Rattle.host.proofs.Answers.{part-block, part-group}
-use Rattle.host.proofs.frames.part_of.Statement.{statement}
-use Rattle.host.proofs.frames.part_of.Tie as tie
+use Rattle.host.proofs.calls.part_of.Statement.{statement}
+use Rattle.host.proofs.calls.part_of.Tie as tie
 
 returns : tie.Need-returns
 unfolding partOf

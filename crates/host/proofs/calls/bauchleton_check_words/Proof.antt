@@ -2,8 +2,8 @@
 -- Assumes nothing.
 use borrow.Author.Needs.{needs}
 use Rattle.host.proofs.Answers.{words-told}
-use Rattle.host.proofs.frames.bauchleton_check_words.Statement.{statement}
-use Rattle.host.proofs.frames.bauchleton_check_words.Tie as tie
+use Rattle.host.proofs.calls.bauchleton_check_words.Statement.{statement}
+use Rattle.host.proofs.calls.bauchleton_check_words.Tie as tie
 
 check-words-requires : tie.Need-check-words-requires
 check-words-requires c κs = tt

@@ -9,8 +9,8 @@ use Rattle.loopback.specs.Link.{resultOf}
 use Rattle.answers.specs.Number.{told}
 use Rattle.host.specs.Answers.{outcomeNumber, outcomeAnswer}
 use Rattle.answers.specs.declared.Judged.{Judged}
-use Rattle.host.proofs.frames.tell_looped.Statement.{statement}
-use Rattle.host.proofs.frames.tell_looped.Tie as tie
+use Rattle.host.proofs.calls.tell_looped.Statement.{statement}
+use Rattle.host.proofs.calls.tell_looped.Tie as tie
 
 enum-known-a : tie.Need-enum-known-a
 enum-known-a c = search needs

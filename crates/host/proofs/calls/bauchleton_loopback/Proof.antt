@@ -2,8 +2,8 @@
 -- Assumes nothing.
 use borrow.Author.Needs.{needs}
 use Rattle.host.proofs.Answers.{result-told}
-use Rattle.host.proofs.frames.bauchleton_loopback.Statement.{statement}
-use Rattle.host.proofs.frames.bauchleton_loopback.Tie as tie
+use Rattle.host.proofs.calls.bauchleton_loopback.Statement.{statement}
+use Rattle.host.proofs.calls.bauchleton_loopback.Tie as tie
 
 loopback-requires : tie.Need-loopback-requires
 loopback-requires c κs = tt

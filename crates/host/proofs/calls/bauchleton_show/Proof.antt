@@ -4,8 +4,8 @@ use borrow.Author.Needs.{needs}
 use Rattle.staircase.specs.Rules.{Part}
 use Rattle.staircase.specs.Calls.{showCall}
 use Rattle.host.proofs.Answers.{show-told}
-use Rattle.host.proofs.frames.bauchleton_show.Statement.{statement}
-use Rattle.host.proofs.frames.bauchleton_show.Tie as tie
+use Rattle.host.proofs.calls.bauchleton_show.Statement.{statement}
+use Rattle.host.proofs.calls.bauchleton_show.Tie as tie
 
 part-of-requires : tie.Need-part-of-requires
 part-of-requires c κs = tt

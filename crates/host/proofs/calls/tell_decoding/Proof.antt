@@ -9,8 +9,8 @@ use Rattle.decoder.specs.Answers.{correctedOf}
 use Rattle.answers.specs.Number.{number, placeOf, told}
 use Rattle.host.specs.Answers.{correctedAnswer}
 use Rattle.answers.specs.declared.Judged.{Judged}
-use Rattle.host.proofs.frames.tell_decoding.Statement.{statement}
-use Rattle.host.proofs.frames.tell_decoding.Tie as tie
+use Rattle.host.proofs.calls.tell_decoding.Statement.{statement}
+use Rattle.host.proofs.calls.tell_decoding.Tie as tie
 
 enum-known-a : tie.Need-enum-known-a
 enum-known-a c = search needs

@@ -8,8 +8,8 @@ use Rattle.words.specs.Checks.{countedOf}
 use Rattle.answers.specs.Number.{number, placeOf, told}
 use Rattle.host.specs.Answers.{wordsAnswer}
 use Rattle.answers.specs.declared.Judged.{Judged}
-use Rattle.host.proofs.frames.tell_words.Statement.{statement}
-use Rattle.host.proofs.frames.tell_words.Tie as tie
+use Rattle.host.proofs.calls.tell_words.Statement.{statement}
+use Rattle.host.proofs.calls.tell_words.Tie as tie
 
 enum-known-a : tie.Need-enum-known-a
 enum-known-a c = search needs

@@ -1,0 +1,649 @@
+//! Compares the library with the reference, call by call: the number, the place, what is told, and every
+//! lent buffer (8 guard bytes on either side of it too) but the working bytes.
+//!
+//!     compare [--programs FRAME MEND] [GROUP [SEED [INDEX]]]
+//!
+//! Without GROUP (or with `all`) every group runs. A failing case is printed with its group, seed and
+//! index; these three as arguments run it alone. A line for each group ends with how often each number was
+//! the right answer. The last line counts compared calls and checks.
+
+mod host;
+mod reference;
+
+use reference::*;
+use std::cell::{Cell, RefCell};
+use std::collections::{BTreeMap, HashMap};
+use std::io::Write;
+use std::path::PathBuf;
+use std::process::{Command, Stdio};
+use std::rc::Rc;
+
+const GUARD: usize = 8;
+const OUT: usize = 300_000; // what bauchleton_frame and bauchleton_mend are lent
+const INPUT: usize = 32_768; // rule 13
+
+// ---------------------------------------------------------------- Random numbers
+
+/// xorshift64*
+#[derive(Clone)]
+struct Rng(u64);
+
+impl Rng {
+    fn new(parts: &[u64]) -> Rng {
+        let mut rng = Rng(0x9E37_79B9_7F4A_7C15);
+        for part in parts {
+            rng.0 = (rng.0 ^ part.wrapping_mul(0xD134_2543_DE82_EF95)) | 1;
+            for _ in 0..4 {
+                rng.next();
+            }
+        }
+        rng
+    }
+    fn next(&mut self) -> u64 {
+        self.0 ^= self.0 >> 12;
+        self.0 ^= self.0 << 25;
+        self.0 ^= self.0 >> 27;
+        self.0.wrapping_mul(0x2545_F491_4F6C_DD1D)
+    }
+    /// below `limit`
+    fn below(&mut self, limit: usize) -> usize {
+        ((self.next() >> 32) as usize * limit) >> 32
+    }
+    fn pick<T: Clone>(&mut self, from: &[T]) -> T {
+        from[self.below(from.len())].clone()
+    }
+    fn bits(&mut self, count: usize) -> Vec<u8> {
+        (0..count).map(|_| (self.next() >> 63) as u8).collect()
+    }
+    fn bytes(&mut self, count: usize) -> Vec<u8> {
+        (0..count).map(|_| (self.next() >> 56) as u8).collect()
+    }
+    fn permutation(&mut self, count: usize) -> Vec<usize> {
+        let mut list: Vec<usize> = (0..count).collect();
+        for i in (1..count).rev() {
+            list.swap(i, self.below(i + 1));
+        }
+        list
+    }
+}
+
+fn hash(name: &str) -> u64 {
+    name.bytes().fold(7, |h: u64, byte| h.wrapping_mul(1_000_003) ^ byte as u64)
+}
+
+// ---------------------------------------------------------------- Kits
+
+/// Has A an inverse? Elimination below the diagonal, much cheaper than the inverse.
+fn regular(a_matrix: &Matrix) -> bool {
+    let mut rows = a_matrix.rows.clone();
+    for column in 0..a_matrix.order {
+        let has = |row: &Vec<u64>| row[column / 64] >> (column % 64) & 1 == 1;
+        let Some(found) = (column..rows.len()).find(|&i| has(&rows[i])) else { return false };
+        rows.swap(column, found);
+        let (above, below) = rows.split_at_mut(column + 1);
+        for row in below.iter_mut().filter(|row| has(row)) {
+            row.iter_mut().zip(&above[column]).skip(column / 64).for_each(|(to, from)| *to ^= from);
+        }
+    }
+    true
+}
+
+/// The test's own inversion: elimination on [A | 1]. `None` where A has no inverse.
+fn invert(a_matrix: &Matrix) -> Option<Matrix> {
+    let order = a_matrix.order;
+    let width = (order + 63) / 64;
+    if !regular(a_matrix) {
+        return None;
+    }
+    let one = Matrix::identity(order);
+    let mut rows: Vec<Vec<u64>> = (0..order).map(|i| [&a_matrix.rows[i][..], &one.rows[i][..]].concat()).collect();
+    for column in 0..order {
+        let has = |row: &Vec<u64>| row[column / 64] >> (column % 64) & 1 == 1;
+        let found = (column..order).find(|&i| has(&rows[i]))?;
+        rows.swap(column, found);
+        let pivot = rows[column].clone();
+        for (i, row) in rows.iter_mut().enumerate() {
+            if i != column && has(row) {
+                row.iter_mut().zip(&pivot).skip(column / 64).for_each(|(to, from)| *to ^= from);
+            }
+        }
+    }
+    Some(Matrix { order, rows: rows.into_iter().map(|row| row[width..].to_vec()).collect() })
+}
+
+fn list_bytes(list: &[usize]) -> Vec<u8> {
+    list.iter().flat_map(|&entry| (entry as u16).to_le_bytes()).collect()
+}
+
+/// A kit that passes, its inverse also as a matrix.
+struct Good {
+    d: Design,
+    kit: Kit,
+    w_matrix: Matrix,
+}
+
+/// Random lists until A has an inverse.
+fn search(d: Design, seed: u64) -> Good {
+    let mut rng = Rng::new(&[hash("kit"), seed, d.m, d.t, d.size]);
+    loop {
+        let (own, parity) = (rng.permutation(d.order()), rng.permutation(d.order()));
+        let kit_of = |inverse| Kit { m: d.m, t: d.t, size: d.size, own: list_bytes(&own), parity: list_bytes(&parity), inverse };
+        if let Some(w_matrix) = invert(&system(&Shape::new(d, 1, own.clone(), parity.clone()))) {
+            return Good { d, kit: kit_of(w_matrix.to_bytes()), w_matrix };
+        }
+    }
+}
+
+/// Kit K of document 01.
+fn kit_k() -> Kit {
+    Kit {
+        m: 4,
+        t: 1,
+        size: 1,
+        own: list_bytes(&[1, 0, 2, 3]),
+        parity: list_bytes(&[3, 0, 1, 2]),
+        inverse: vec![0b0101, 0b1010, 0b1011, 0b0010],
+    }
+}
+
+/// The 18 pairs m, t that have designs.
+fn pairs() -> Vec<(u64, u64)> {
+    (4..=10).flat_map(|m| (1..=3).map(move |t| (m, t))).filter(|&(m, t)| design(m, t, 1).is_ok()).collect()
+}
+
+fn largest(m: u64, t: u64) -> u64 {
+    (1..=500).rev().find(|&size| design(m, t, size).is_ok()).unwrap()
+}
+
+/// For a pair: the sizes 1, some small and middle ones, and the largest one.
+fn sizes(m: u64, t: u64) -> Vec<u64> {
+    let last = largest(m, t);
+    let mut sizes = vec![1, 2, 3, 5, last / 2, last - 1, last];
+    sizes.retain(|&size| size >= 1 && size <= last);
+    sizes.sort();
+    sizes.dedup();
+    sizes
+}
+
+/// All designs of `sizes` with at most so many rows.
+fn designs(rows: usize) -> Vec<Design> {
+    let all = pairs().into_iter().flat_map(|(m, t)| sizes(m, t).into_iter().map(move |size| design(m, t, size).unwrap()));
+    all.filter(|d| d.order() <= rows).collect()
+}
+
+// ---------------------------------------------------------------- Cases
+
+struct Context {
+    seed: u64,
+    kits: RefCell<HashMap<(u64, u64, u64), Rc<Good>>>,
+    programs: Option<(PathBuf, PathBuf)>,
+    folder: PathBuf,
+    /// failures of the group so far; the first 20 are printed
+    printed: Cell<u64>,
+}
+
+impl Context {
+    fn kit(&self, d: Design) -> Rc<Good> {
+        let key = (d.m, d.t, d.size);
+        if let Some(found) = self.kits.borrow().get(&key) {
+            return found.clone();
+        }
+        let made = Rc::new(search(d, self.seed));
+        self.kits.borrow_mut().insert(key, made.clone());
+        made
+    }
+}
+
+/// Everything that a call on buffers may be lent.
+#[derive(Clone)]
+struct Lent {
+    m: u64,
+    t: u64,
+    size: u64,
+    blocks: u64,
+    rounds: u64,
+    own: Vec<u8>,
+    parity: Vec<u8>,
+    inverse: Vec<u8>,
+    info: Vec<u8>,
+    red: Vec<u8>,
+    kit_work: usize,
+    word_work: usize,
+    info_errors: Vec<u8>,
+    red_errors: Vec<u8>,
+}
+
+impl Lent {
+    /// A kit with buffers of the right lengths for L blocks.
+    fn new(kit: &Kit, blocks: usize, info: Vec<u8>, red: Vec<u8>) -> Lent {
+        let order = (kit.m * kit.t * kit.size) as usize;
+        Lent {
+            m: kit.m,
+            t: kit.t,
+            size: kit.size,
+            blocks: blocks as u64,
+            rounds: 0,
+            own: kit.own.clone(),
+            parity: kit.parity.clone(),
+            inverse: kit.inverse.clone(),
+            info,
+            red,
+            kit_work: order * ((order + 7) / 8),
+            word_work: order,
+            info_errors: vec![],
+            red_errors: vec![],
+        }
+    }
+    fn design(&self) -> (u64, u64, u64) {
+        (self.m, self.t, self.size)
+    }
+    fn kit(&self) -> Kit {
+        Kit {
+            m: self.m,
+            t: self.t,
+            size: self.size,
+            own: self.own.clone(),
+            parity: self.parity.clone(),
+            inverse: self.inverse.clone(),
+        }
+    }
+    fn received(&self) -> Received {
+        Received {
+            m: self.m,
+            t: self.t,
+            size: self.size,
+            blocks: self.blocks,
+            own: self.own.clone(),
+            parity: self.parity.clone(),
+            info: self.info.clone(),
+            red: self.red.clone(),
+        }
+    }
+}
+
+/// What is expected of a call: the number returned, what `answer` holds, and the lent buffers afterwards.
+struct Expected {
+    number: u64,
+    told: Vec<u64>,
+    buffers: Vec<Vec<u8>>,
+}
+
+/// Number and `answer` of a result: the place, then what is told, zeros where refused.
+fn answered<T>(result: &Answer<T>, told: impl Fn(&T) -> Vec<u64>, entries: usize) -> (u64, Vec<u64>) {
+    match result {
+        Ok(value) => (0, [vec![0], told(value)].concat()),
+        Err((number, place)) => (*number, [vec![*place], vec![0; entries - 1]].concat()),
+    }
+}
+
+/// The number of the rule that a printed refusal names, else 0.
+fn refused(printed: &str) -> u64 {
+    let numbers = printed.strip_prefix("refused place\n").unwrap_or("0 0");
+    numbers.split(' ').next().unwrap().parse().unwrap()
+}
+
+struct Case<'a> {
+    context: &'a Context,
+    group: &'static str,
+    index: usize,
+    rng: Rng,
+    passed: u64,
+    failed: u64,
+    /// how much longer `answer` is than it should be
+    answer_extra: isize,
+    /// how often each rule's number (0: none) was the right answer
+    numbers: BTreeMap<u64, u64>,
+}
+
+impl Case<'_> {
+    fn fail(&mut self, what: String) {
+        self.failed += 1;
+        self.context.printed.set(self.context.printed.get() + 1);
+        if self.context.printed.get() <= 20 {
+            println!("FAILED {} {} {}: {what}", self.group, self.context.seed, self.index);
+        }
+    }
+    fn check(&mut self, what: &str, holds: bool) {
+        if holds {
+            self.passed += 1;
+        } else {
+            self.fail(what.to_string());
+        }
+    }
+    fn same<T: PartialEq + std::fmt::Debug>(&mut self, what: &str, expected: T, found: T) {
+        if expected == found {
+            self.passed += 1;
+        } else {
+            self.fail(format!("{what}: expected {expected:?}, found {found:?}"));
+        }
+    }
+    /// Lends guarded copies of the buffers, working bytes and an answer, and compares what is left.
+    fn call(
+        &mut self, name: &str, buffers: &[&[u8]], work: usize, expected: Expected,
+        run: impl FnOnce(&mut [&mut [u8]], &mut [u8], &mut [u64]) -> u64,
+    ) {
+        let guarded = |bytes: &[u8]| [&[0xEE; GUARD][..], bytes, &[0xEE; GUARD][..]].concat();
+        let mut lent: Vec<Vec<u8>> = buffers.iter().map(|bytes| guarded(bytes)).collect();
+        let mut working = guarded(&self.rng.bytes(work));
+        let old: Vec<u64> = (0..(expected.told.len() as isize + self.answer_extra).max(0)).map(|_| self.rng.next()).collect();
+        let mut answer = old.clone();
+        let number = {
+            let mut inner: Vec<&mut [u8]> =
+                lent.iter_mut().zip(buffers).map(|(all, bytes)| &mut all[GUARD..GUARD + bytes.len()]).collect();
+            run(&mut inner, &mut working[GUARD..GUARD + work], &mut answer)
+        };
+        let told = if self.answer_extra == 0 { expected.told } else { old };
+        if !name.contains(' ') || name.starts_with("design") || name.starts_with("show") {
+            *self.numbers.entry(expected.number).or_default() += 1;
+        }
+        if number != expected.number || answer != told {
+            let (want, told) = (expected.number, told);
+            return self.fail(format!("{name}: expected {want} {told:?}, found {number} {answer:?}"));
+        }
+        for (at, (left, right)) in lent.iter().zip(&expected.buffers).enumerate() {
+            if *left != guarded(right) {
+                let byte = left.iter().zip(guarded(right)).position(|(a, b)| *a != b).unwrap() as isize - GUARD as isize;
+                return self.fail(format!("{name}: answered {number} {answer:?}, lent buffer {at} differs at byte {byte}"));
+            }
+        }
+        if guarded(&vec![0; work])[..GUARD] != working[..GUARD] || working[GUARD + work..] != [0xEE; GUARD] {
+            return self.fail(format!("{name}: wrote outside the working bytes"));
+        }
+        self.passed += 1;
+    }
+
+    // The calls on numbers and buffers.
+
+    fn design(&mut self, m: u64, t: u64, size: u64) {
+        let (number, told) =
+            answered(&design(m, t, size), |d| vec![d.r() as u64, d.n() as u64, d.k() as u64], 4);
+        self.call(&format!("design {m} {t} {size}"), &[], 0, Expected { number, told, buffers: vec![] }, |_, _, a| {
+            host::design(m, t, size, a)
+        });
+    }
+    fn check_kit(&mut self, l: &Lent) {
+        let (number, told) = answered(&check_kit(&l.kit(), l.kit_work), |_| vec![], 1);
+        let buffers = vec![l.own.clone(), l.parity.clone(), l.inverse.clone()];
+        self.call("check_kit", &[&l.own, &l.parity, &l.inverse], l.kit_work, Expected { number, told, buffers }, |b, w, a| {
+            host::check_kit(l.design(), b[0], b[1], b[2], w, a)
+        });
+    }
+    fn encode(&mut self, l: &Lent) {
+        let result = encode(&l.kit(), l.blocks, &l.info, l.red.len(), l.kit_work);
+        let (number, told) = answered(&result, |_| vec![], 1);
+        let red = result.unwrap_or(l.red.clone());
+        let buffers = vec![l.own.clone(), l.parity.clone(), l.inverse.clone(), l.info.clone(), red];
+        let lent: [&[u8]; 5] = [&l.own, &l.parity, &l.inverse, &l.info, &l.red];
+        self.call("encode", &lent, l.kit_work, Expected { number, told, buffers }, |b, w, a| {
+            let [own, parity, inverse, info, red] = b else { unreachable!() };
+            host::encode(l.design(), l.blocks, own, parity, inverse, info, red, w, a)
+        });
+    }
+    fn check_words(&mut self, l: &Lent) {
+        let (number, told) = answered(&check_words(&l.received(), l.word_work), |&outside| vec![outside], 2);
+        let buffers = vec![l.own.clone(), l.parity.clone(), l.info.clone(), l.red.clone()];
+        let lent: [&[u8]; 4] = [&l.own, &l.parity, &l.info, &l.red];
+        self.call("check_words", &lent, l.word_work, Expected { number, told, buffers }, |b, w, a| {
+            host::check_words(l.design(), l.blocks, b[0], b[1], b[2], b[3], w, a)
+        });
+    }
+    /// The answer is what the decoder leaves in information and redundancy, by the reference.
+    fn decode(&mut self, l: &Lent) -> (Vec<u8>, Vec<u8>) {
+        let result = decode(&l.received(), l.rounds, l.word_work);
+        let (number, told) = answered(&result, |(_, _, (rounds, turned, outside))| vec![*rounds, *turned, *outside], 4);
+        let (info, red) = result.map_or((l.info.clone(), l.red.clone()), |(info, red, _)| (info, red));
+        let buffers = vec![l.own.clone(), l.parity.clone(), info.clone(), red.clone()];
+        let lent: [&[u8]; 4] = [&l.own, &l.parity, &l.info, &l.red];
+        self.call("decode", &lent, l.word_work, Expected { number, told, buffers }, |b, w, a| {
+            let [own, parity, info, red] = b else { unreachable!() };
+            host::decode(l.design(), l.blocks, l.rounds, own, parity, info, red, w, a)
+        });
+        (info, red)
+    }
+    fn loopback(&mut self, l: &Lent) {
+        let looped =
+            loopback(&l.kit(), l.blocks, l.rounds, (&l.info_errors, &l.red_errors), &l.info, l.red.len(), l.kit_work);
+        let (number, told) = match looped.result {
+            Ok((rounds, turned, outside)) => (0, vec![0, 0, rounds, turned, outside]),
+            Err((which, (number, place))) => (number, vec![place, which, 0, 0, 0]),
+        };
+        let (info, red) = looped.left.unwrap_or((l.info.clone(), l.red.clone()));
+        let same = [&l.own, &l.parity, &l.inverse, &l.info_errors, &l.red_errors];
+        let buffers = same.iter().map(|b| b.to_vec()).chain([info, red]).collect();
+        let lent: Vec<&[u8]> = same.iter().map(|b| &b[..]).chain([&l.info[..], &l.red[..]]).collect();
+        self.call("loopback", &lent, l.kit_work, Expected { number, told, buffers }, |b, w, a| {
+            let [own, parity, inverse, info_errors, red_errors, info, red] = b else { unreachable!() };
+            host::loopback(l.design(), l.blocks, l.rounds, own, parity, inverse, info_errors, red_errors, info, red, w, a)
+        });
+    }
+    fn show(&mut self, l: &Lent, kind: u64, number: u64, out_len: usize) {
+        let out = self.rng.bytes(out_len);
+        let result = show(l.design(), l.blocks, kind, number, &l.info, &l.red);
+        let (returned, told) = answered(&result, |stretch| vec![stretch.len() as u64], 2);
+        let mut after = out.clone();
+        if let Ok(stretch) = result {
+            if stretch.len() <= out_len {
+                after[..stretch.len()].copy_from_slice(stretch);
+            }
+        }
+        let expected = Expected { number: returned, told, buffers: vec![l.info.clone(), l.red.clone(), after] };
+        self.call(&format!("show {kind} {number}"), &[&l.info, &l.red, &out], 0, expected, |b, _, a| {
+            let [info, red, out] = b else { unreachable!() };
+            host::show(l.design(), l.blocks, kind, number, info, red, out, a)
+        });
+    }
+    /// The five calls that are lent lists, and showing the first block and the last group.
+    fn all(&mut self, l: &Lent) {
+        self.check_kit(l);
+        self.encode(l);
+        self.check_words(l);
+        self.decode(l);
+        self.loopback(l);
+        self.show(l, 0, 1, l.info.len());
+        self.show(l, 1, (l.blocks / 2).max(1), l.red.len());
+    }
+
+    // The calls on texts. Buffers are lent with random bytes in them.
+
+    fn scan_kit(&mut self, text: &[u8]) {
+        if cfg!(not(texts)) {
+            return;
+        }
+        let (number, told) = answered(&scan_kit(text), |d| vec![d.m, d.t, d.size], 4);
+        let expected = Expected { number, told, buffers: vec![text.to_vec()] };
+        self.call("scan_kit", &[text], 0, expected, |b, _, a| host::texts::scan_kit(b[0], a));
+    }
+    fn read_kit(&mut self, text: &[u8], own: usize, parity: usize, inverse: usize) {
+        if cfg!(not(texts)) {
+            return;
+        }
+        let old = [self.rng.bytes(own), self.rng.bytes(parity), self.rng.bytes(inverse)];
+        let result = read_kit(text, own, parity, inverse);
+        let (number, told) = answered(&result, |(d, _)| vec![d.m, d.t, d.size], 4);
+        let left = result.map_or(old.to_vec(), |(_, kit)| vec![kit.own, kit.parity, kit.inverse]);
+        let expected = Expected { number, told, buffers: [vec![text.to_vec()], left].concat() };
+        self.call("read_kit", &[text, &old[0], &old[1], &old[2]], 0, expected, |b, _, a| {
+            let [text, own, parity, inverse] = b else { unreachable!() };
+            host::texts::read_kit(text, own, parity, inverse, a)
+        });
+    }
+    fn scan_blocks(&mut self, d: (u64, u64, u64), text: &[u8]) {
+        if cfg!(not(texts)) {
+            return;
+        }
+        let (number, told) = answered(&scan_blocks(d.0, d.1, d.2, text), |(count, _)| vec![*count], 2);
+        let expected = Expected { number, told, buffers: vec![text.to_vec()] };
+        self.call("scan_blocks", &[text], 0, expected, |b, _, a| host::texts::scan_blocks(d, b[0], a));
+    }
+    fn read_blocks(&mut self, d: (u64, u64, u64), text: &[u8], info: usize) {
+        if cfg!(not(texts)) {
+            return;
+        }
+        let old = self.rng.bytes(info);
+        let result = read_blocks(d.0, d.1, d.2, text, info);
+        let (number, told) = answered(&result, |(count, _)| vec![*count], 2);
+        let left = result.map_or(old.clone(), |(_, bits)| bits);
+        let expected = Expected { number, told, buffers: vec![text.to_vec(), left] };
+        self.call("read_blocks", &[text, &old], 0, expected, |b, _, a| {
+            let [text, info] = b else { unreachable!() };
+            host::texts::read_blocks(d, text, info, a)
+        });
+    }
+    fn scan_frame(&mut self, d: (u64, u64, u64), text: &[u8]) {
+        if cfg!(not(texts)) {
+            return;
+        }
+        let (number, told) = answered(&scan_frame(d.0, d.1, d.2, text), |(count, _, _)| vec![*count], 2);
+        let expected = Expected { number, told, buffers: vec![text.to_vec()] };
+        self.call("scan_frame", &[text], 0, expected, |b, _, a| host::texts::scan_frame(d, b[0], a));
+    }
+    fn read_frame(&mut self, d: (u64, u64, u64), text: &[u8], info: usize, red: usize) {
+        if cfg!(not(texts)) {
+            return;
+        }
+        let old = [self.rng.bytes(info), self.rng.bytes(red)];
+        let result = read_frame(d.0, d.1, d.2, text, info, red);
+        let (number, told) = answered(&result, |(count, _, _)| vec![*count], 2);
+        let left = result.map_or(old.to_vec(), |(_, info, red)| vec![info, red]);
+        let expected = Expected { number, told, buffers: [vec![text.to_vec()], left].concat() };
+        self.call("read_frame", &[text, &old[0], &old[1]], 0, expected, |b, _, a| {
+            let [text, info, red] = b else { unreachable!() };
+            host::texts::read_frame(d, text, info, red, a)
+        });
+    }
+    /// A writer: `line` at `at` of a buffer of this length, or nothing where it has no room.
+    fn line(&mut self, name: &str, out_len: usize, at: usize, line: String, lent: &[&[u8]], run: impl FnOnce(&mut [u8], &[&mut [u8]]) -> u64) {
+        if cfg!(not(texts)) {
+            return;
+        }
+        let old = self.rng.bytes(out_len);
+        let mut after = old.clone();
+        let end = at.checked_add(line.len()).filter(|&end| end <= out_len);
+        if let Some(end) = end {
+            after[at..end].copy_from_slice(line.as_bytes());
+        }
+        let number = end.unwrap_or(at) as u64;
+        let buffers = [vec![after], lent.iter().map(|b| b.to_vec()).collect()].concat();
+        let all: Vec<&[u8]> = [&old[..]].into_iter().chain(lent.iter().copied()).collect();
+        self.call(&format!("{name} at {at} of {out_len}"), &all, 0, Expected { number, told: vec![], buffers }, |b, _, _| {
+            let (out, lent) = b.split_first_mut().unwrap();
+            run(out, lent)
+        });
+    }
+    /// bauchleton_frame and bauchleton_mend, lent a buffer of this length.
+    fn prints(&mut self, mend: bool, kit: &[u8], text: &[u8], out_len: usize) {
+        if cfg!(not(texts)) {
+            return;
+        }
+        let printed = if mend { mend_prints(kit, text) } else { frame_prints(kit, text) };
+        let old = vec![0xA5; out_len];
+        let mut after = old.clone();
+        let mut number = 0;
+        if out_len == OUT {
+            after[..printed.len()].copy_from_slice(printed.as_bytes());
+            number = printed.len() as u64;
+        }
+        let expected = Expected { number, told: vec![], buffers: vec![kit.to_vec(), text.to_vec(), after] };
+        *self.numbers.entry(refused(&printed)).or_default() += 1;
+        self.call(if mend { "library mend" } else { "library frame" }, &[kit, text, &old], 0, expected, |b, _, _| {
+            let [kit, text, out] = b else { unreachable!() };
+            (if mend { host::texts::mend } else { host::texts::frame })(kit, text, out)
+        });
+    }
+    /// The program itself, in its folder with kit.txt: standard output, and the folder afterwards.
+    fn runs(&mut self, mend: bool, kit: &[u8], text: &[u8]) {
+        let Some((frame_path, mend_path)) = &self.context.programs else { return };
+        let folder = &self.context.folder;
+        std::fs::create_dir_all(folder).unwrap();
+        std::fs::write(folder.join("kit.txt"), kit).unwrap();
+        let mut child = Command::new(if mend { mend_path } else { frame_path })
+            .current_dir(folder)
+            .stdin(Stdio::piped())
+            .stdout(Stdio::piped())
+            .stderr(Stdio::null())
+            .spawn()
+            .expect("the program starts");
+        // The text fits into a pipe. A program that ends without reading it is no fault.
+        drop(child.stdin.take().unwrap().write_all(text));
+        let found = child.wait_with_output().unwrap().stdout;
+        let expected = if mend { mend_prints(kit, text) } else { frame_prints(kit, text) };
+        let name = if mend { "program mend" } else { "program frame" };
+        *self.numbers.entry(refused(&expected)).or_default() += 1;
+        if found != expected.as_bytes() {
+            let found = String::from_utf8_lossy(&found).chars().take(200).collect::<String>();
+            let expected = expected.chars().take(200).collect::<String>();
+            return self.fail(format!("{name}: expected {expected:?}, found {found:?}"));
+        }
+        let left: Vec<_> = std::fs::read_dir(folder).unwrap().map(|entry| entry.unwrap().file_name()).collect();
+        let untouched = left == ["kit.txt"] && std::fs::read(folder.join("kit.txt")).unwrap() == kit;
+        self.check(&format!("{name}: left {left:?}, or another kit.txt"), untouched);
+    }
+
+    // Inputs.
+
+    /// A frame under a kit that passes: random information, its redundancy.
+    fn frame(&mut self, good: &Good, blocks: usize) -> Lent {
+        let info = self.rng.bits(info_len(&good.d, blocks));
+        let shape = Shape::new(good.d, blocks, entries(&good.kit.own), entries(&good.kit.parity));
+        let red = redundancy(&shape, &good.w_matrix, &info);
+        Lent::new(&good.kit, blocks, info, red)
+    }
+    /// The same with old redundancy of random bytes, for the encoder.
+    fn to_encode(&mut self, good: &Good, blocks: usize) -> Lent {
+        let info = self.rng.bits(info_len(&good.d, blocks));
+        let red = self.rng.bytes(red_len(&good.d, blocks));
+        Lent::new(&good.kit, blocks, info, red)
+    }
+    /// A small kit that passes.
+    fn small(&mut self) -> Rc<Good> {
+        let d = self.rng.pick(&designs(60));
+        self.context.kit(d)
+    }
+}
+
+// ---------------------------------------------------------------- The run
+
+mod groups;
+
+/// Groups of calls on texts, left out where the library does not export these to C.
+const ON_TEXTS: [&str; 8] = ["kit-text-everywhere", "block-text-everywhere", "kit-text", "block-text", "frame-text", "lines", "frame", "mend"];
+
+fn main() {
+    let mut words: Vec<String> = std::env::args().skip(1).collect();
+    let mut programs = None;
+    if let Some(at) = words.iter().position(|word| word == "--programs") {
+        let paths: Vec<PathBuf> = words.drain(at..at + 3).skip(1).map(|path| std::fs::canonicalize(path).unwrap()).collect();
+        programs = Some((paths[0].clone(), paths[1].clone()));
+    }
+    let only = words.first().filter(|name| *name != "all");
+    let seed = words.get(1).map_or(1, |word| word.parse().expect("a seed"));
+    let index: Option<usize> = words.get(2).map(|word| word.parse().expect("an index"));
+    let folder = std::env::temp_dir().join(format!("compare-{}", std::process::id()));
+    let context = Context { seed, kits: RefCell::default(), programs, folder, printed: Cell::new(0) };
+    let (mut passed, mut failed) = (0, 0);
+    for &(group, count, run) in groups::GROUPS {
+        if only.is_some_and(|name| name != group) || group.starts_with("program-") && context.programs.is_none() {
+            continue;
+        }
+        if cfg!(not(texts)) && ON_TEXTS.contains(&group) {
+            continue;
+        }
+        let start = std::time::Instant::now();
+        context.printed.set(0);
+        let (mut cases, mut good, mut bad) = (0, 0, 0);
+        let mut numbers: BTreeMap<u64, u64> = BTreeMap::new();
+        for index in index.map_or(0..count(), |index| index..index + 1) {
+            let rng = Rng::new(&[hash(group), seed, index as u64]);
+            let mut case = Case { context: &context, group, index, rng, passed: 0, failed: 0, answer_extra: 0, numbers };
+            run(&mut case);
+            (cases, good, bad) = (cases + 1, good + case.passed, bad + case.failed);
+            numbers = case.numbers;
+        }
+        let seconds = start.elapsed().as_secs_f64();
+        println!("{group}: {cases} cases, {good} passed, {bad} failed, {seconds:.1} s; numbers {numbers:?}");
+        (passed, failed) = (passed + good, failed + bad);
+    }
+    drop(std::fs::remove_dir_all(&context.folder));
+    println!("{passed} passed, {failed} failed");
+    std::process::exit((failed > 0) as i32);
+}

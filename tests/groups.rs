@@ -1,0 +1,1281 @@
+//! The groups of cases. Each is a name, its number of cases and a function that runs the case of a given
+//! index; what is random in a case comes from the seed, the group's name and the index alone.
+
+use super::*;
+
+pub type Group = (&'static str, fn() -> usize, fn(&mut Case));
+
+pub const GROUPS: &[Group] = &[
+    ("published", || 21, published),
+    ("rows-of-k", || 1, rows_of_k),
+    ("self", || designs(400).len(), reference_alone),
+    ("nearest", || 4, nearest),
+    ("design", || 13 * 5, design_rules),
+    ("kits", || 4 * designs(1000).len(), kits),
+    ("inverses", || 2 * designs(400).len(), inverses),
+    ("lists", || 10 * designs(4096).len(), lists),
+    ("lengths", || designs(60).len(), lengths),
+    ("bits", || 2 * designs(60).len(), bits_above_one),
+    ("huge", || 3 * NUMBERS.len(), huge),
+    ("received", || 14 * designs(4096).len(), received_frames),
+    ("rounds", || 200, rounds),
+    ("show", || 2 * designs(60).len(), showing),
+    ("loopback", || 8 * designs(60).len(), loopbacks),
+    ("answers", || 40, answers),
+    ("many-blocks", || 6, many_blocks),
+    ("kit-text-everywhere", || 340, kit_text_everywhere),
+    ("block-text-everywhere", || 165, block_text_everywhere),
+    ("kit-text", || 600, kit_texts),
+    ("block-text", || 600, block_texts),
+    ("frame-text", || 600, frame_texts),
+    ("lines", || 300, lines),
+    ("frame", || 1500, |case| program(case, false, false)),
+    ("mend", || 1500, |case| program(case, true, false)),
+    ("large", || 2 * large_designs().len() + 2, large),
+    ("program-frame", || 800, |case| program(case, false, true)),
+    ("program-mend", || 800, |case| program(case, true, true)),
+];
+
+// ---------------------------------------------------------------- Published generators and document 01's rows
+
+/// Generators in octal for m 4 to 10 and t 1 to 3, after the tables of Peterson and of Lin and Costello;
+/// that of m 10, t 3 is left out (0) and made of the minimal polynomials below.
+const GENERATORS: [[u64; 3]; 7] = [
+    [0o23, 0o721, 0o2467],
+    [0o45, 0o3551, 0o107657],
+    [0o103, 0o12471, 0o1701317],
+    [0o211, 0o41567, 0o11554743],
+    [0o435, 0o267543, 0o156720665],
+    [0o1021, 0o1112711, 0o1530225571],
+    [0o2011, 0o4014167, 0],
+];
+
+/// Minimal polynomials in octal of powers 1, 3 and 5 of the root for m 4 to 10, after Peterson's table of
+/// irreducible polynomials.
+const MINIMAL: [[u64; 3]; 7] = [
+    [0o23, 0o37, 0o7],
+    [0o45, 0o75, 0o67],
+    [0o103, 0o127, 0o147],
+    [0o211, 0o217, 0o235],
+    [0o435, 0o567, 0o763],
+    [0o1021, 0o1131, 0o1461],
+    [0o2011, 0o2017, 0o2415],
+];
+
+/// Published polynomials are the reference's. With both lists the identity and zero blocks, row word a
+/// and column word a are the same bits in the same places, so any multiple of the generator in them
+/// makes a frame with no word outside, and any turned bit of it puts both words outside.
+fn published(case: &mut Case) {
+    let (m, t) = (4 + case.index as u64 / 3, 1 + case.index as u64 % 3);
+    let factors = &MINIMAL[case.index / 3][..t as usize];
+    let factor = factors[t as usize - 1];
+    case.same("minimal polynomial in octal", format!("{factor:o}"), format!("{:o}", minimal(m, 2 * t - 1)));
+    let g = match GENERATORS[case.index / 3][case.index % 3] {
+        0 => factors.iter().fold(1, |g, &factor| product(g, factor)),
+        listed => listed,
+    };
+    case.same("generator in octal", format!("{g:o}"), format!("{:o}", generator(m, t)));
+    if !pairs().contains(&(m, t)) {
+        return;
+    }
+    let d = design(m, t, largest(m, t)).unwrap();
+    let identity = list_bytes(&(0..d.order()).collect::<Vec<_>>());
+    let kit = Kit { m, t, size: d.size, own: identity.clone(), parity: identity, inverse: vec![] };
+    let shape = Shape::new(d, 2, entries(&kit.own), entries(&kit.parity));
+    for shift in 0..d.r() {
+        let a = case.rng.below(d.side());
+        let word = shape.column_word(1, a);
+        case.check("row word is column word", shape.row_word(1, a)[2 * d.side()..] == word[2 * d.side()..]);
+        let mut lent = Lent::new(&kit, 2, vec![0; info_len(&d, 2)], vec![0; red_len(&d, 2)]);
+        for i in (0..=d.r()).filter(|i| g >> i & 1 == 1) {
+            lent.red[word[d.n() - 1 - (i + shift)].unwrap() - lent.info.len()] = 1;
+        }
+        case.same("words outside", Ok(0), check_words(&lent.received(), lent.word_work));
+        case.check_words(&lent);
+        let turned = 2 * d.side() + case.rng.below(2 * d.r());
+        lent.red[word[turned].unwrap() - lent.info.len()] ^= 1;
+        case.same("words outside", Ok(2), check_words(&lent.received(), lent.word_work));
+        case.check_words(&lent);
+    }
+}
+
+fn bits_of(text: &str) -> Vec<u8> {
+    text.bytes().filter(|byte| *byte != b' ').map(|byte| byte - b'0').collect()
+}
+
+/// "Rows to check under K", each against the numbers of document 01.
+fn rows_of_k(case: &mut Case) {
+    let kit = kit_k();
+    let d = design(4, 1, 1).unwrap();
+    case.same("entries of the tables of powers", 2025, (4..=10).map(|m| powers(m).len()).sum::<usize>());
+    case.same("x^9", 0b1010, power_remainder(9, generator(4, 1)));
+    case.same("x^8", 0b0101, power_remainder(8, generator(4, 1)));
+    let a_matrix = system(&Shape::new(d, 1, entries(&kit.own), entries(&kit.parity)));
+    let rows: Vec<String> =
+        (0..4).map(|i| (0..4).map(|j| if a_matrix.bit(i, j) { '1' } else { '0' }).collect()).collect();
+    case.same("A", vec!["0110", "0001", "1110", "0101"], rows.iter().map(|row| &row[..]).collect());
+    case.same("kit K", Ok(()), check_kit(&kit, d.kit_work()));
+    for (blocks, group) in [
+        ("1", "0000 1010"),
+        ("10", "0000 1010"),
+        ("01", "0001 0110"),
+        ("11", "0001 1100"),
+        ("0100", "0001 0110 0001 0011"),
+    ] {
+        let (info, red) = (bits_of(blocks), bits_of(group));
+        case.same(blocks, Ok(red.clone()), encode(&kit, info.len() as u64, &info, red.len(), d.kit_work()));
+        let lent = Lent::new(&kit, info.len(), info, red);
+        case.same("words outside", Ok(0), check_words(&lent.received(), 4));
+        case.all(&lent);
+    }
+    let identity = list_bytes(&[0, 1, 2, 3]);
+    let equal = Kit { own: identity.clone(), parity: identity, ..kit.clone() };
+    let zero = system(&Shape::new(d, 1, entries(&equal.own), entries(&equal.parity)));
+    case.check("A is all zero", zero == Matrix::zero(4));
+    case.same("both lists 0 1 2 3", Err((9, 0)), check_kit(&equal, d.kit_work()));
+    case.all(&Lent::new(&equal, 2, vec![0, 1], vec![0; 8]));
+    let mut last = kit.clone();
+    last.inverse[3] = 0b1010;
+    case.same("last row of W 0101", Err((9, 7)), check_kit(&last, d.kit_work()));
+    case.all(&Lent::new(&last, 2, vec![0, 1], vec![0; 8]));
+    for (blocks, group, rounds, after, kept, counts) in [
+        ("01", "0001 0111", 0, "01", "0001 0110", (2, 1, 0)),
+        ("01", "0001 0111", 1, "01", "0001 0110", (1, 1, 0)),
+        ("00", "0000 0101", 0, "01", "0000 0101", (2, 1, 1)),
+    ] {
+        let mut lent = Lent::new(&kit, 2, bits_of(blocks), bits_of(group));
+        lent.rounds = rounds;
+        let found = decode(&lent.received(), rounds, 4);
+        case.same(group, Ok((bits_of(after), bits_of(kept), counts)), found);
+        case.all(&lent);
+    }
+    case.check("m 4, t 1, M 3", design(4, 1, 3).is_ok());
+    case.same("m 4, t 1, M 4", Err((2, 16)), design(4, 1, 4));
+    case.check("m 10, t 2, M 204", design(10, 2, 204).is_ok());
+    case.same("m 10, t 2, M 205", Err((3, 4100)), design(10, 2, 205));
+    for (m, t, size) in [(8, 3, 72), (8, 3, 96), (9, 3, 135)] {
+        case.check("a design of the paper", design(m, t, size).is_ok());
+    }
+    case.check("M 390 does not fit", design(10, 3, 390).is_err());
+    for (m, t, size) in [(4, 1, 3), (4, 1, 4), (10, 2, 204), (10, 2, 205), (8, 3, 72), (8, 3, 96), (9, 3, 135), (10, 3, 390)] {
+        case.design(m, t, size);
+    }
+    let blocks = "block bits\n1 0\n2 1\n3 0\n4 0\n";
+    let groups = "group self parity\n1 0001 0110\n2 0001 0011\n";
+    let text = kit_text(&kit);
+    case.same(
+        "kit text",
+        "m t M\n4 1 1\nplace self parity\n0 1 3\n1 0 0\n2 2 1\n3 3 2\nrow inverse\n0 1010\n1 0101\n2 1101\n3 0100\n",
+        &text[..],
+    );
+    case.same("frame", groups, &frame_prints(text.as_bytes(), blocks.as_bytes()));
+    case.prints(false, text.as_bytes(), blocks.as_bytes(), OUT);
+    let both = format!("{blocks}{groups}");
+    let mended = format!("{both}rounds turned outside\n1 0 0\n");
+    case.same("mend", &mended[..], &mend_prints(text.as_bytes(), both.as_bytes()));
+    case.prints(true, text.as_bytes(), both.as_bytes(), OUT);
+    // READINGS 1, 9: places named there
+    case.same("a fifth digit", Err((11, 10)), scan_kit(b"m t M\n44444 1 1\n"));
+    case.same("no block", Err((12, 11)), scan_blocks(4, 1, 1, b"block bits\n"));
+    let many = block_text(&d, &[0; 4097]);
+    case.same("4,097 blocks", Err((12, 27_576)), scan_blocks(4, 1, 1, many.as_bytes()));
+}
+
+/// The reference by itself: A from unit vectors by the definition, an encoded frame has no word outside
+/// and no other Y does, the kit text and the frame text read back.
+fn reference_alone(case: &mut Case) {
+    let good = case.context.kit(designs(400)[case.index]);
+    let (d, kit) = (good.d, &good.kit);
+    let shape = Shape::new(d, 2, entries(&kit.own), entries(&kit.parity));
+    let a_matrix = system(&shape);
+    let empty = vec![0; info_len(&d, 2) + red_len(&d, 2)];
+    for _ in 0..4 {
+        let j = case.rng.below(d.order());
+        let mut frame = empty.clone();
+        frame[info_len(&d, 2) + (j % d.r()) * d.side() + j / d.r()] = 1;
+        let column: Vec<u8> = (0..d.order()).map(|i| a_matrix.bit(i, j) as u8).collect();
+        case.same("a column of A", column, sums(&shape, &frame, 1));
+    }
+    case.same("the kit", Ok(()), check_kit(kit, d.kit_work()));
+    for blocks in [1, 2, 3, 4] {
+        let lent = case.frame(&good, blocks);
+        case.same("words outside", Ok(0), check_words(&lent.received(), lent.word_work));
+        let again = encode(kit, lent.blocks, &lent.info, lent.red.len(), lent.kit_work);
+        case.same("encoded", Ok(lent.red.clone()), again);
+        let mut other = lent.clone();
+        let at = case.rng.below(other.red.len());
+        other.red[at] ^= 1;
+        case.check("other redundancy", check_words(&other.received(), lent.word_work) != Ok(0));
+        let text = block_text(&d, &lent.info) + &group_text(&d, &lent.red);
+        case.same("frame text", Ok((lent.blocks, lent.info.clone(), lent.red.clone())), scan_frame(d.m, d.t, d.size, text.as_bytes()));
+    }
+    let read = read_kit(kit_text(kit).as_bytes(), kit.own.len(), kit.parity.len(), kit.inverse.len());
+    let (_, back) = read.unwrap();
+    case.check("kit text", back.own == kit.own && back.parity == kit.parity && back.inverse == kit.inverse);
+}
+
+/// The reference's decoder of a word beside the sentence itself: all codewords of a short code are made,
+/// and "a codeword lies within t changes" is looked up among them. Two codewords differ in at
+/// least 2t + 1 positions. Position j of a word is bit n-1-j of a number.
+fn nearest(case: &mut Case) {
+    let (m, t, size, words) = [(4, 1, 1, 1 << 10), (4, 1, 3, 1 << 14), (5, 2, 1, 2000), (6, 3, 1, 300)][case.index];
+    let d = design(m, t, size).unwrap();
+    let g = generator(m, t);
+    let codewords: Vec<u64> = (0..1 << d.k()).map(|q| product(g, q)).collect();
+    let weight = codewords.iter().skip(1).map(|word| word.count_ones() as u64).min().unwrap();
+    case.check("distance at least 2t + 1", weight >= 2 * t + 1);
+    let patterns = Patterns::new(&d, g);
+    for index in 0..words {
+        let word = match index % 2 {
+            _ if words == 1 << d.n() => index,
+            0 => case.rng.next() >> (64 - d.n()),
+            _ => (0..t).fold(case.rng.pick(&codewords), |word, _| word ^ 1 << case.rng.below(d.n())),
+        };
+        let near = codewords.iter().find(|&&other| (word ^ other).count_ones() as u64 <= t);
+        let rest = remainder((0..d.n()).map(|j| (word >> (d.n() - 1 - j) & 1) as u8), g);
+        let mended = patterns.changes(rest).map(|changes| changes.iter().fold(word, |word, j| word ^ 1 << (d.n() - 1 - j)));
+        case.same("codeword within t changes", near.copied(), mended);
+    }
+}
+
+// ---------------------------------------------------------------- Rules 1 to 3, kits
+
+/// Every M from 0 to 502 for m 0 to 12 and t 0 to 4.
+fn design_rules(case: &mut Case) {
+    let (m, t) = (case.index as u64 % 13, case.index as u64 / 13);
+    for size in (0..=502).chain(NUMBERS) {
+        case.design(m, t, size);
+    }
+}
+
+/// Kits that pass: every call, with odd and even numbers of blocks.
+fn kits(case: &mut Case) {
+    let all = designs(1000);
+    let good = case.context.kit(all[case.index % all.len()]);
+    let blocks = [1, 2, 3, 2 + case.rng.below(5)][case.index / all.len()];
+    let lent = case.to_encode(&good, blocks);
+    case.check_kit(&lent);
+    case.encode(&lent);
+    let lent = case.frame(&good, blocks);
+    case.all(&lent);
+}
+
+/// Inverses that are wrong: single bits, spare bits, other matrices.
+fn inverses(case: &mut Case) {
+    let all = designs(400);
+    let good = case.context.kit(all[case.index % all.len()]);
+    let (order, width) = (good.d.order(), good.d.row_bytes());
+    let last = order - 1;
+    let random = (case.rng.below(order), case.rng.below(order));
+    let diagonal = case.rng.below(order);
+    let lent = case.to_encode(&good, 1 + case.index % 2);
+    let mut inverses = vec![vec![0; order * width], Matrix::identity(order).to_bytes(), vec![255; order * width]];
+    for (row, column) in [(0, 0), (0, last), (last, 0), (last, last), (diagonal, diagonal), (0, random.1), (last, random.1), (random.0, 0), (random.0, last), random] {
+        let mut wrong = good.w_matrix.clone();
+        wrong.turn(row, column);
+        inverses.push(wrong.to_bytes());
+    }
+    let mut swapped = good.w_matrix.clone();
+    swapped.rows.swap(0, last);
+    inverses.push(swapped.to_bytes());
+    let mut transposed = Matrix::zero(order);
+    (0..order).for_each(|i| (0..order).filter(|&j| good.w_matrix.bit(i, j)).for_each(|j| transposed.turn(j, i)));
+    inverses.push(transposed.to_bytes());
+    // spare bits, also before and after a wrong entry (8 comes before 9)
+    for spare in order..8 * width {
+        for row in [0, last, random.0] {
+            let mut inverse = good.kit.inverse.clone();
+            inverse[row * width + spare / 8] |= 1 << (spare % 8);
+            if case.rng.below(2) == 0 {
+                inverse[random.0 * width] ^= 1;
+            }
+            inverses.push(inverse);
+        }
+    }
+    for inverse in inverses {
+        let wrong = Lent { inverse, ..lent.clone() };
+        case.check_kit(&wrong);
+        case.encode(&wrong);
+    }
+}
+
+/// Lists of every kind, the calls that read words on a frame of noise, and a zero inverse.
+fn lists(case: &mut Case) {
+    let all = designs(4096);
+    let d = all[case.index % all.len()];
+    let order = d.order();
+    let rng = &mut case.rng;
+    let (mut own, mut parity) = (rng.permutation(order), rng.permutation(order));
+    let identity: Vec<usize> = (0..order).collect();
+    let at = [0, order - 1, rng.below(order)][rng.below(3)];
+    let large = [order, order + 1, 65_535, 4096.max(order), 9999, 32_768][rng.below(6)];
+    match case.index / all.len() {
+        0 => (own, parity) = (identity.clone(), identity),
+        1 => own = identity.into_iter().rev().collect(),
+        2 => parity = identity.into_iter().rev().collect(),
+        3 => own[at] = large,
+        4 => parity[at] = large,
+        5 => own[at] = own[rng.below(order)], // repeated, or the same list
+        6 => parity[at] = parity[rng.below(order)],
+        7 => (own, parity) = (vec![0; order], vec![0; order]),
+        8 => {
+            parity[at] = parity[0];
+            own[order - 1] = own[order / 2];
+        }
+        _ => {}
+    }
+    let kit = Kit {
+        m: d.m,
+        t: d.t,
+        size: d.size,
+        own: list_bytes(&own),
+        parity: list_bytes(&parity),
+        inverse: vec![0; order * d.row_bytes()],
+    };
+    let blocks = 1 + case.rng.below(3);
+    let (info, red) = (case.rng.bits(info_len(&d, blocks)), case.rng.bits(red_len(&d, blocks)));
+    let mut lent = Lent::new(&kit, blocks, info, red);
+    lent.rounds = 1;
+    case.all(&lent);
+}
+
+// ---------------------------------------------------------------- Rules 4 to 10
+
+/// Each slice one byte short, one long, empty and doubled, alone and two at once; the calls are lent frames.
+fn lengths(case: &mut Case) {
+    let good = case.context.kit(designs(60)[case.index]);
+    let blocks = 1 + case.index % 3;
+    let right = case.frame(&good, blocks);
+    let resize = |lent: &mut Lent, which: usize, how: usize| {
+        let other = |length: usize| [length - 1, length + 1, 0, 2 * length][how];
+        let slice = match which {
+            0 => &mut lent.own,
+            1 => &mut lent.parity,
+            2 => &mut lent.inverse,
+            3 => &mut lent.info,
+            4 => &mut lent.red,
+            _ => {
+                lent.kit_work = other(lent.kit_work);
+                lent.word_work = other(lent.word_work);
+                return;
+            }
+        };
+        slice.resize(other(slice.len()), 0);
+    };
+    for which in 0..6 {
+        for how in 0..4 {
+            let mut lent = right.clone();
+            resize(&mut lent, which, how);
+            case.all(&lent);
+            let mut two = lent.clone();
+            resize(&mut two, (which + 1 + case.rng.below(5)) % 6, case.rng.below(4));
+            case.all(&two);
+            // a wrong length beside a wrong list entry, a wrong inverse and a byte above 1
+            let mut more = lent.clone();
+            for slice in [&mut more.own, &mut more.parity, &mut more.inverse, &mut more.info, &mut more.red] {
+                if let Some(byte) = slice.last_mut() {
+                    *byte = 255;
+                }
+            }
+            case.all(&more);
+        }
+    }
+    // the other call's working length
+    let mut lent = right.clone();
+    std::mem::swap(&mut lent.kit_work, &mut lent.word_work);
+    case.all(&lent);
+}
+
+/// Bytes above 1 at the first, a middle and the last place of information and redundancy, also beside a
+/// repeated list entry (7) and a wrong inverse (9), which come first.
+fn bits_above_one(case: &mut Case) {
+    let good = case.context.kit(designs(60)[case.index / 2]);
+    let blocks = 1 + case.rng.below(4);
+    let right = case.frame(&good, blocks);
+    let places = |length: usize| [0, length / 2, length - 1];
+    let byte = [2, 255, 128, 3, 49][case.rng.below(5)];
+    let mut wrong = vec![];
+    for at in places(right.info.len()) {
+        let mut lent = right.clone();
+        lent.info[at] = byte;
+        wrong.push(lent);
+    }
+    for at in places(right.red.len()) {
+        let mut lent = right.clone();
+        lent.red[at] = byte;
+        wrong.push(lent.clone());
+        lent.info[case.rng.below(right.info.len())] = byte;
+        lent.rounds = 1;
+        wrong.push(lent);
+    }
+    for lent in wrong {
+        case.all(&lent);
+        let mut listed = lent.clone();
+        let entry = [listed.own[0], listed.own[1]];
+        let last = listed.parity.len() - 2;
+        listed.parity[last..].copy_from_slice(&entry);
+        listed.own[last..].copy_from_slice(&entry);
+        case.all(&listed);
+        let mut turned = lent.clone();
+        turned.inverse[0] ^= 1;
+        case.all(&turned);
+    }
+}
+
+/// Numbers far outside of every range, and at the edges of some.
+const NUMBERS: [u64; 14] =
+    [0, 1, 64, 65, 501, 4096, 4097, 65_536, 1 << 31, 1 << 32, (1 << 32) + 4, 1 << 63, u64::MAX - 1, u64::MAX];
+
+/// Each of these for each number argument, alone and for two at once.
+fn huge(case: &mut Case) {
+    let number = NUMBERS[case.index % NUMBERS.len()];
+    let good = case.small();
+    let right = case.frame(&good, 2);
+    let set = |lent: &mut Lent, which: usize, number: u64| match which {
+        0 => lent.m = number,
+        1 => lent.t = number,
+        2 => lent.size = number,
+        3 => lent.blocks = number,
+        _ => lent.rounds = number,
+    };
+    for which in 0..5 {
+        let mut lent = right.clone();
+        set(&mut lent, which, number);
+        case.all(&lent);
+        case.design(lent.m, lent.t, lent.size);
+        set(&mut lent, case.rng.below(5), case.rng.pick(&NUMBERS));
+        case.all(&lent);
+        lent.own.pop();
+        case.all(&lent);
+    }
+    for (kind, shown) in [(0, number), (1, number), (number, 1), (number, number), (number, 2)] {
+        case.show(&right, kind, shown, right.info.len() + right.red.len());
+    }
+    let text = block_text(&good.d, &right.info);
+    let whole = text.clone() + &group_text(&good.d, &right.red);
+    for which in 0..3 {
+        let mut d = [good.d.m, good.d.t, good.d.size];
+        d[which] = number;
+        let d = (d[0], d[1], d[2]);
+        case.scan_blocks(d, text.as_bytes());
+        case.read_blocks(d, text.as_bytes(), right.info.len());
+        case.scan_frame(d, whole.as_bytes());
+        case.read_frame(d, whole.as_bytes(), right.info.len(), right.red.len());
+    }
+}
+
+// ---------------------------------------------------------------- Received frames
+
+/// Where each bit of a frame stands: the words that hold it.
+fn holders(shape: &Shape, words: &[Word]) -> Vec<Vec<usize>> {
+    let mut holders = vec![vec![]; info_len(&shape.d, shape.blocks) + red_len(&shape.d, shape.blocks)];
+    for (w, word) in words.iter().enumerate() {
+        word.iter().flatten().for_each(|&place| holders[place].push(w));
+    }
+    holders
+}
+
+/// Places to turn so that no word has more than t wrong bits, after `tries` random places.
+fn within(rng: &mut Rng, shape: &Shape, tries: usize) -> Vec<usize> {
+    let words = shape.words();
+    let holders = holders(shape, &words);
+    let mut wrong = vec![0; words.len()];
+    let mut places = vec![];
+    for _ in 0..tries {
+        let place = rng.below(holders.len());
+        if !places.contains(&place) && holders[place].iter().all(|&w| wrong[w] < shape.d.t) {
+            holders[place].iter().for_each(|&w| wrong[w] += 1);
+            places.push(place);
+        }
+    }
+    places
+}
+
+/// Places to turn so that some words with an unsent block are one change of an unsent bit away from a
+/// codeword, and some one of these and one of a sent bit.
+fn beside_unsent(rng: &mut Rng, shape: &Shape) -> Vec<usize> {
+    let (n, k) = (shape.d.n(), shape.d.k());
+    let mut places = vec![];
+    for word in shape.words() {
+        let unsent: Vec<usize> = (0..n).filter(|&j| word[j].is_none()).collect();
+        if unsent.is_empty() || rng.below(4) == 0 {
+            continue;
+        }
+        let rest = power_remainder(n - 1 - rng.pick(&unsent), shape.g);
+        places.extend((k..n).filter(|j| rest >> (n - 1 - j) & 1 == 1).map(|j| word[j].unwrap()));
+        if rng.below(2) == 0 {
+            places.extend(word[rng.below(n)]);
+        }
+    }
+    places
+}
+
+/// Frames with wrong bits of every kind: the word checker and the decoder. Up to 1,000 rows the frames are
+/// encoded; above, they are those of identity lists with zero blocks and any Y, or all zero.
+fn received_frames(case: &mut Case) {
+    let all = designs(4096);
+    let d = all[case.index % all.len()];
+    let kind = case.index / all.len();
+    let blocks = if d.order() > 1000 { 1 + case.rng.below(3) } else { 1 + case.rng.below(6) };
+    let sent = if d.order() <= 1000 {
+        let good = case.context.kit(d);
+        case.frame(&good, blocks)
+    } else {
+        unencoded(case, d, blocks)
+    };
+    let shape = Shape::new(d, blocks, entries(&sent.own), entries(&sent.parity));
+    case.same("words outside", Ok(0), check_words(&sent.received(), sent.word_work));
+    let mut frame = [&sent.info[..], &sent.red[..]].concat();
+    let count = frame.len();
+    let rng = &mut case.rng;
+    let mut places = vec![];
+    match kind {
+        0 => {}
+        1 => places = vec![rng.below(count)],
+        2 => places = within(rng, &shape, 3),
+        3 => places = within(rng, &shape, 10 * d.side()),
+        4 => places = within(rng, &shape, 10 + count.min(2000)),
+        5 => places = (0..count).filter(|_| rng.below(100) == 0).collect(),
+        6 => places = (0..count).filter(|_| rng.below(20) == 0).collect(),
+        7 => {
+            let from = rng.below(count);
+            places = (from..count.min(from + 1 + rng.below(3 * d.n()))).collect();
+        }
+        8 => frame = vec![1; count],
+        9 => frame = rng.bits(count),
+        10 => {
+            let word = rng.pick(&shape.words());
+            places = (0..=d.t).filter_map(|_| word[rng.below(d.n())]).collect();
+        }
+        11 => places = beside_unsent(rng, &shape),
+        12 => {
+            places = beside_unsent(rng, &shape);
+            places.extend((0..4).map(|_| rng.below(count)));
+        }
+        _ => {
+            // some words of group 1 with about t + 1 wrong bits each
+            for word in shape.words().iter().take(2 * d.side()) {
+                let few = rng.below(d.t as usize + 2);
+                places.extend((0..few).filter_map(|_| word[rng.below(d.n())]));
+            }
+        }
+    }
+    places.iter().for_each(|&place| frame[place] ^= 1);
+    let mut copy = sent.clone();
+    copy.red = frame.split_off(sent.info.len());
+    copy.info = frame;
+    copy.rounds = case.rng.pick(&[0, 0, 1, 2, 3, 7, 64, 65]);
+    case.check_words(&copy);
+    let (info, red) = case.decode(&copy);
+    if kind <= 4 && kind != 1 && copy.rounds <= 64 {
+        // "copies with at most t wrong bits a word are recovered"
+        case.check("recovered", info == sent.info && red == sent.red);
+    }
+}
+
+/// A frame without an inverse: all zero under random lists, or zero blocks under identity lists, where
+/// any Y will do and P is what the column words give.
+fn unencoded(case: &mut Case, d: Design, blocks: usize) -> Lent {
+    let order = d.order();
+    let zero = case.rng.below(2) == 0;
+    let identity: Vec<usize> = (0..order).collect();
+    let (own, parity) =
+        if zero { (case.rng.permutation(order), case.rng.permutation(order)) } else { (identity.clone(), identity) };
+    let kit = Kit { m: d.m, t: d.t, size: d.size, own: list_bytes(&own), parity: list_bytes(&parity), inverse: vec![] };
+    let info = vec![0; info_len(&d, blocks)];
+    let mut red = vec![0; red_len(&d, blocks)];
+    if !zero {
+        for group in red.chunks_mut(2 * order) {
+            let (y, p) = group.split_at_mut(order);
+            y.copy_from_slice(&case.rng.bits(order));
+            for b in 0..d.side() {
+                let column = (0..d.r()).map(|a| y[a * d.side() + b]);
+                for (a, bit) in check_bits(column, d.r(), generator(d.m, d.t)).into_iter().enumerate() {
+                    p[a * d.side() + b] = bit;
+                }
+            }
+        }
+    }
+    Lent::new(&kit, blocks, info, red)
+}
+
+/// Noisy frames under small kits, the same one with many numbers of rounds.
+fn rounds(case: &mut Case) {
+    let good = case.small();
+    let blocks = 1 + case.rng.below(9);
+    let mut lent = case.frame(&good, blocks);
+    let odds = 4 + case.rng.below(60);
+    for bit in lent.info.iter_mut().chain(lent.red.iter_mut()) {
+        *bit ^= (case.rng.below(odds) == 0) as u8;
+    }
+    for rounds in [0, 1, 2, 3, 4, 5, 6, 7, 8, 63, 64, 65, 66, u64::MAX] {
+        lent.rounds = rounds;
+        case.decode(&lent);
+    }
+}
+
+// ---------------------------------------------------------------- Showing, loopback, answers
+
+/// Every block and group and those around, into buffers of several lengths; wrong lengths; other kinds.
+fn showing(case: &mut Case) {
+    let good = case.context.kit(designs(60)[case.index / 2]);
+    let blocks = 1 + case.rng.below(7);
+    let lent = case.to_encode(&good, blocks);
+    for kind in [0, 1, 2, u64::MAX] {
+        let stretch = if kind == 0 { good.d.side().pow(2) } else { 2 * good.d.order() };
+        for number in (0..=blocks as u64 + 2).chain([u64::MAX, 4096, 1 << 32]) {
+            for out_len in [stretch, stretch - 1, stretch + 5, 0] {
+                case.show(&lent, kind, number, out_len);
+            }
+        }
+        for length in [lent.info.len() - 1, lent.info.len() + 1, 0] {
+            let mut wrong = lent.clone();
+            wrong.info.resize(length, 0);
+            case.show(&wrong, kind, 1, stretch);
+            wrong.red.pop();
+            case.show(&wrong, kind, 1, stretch);
+            case.show(&wrong, kind, 0, stretch);
+        }
+        for length in [lent.red.len() - 1, lent.red.len() + 1, 0] {
+            let mut wrong = lent.clone();
+            wrong.red.resize(length, 0);
+            case.show(&wrong, kind, 1, stretch);
+        }
+        for number in [0, 4097, u64::MAX, 4096] {
+            case.show(&Lent { blocks: number, ..lent.clone() }, kind, 1, stretch);
+        }
+    }
+}
+
+/// Encode, turn, decode: patterns of right, short, long and no length, of bytes other than 1; rounds
+/// that the decoder refuses; kits and buffers that the encoder refuses.
+fn loopbacks(case: &mut Case) {
+    let all = designs(60);
+    let good = case.context.kit(all[case.index % all.len()]);
+    let blocks = 1 + case.rng.below(6);
+    let mut lent = case.to_encode(&good, blocks);
+    let rng = &mut case.rng;
+    let odds = [2, 10, 40, 200][rng.below(4)];
+    let mut pattern = |length: usize| -> Vec<u8> {
+        let length = [length, length, length / 2, length + 3, 0][rng.below(5)];
+        (0..length).map(|_| if rng.below(odds) == 0 { rng.pick(&[1, 1, 2, 128, 255]) } else { 0 }).collect()
+    };
+    lent.info_errors = pattern(lent.info.len());
+    lent.red_errors = pattern(lent.red.len());
+    for rounds in [0, 1, 2, 64, 65, u64::MAX] {
+        lent.rounds = rounds;
+        case.loopback(&lent);
+    }
+    // refused by the encoder, with rounds that the decoder would refuse too
+    let mut wrong = lent.clone();
+    match case.rng.below(6) {
+        0 => wrong.inverse[0] ^= 1,
+        1 => wrong.info[0] = 2,
+        2 => wrong.own[1] = 255,
+        3 => drop(wrong.red.pop()),
+        4 => wrong.kit_work -= 1,
+        _ => wrong.blocks = 0,
+    }
+    case.loopback(&wrong);
+    wrong.rounds = 3;
+    case.loopback(&wrong);
+}
+
+/// Answers of other lengths are left as they are; everything else is as always.
+fn answers(case: &mut Case) {
+    let good = case.small();
+    let lent = case.frame(&good, 3);
+    let d = good.d;
+    let blocks = block_text(&d, &lent.info);
+    let whole = blocks.clone() + &group_text(&d, &lent.red);
+    let kit = kit_text(&good.kit);
+    let mut wrong = lent.clone();
+    wrong.info[0] = 2;
+    let own = lent.own.len();
+    for extra in [-1, 1, -9, 4] {
+        case.answer_extra = extra;
+        for (m, t, size) in [lent.design(), (3, 1, 1), (4, 1, 4)] {
+            case.design(m, t, size);
+        }
+        case.all(&lent);
+        case.all(&wrong);
+        case.scan_kit(kit.as_bytes());
+        case.read_kit(kit.as_bytes(), own, own, lent.inverse.len());
+        case.read_kit(&kit.as_bytes()[1..], own, own, lent.inverse.len());
+        case.scan_blocks(lent.design(), blocks.as_bytes());
+        case.read_blocks(lent.design(), blocks.as_bytes(), lent.info.len());
+        case.scan_frame(lent.design(), whole.as_bytes());
+        case.read_frame(lent.design(), whole.as_bytes(), lent.info.len(), lent.red.len());
+    }
+}
+
+/// 4,096 blocks in buffers and texts, 4,097 in texts, under kits with M 1.
+fn many_blocks(case: &mut Case) {
+    let kit = if case.index == 0 {
+        kit_k()
+    } else {
+        let (m, t) = pairs()[3 * case.index % 18];
+        case.context.kit(design(m, t, 1).unwrap()).kit.clone()
+    };
+    let d = design(kit.m, kit.t, kit.size).unwrap();
+    let blocks = 4096 - case.index % 2;
+    let info = case.rng.bits(info_len(&d, blocks));
+    let red = encode(&kit, blocks as u64, &info, red_len(&d, blocks), d.kit_work()).unwrap();
+    let mut lent = Lent::new(&kit, blocks, info, red);
+    case.all(&lent);
+    for number in [1, 2047, 2048, 2049, 4095, 4096, 4097] {
+        case.show(&lent, 0, number, 1);
+        case.show(&lent, 1, number, 2 * d.order());
+    }
+    for bit in lent.info.iter_mut().chain(lent.red.iter_mut()) {
+        *bit ^= (case.rng.below(30) == 0) as u8;
+    }
+    case.check_words(&lent);
+    case.decode(&lent);
+    for count in [4096, 4097, 4098, 5000] {
+        let info = case.rng.bits(count);
+        let text = block_text(&d, &info);
+        case.scan_blocks(lent.design(), text.as_bytes());
+        case.read_blocks(lent.design(), text.as_bytes(), count);
+        case.read_blocks(lent.design(), text.as_bytes(), 4096);
+        let red = case.rng.bits(red_len(&d, count));
+        let text = text + &group_text(&d, &red);
+        case.scan_frame(lent.design(), text.as_bytes());
+        case.read_frame(lent.design(), text.as_bytes(), count, red.len());
+        case.read_frame(lent.design(), text.as_bytes(), 4096, red_len(&d, 4096));
+    }
+    let text = block_text(&d, &lent.info);
+    for cut in [text.len() - 1, text.len() - 3, text.len() - 8] {
+        case.scan_blocks(lent.design(), &text.as_bytes()[..cut]);
+        case.scan_frame(lent.design(), &text.as_bytes()[..cut]);
+    }
+    case.scan_frame(lent.design(), text.as_bytes());
+    case.prints(false, kit_text(&kit).as_bytes(), text.as_bytes(), OUT);
+}
+
+// ---------------------------------------------------------------- Texts
+
+/// Bytes to put in: those of the texts, neighbours of the digits, line ends, others.
+const BYTES: &[u8] = b"0123789 \n\r\tgbmptrsM-+/:\0\xff";
+
+/// All damages of a text at one place: cut, removed, inserted, changed, and the text with bytes appended.
+fn damages(text: &[u8], at: usize) -> Vec<Vec<u8>> {
+    let (before, after) = text.split_at(at);
+    let mut texts = vec![before.to_vec()];
+    if let Some((_, rest)) = after.split_first() {
+        texts.push([before, rest].concat());
+        texts.extend(BYTES.iter().map(|&byte| [before, &[byte], rest].concat()));
+    }
+    texts.extend(BYTES.iter().map(|&byte| [before, &[byte], after].concat()));
+    texts
+}
+
+/// A number in a text, chosen at random: where it starts and ends.
+fn some_number(rng: &mut Rng, text: &[u8]) -> (usize, usize) {
+    let digit = |at: usize| text[at].is_ascii_digit();
+    let starts: Vec<usize> = (0..text.len()).filter(|&at| digit(at) && (at == 0 || !digit(at - 1))).collect();
+    if starts.is_empty() {
+        return (0, 0);
+    }
+    let from = rng.pick(&starts);
+    let to = (from..text.len()).find(|&at| !digit(at)).unwrap_or(text.len());
+    (from, to)
+}
+
+/// One random damage, of kinds that one byte does not show.
+fn damage(rng: &mut Rng, text: &[u8]) -> Vec<u8> {
+    let at = match rng.below(3) {
+        0 => rng.below(text.len() + 1),
+        1 => text.len() - rng.below(text.len().min(8) + 1),
+        _ => {
+            let feeds: Vec<usize> = (0..text.len()).filter(|&at| text[at] == b'\n').collect();
+            if feeds.is_empty() { 0 } else { (rng.pick(&feeds) + rng.below(3)).min(text.len()) }
+        }
+    };
+    let (before, after) = text.split_at(at);
+    let (from, to) = some_number(rng, text);
+    let number = String::from_utf8_lossy(&text[from..to]).into_owned();
+    let instead = |by: &str| [&text[..from], by.as_bytes(), &text[to..]].concat();
+    let mut lines: Vec<&[u8]> = text.split_inclusive(|&byte| byte == b'\n').collect();
+    let line = rng.below(lines.len().max(1));
+    match rng.below(18) {
+        0 => before.to_vec(),
+        1 => [before, after.get(1..).unwrap_or(&[])].concat(),
+        2 => [before, &[rng.pick(BYTES)], after].concat(),
+        3 => [before, &[rng.pick(BYTES)], after.get(1..).unwrap_or(&[])].concat(),
+        4 => [text, &[rng.pick(BYTES)]].concat(),
+        5 => [text, text].concat(),
+        6 => instead(&format!("0{number}")),
+        7 => instead(&format!("{number}0")),
+        8 => instead(&rng.pick(&["10000", "9999", "00", "0", "01", "", "12345", "-1", "99999999999999999999"])),
+        9 if number.len() < 9 => instead(&format!("{}", number.parse::<u64>().unwrap_or(0) + 1)),
+        10 => instead(&format!("{number} ")),
+        11 => {
+            if !lines.is_empty() {
+                lines.remove(line);
+            }
+            lines.concat()
+        }
+        12 => {
+            if !lines.is_empty() {
+                lines.insert(line, lines[line]);
+            }
+            lines.concat()
+        }
+        13 => {
+            let other = rng.below(lines.len().max(1));
+            if !lines.is_empty() {
+                lines.swap(line, other);
+            }
+            lines.concat()
+        }
+        14 => String::from_utf8_lossy(text).replace('\n', "\r\n").into_bytes(),
+        15 => vec![],
+        16 => rng.bytes(rng.clone().below(50)),
+        _ => text.strip_suffix(b"\n").unwrap_or(text).to_vec(),
+    }
+}
+
+/// Kit texts of K and of a kit with numbers of two digits, damaged at each place.
+fn kit_text_everywhere(case: &mut Case) {
+    for kit in [kit_k(), case.context.kit(design(4, 1, 3).unwrap()).kit.clone()] {
+        let text = kit_text(&kit);
+        if case.index > text.len() {
+            continue;
+        }
+        for damaged in damages(text.as_bytes(), case.index) {
+            case.scan_kit(&damaged);
+            case.read_kit(&damaged, kit.own.len(), kit.parity.len(), kit.inverse.len());
+            // 6 comes after the two lines and the design, before the rest
+            case.read_kit(&damaged, kit.own.len(), kit.parity.len() + 1, kit.inverse.len());
+        }
+    }
+}
+
+/// Block and frame texts of three blocks under K, and of eleven under a kit with M 1, damaged at each place.
+fn block_text_everywhere(case: &mut Case) {
+    let other = case.context.kit(design(5, 1, 1).unwrap()).kit.clone();
+    for (kit, blocks) in [(kit_k(), 3), (other, 11)] {
+        let d = design(kit.m, kit.t, kit.size).unwrap();
+        let (info, red) = (case.rng.bits(info_len(&d, blocks)), case.rng.bits(red_len(&d, blocks)));
+        let text = block_text(&d, &info);
+        if case.index <= text.len() {
+            for damaged in damages(text.as_bytes(), case.index) {
+                case.scan_blocks((d.m, d.t, d.size), &damaged);
+                case.read_blocks((d.m, d.t, d.size), &damaged, info.len());
+                case.read_blocks((d.m, d.t, d.size), &damaged, 0); // 6 comes after 12
+            }
+        }
+        let text = text + &group_text(&d, &red);
+        if case.index <= text.len() {
+            for damaged in damages(text.as_bytes(), case.index) {
+                case.scan_frame((d.m, d.t, d.size), &damaged);
+                case.read_frame((d.m, d.t, d.size), &damaged, info.len(), red.len());
+                case.read_frame((d.m, d.t, d.size), &damaged, info.len(), red.len() + 1);
+            }
+        }
+    }
+}
+
+/// A kit text: of a kit that passes, or with entries of any four digits, or of any bits.
+fn some_kit(case: &mut Case) -> Kit {
+    let d = match case.rng.below(8) {
+        0 => design(7, 1, 24).unwrap(),
+        1 => case.rng.pick(&designs(171)),
+        _ => case.rng.pick(&designs(60)),
+    };
+    let mut kit = case.context.kit(d).kit.clone();
+    if case.rng.below(3) == 0 {
+        let limit = case.rng.pick(&[10, 100, 1000, 10_000]);
+        let mut any = || list_bytes(&(0..d.order()).map(|_| case.rng.below(limit)).collect::<Vec<_>>());
+        (kit.own, kit.parity) = (any(), any());
+        let mut matrix = Matrix::zero(d.order());
+        let ones = case.rng.below(2 * d.order());
+        (0..ones).for_each(|_| matrix.turn(case.rng.below(d.order()), case.rng.below(d.order())));
+        kit.inverse = matrix.to_bytes();
+    }
+    kit
+}
+
+/// Kit texts right and damaged, with buffers of right and wrong lengths; two lines of any numbers.
+fn kit_texts(case: &mut Case) {
+    let kit = some_kit(case);
+    let text = kit_text(&kit);
+    let (own, inverse) = (kit.own.len(), kit.inverse.len());
+    case.scan_kit(text.as_bytes());
+    case.read_kit(text.as_bytes(), own, own, inverse);
+    for other in [own - 1, own + 1, 0] {
+        case.read_kit(text.as_bytes(), other, own, inverse);
+        case.read_kit(text.as_bytes(), own, other, inverse);
+    }
+    for other in [inverse - 1, inverse + 1, 0] {
+        case.read_kit(text.as_bytes(), own, own, other);
+    }
+    for _ in 0..6 {
+        let damaged = damage(&mut case.rng, text.as_bytes());
+        case.scan_kit(&damaged);
+        case.read_kit(&damaged, own, own, inverse);
+        let short = [case.rng.below(3), case.rng.below(3), case.rng.below(3)];
+        case.read_kit(&damaged, own + 1 - short[0], own + 1 - short[1], inverse + 1 - short[2]);
+    }
+    let mut number = || case.rng.pick(&["0", "1", "2", "3", "4", "7", "8", "10", "11", "72", "204", "205", "409", "500", "501", "9999", "10000", "00"]);
+    let other = format!("m t M\n{} {} {}\n{}", number(), number(), number(), &text[case.rng.below(text.len())..]);
+    case.scan_kit(other.as_bytes());
+    case.read_kit(other.as_bytes(), own, own, inverse);
+    if let Ok(d) = scan_kit(other.as_bytes()) {
+        case.read_kit(other.as_bytes(), 2 * d.order(), 2 * d.order(), d.order() * d.row_bytes());
+    }
+}
+
+/// Block texts right and damaged.
+fn block_texts(case: &mut Case) {
+    let d = case.rng.pick(&designs(1000));
+    let most = 1 + 2000 / d.side().pow(2);
+    let blocks = 1 + case.rng.below(most.min(1200));
+    let info = case.rng.bits(info_len(&d, blocks));
+    let text = block_text(&d, &info);
+    let d3 = (d.m, d.t, d.size);
+    case.scan_blocks(d3, text.as_bytes());
+    for length in [info.len(), info.len() - 1, info.len() + 1, 0] {
+        case.read_blocks(d3, text.as_bytes(), length);
+    }
+    for _ in 0..6 {
+        let damaged = damage(&mut case.rng, text.as_bytes());
+        case.scan_blocks(d3, &damaged);
+        case.read_blocks(d3, &damaged, info.len());
+        case.scan_frame(d3, &damaged);
+    }
+    case.scan_blocks((d.m, d.t, d.size + 1), text.as_bytes());
+}
+
+/// `mend`'s texts right and damaged, with too few and too many groups.
+fn frame_texts(case: &mut Case) {
+    let d = case.rng.pick(&designs(300));
+    let most = 1 + 1000 / d.side().pow(2);
+    let blocks = 1 + case.rng.below(most.min(300));
+    let info = case.rng.bits(info_len(&d, blocks));
+    let red = case.rng.bits(red_len(&d, blocks));
+    let (first, second) = (block_text(&d, &info), group_text(&d, &red));
+    let text = first.clone() + &second;
+    let d3 = (d.m, d.t, d.size);
+    case.scan_frame(d3, text.as_bytes());
+    for other in [info.len(), info.len() - 1, info.len() + 1, 0] {
+        case.read_frame(d3, text.as_bytes(), other, red.len());
+        case.read_frame(d3, text.as_bytes(), other, red.len() - 1);
+    }
+    for other in [red.len() + 1, 0] {
+        case.read_frame(d3, text.as_bytes(), info.len(), other);
+    }
+    for _ in 0..6 {
+        let damaged = damage(&mut case.rng, text.as_bytes());
+        case.scan_frame(d3, &damaged);
+        case.read_frame(d3, &damaged, info.len(), red.len());
+        let damaged = first.clone().into_bytes().into_iter().chain(damage(&mut case.rng, second.as_bytes())).collect::<Vec<_>>();
+        case.scan_frame(d3, &damaged);
+        case.read_frame(d3, &damaged, info.len(), red.len());
+    }
+    let more = first.clone() + &group_text(&d, &[&red[..], &red[..2 * d.order()]].concat());
+    let fewer = first.clone() + &group_text(&d, &red[2 * d.order()..]);
+    for text in [more, fewer, first, second] {
+        case.scan_frame(d3, text.as_bytes());
+        case.read_frame(d3, text.as_bytes(), info.len(), red.len());
+    }
+}
+
+/// The writers: into buffers with and without room, at places inside and far outside.
+fn lines(case: &mut Case) {
+    let numbers: Vec<u64> = (0..3)
+        .map(|_| match case.rng.below(3) {
+            0 => case.rng.below(12_000) as u64,
+            1 => case.rng.pick(&[0, 9, 10, 99, 100, 999, 1000, 9999, 10_000, u64::MAX, 1 << 32, u64::MAX / 10, 10_000_000_000_000_000_000, 9_999_999_999_999_999_999]),
+            _ => {
+                let shift = case.rng.below(64);
+                case.rng.next() >> shift
+            }
+        })
+        .collect();
+    let (long, short) = (case.rng.below(60), case.rng.below(20));
+    let (own, parity) = (case.rng.bits(long), case.rng.bits(short));
+    let at = case.rng.below(10);
+    let longest = 200;
+    let texts = [
+        block_line(numbers[0], &own),
+        group_line(numbers[0], &own, &parity),
+        refusal_lines(numbers[0], numbers[1]),
+        count_lines((numbers[0], numbers[1], numbers[2])),
+    ];
+    for (which, text) in texts.into_iter().enumerate() {
+        let end = at + text.len();
+        for (out_len, at) in [(longest, at), (end, at), (end - 1, at), (end + 1, at), (0, 0), (0, at), (longest, longest), (longest, longest + 1), (longest, usize::MAX), (longest, usize::MAX - 5), (longest, 1 << 63)] {
+            let text = text.clone();
+            match which {
+                0 => case.line("block_line", out_len, at, text, &[&own], |out, b| host::texts::block_line(out, at, numbers[0], b[0])),
+                1 => case.line("group_line", out_len, at, text, &[&own, &parity], |out, b| host::texts::group_line(out, at, numbers[0], b[0], b[1])),
+                2 => case.line("refusal_lines", out_len, at, text, &[], |out, _| host::texts::refusal_lines(out, at, numbers[0], numbers[1])),
+                _ => case.line("count_lines", out_len, at, text, &[], |out, _| host::texts::count_lines(out, at, numbers[0], numbers[1], numbers[2])),
+            }
+        }
+    }
+}
+
+// ---------------------------------------------------------------- Programs
+
+/// The designs with at most 171 rows and numbers of blocks whose text has exactly this length.
+fn exact(mend: bool, length: usize) -> Vec<(Design, usize)> {
+    let digits = |number: usize| number.ilog10() as usize + 1;
+    let mut found = vec![];
+    for (m, t) in pairs() {
+        for d in (1..=largest(m, t)).map(|size| design(m, t, size).unwrap()).take_while(|d| d.order() <= 171) {
+            let mut total = "block bits\n".len() + if mend { "group self parity\n".len() } else { 0 };
+            for blocks in 1..=4096 {
+                total += digits(blocks) + d.side().pow(2) + 2;
+                if mend && blocks % 2 == 1 {
+                    total += digits(groups(blocks)) + 2 * d.order() + 3;
+                }
+                if total == length {
+                    found.push((d, blocks));
+                }
+                if total > length {
+                    break;
+                }
+            }
+        }
+    }
+    found
+}
+
+/// A kit text of 175 rows of exactly this length, about 32,768: entries get as many digits as it takes.
+fn exact_kit(length: usize) -> String {
+    let d = design(7, 1, 25).unwrap();
+    let mut kit = Kit { m: 7, t: 1, size: 25, own: vec![0; 350], parity: vec![0; 350], inverse: vec![0; 175 * d.row_bytes()] };
+    let missing = length - kit_text(&kit).len();
+    let mut lists = vec![0; 350];
+    (0..missing).for_each(|i| lists[i % 350] = [10, 100, 1000][i / 350]);
+    kit.own = list_bytes(&lists[..175]);
+    kit.parity = list_bytes(&lists[175..]);
+    kit_text(&kit)
+}
+
+/// The text of a frame (for `mend`) or of its blocks (for `frame`), some bits of the former turned.
+fn some_text(case: &mut Case, mend: bool, good: &Good, blocks: usize) -> String {
+    let d = good.d;
+    let mut lent = case.frame(good, blocks);
+    if !mend {
+        return block_text(&d, &lent.info);
+    }
+    match case.rng.below(6) {
+        0 => {}
+        1 => {
+            let shape = Shape::new(d, blocks, entries(&lent.own), entries(&lent.parity));
+            for place in within(&mut case.rng, &shape, 20) {
+                let at = place.checked_sub(lent.info.len());
+                at.map_or_else(|| lent.info[place] ^= 1, |at| lent.red[at] ^= 1);
+            }
+        }
+        2 => (lent.info, lent.red) = (case.rng.bits(lent.info.len()), case.rng.bits(lent.red.len())),
+        3 => lent.info.iter_mut().chain(lent.red.iter_mut()).for_each(|bit| *bit = 1),
+        _ => {
+            let odds = 2 + case.rng.below(50);
+            lent.info.iter_mut().chain(lent.red.iter_mut()).for_each(|bit| *bit ^= (case.rng.below(odds) == 0) as u8);
+        }
+    }
+    block_text(&d, &lent.info) + &group_text(&d, &lent.red)
+}
+
+/// What a program reads: kit.txt and standard input.
+fn program_input(case: &mut Case, mend: bool) -> (Vec<u8>, Vec<u8>) {
+    let kind = case.index % 20;
+    let d = match case.rng.below(6) {
+        0 => design(4, 1, 1).unwrap(),
+        1 => case.rng.pick(&designs(171)),
+        2 => design(7, 1, 24).unwrap(),
+        _ => case.rng.pick(&designs(60)),
+    };
+    let good = case.context.kit(d);
+    let line = d.side().pow(2) + 6 + if mend { d.order() + 4 } else { 0 };
+    let most = match case.rng.below(4) {
+        0 => 33_000 / line,
+        1 => 3000 / line,
+        _ => 6,
+    };
+    let blocks = 1 + case.rng.below(most.clamp(1, 4096));
+    let text = some_text(case, mend, &good, blocks).into_bytes();
+    let kit = kit_text(&good.kit).into_bytes();
+    match kind {
+        0..=4 => (kit, text),
+        5 => (damage(&mut case.rng, &kit), text),
+        6 | 7 => (kit, damage(&mut case.rng, &text)),
+        8 => (damage(&mut case.rng, &kit), damage(&mut case.rng, &text)),
+        9 | 10 => {
+            // wrong lists (7), met after the blocks
+            let mut wrong = good.kit.clone();
+            let at = 2 * case.rng.below(d.order());
+            let list = if case.rng.below(2) == 0 { &mut wrong.own } else { &mut wrong.parity };
+            let entry = [0, 1, d.order(), 9999][case.rng.below(4)] as u16;
+            list[at..at + 2].copy_from_slice(&entry.to_le_bytes());
+            let text = if case.rng.below(3) == 0 { damage(&mut case.rng, &text) } else { text };
+            (kit_text(&wrong).into_bytes(), text)
+        }
+        11 | 12 => {
+            // a wrong inverse (9): one bit, or all zero
+            let mut wrong = good.w_matrix.clone();
+            let (row, column) = (case.rng.below(d.order()), case.rng.below(d.order()));
+            wrong.turn(row, column);
+            if case.rng.below(4) == 0 {
+                wrong = Matrix::zero(d.order());
+            }
+            let text = if case.rng.below(3) == 0 { damage(&mut case.rng, &text) } else { text };
+            (kit_text(&Kit { inverse: wrong.to_bytes(), ..good.kit.clone() }).into_bytes(), text)
+        }
+        13 => {
+            // the start of the kit text of a large design
+            let d = case.rng.pick(&designs(4096));
+            let mut start = format!("m t M\n{} {} {}\nplace self parity\n", d.m, d.t, d.size);
+            (0..d.order()).for_each(|place| start += &format!("{place} {} {}\n", place % 10, case.rng.below(10)));
+            start += "row inverse\n";
+            let cut = case.rng.below(start.len().min(INPUT) + 1);
+            let mut start = if case.rng.below(2) == 0 { start[..cut].to_string() } else { start };
+            if case.rng.below(3) == 0 {
+                start.push_str("0 1010");
+            }
+            start.truncate(INPUT);
+            (start.into_bytes(), text)
+        }
+        14 => {
+            // rules 1 to 3, whatever follows
+            let mut number = |from: &[&str]| case.rng.pick(&from.iter().map(|s| s.to_string()).collect::<Vec<_>>());
+            let any = ["0", "1", "2", "3", "4", "5", "8", "10", "11", "100", "204", "205", "410", "500", "501", "9999"];
+            let start = if case.index / 20 % 2 == 0 {
+                format!("m t M\n{} {} {}\n", number(&any), number(&any), number(&any))
+            } else {
+                let (m, t) = (number(&["4", "5", "9", "10"]), number(&["1", "2", "3"]));
+                format!("m t M\n{m} {t} {}\n", number(&["4", "11", "137", "205", "247", "410", "500"]))
+            };
+            let rest = case.rng.pick(&["", "place self parity\n", "x", "\n"]);
+            ((start + &rest).into_bytes(), text)
+        }
+        15 => {
+            // inputs of exactly, above and just below 32,768 bytes: kit, text or both
+            let length = INPUT - 1 + case.rng.below(3);
+            let resized = |bytes: &[u8], fill: u8| -> Vec<u8> {
+                let mut bytes = bytes.to_vec();
+                bytes.resize(length, fill);
+                bytes
+            };
+            let fill = case.rng.pick(BYTES);
+            match case.rng.below(5) {
+                0 => (resized(&kit, fill), text),
+                1 => (kit, resized(&text, fill)),
+                2 => (resized(&kit, fill), resized(&text, fill)),
+                3 => (exact_kit(length).into_bytes(), text),
+                _ => (exact_kit(length).into_bytes(), resized(&text, fill)),
+            }
+        }
+        16 | 17 => {
+            // the longest whole texts of at most 32,768 and 32,769 bytes
+            let length = INPUT + case.rng.below(2);
+            let found = (0..).map(|less| exact(mend, length - less)).find(|found| !found.is_empty()).unwrap();
+            let (d, blocks) = case.rng.pick(&found);
+            let good = case.context.kit(d);
+            (kit_text(&good.kit).into_bytes(), some_text(case, mend, &good, blocks).into_bytes())
+        }
+        18 => {
+            // about 4,096 blocks with M 1
+            let (m, t) = case.rng.pick(&pairs());
+            let good = case.context.kit(design(m, t, 1).unwrap());
+            let info = vec![(case.index / 20 % 2) as u8; 4094 + case.rng.below(5)];
+            (kit_text(&good.kit).into_bytes(), block_text(&good.d, &info).into_bytes())
+        }
+        _ => {
+            // text for another M, empty inputs, inputs exchanged
+            match case.rng.below(4) {
+                0 => (kit, vec![]),
+                1 => (vec![], text),
+                2 => (text, kit),
+                _ => {
+                    let other = case.small();
+                    (kit, some_text(case, mend, &other, 2).into_bytes())
+                }
+            }
+        }
+    }
+}
+
+/// Through the library, or the program itself.
+fn program(case: &mut Case, mend: bool, itself: bool) {
+    let (kit, text) = program_input(case, mend);
+    if itself {
+        return case.runs(mend, &kit, &text);
+    }
+    case.prints(mend, &kit, &text, OUT);
+    if case.index % 50 == 0 {
+        case.prints(mend, &kit, &text, OUT - 1);
+        case.prints(mend, &kit, &text, 0);
+    }
+}
+
+// ---------------------------------------------------------------- Large kits
+
+/// Kits of 1,728 and 4,080 rows, the paper's other two designs that fit, and the largest design of each pair
+/// m, t where it has more than 1,000 rows.
+fn large_designs() -> Vec<Design> {
+    let named = [(8, 3, 72), (10, 2, 204), (8, 3, 96), (9, 3, 135)];
+    let largest = pairs().into_iter().map(|(m, t)| (m, t, largest(m, t)));
+    let mut all: Vec<Design> = vec![];
+    for (m, t, size) in named.into_iter().chain(largest) {
+        let d = design(m, t, size).unwrap();
+        if d.order() > 1000 && !all.contains(&d) {
+            all.push(d);
+        }
+    }
+    all
+}
+
+/// The kit right and with one wrong bit, and blocks encoded; a lightly damaged frame decoded; for the first
+/// two designs a loopback, and the kit text of the first.
+fn large(case: &mut Case) {
+    let all = large_designs();
+    let d = all[case.index % all.len()];
+    let good = case.context.kit(d);
+    let blocks = if case.index % all.len() < 2 { 2 } else { 1 };
+    match case.index / all.len() {
+        0 => {
+            let lent = case.to_encode(&good, blocks);
+            case.check_kit(&lent);
+            let mut wrong = good.w_matrix.clone();
+            wrong.turn(case.rng.below(d.order()), case.rng.below(d.order()));
+            case.check_kit(&Lent { inverse: wrong.to_bytes(), ..lent.clone() });
+            case.encode(&lent);
+        }
+        1 => {
+            let mut lent = case.frame(&good, blocks);
+            let shape = Shape::new(d, blocks, entries(&lent.own), entries(&lent.parity));
+            let sent = lent.clone();
+            for place in within(&mut case.rng, &shape, 200) {
+                let at = place.checked_sub(lent.info.len());
+                at.map_or_else(|| lent.info[place] ^= 1, |at| lent.red[at] ^= 1);
+            }
+            case.check_words(&sent);
+            case.check_words(&lent);
+            let (info, red) = case.decode(&lent);
+            case.check("recovered", info == sent.info && red == sent.red);
+        }
+        _ => {
+            let mut lent = case.to_encode(&good, blocks);
+            lent.info_errors = (0..lent.info.len()).map(|_| (case.rng.below(300) == 0) as u8).collect();
+            case.loopback(&lent);
+            if d.order() > 1728 {
+                return;
+            }
+            let text = kit_text(&good.kit);
+            let (own, inverse) = (good.kit.own.len(), good.kit.inverse.len());
+            case.read_kit(text.as_bytes(), own, own, inverse);
+            for at in [text.len() - 1, text.len() / 2, 40_000] {
+                let mut damaged = text.clone().into_bytes();
+                damaged[at] = b'2';
+                case.read_kit(&damaged, own, own, inverse);
+                case.read_kit(&text.as_bytes()[..at], own, own, inverse);
+            }
+        }
+    }
+}

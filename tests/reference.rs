@@ -1,0 +1,940 @@
+//! Document 01 written a second time, from its text alone: small, literal and slow.
+//! It shares nothing with the library. Everything that document 01 defines is a function here:
+//!
+//! - `design`, `powers`, `minimal`, `generator`, `remainder`: rules 1 to 3 and BCH words
+//! - `Shape`: where each bit of each word of a frame stands
+//! - `sums`, `system`, `check_kit`: A y + c, A, and the verdict on a kit
+//! - `encode`, `check_words`, `decode`, `show`, `loopback`: the calls
+//! - `read_kit`, `read_blocks`, `read_frame`: the texts and the place of rules 11 and 12
+//! - `block_line` .. `count_lines`, `frame_prints`, `mend_prints`: what is printed
+//!
+//! A frame is kept as one vector: the information, then the redundancy. A sent bit is its place in it.
+
+use std::collections::HashMap;
+
+/// "A refusal returns a number and a place."
+pub type Refusal = (u64, u64);
+pub type Answer<T> = Result<T, Refusal>;
+
+// ---------------------------------------------------------------- Design and BCH words
+
+/// "A design is m (4 to 10), t (1 to 3) and M (1 to 500)"
+#[derive(Clone, Copy, PartialEq, Debug)]
+pub struct Design {
+    pub m: u64,
+    pub t: u64,
+    pub size: u64,
+}
+
+impl Design {
+    /// M
+    pub fn side(&self) -> usize {
+        self.size as usize
+    }
+    /// "r = m × t"
+    pub fn r(&self) -> usize {
+        (self.m * self.t) as usize
+    }
+    /// "n = 2M + 2r"
+    pub fn n(&self) -> usize {
+        2 * self.side() + 2 * self.r()
+    }
+    /// "k = 2M + r"
+    pub fn k(&self) -> usize {
+        2 * self.side() + self.r()
+    }
+    /// M × r, the entries of a list and the rows of the inverse
+    pub fn order(&self) -> usize {
+        self.side() * self.r()
+    }
+    /// "rows of (M × r)/8 bytes rounded up"
+    pub fn row_bytes(&self) -> usize {
+        (self.order() + 7) / 8
+    }
+    /// working bytes of kit checker, encoder and loopback
+    pub fn kit_work(&self) -> usize {
+        self.order() * self.row_bytes()
+    }
+    /// working bytes of word checker and decoder
+    pub fn word_work(&self) -> usize {
+        self.order()
+    }
+}
+
+/// Rules 1, 2 and 3.
+pub fn design(m: u64, t: u64, size: u64) -> Answer<Design> {
+    if m < 4 || m > 10 {
+        return Err((1, 1));
+    }
+    if t < 1 || t > 3 {
+        return Err((1, 2));
+    }
+    if size < 1 || size > 500 {
+        return Err((1, 3));
+    }
+    let d = Design { m, t, size };
+    if d.n() > (1 << m) - 1 {
+        return Err((2, d.n() as u64));
+    }
+    if d.order() > 4096 {
+        return Err((3, d.order() as u64));
+    }
+    Ok(d)
+}
+
+/// "Field polynomials in hexadecimal, bit i for x^i, m = 4 to 10: 13, 25, 43, 89, 11D, 211, 409."
+pub fn field_polynomial(m: u64) -> u64 {
+    [0x13, 0x25, 0x43, 0x89, 0x11D, 0x211, 0x409][m as usize - 4]
+}
+
+/// "the first entry is 1, and each entry is the one before times x in its field"
+pub fn powers(m: u64) -> Vec<u64> {
+    let mut table = vec![1];
+    while table.len() < (1 << m) - 1 {
+        let doubled = table[table.len() - 1] << 1;
+        table.push(if doubled >> m == 1 { doubled ^ field_polynomial(m) } else { doubled });
+    }
+    table
+}
+
+/// The minimal polynomial of power j of the root: the first polynomial, counted as numbers from x
+/// upward, that is zero there. (A smaller degree is a smaller number.)
+pub fn minimal(m: u64, j: u64) -> u64 {
+    let table = powers(m);
+    let value = |q: u64| -> u64 {
+        (0..64u64)
+            .filter(|i| q >> i & 1 == 1)
+            .map(|i| table[(i * j) as usize % table.len()])
+            .fold(0, |a, b| a ^ b)
+    };
+    (2..).find(|&q| value(q) == 0).unwrap()
+}
+
+/// The product of two polynomials over bits.
+pub fn product(a: u64, b: u64) -> u64 {
+    (0..32).filter(|i| b >> i & 1 == 1).fold(0, |sum, i| sum ^ a << i)
+}
+
+/// "The generator is the product of the minimal polynomials of the odd powers 1, 3, .., 2t-1 of the root."
+pub fn generator(m: u64, t: u64) -> u64 {
+    (0..t).fold(1, |g, i| product(g, minimal(m, 2 * i + 1)))
+}
+
+/// The remainder of a word by the generator g; the word's last bit carries x^0.
+pub fn remainder(bits: impl Iterator<Item = u8>, g: u64) -> u64 {
+    let degree = 63 - g.leading_zeros();
+    let mut rest = 0;
+    for bit in bits {
+        rest = rest << 1 | bit as u64;
+        if rest >> degree & 1 == 1 {
+            rest ^= g;
+        }
+    }
+    rest
+}
+
+/// The remainder of x^e by the generator g.
+pub fn power_remainder(e: usize, g: u64) -> u64 {
+    remainder((0..=e).map(|i| (i == 0) as u8), g)
+}
+
+/// "the last r [bits are] the remainder of information × x^r by the generator", first bit highest.
+pub fn check_bits(information: impl Iterator<Item = u8>, r: usize, g: u64) -> Vec<u8> {
+    let rest = remainder(information.chain((0..r).map(|_| 0)), g);
+    (0..r).map(|a| (rest >> (r - 1 - a) & 1) as u8).collect()
+}
+
+// ---------------------------------------------------------------- Frame
+
+/// A design, a number of blocks and two lists that are permutations.
+pub struct Shape {
+    pub d: Design,
+    pub blocks: usize,
+    pub own: Vec<usize>,
+    pub parity: Vec<usize>,
+    /// the generator
+    pub g: u64,
+}
+
+/// A word: for each of its n positions the sent bit that stands there, `None` in an unsent block.
+pub type Word = Vec<Option<usize>>;
+
+/// "G = L / 2 rounded up"
+pub fn groups(blocks: usize) -> usize {
+    (blocks + 1) / 2
+}
+
+/// Bytes of the information: L blocks of M × M.
+pub fn info_len(d: &Design, blocks: usize) -> usize {
+    blocks * d.side() * d.side()
+}
+
+/// Bytes of the redundancy: "Group i is Y (r × M), then P (r × M)."
+pub fn red_len(d: &Design, blocks: usize) -> usize {
+    groups(blocks) * 2 * d.order()
+}
+
+impl Shape {
+    pub fn new(d: Design, blocks: usize, own: Vec<usize>, parity: Vec<usize>) -> Shape {
+        Shape { d, blocks, own, parity, g: generator(d.m, d.t) }
+    }
+    /// Row a, column b of B(block). "B0 is all zero and not sent. For odd L the block after the last
+    /// is all zero and not sent."
+    fn block_bit(&self, block: usize, a: usize, b: usize) -> Option<usize> {
+        let side = self.d.side();
+        if block == 0 || block > self.blocks {
+            return None;
+        }
+        Some((block - 1) * side * side + a * side + b)
+    }
+    /// Row a, column b of Y of group i.
+    fn y_bit(&self, i: usize, a: usize, b: usize) -> usize {
+        info_len(&self.d, self.blocks) + (i - 1) * 2 * self.d.order() + a * self.d.side() + b
+    }
+    /// Row a, column b of P of group i.
+    fn p_bit(&self, i: usize, a: usize, b: usize) -> usize {
+        self.y_bit(i, a, b) + self.d.order()
+    }
+    /// Row a, column b of X: "Place of row a, column b in an M × r matrix: b × M + a. A list sends the
+    /// bit at place p to place list[p]." Y is the transpose of what the self list makes of X.
+    fn x_bit(&self, i: usize, a: usize, b: usize) -> usize {
+        let to = self.own[b * self.d.side() + a];
+        let (to_row, to_column) = (to % self.d.side(), to / self.d.side());
+        self.y_bit(i, to_column, to_row)
+    }
+    /// Row a, column b of Q, with the parity list and P in the same way.
+    fn q_bit(&self, i: usize, a: usize, b: usize) -> usize {
+        let to = self.parity[b * self.d.side() + a];
+        let (to_row, to_column) = (to % self.d.side(), to / self.d.side());
+        self.p_bit(i, to_column, to_row)
+    }
+    /// "Row word a of group i: row a of B(2i-2), of B(2i-1), of X, of Q."
+    pub fn row_word(&self, i: usize, a: usize) -> Word {
+        let (side, r) = (self.d.side(), self.d.r());
+        let mut word = Word::new();
+        word.extend((0..side).map(|b| self.block_bit(2 * i - 2, a, b)));
+        word.extend((0..side).map(|b| self.block_bit(2 * i - 1, a, b)));
+        word.extend((0..r).map(|b| Some(self.x_bit(i, a, b))));
+        word.extend((0..r).map(|b| Some(self.q_bit(i, a, b))));
+        word
+    }
+    /// "Column word a: column a of B(2i-1), of B(2i), of Y, of P."
+    pub fn column_word(&self, i: usize, a: usize) -> Word {
+        let (side, r) = (self.d.side(), self.d.r());
+        let mut word = Word::new();
+        word.extend((0..side).map(|b| self.block_bit(2 * i - 1, b, a)));
+        word.extend((0..side).map(|b| self.block_bit(2 * i, b, a)));
+        word.extend((0..r).map(|b| Some(self.y_bit(i, b, a))));
+        word.extend((0..r).map(|b| Some(self.p_bit(i, b, a))));
+        word
+    }
+    /// All words: "groups 1 to G, in each the row words 0 to M-1, then the column words".
+    pub fn words(&self) -> Vec<Word> {
+        let side = self.d.side();
+        (1..=groups(self.blocks))
+            .flat_map(|i| {
+                let rows = (0..side).map(move |a| self.row_word(i, a));
+                rows.chain((0..side).map(move |a| self.column_word(i, a)))
+            })
+            .collect()
+    }
+}
+
+/// The bits of a word in a frame, unsent ones 0.
+fn read<'a>(word: &'a [Option<usize>], frame: &'a [u8]) -> impl Iterator<Item = u8> + 'a {
+    word.iter().map(|bit| bit.map_or(0, |place| frame[place]))
+}
+
+/// "The word checker counts the words outside the code": those that the generator doesn't divide.
+pub fn words_outside(shape: &Shape, frame: &[u8]) -> u64 {
+    shape.words().iter().filter(|word| remainder(read(word, frame), shape.g) != 0).count() as u64
+}
+
+// ---------------------------------------------------------------- System and kit
+
+/// "Entry b × r + a of A y + c is the bit at row a, column b of P that the column words give, plus the
+/// bit that the parity list brings there from the Q that the row words give." The blocks and Y of
+/// group i are taken from the frame; what stands in its P plays no part.
+pub fn sums(shape: &Shape, frame: &[u8], i: usize) -> Vec<u8> {
+    let d = &shape.d;
+    let (side, r, k, g) = (d.side(), d.r(), d.k(), shape.g);
+    let mut entries = vec![0; d.order()];
+    let p_start = shape.p_bit(i, 0, 0);
+    for b in 0..side {
+        let word = shape.column_word(i, b);
+        for (a, bit) in check_bits(read(&word[..k], frame), r, g).into_iter().enumerate() {
+            entries[b * r + a] ^= bit;
+        }
+    }
+    for a in 0..side {
+        let word = shape.row_word(i, a);
+        for (b, bit) in check_bits(read(&word[..k], frame), r, g).into_iter().enumerate() {
+            let in_p = word[k + b].unwrap() - p_start;
+            let (p_row, p_column) = (in_p / side, in_p % side);
+            entries[p_column * r + p_row] ^= bit;
+        }
+    }
+    entries
+}
+
+/// A square matrix of bits, rows packed into words of 64, column j at bit j mod 64 of word j / 64.
+#[derive(Clone, PartialEq)]
+pub struct Matrix {
+    pub order: usize,
+    pub rows: Vec<Vec<u64>>,
+}
+
+impl Matrix {
+    pub fn zero(order: usize) -> Matrix {
+        Matrix { order, rows: vec![vec![0; (order + 63) / 64]; order] }
+    }
+    pub fn identity(order: usize) -> Matrix {
+        let mut one = Matrix::zero(order);
+        (0..order).for_each(|i| one.turn(i, i));
+        one
+    }
+    pub fn bit(&self, row: usize, column: usize) -> bool {
+        self.rows[row][column / 64] >> (column % 64) & 1 == 1
+    }
+    pub fn turn(&mut self, row: usize, column: usize) {
+        self.rows[row][column / 64] ^= 1 << (column % 64);
+    }
+    /// From the bytes of an inverse: "column j is bit j mod 8 of byte j/8 rounded down".
+    pub fn from_bytes(order: usize, bytes: &[u8]) -> Matrix {
+        let mut matrix = Matrix::zero(order);
+        for (row, line) in bytes.chunks((order + 7) / 8).enumerate() {
+            for column in 0..order {
+                if line[column / 8] >> (column % 8) & 1 == 1 {
+                    matrix.turn(row, column);
+                }
+            }
+        }
+        matrix
+    }
+    pub fn to_bytes(&self) -> Vec<u8> {
+        let width = (self.order + 7) / 8;
+        let mut bytes = vec![0; self.order * width];
+        for row in 0..self.order {
+            for column in (0..self.order).filter(|&column| self.bit(row, column)) {
+                bytes[row * width + column / 8] |= 1 << (column % 8);
+            }
+        }
+        bytes
+    }
+    /// "An entry of a product is 1 exactly when a row and a column share an odd number of ones": row i
+    /// of a product is the sum of those rows of the right matrix at which row i of the left has ones.
+    pub fn product_row(&self, right: &Matrix, i: usize) -> Vec<u64> {
+        let mut sum = vec![0; self.rows[i].len()];
+        for j in (0..self.order).filter(|&j| self.bit(i, j)) {
+            sum.iter_mut().zip(&right.rows[j]).for_each(|(to, from)| *to ^= from);
+        }
+        sum
+    }
+    /// The first entry, row by row, at which a product is not the identity: row × order + column.
+    pub fn first_wrong(&self, right: &Matrix) -> Option<u64> {
+        for i in 0..self.order {
+            let mut row = self.product_row(right, i);
+            row[i / 64] ^= 1 << (i % 64);
+            if let Some(at) = row.iter().position(|&word| word != 0) {
+                let column = at * 64 + row[at].trailing_zeros() as usize;
+                return Some((i * self.order + column) as u64);
+            }
+        }
+        None
+    }
+    /// This matrix times a column.
+    pub fn times(&self, column: &[u8]) -> Vec<u8> {
+        let ones: Vec<usize> = (0..self.order).filter(|&j| column[j] == 1).collect();
+        (0..self.order).map(|i| (ones.iter().filter(|&&j| self.bit(i, j)).count() % 2) as u8).collect()
+    }
+}
+
+/// A: column j is what a Y gives that has its only one at entry j of y ("Stack Y column by column to y"),
+/// the blocks being zero. A word without ones gives zeros, so only the row word and the column word
+/// in which this bit stands are looked at.
+pub fn system(shape: &Shape) -> Matrix {
+    let d = &shape.d;
+    let (side, r, n, k, g) = (d.side(), d.r(), d.n(), d.k(), shape.g);
+    let y_start = shape.y_bit(1, 0, 0);
+    let p_start = shape.p_bit(1, 0, 0);
+    let words: Vec<Word> =
+        (0..side).map(|a| shape.row_word(1, a)).chain((0..side).map(|a| shape.column_word(1, a))).collect();
+    // the words, and positions there, at which each bit of Y stands
+    let mut stands = vec![Vec::new(); d.order()];
+    for (w, word) in words.iter().enumerate() {
+        for position in 2 * side..k {
+            stands[word[position].unwrap() - y_start].push((w, position));
+        }
+    }
+    let mut a_matrix = Matrix::zero(d.order());
+    for (q, places) in stands.iter().enumerate() {
+        let (y_row, y_column) = (q / side, q % side);
+        for &(w, position) in places {
+            let rest = power_remainder(n - 1 - position, g);
+            for b in (0..r).filter(|b| rest >> (r - 1 - b) & 1 == 1) {
+                let in_p = words[w][k + b].unwrap() - p_start;
+                let (p_row, p_column) = (in_p / side, in_p % side);
+                a_matrix.turn(p_column * r + p_row, y_column * r + y_row);
+            }
+        }
+    }
+    a_matrix
+}
+
+/// Rule 6: the first slice of a wrong length, of (place, length, right length).
+fn lengths(slices: &[(u64, usize, usize)]) -> Answer<()> {
+    match slices.iter().find(|(_, length, right)| length != right) {
+        Some(&(place, _, _)) => Err((6, place)),
+        None => Ok(()),
+    }
+}
+
+/// "A list is two bytes an entry, low byte first."
+pub fn entries(list: &[u8]) -> Vec<usize> {
+    list.chunks(2).map(|two| two[0] as usize + 256 * two[1] as usize).collect()
+}
+
+/// Rule 7: "first entry too large or seen earlier in its list", "for parity plus M × r".
+fn permutations(d: &Design, own: &[u8], parity: &[u8]) -> Answer<(Vec<usize>, Vec<usize>)> {
+    let lists = (entries(own), entries(parity));
+    for (list, plus) in [(&lists.0, 0), (&lists.1, d.order())] {
+        let mut seen = vec![false; d.order()];
+        for (at, &entry) in list.iter().enumerate() {
+            if entry >= d.order() || seen[entry] {
+                return Err((7, (at + plus) as u64));
+            }
+            seen[entry] = true;
+        }
+    }
+    Ok(lists)
+}
+
+/// Rule 10: "first byte above 1", "byte; for redundancy plus the information length".
+fn bits(bytes: impl Iterator<Item = u8>) -> Answer<()> {
+    match bytes.into_iter().position(|byte| byte > 1) {
+        Some(at) => Err((10, at as u64)),
+        None => Ok(()),
+    }
+}
+
+/// Rules 8 and 9, for lists that are permutations. The answer is W.
+fn inverse_of(shape: &Shape, inverse: &[u8]) -> Answer<Matrix> {
+    let (order, width) = (shape.d.order(), shape.d.row_bytes());
+    for (row, line) in inverse.chunks(width).enumerate() {
+        if (order..8 * width).any(|column| line[column / 8] >> (column % 8) & 1 == 1) {
+            return Err((8, row as u64));
+        }
+    }
+    let (a_matrix, w_matrix) = (system(shape), Matrix::from_bytes(order, inverse));
+    if let Some(place) = a_matrix.first_wrong(&w_matrix) {
+        return Err((9, place));
+    }
+    if let Some(place) = w_matrix.first_wrong(&a_matrix) {
+        return Err((9, place + (order * order) as u64));
+    }
+    Ok(w_matrix)
+}
+
+/// A kit: "a design, both lists and a matrix W", as bytes.
+#[derive(Clone)]
+pub struct Kit {
+    pub m: u64,
+    pub t: u64,
+    pub size: u64,
+    pub own: Vec<u8>,
+    pub parity: Vec<u8>,
+    pub inverse: Vec<u8>,
+}
+
+/// The kit checker: rules 1 to 3 and 6 to 9.
+pub fn check_kit(kit: &Kit, work: usize) -> Answer<()> {
+    let d = design(kit.m, kit.t, kit.size)?;
+    lengths(&[
+        (1, kit.own.len(), 2 * d.order()),
+        (2, kit.parity.len(), 2 * d.order()),
+        (3, kit.inverse.len(), d.order() * d.row_bytes()),
+        (6, work, d.kit_work()),
+    ])?;
+    let (own, parity) = permutations(&d, &kit.own, &kit.parity)?;
+    inverse_of(&Shape::new(d, 1, own, parity), &kit.inverse)?;
+    Ok(())
+}
+
+/// Rule 4 for L.
+fn block_count(blocks: u64) -> Answer<usize> {
+    if blocks < 1 || blocks > 4096 {
+        return Err((4, blocks));
+    }
+    Ok(blocks as usize)
+}
+
+/// The encoder: rules 1 to 4 and 6 to 10. The answer is the redundancy.
+pub fn encode(kit: &Kit, blocks: u64, info: &[u8], red: usize, work: usize) -> Answer<Vec<u8>> {
+    let d = design(kit.m, kit.t, kit.size)?;
+    let blocks = block_count(blocks)?;
+    lengths(&[
+        (1, kit.own.len(), 2 * d.order()),
+        (2, kit.parity.len(), 2 * d.order()),
+        (3, kit.inverse.len(), d.order() * d.row_bytes()),
+        (4, info.len(), info_len(&d, blocks)),
+        (5, red, red_len(&d, blocks)),
+        (6, work, d.kit_work()),
+    ])?;
+    let (own, parity) = permutations(&d, &kit.own, &kit.parity)?;
+    let shape = Shape::new(d, blocks, own, parity);
+    let w_matrix = inverse_of(&shape, &kit.inverse)?;
+    bits(info.iter().copied())?;
+    Ok(redundancy(&shape, &w_matrix, info))
+}
+
+/// The redundancy of a frame: in each group y = W c ("c for zero Y"), then P from the column words.
+pub fn redundancy(shape: &Shape, w_matrix: &Matrix, info: &[u8]) -> Vec<u8> {
+    let d = &shape.d;
+    let (side, r, k, g) = (d.side(), d.r(), d.k(), shape.g);
+    let mut frame = info.to_vec();
+    frame.resize(info.len() + red_len(d, shape.blocks), 0);
+    for i in 1..=groups(shape.blocks) {
+        let y = w_matrix.times(&sums(shape, &frame, i));
+        for b in 0..side {
+            for a in 0..r {
+                frame[shape.y_bit(i, a, b)] = y[b * r + a];
+            }
+        }
+        for b in 0..side {
+            let word = shape.column_word(i, b);
+            for (a, bit) in check_bits(read(&word[..k], &frame), r, g).into_iter().enumerate() {
+                frame[shape.p_bit(i, a, b)] = bit;
+            }
+        }
+    }
+    frame.split_off(info.len())
+}
+
+// ---------------------------------------------------------------- Decoder
+
+/// What the word checker and the decoder are lent.
+#[derive(Clone)]
+pub struct Received {
+    pub m: u64,
+    pub t: u64,
+    pub size: u64,
+    pub blocks: u64,
+    pub own: Vec<u8>,
+    pub parity: Vec<u8>,
+    pub info: Vec<u8>,
+    pub red: Vec<u8>,
+}
+
+/// Rules 1 to 4, 5 (for a call with rounds), 6, 7 and 10. The answer is the shape and the frame.
+fn received(lent: &Received, rounds: u64, work: usize) -> Answer<(Shape, Vec<u8>)> {
+    let d = design(lent.m, lent.t, lent.size)?;
+    let blocks = block_count(lent.blocks)?;
+    if rounds > 64 {
+        return Err((5, rounds));
+    }
+    lengths(&[
+        (1, lent.own.len(), 2 * d.order()),
+        (2, lent.parity.len(), 2 * d.order()),
+        (4, lent.info.len(), info_len(&d, blocks)),
+        (5, lent.red.len(), red_len(&d, blocks)),
+        (6, work, d.word_work()),
+    ])?;
+    let (own, parity) = permutations(&d, &lent.own, &lent.parity)?;
+    let frame = [&lent.info[..], &lent.red[..]].concat();
+    bits(frame.iter().copied())?;
+    Ok((Shape::new(d, blocks, own, parity), frame))
+}
+
+/// The word checker: rules 1 to 4, 6, 7 and 10. The answer is the number of words outside the code.
+pub fn check_words(lent: &Received, work: usize) -> Answer<u64> {
+    let (shape, frame) = received(lent, 0, work)?;
+    Ok(words_outside(&shape, &frame))
+}
+
+/// All patterns of at most t changes of n positions, found by their remainders: those of one and two
+/// changes are kept, and a third one is tried at each position.
+pub struct Patterns {
+    t: u64,
+    single: Vec<u64>,
+    kept: HashMap<u64, (usize, usize)>,
+}
+
+impl Patterns {
+    pub fn new(d: &Design, g: u64) -> Patterns {
+        // "Position j of an n-bit word carries x^(n-1-j)."
+        let single: Vec<u64> = (0..d.n()).map(|j| power_remainder(d.n() - 1 - j, g)).collect();
+        let mut kept = HashMap::new();
+        for i in 0..d.n() {
+            kept.insert(single[i], (i, i)); // one change
+            for j in 0..if d.t >= 2 { i } else { 0 } {
+                kept.insert(single[i] ^ single[j], (i, j)); // two changes
+            }
+        }
+        Patterns { t: d.t, single, kept }
+    }
+    fn at_most_two(&self, rest: u64) -> Option<Vec<usize>> {
+        self.kept.get(&rest).map(|&(i, j)| if i == j { vec![i] } else { vec![i, j] })
+    }
+    /// The changes, at most t, that make a word with this remainder a codeword: there is at most one
+    /// such pattern, since two codewords differ in at least 2t + 1 positions.
+    pub fn changes(&self, rest: u64) -> Option<Vec<usize>> {
+        if rest == 0 {
+            return Some(vec![]);
+        }
+        if let Some(found) = self.at_most_two(rest) {
+            return Some(found);
+        }
+        if self.t < 3 {
+            return None;
+        }
+        (0..self.single.len()).find_map(|i| {
+            let mut found = self.at_most_two(rest ^ self.single[i])?;
+            found.push(i);
+            Some(found)
+        })
+    }
+}
+
+/// What a decode tells: rounds made, bits turned, words outside at the end.
+pub type Counts = (u64, u64, u64);
+
+/// The decoder: rules 1 to 7 and 10. The answer is the mended information and redundancy, and counts.
+pub fn decode(lent: &Received, rounds: u64, work: usize) -> Answer<(Vec<u8>, Vec<u8>, Counts)> {
+    let (shape, mut frame) = received(lent, rounds, work)?;
+    let counts = mend(&shape, &mut frame, rounds);
+    let red = frame.split_off(lent.info.len());
+    Ok((frame, red, counts))
+}
+
+/// "A round takes groups 1 to G, in each the row words 0 to M-1, then the column words. Mending a word: if
+/// a codeword lies within t changes and touches no bit of an unsent block, the word becomes it [..];
+/// otherwise it stays. Rounds end after one that turns no bit, or when all are made." A redundancy
+/// bit is kept once, so a turn reaches both of its words.
+fn mend(shape: &Shape, frame: &mut [u8], rounds: u64) -> Counts {
+    let patterns = Patterns::new(&shape.d, shape.g);
+    let words = shape.words();
+    let allowed = if rounds == 0 { 7 } else { rounds };
+    let (mut made, mut turned) = (0, 0);
+    loop {
+        let before = turned;
+        for word in &words {
+            let Some(changes) = patterns.changes(remainder(read(word, frame), shape.g)) else { continue };
+            let Some(sent) = changes.iter().map(|&j| word[j]).collect::<Option<Vec<usize>>>() else { continue };
+            for place in sent {
+                frame[place] = 1 - frame[place];
+                turned += 1;
+            }
+        }
+        made += 1;
+        if turned == before || made == allowed {
+            return (made, turned, words_outside(shape, frame));
+        }
+    }
+}
+
+/// The loopback: encode, turn the bits that the patterns name, decode in place. The first part of the
+/// answer is information and redundancy as they are left, if the encoder didn't refuse.
+pub struct Looped {
+    pub left: Option<(Vec<u8>, Vec<u8>)>,
+    pub result: Result<Counts, (u64, Refusal)>,
+}
+
+pub fn loopback(kit: &Kit, blocks: u64, rounds: u64, errors: (&[u8], &[u8]), info: &[u8], red: usize, work: usize) -> Looped {
+    let red = match encode(kit, blocks, info, red, work) {
+        Ok(red) => red,
+        Err(refusal) => return Looped { left: None, result: Err((1, refusal)) },
+    };
+    let turn = |buffer: &[u8], pattern: &[u8]| -> Vec<u8> {
+        let turns = pattern.iter().map(|&byte| (byte != 0) as u8).chain(std::iter::repeat(0));
+        buffer.iter().zip(turns).map(|(bit, turn)| bit ^ turn).collect()
+    };
+    let copy = Received {
+        m: kit.m,
+        t: kit.t,
+        size: kit.size,
+        blocks,
+        own: kit.own.clone(),
+        parity: kit.parity.clone(),
+        info: turn(info, errors.0),
+        red: turn(&red, errors.1),
+    };
+    let order = (kit.m * kit.t * kit.size) as usize;
+    match decode(&copy, rounds, order) {
+        Ok((info, red, counts)) => Looped { left: Some((info, red)), result: Ok(counts) },
+        Err(refusal) => Looped { left: Some((copy.info, copy.red)), result: Err((2, refusal)) },
+    }
+}
+
+/// "A block or a group is shown as the stretch of whichever buffer holds it": rules 1 to 4 and 6.
+/// Kind 0 is a block, any other a group.
+pub fn show<'a>(design3: (u64, u64, u64), blocks: u64, kind: u64, number: u64, info: &'a [u8], red: &'a [u8]) -> Answer<&'a [u8]> {
+    let d = design(design3.0, design3.1, design3.2)?;
+    let blocks = block_count(blocks)?;
+    let last = if kind == 0 { blocks } else { groups(blocks) };
+    if number < 1 || number > last as u64 {
+        return Err((4, number));
+    }
+    lengths(&[(4, info.len(), info_len(&d, blocks)), (5, red.len(), red_len(&d, blocks))])?;
+    let (buffer, stretch) = if kind == 0 { (info, d.side() * d.side()) } else { (red, 2 * d.order()) };
+    Ok(&buffer[(number as usize - 1) * stretch..number as usize * stretch])
+}
+
+// ---------------------------------------------------------------- Texts
+
+/// A text read item by item. Every item has some right continuation at each of its bytes, so the first
+/// byte that the item doesn't allow ends "the longest start that some text shares".
+struct Text<'a> {
+    bytes: &'a [u8],
+    at: usize,
+    rule: u64,
+}
+
+impl Text<'_> {
+    fn next(&self) -> Option<u8> {
+        self.bytes.get(self.at).copied()
+    }
+    fn wrong<T>(&self) -> Answer<T> {
+        Err((self.rule, self.at as u64))
+    }
+    /// These bytes.
+    fn fixed(&mut self, bytes: &str) -> Answer<()> {
+        for byte in bytes.bytes() {
+            if self.next() != Some(byte) {
+                return self.wrong();
+            }
+            self.at += 1;
+        }
+        Ok(())
+    }
+    /// "Decimal numbers have one to four digits, no leading zero": after a first digit 0 comes no other,
+    /// after four digits neither. What follows is the next item's.
+    fn number(&mut self) -> Answer<u64> {
+        let mut digits = String::new();
+        while let Some(byte @ b'0'..=b'9') = self.next() {
+            if digits == "0" || digits.len() == 4 {
+                break;
+            }
+            digits.push(byte as char);
+            self.at += 1;
+        }
+        digits.parse().or_else(|_| self.wrong())
+    }
+    /// So many characters 0 or 1.
+    fn bits(&mut self, count: usize) -> Answer<Vec<u8>> {
+        let mut bits = Vec::new();
+        while bits.len() < count {
+            match self.next() {
+                Some(b'0') => bits.push(0),
+                Some(b'1') => bits.push(1),
+                _ => return self.wrong(),
+            }
+            self.at += 1;
+        }
+        Ok(bits)
+    }
+    fn end(&self) -> Answer<()> {
+        if self.next().is_some() {
+            return self.wrong();
+        }
+        Ok(())
+    }
+    /// `m t M` and its three numbers.
+    fn two_lines(&mut self) -> Answer<(u64, u64, u64)> {
+        self.fixed("m t M\n")?;
+        let m = self.number()?;
+        self.fixed(" ")?;
+        let t = self.number()?;
+        self.fixed(" ")?;
+        let size = self.number()?;
+        self.fixed("\n")?;
+        Ok((m, t, size))
+    }
+    /// Block text up to where no further block can start or none does: the number of blocks, and the bits.
+    fn blocks(&mut self, d: &Design, follows: &[Option<u8>]) -> Answer<(usize, Vec<u8>)> {
+        self.fixed("block bits\n")?;
+        let mut info = Vec::new();
+        let mut count = 0;
+        while count == 0 || count < 4096 && !follows.contains(&self.next()) {
+            count += 1;
+            self.fixed(&format!("{count} "))?;
+            info.extend(self.bits(d.side() * d.side())?);
+            self.fixed("\n")?;
+        }
+        Ok((count, info))
+    }
+}
+
+/// The two lines of a kit text, then rules 1 to 3.
+pub fn scan_kit(text: &[u8]) -> Answer<Design> {
+    let (m, t, size) = Text { bytes: text, at: 0, rule: 11 }.two_lines()?;
+    design(m, t, size)
+}
+
+/// "The reader takes two lines (11 ..), then 1 to 3, 6, then the rest (11); it doesn't judge lists."
+pub fn read_kit(bytes: &[u8], own: usize, parity: usize, inverse: usize) -> Answer<(Design, Kit)> {
+    let mut text = Text { bytes, at: 0, rule: 11 };
+    let (m, t, size) = text.two_lines()?;
+    let d = design(m, t, size)?;
+    lengths(&[(1, own, 2 * d.order()), (2, parity, 2 * d.order()), (3, inverse, d.order() * d.row_bytes())])?;
+    Ok((d, rest_of_kit(&mut text, &d)?))
+}
+
+fn rest_of_kit(text: &mut Text, d: &Design) -> Answer<Kit> {
+    let (mut own, mut parity, mut w_matrix) = (vec![], vec![], Matrix::zero(d.order()));
+    text.fixed("place self parity\n")?;
+    for place in 0..d.order() {
+        text.fixed(&format!("{place} "))?;
+        own.extend((text.number()? as u16).to_le_bytes());
+        text.fixed(" ")?;
+        parity.extend((text.number()? as u16).to_le_bytes());
+        text.fixed("\n")?;
+    }
+    text.fixed("row inverse\n")?;
+    for row in 0..d.order() {
+        text.fixed(&format!("{row} "))?;
+        let line = text.bits(d.order())?;
+        (0..d.order()).filter(|&column| line[column] == 1).for_each(|column| w_matrix.turn(row, column));
+        text.fixed("\n")?;
+    }
+    text.end()?;
+    Ok(Kit { m: d.m, t: d.t, size: d.size, own, parity, inverse: w_matrix.to_bytes() })
+}
+
+/// Block text: "`block bits`, then number and M × M bits, for 1 to 4,096 blocks numbered from 1 in order".
+pub fn scan_blocks(m: u64, t: u64, size: u64, bytes: &[u8]) -> Answer<(u64, Vec<u8>)> {
+    let d = design(m, t, size)?;
+    let mut text = Text { bytes, at: 0, rule: 12 };
+    let (count, info) = text.blocks(&d, &[None])?;
+    text.end()?;
+    Ok((count as u64, info))
+}
+
+/// The same into a buffer of this length (rule 6 at 4, after 12).
+pub fn read_blocks(m: u64, t: u64, size: u64, bytes: &[u8], info: usize) -> Answer<(u64, Vec<u8>)> {
+    let (count, bits) = scan_blocks(m, t, size, bytes)?;
+    lengths(&[(4, info, bits.len())])?;
+    Ok((count, bits))
+}
+
+/// `mend`'s text: "block text followed by group text in that form, with exactly G groups".
+pub fn scan_frame(m: u64, t: u64, size: u64, bytes: &[u8]) -> Answer<(u64, Vec<u8>, Vec<u8>)> {
+    let d = design(m, t, size)?;
+    let mut text = Text { bytes, at: 0, rule: 12 };
+    let (count, info) = text.blocks(&d, &[Some(b'g')])?;
+    let mut red = Vec::new();
+    text.fixed("group self parity\n")?;
+    for i in 1..=groups(count) {
+        text.fixed(&format!("{i} "))?;
+        red.extend(text.bits(d.order())?);
+        text.fixed(" ")?;
+        red.extend(text.bits(d.order())?);
+        text.fixed("\n")?;
+    }
+    text.end()?;
+    Ok((count as u64, info, red))
+}
+
+/// The same into two buffers of these lengths (rule 6 at 4 and 5, after 12).
+pub fn read_frame(m: u64, t: u64, size: u64, bytes: &[u8], info: usize, red: usize) -> Answer<(u64, Vec<u8>, Vec<u8>)> {
+    let (count, info_bits, red_bits) = scan_frame(m, t, size, bytes)?;
+    lengths(&[(4, info, info_bits.len()), (5, red, red_bits.len())])?;
+    Ok((count, info_bits, red_bits))
+}
+
+// ---------------------------------------------------------------- What is written
+
+fn characters(bits: &[u8]) -> String {
+    bits.iter().map(|&bit| if bit == 0 { '0' } else { '1' }).collect()
+}
+
+/// "number and M × M bits"
+pub fn block_line(number: u64, bits: &[u8]) -> String {
+    format!("{number} {}\n", characters(bits))
+}
+
+/// "number, Y, P"
+pub fn group_line(number: u64, own: &[u8], parity: &[u8]) -> String {
+    format!("{number} {} {}\n", characters(own), characters(parity))
+}
+
+/// "A refusal prints `refused place` and the two."
+pub fn refusal_lines(rule: u64, place: u64) -> String {
+    format!("refused place\n{rule} {place}\n")
+}
+
+/// "`rounds turned outside` and the three numbers"
+pub fn count_lines(counts: Counts) -> String {
+    format!("rounds turned outside\n{} {} {}\n", counts.0, counts.1, counts.2)
+}
+
+pub fn block_text(d: &Design, info: &[u8]) -> String {
+    let lines = info.chunks(d.side() * d.side()).zip(1..).map(|(block, i)| block_line(i, block));
+    format!("block bits\n{}", lines.collect::<String>())
+}
+
+pub fn group_text(d: &Design, red: &[u8]) -> String {
+    let lines = red.chunks(2 * d.order()).zip(1..).map(|(group, i)| {
+        let (own, parity) = group.split_at(d.order());
+        group_line(i, own, parity)
+    });
+    format!("group self parity\n{}", lines.collect::<String>())
+}
+
+/// Kit text of a kit with lists and inverse of the design's lengths.
+pub fn kit_text(kit: &Kit) -> String {
+    let order = (kit.m * kit.t * kit.size) as usize;
+    let w_matrix = Matrix::from_bytes(order, &kit.inverse);
+    let mut text = format!("m t M\n{} {} {}\nplace self parity\n", kit.m, kit.t, kit.size);
+    for (place, (own, parity)) in entries(&kit.own).into_iter().zip(entries(&kit.parity)).enumerate() {
+        text += &format!("{place} {own} {parity}\n");
+    }
+    text += "row inverse\n";
+    for row in 0..order {
+        let line: Vec<u8> = (0..order).map(|column| w_matrix.bit(row, column) as u8).collect();
+        text += &block_line(row as u64, &line);
+    }
+    text
+}
+
+// ---------------------------------------------------------------- Programs
+
+/// "A program tests 13 for both inputs, then reads the kit": rule 13, then the kit.
+fn program_kit(kit: &[u8], text: &[u8]) -> Answer<(Design, Kit)> {
+    if kit.len() > 32768 {
+        return Err((13, 1));
+    }
+    if text.len() > 32768 {
+        return Err((13, 2));
+    }
+    let d = scan_kit(kit)?;
+    read_kit(kit, 2 * d.order(), 2 * d.order(), d.order() * d.row_bytes())
+}
+
+fn frame_program(kit: &[u8], text: &[u8]) -> Answer<String> {
+    let (d, kit) = program_kit(kit, text)?;
+    let (blocks, info) = scan_blocks(d.m, d.t, d.size, text)?;
+    let red = encode(&kit, blocks, &info, red_len(&d, blocks as usize), d.kit_work())?;
+    Ok(group_text(&d, &red))
+}
+
+fn mend_program(kit: &[u8], text: &[u8]) -> Answer<String> {
+    let (d, kit) = program_kit(kit, text)?;
+    let (blocks, info, red) = scan_frame(d.m, d.t, d.size, text)?;
+    let lent = Received { m: d.m, t: d.t, size: d.size, blocks, own: kit.own, parity: kit.parity, info, red };
+    let (info, red, counts) = decode(&lent, 0, d.word_work())?;
+    Ok(block_text(&d, &info) + &group_text(&d, &red) + &count_lines(counts))
+}
+
+fn printed(answer: Answer<String>) -> String {
+    answer.unwrap_or_else(|(rule, place)| refusal_lines(rule, place))
+}
+
+/// What `frame` prints for kit.txt and standard input.
+pub fn frame_prints(kit: &[u8], text: &[u8]) -> String {
+    printed(frame_program(kit, text))
+}
+
+/// What `mend` prints for kit.txt and standard input.
+pub fn mend_prints(kit: &[u8], text: &[u8]) -> String {
+    printed(mend_program(kit, text))
+}
