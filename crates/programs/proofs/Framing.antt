@@ -26,7 +26,7 @@ use Rattle.frametext.proofs.Promises.{blocks-hold}
 use Rattle.programs.specs.Output.{frameCall, frameOutput}
 use Rattle.programs.specs.Steps.{FrameReady}
 use Rattle.programs.proofs.Bounds.{few-red, small-r}
-use Rattle.programs.proofs.Ready.{few-entries, kit-read, blocks-read, frame-verdict, frame-red}
+use Rattle.programs.proofs.Ready.{few-entries, kit-left, blocks-read, frame-verdict, frame-red}
 use Rattle.programs.proofs.Outputs.{frame-call-refused, frame-made}
 
 module _ (d : Design) (L : ℕ) (kit text : List ℕ) (own parity inverse info red work : ℕ)
@@ -67,7 +67,7 @@ module _ (d : Design) (L : ℕ) (kit text o₀ p₀ w₀ i₀ red : List ℕ) (w
 
     k : (readKitCall kit o₀ p₀ w₀ .self ≡ selfOf kit) × (readKitCall kit o₀ p₀ w₀ .parity ≡ parityOf kit)
         × (readKitCall kit o₀ p₀ w₀ .inverse ≡ inverseOf kit)
-    k = kit-read d kit text (F .scanned .started) o₀ p₀ w₀ (F .own-length) (F .parity-length) (F .inverse-length)
+    k = kit-left d kit text (F .scanned .started) o₀ p₀ w₀ (F .own-length) (F .parity-length) (F .inverse-length)
 
     b : i ≡ blockInfo (d .size) text
     b = ei ∙ blocks-read d L kit text (length o₀) (length p₀) (length w₀) (length i₀) (length red) work F i₀ refl

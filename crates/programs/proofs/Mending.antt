@@ -29,7 +29,7 @@ use Rattle.kittext.specs.Reader.{readKitCall}
 use Rattle.frametext.specs.Reader.{readFrameCall}
 use Rattle.programs.specs.Output.{mendCall, mendText, mendOutput, Printed}
 use Rattle.programs.specs.Steps.{MendReady, FrameFitsText, mendLines}
-use Rattle.programs.proofs.Ready.{kit-read, frame-read, mend-call}
+use Rattle.programs.proofs.Ready.{kit-left, frame-read, mend-call}
 use Rattle.programs.proofs.Room.{mend-few, mend-short}
 use Rattle.programs.proofs.Outputs.{mend-call-refused, mend-made}
 
@@ -110,7 +110,7 @@ module _ (d : Design) (L : ℕ) (kit text o₀ p₀ w₀ i₀ q₀ : List ℕ) (
       (ex : correctedOf x (frameOf i′ q′) ≡ decodeCall (d .m) (d .t) (d .size) L 0 o p i q work) where
     called : correctedOf x (frameOf i′ q′) ≡ mendCall kit text
     called =
-        let k = kit-read d kit text (F .scanned .started) o₀ p₀ w₀ (F .own-length) (F .parity-length) (F .inverse-length) in
+        let k = kit-left d kit text (F .scanned .started) o₀ p₀ w₀ (F .own-length) (F .parity-length) (F .inverse-length) in
         let f = frame-read d L kit text (length o₀) (length p₀) (length w₀) (length i₀) (length q₀) work F i₀ q₀ refl refl in
         ex
         ∙ mend-call d L kit text (length o₀) (length p₀) (length w₀) (length i₀) (length q₀) work F o p i q (eo ∙ k .0) (ep ∙ k .1) (ei ∙ f .0) (eq ∙ f .1)

@@ -8,15 +8,15 @@ use lib.ListN.{length, replicate, length-replicate}
 use Rattle.staircase.specs.Design.{order}
 use Rattle.staircase.specs.Frame.{groups}
 use Rattle.staircase.specs.System.{rowBytes}
-use Rattle.staircase.specs.Rules.{Verdict, _then_, designRules, listLengths, kitLengths, lengthRule, frameLengths, kitWork, wordWork}
+use Rattle.staircase.specs.Rules.{Verdict, _then_, lengthRule, frameLengths, kitWork, wordWork}
 use Rattle.staircase.specs.Rules.Verdict.{accepted, refused}
 use Rattle.staircase.specs.Calls.{Encoded, encodeVerdict, encodedBy, encodeCall, decodeCall}
-use Rattle.staircase.proofs.Rules.{then-first, then-rest, then-accepted, length-accepted}
+use Rattle.staircase.proofs.Rules.{then-accepted, length-accepted}
 use Rattle.design.specs.declared.Design.{Design}
 use Rattle.design.specs.Sizes.{paramsOf, orderOf}
 use Rattle.readers.specs.Verdicts.{kept}
-use Rattle.kittext.specs.Reader.{headNumber, kitParams, headRule, bodyRule, scanKit, selfOf, parityOf, inverseOf, readVerdict, readKitCall}
-use Rattle.kittext.proofs.Promises.{kit-order-small}
+use Rattle.kittext.specs.Reader.{kitParams, scanKit, selfOf, parityOf, inverseOf, readKitCall}
+use Rattle.kittext.proofs.Promises.{kit-order-small, kit-read}
 use Rattle.frametext.specs.Reader.{blockRule, blockCount, blockInfo, readBlocksCall, frameRule, frameCount, frameInfo, frameRed, readFrameCall}
 use Rattle.programs.specs.Output.{inputRule, frameCall, mendCall}
 use Rattle.programs.specs.Steps.{Started, FrameReady, MendReady}
@@ -40,35 +40,16 @@ module _ (d : Design) (kit text : List ℕ) (S : Started d kit text) where
   pub few-entries : orderOf d ≤ 181
   few-entries = rw order-is (few-rows (order (kitParams kit)) (omega (arith, S .kit-short, kit-order-small kit (S .read))))
 
-  -- the kit's reader
-  module _ (own parity w : List ℕ) (a : length own ≡ 2 * orderOf d) (b : length parity ≡ 2 * orderOf d) (c : length w ≡ orderOf d * rowBytes (orderOf d)) where
-    lengths : kitLengths (kitParams kit) own parity w ≡ accepted
-    unfolding kitLengths listLengths
-    lengths =
-        let n = order-is in
-        then-accepted
-        (then-accepted (length-accepted 1 (length own) (2 * order (kitParams kit)) (a ∙ ap (λ (k : ℕ). 2 * k) n))
-        (length-accepted 2 (length parity) (2 * order (kitParams kit)) (b ∙ ap (λ (k : ℕ). 2 * k) n)))
-        (length-accepted 3 (length w) (order (kitParams kit) * rowBytes (order (kitParams kit))) (c ∙ ap (λ (k : ℕ). k * rowBytes k) n))
-
-    verdict : readVerdict kit own parity w ≡ accepted
-    unfolding readVerdict scanKit
-    verdict =
-        let u : Verdict = headRule kit in
-        let v : Verdict = designRules (headNumber kit 0) (headNumber kit 1) (headNumber kit 2) in
-        let e : (u then v then bodyRule kit) ≡ accepted = S .read in
-        let f : (v then bodyRule kit) ≡ accepted = then-rest u (v then bodyRule kit) e in
-        then-accepted (then-first u (v then bodyRule kit) e)
-        (then-accepted (then-first v (bodyRule kit) f) (then-accepted lengths (then-rest v (bodyRule kit) f)))
-
-    pub kit-read : (readKitCall kit own parity w .self ≡ selfOf kit) × (readKitCall kit own parity w .parity ≡ parityOf kit)
-        × (readKitCall kit own parity w .inverse ≡ inverseOf kit)
-    unfolding readKitCall
-    kit-read = (
-      kept-new (readVerdict kit own parity w) (selfOf kit) own verdict,
-      kept-new (readVerdict kit own parity w) (parityOf kit) parity verdict,
-      kept-new (readVerdict kit own parity w) (inverseOf kit) w verdict,
-    )
+  -- the kit's reader leaves what the text shows
+  pub kit-left : (own parity w : List ℕ) → length own ≡ 2 * orderOf d → length parity ≡ 2 * orderOf d → length w ≡ orderOf d * rowBytes (orderOf d)
+      → (readKitCall kit own parity w .self ≡ selfOf kit) × (readKitCall kit own parity w .parity ≡ parityOf kit)
+      × (readKitCall kit own parity w .inverse ≡ inverseOf kit)
+  kit-left own parity w a b c =
+      let n = order-is in
+      let k =
+      kit-read kit own parity w (a ∙ ap (λ (i : ℕ). 2 * i) n) (b ∙ ap (λ (i : ℕ). 2 * i) n) (c ∙ ap (λ (i : ℕ). i * rowBytes i) n) (S .read)
+      in
+      (k .1, k .2, k .3)
 
 -- the encoder's call by its verdict
 measured : (m t M L k : ℕ) (o p w i a b : List ℕ) → length a ≡ length b → encodeVerdict m t M L o p w i a k ≡ encodeVerdict m t M L o p w i b k

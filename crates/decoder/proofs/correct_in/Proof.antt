@@ -61,13 +61,13 @@ run-rounds-requires c κs =
     let w = values-written (a .d .m) n (a .syndromes .now) (c .before .before .before .before .before .before .before .before .before .before .before .before .before .before .fill-syndromes .last .1 .1 .0) (c .before .before .before .before .before .before .before .before .before .before .before .before .before .before .fill-syndromes .ensures .0) (c .before .before .before .before .before .before .before .before .before .before .before .before .before .before .fill-syndromes .ensures .1) (omega (arith, p .3, p .4)) in
     let s = c .before .before .before .before .before .before .before .before .before .fill-sums .ensures in
     let T = tables-of (a .d) _ _ _ n (c .before .before .before .before .before .before .before .before .before .before .before .r .result) (p .0 .allowed) (c .before .before .before .before .before .before .before .before .before .before .before .before .before .before .before .before .before .before .before .before .before .before .before .fill-table .ensures .0) l (p .3) (c .before .before .before .before .before .before .before .before .before .before .before .r .ensures .0) (s .0) (s .1) (s .2 ∙ w .1) (c .before .before .before .before .before .before .before .before .before .before .before .before .before .before .before .before .before .before .before .fill-field .ensures) in
-    (ready-of _ _ _ (p .0) T l, p .0 .frame, p .1, p .6, c .before .before .before .before .before .before .before .before .before .before .before .before .before .before .before .before .before .before .before .before .before .before .before .before .before .rounds-allowed .ensures .1)
+    (ready-of _ _ _ (p .0) T l, p .0 .frame, p .1, p .6, omega (arith, c .before .before .before .before .before .before .before .before .before .before .before .before .before .before .before .before .before .before .before .before .before .before .before .before .before .rounds-allowed .ensures .1))
 
 outside-after-requires : tie.Need-outside-after-requires
 outside-after-requires c κs =
     let p = c .before .before .before .before .before .before .before .before .before .before .before .before .before .before .before .before .before .before .before .before .before .before .before .before .before .before .before .before .before .before .before .before .before .before .before .before .before .before .before .before .before .before .before .before .before .before .before .before .before .pre in
     let a = c .before .before .before .before .before .before .before .before .before .before .before .before .before .before .before .before .before .before .before .before .before .before .before .before .before .before .before .before .before .before .before .before .before .before .before .before .before .before .before .before .before .before .before .before .before .before .before .before .before .args in
-    let F = rounds-fit (words (paramsOf (a .d)) (listsOf (a .d) (a .own .now) (a .parity .now)) (a .blocks)) (c .before .before .before .before .before .before .before .before .before .before .before .before .before .before .before .before .before .before .before .before .before .before .before .before .before .before .before .before .before .before .before .before .before .before .before .before .before .before .rounds-allowed .result) _ (p .0 .frame) (c .before .before .before .before .before .before .before .before .before .before .before .before .run-rounds .ensures .0) refl in
+    let F = rounds-fit (words (paramsOf (a .d)) (listsOf (a .d) (a .own .now) (a .parity .now)) (a .blocks)) _ _ (p .0 .frame) (c .before .before .before .before .before .before .before .before .before .before .before .before .run-rounds .ensures .0) refl in
     (record { allowed = p .0 .allowed; some-blocks = p .0 .some-blocks; few-blocks = p .0 .few-blocks; lists = p .0 .lists; frame = F }, record { long = c .before .before .before .before .before .before .before .before .before .before .before .before .before .before .before .before .before .before .before .before .before .before .before .before .before .before .before .before .before .before .before .before .before .before .before .before .fill-table .ensures .1 ∙ p .3; powers = c .before .before .before .before .before .before .before .before .before .before .before .before .before .before .before .before .before .before .before .before .before .before .before .before .before .before .before .before .before .before .before .before .before .before .before .before .fill-table .ensures .0 }, c .before .before .before .before .before .before .before .before .before .before .before .before .run-rounds .ensures .2 ∙ p .1, c .before .before .before .before .before .before .before .before .before .before .before .before .run-rounds .ensures .1)
 
 same-length : tie.Need-same-length
