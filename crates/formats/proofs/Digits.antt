@@ -1,4 +1,5 @@
 -- Decimal numbers: what `numLen` and `value` find at the front of a text is `dec` of the value, and the other way round.
+-- Assumes nothing.
 use Prim.Native.Nat.{ℕ, zero, suc, _+_, _-_, _*_, _/_, _%_, _≤_, _<_}
 use mathlib.Core.Path.{_≡_, refl, ap, _∙_}
 use mathlib.Core.Bool.{Bool, true, false, cond}

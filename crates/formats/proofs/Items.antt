@@ -1,4 +1,5 @@
 -- What `item` finds at the front of a text: it shows the item, every shown item is found, and what is found depends on no byte past the next.
+-- Assumes nothing.
 use Prim.Native.Nat.{ℕ, zero, suc, _+_, _-_, _/_, _%_, _≤_, _<_}
 use mathlib.Core.Path.{_≡_, refl, sym, ap, _∙_}
 use mathlib.Core.Bool.{Bool, true, false, cond}

@@ -1,5 +1,6 @@
 -- The scan of a clear format accepts exactly its texts, with the values that they render, and refuses any other at the length of the longest
 -- start that it shares with a text.
+-- Assumes nothing.
 use Prim.Native.Nat.{ℕ, suc, _+_, _-_, _/_, _≤_, _<_}
 use mathlib.Core.Path.{_≡_, refl, sym, ap, _∙_}
 use mathlib.Core.Bool.{Bool, true, false, cond}
