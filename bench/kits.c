@@ -1,7 +1,7 @@
 /* kits m t M [seed]: finds the first seed from the given one (from 1 by default) whose random lists have an inverse. The seed goes to standard
-   error, the kit text to standard output. gcc -O3 -o kits kits.c plain.c */
+   error, the kit text to standard output. gcc -O3 -o kits kits.c plain_text.c plain.c */
 
-#include "plain.h"
+#include "plain_text.h"
 
 #include <stdio.h>
 #include <stdlib.h>
@@ -24,7 +24,8 @@ int main(int count, char **argument)
     }
     size_t bytes = (s.size + 7) / 8;
     uint8_t *self = malloc(2 * s.size), *parity = malloc(2 * s.size), *inverse = malloc(s.size * bytes);
-    if (!self || !parity || !inverse)
+    uint8_t *text = malloc(64 + s.size * ((size_t)s.size + 24));        /* four numbers, five other bytes and a row of the inverse a place */
+    if (!self || !parity || !inverse || !text)
         return 1;
     for (;; seed++) {
         plain_random_lists(m, t, M, seed, self, parity);
@@ -32,18 +33,10 @@ int main(int count, char **argument)
             break;
     }
     fprintf(stderr, "seed %llu\n", (unsigned long long)seed);
-    printf("m t M\n%u %u %u\nplace self parity\n", m, t, M);
-    for (unsigned p = 0; p < s.size; p++)
-        printf("%u %u %u\n", p, self[2 * p] + 256u * self[2 * p + 1], parity[2 * p] + 256u * parity[2 * p + 1]);
-    printf("row inverse\n");
-    for (unsigned i = 0; i < s.size; i++) {
-        printf("%u ", i);
-        for (unsigned j = 0; j < s.size; j++)
-            putchar('0' + (inverse[i * bytes + j / 8] >> (j % 8) & 1));
-        putchar('\n');
-    }
+    fwrite(text, 1, plain_kit_text(text, m, t, M, self, parity, inverse) - text, stdout);
     free(self);
     free(parity);
     free(inverse);
+    free(text);
     return 0;
 }

@@ -10,6 +10,8 @@
 #include <stddef.h>
 #include <stdint.h>
 
+enum { PLAIN_MAX_L = 4096 };
+
 typedef struct {
     unsigned r, n, k, size;     /* size is M * r */
 } plain_sizes;
