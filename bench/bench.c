@@ -3,45 +3,13 @@
    that the encoder makes drops out. The word checker and the decoder get frames with errors, a copy each, written just before. All times are the
    least of several turns, in which the two take turns. */
 
+#include "../include/bauchleton.h"
 #include "plain.h"
 
 #include <stdio.h>
 #include <stdlib.h>
 #include <string.h>
 #include <time.h>
-
-/* Each call answers 0, or the number of the rule that refuses. `answer` is a slice of as many entries as the line above the call names; one of
-   another length is left as it was. Entry 0 is the refusal's place. A refused call tells 0 in the others. No two slices may overlap. */
-
-/* place, r, n, k */
-uint64_t bauchleton_design(uint64_t m, uint64_t t, uint64_t size, uint64_t *answer, size_t answer_length);
-/* place */
-uint64_t bauchleton_check_kit(uint64_t m, uint64_t t, uint64_t size, const uint8_t *self, size_t self_length, const uint8_t *parity,
-                              size_t parity_length, const uint8_t *inverse, size_t inverse_length, uint8_t *work, size_t work_length,
-                              uint64_t *answer, size_t answer_length);
-/* place */
-uint64_t bauchleton_encode(uint64_t m, uint64_t t, uint64_t size, uint64_t blocks, const uint8_t *self, size_t self_length,
-                           const uint8_t *parity, size_t parity_length, const uint8_t *inverse, size_t inverse_length, const uint8_t *info,
-                           size_t info_length, uint8_t *red, size_t red_length, uint8_t *work, size_t work_length, uint64_t *answer,
-                           size_t answer_length);
-/* place, words outside the code */
-uint64_t bauchleton_check_words(uint64_t m, uint64_t t, uint64_t size, uint64_t blocks, const uint8_t *self, size_t self_length,
-                                const uint8_t *parity, size_t parity_length, const uint8_t *info, size_t info_length, const uint8_t *red,
-                                size_t red_length, uint8_t *work, size_t work_length, uint64_t *answer, size_t answer_length);
-/* place, rounds made, bits turned, words outside the code at the end */
-uint64_t bauchleton_decode(uint64_t m, uint64_t t, uint64_t size, uint64_t blocks, uint64_t rounds, const uint8_t *self, size_t self_length,
-                           const uint8_t *parity, size_t parity_length, uint8_t *info, size_t info_length, uint8_t *red, size_t red_length,
-                           uint8_t *work, size_t work_length, uint64_t *answer, size_t answer_length);
-/* place, the call that was refused (1 the encoder, 2 the decoder, 0 neither), then as the decoder */
-uint64_t bauchleton_loopback(uint64_t m, uint64_t t, uint64_t size, uint64_t blocks, uint64_t rounds, const uint8_t *self, size_t self_length,
-                             const uint8_t *parity, size_t parity_length, const uint8_t *inverse, size_t inverse_length,
-                             const uint8_t *info_errors, size_t info_errors_length, const uint8_t *red_errors, size_t red_errors_length,
-                             uint8_t *info, size_t info_length, uint8_t *red, size_t red_length, uint8_t *work, size_t work_length,
-                             uint64_t *answer, size_t answer_length);
-/* place, length of the stretch; kind 0 is a block, any other a group */
-uint64_t bauchleton_show(uint64_t m, uint64_t t, uint64_t size, uint64_t blocks, uint64_t kind, uint64_t number, const uint8_t *info,
-                         size_t info_length, const uint8_t *red, size_t red_length, uint8_t *out, size_t out_length, uint64_t *answer,
-                         size_t answer_length);
 
 enum { SHORT = 32, LONG = 32 + 512, TURNS = 3, FRAME_TURNS = 40 };
 

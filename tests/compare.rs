@@ -19,7 +19,7 @@ use std::process::{Command, Stdio};
 use std::rc::Rc;
 
 const GUARD: usize = 8;
-const OUT: usize = 300_000; // what bauchleton_frame and bauchleton_mend are lent
+const OUT: usize = 262_144; // the least that bauchleton_frame and bauchleton_mend want to be lent
 const INPUT: usize = 32_768; // rule 13
 
 // ---------------------------------------------------------------- Random numbers
@@ -446,17 +446,11 @@ impl Case<'_> {
     // The calls on texts. Buffers are lent with random bytes in them.
 
     fn scan_kit(&mut self, text: &[u8]) {
-        if cfg!(not(texts)) {
-            return;
-        }
         let (number, told) = answered(&scan_kit(text), |d| vec![d.m, d.t, d.size], 4);
         let expected = Expected { number, told, buffers: vec![text.to_vec()] };
         self.call("scan_kit", &[text], 0, expected, |b, _, a| host::texts::scan_kit(b[0], a));
     }
     fn read_kit(&mut self, text: &[u8], own: usize, parity: usize, inverse: usize) {
-        if cfg!(not(texts)) {
-            return;
-        }
         let old = [self.rng.bytes(own), self.rng.bytes(parity), self.rng.bytes(inverse)];
         let result = read_kit(text, own, parity, inverse);
         let (number, told) = answered(&result, |(d, _)| vec![d.m, d.t, d.size], 4);
@@ -468,17 +462,11 @@ impl Case<'_> {
         });
     }
     fn scan_blocks(&mut self, d: (u64, u64, u64), text: &[u8]) {
-        if cfg!(not(texts)) {
-            return;
-        }
         let (number, told) = answered(&scan_blocks(d.0, d.1, d.2, text), |(count, _)| vec![*count], 2);
         let expected = Expected { number, told, buffers: vec![text.to_vec()] };
         self.call("scan_blocks", &[text], 0, expected, |b, _, a| host::texts::scan_blocks(d, b[0], a));
     }
     fn read_blocks(&mut self, d: (u64, u64, u64), text: &[u8], info: usize) {
-        if cfg!(not(texts)) {
-            return;
-        }
         let old = self.rng.bytes(info);
         let result = read_blocks(d.0, d.1, d.2, text, info);
         let (number, told) = answered(&result, |(count, _)| vec![*count], 2);
@@ -490,17 +478,11 @@ impl Case<'_> {
         });
     }
     fn scan_frame(&mut self, d: (u64, u64, u64), text: &[u8]) {
-        if cfg!(not(texts)) {
-            return;
-        }
         let (number, told) = answered(&scan_frame(d.0, d.1, d.2, text), |(count, _, _)| vec![*count], 2);
         let expected = Expected { number, told, buffers: vec![text.to_vec()] };
         self.call("scan_frame", &[text], 0, expected, |b, _, a| host::texts::scan_frame(d, b[0], a));
     }
     fn read_frame(&mut self, d: (u64, u64, u64), text: &[u8], info: usize, red: usize) {
-        if cfg!(not(texts)) {
-            return;
-        }
         let old = [self.rng.bytes(info), self.rng.bytes(red)];
         let result = read_frame(d.0, d.1, d.2, text, info, red);
         let (number, told) = answered(&result, |(count, _, _)| vec![*count], 2);
@@ -513,9 +495,6 @@ impl Case<'_> {
     }
     /// A writer: `line` at `at` of a buffer of this length, or nothing where it has no room.
     fn line(&mut self, name: &str, out_len: usize, at: usize, line: String, lent: &[&[u8]], run: impl FnOnce(&mut [u8], &[&mut [u8]]) -> u64) {
-        if cfg!(not(texts)) {
-            return;
-        }
         let old = self.rng.bytes(out_len);
         let mut after = old.clone();
         let end = at.checked_add(line.len()).filter(|&end| end <= out_len);
@@ -532,9 +511,6 @@ impl Case<'_> {
     }
     /// bauchleton_frame and bauchleton_mend, lent a buffer of this length.
     fn prints(&mut self, mend: bool, kit: &[u8], text: &[u8], out_len: usize) {
-        if cfg!(not(texts)) {
-            return;
-        }
         let printed = if mend { mend_prints(kit, text) } else { frame_prints(kit, text) };
         let old = vec![0xA5; out_len];
         let mut after = old.clone();
@@ -605,9 +581,6 @@ impl Case<'_> {
 
 mod groups;
 
-/// Groups of calls on texts, left out where the library does not export these to C.
-const ON_TEXTS: [&str; 8] = ["kit-text-everywhere", "block-text-everywhere", "kit-text", "block-text", "frame-text", "lines", "frame", "mend"];
-
 fn main() {
     let mut words: Vec<String> = std::env::args().skip(1).collect();
     let mut programs = None;
@@ -623,9 +596,6 @@ fn main() {
     let (mut passed, mut failed) = (0, 0);
     for &(group, count, run) in groups::GROUPS {
         if only.is_some_and(|name| name != group) || group.starts_with("program-") && context.programs.is_none() {
-            continue;
-        }
-        if cfg!(not(texts)) && ON_TEXTS.contains(&group) {
             continue;
         }
         let start = std::time::Instant::now();

@@ -922,7 +922,7 @@ fn kit_texts(case: &mut Case) {
     let other = format!("m t M\n{} {} {}\n{}", number(), number(), number(), &text[case.rng.below(text.len())..]);
     case.scan_kit(other.as_bytes());
     case.read_kit(other.as_bytes(), own, own, inverse);
-    if let Ok(d) = scan_kit(other.as_bytes()) {
+    if let Ok(d) = design_of_kit(other.as_bytes()) {
         case.read_kit(other.as_bytes(), 2 * d.order(), 2 * d.order(), d.order() * d.row_bytes());
     }
 }

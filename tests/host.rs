@@ -117,8 +117,6 @@ pub fn show(
 
 // ---------------------------------------------------------------- The calls on texts
 
-/// Built with `--cfg texts` where the library exports its calls on texts to C.
-#[cfg(texts)]
 pub mod texts {
     use super::{In, Out, Told};
 
@@ -203,59 +201,4 @@ pub mod texts {
         let ((k, kl), (x, xl), (s, sl)) = (lend!(kit), lend!(text), lend_mut!(out));
         unsafe { bauchleton_mend(k, kl, x, xl, s, sl) }
     }
-}
-
-/// Until then these groups are left out, and nothing calls these.
-#[cfg(not(texts))]
-#[allow(unused_variables)]
-pub mod texts {
-    pub fn scan_kit(text: &[u8], answer: &mut [u64]) -> u64 {
-            unreachable!()
-        }
-
-    pub fn read_kit(text: &[u8], own: &mut [u8], parity: &mut [u8], inverse: &mut [u8], answer: &mut [u64]) -> u64 {
-            unreachable!()
-        }
-
-    pub fn scan_blocks((m, t, size): (u64, u64, u64), text: &[u8], answer: &mut [u64]) -> u64 {
-            unreachable!()
-        }
-
-    pub fn read_blocks((m, t, size): (u64, u64, u64), text: &[u8], info: &mut [u8], answer: &mut [u64]) -> u64 {
-            unreachable!()
-        }
-
-    pub fn scan_frame((m, t, size): (u64, u64, u64), text: &[u8], answer: &mut [u64]) -> u64 {
-            unreachable!()
-        }
-
-    pub fn read_frame(
-        (m, t, size): (u64, u64, u64), text: &[u8], info: &mut [u8], red: &mut [u8], answer: &mut [u64],
-    ) -> u64 {
-            unreachable!()
-        }
-
-    pub fn block_line(out: &mut [u8], at: usize, number: u64, bits: &[u8]) -> u64 {
-            unreachable!()
-        }
-
-    pub fn group_line(out: &mut [u8], at: usize, number: u64, own: &[u8], parity: &[u8]) -> u64 {
-            unreachable!()
-        }
-
-    pub fn refusal_lines(out: &mut [u8], at: usize, rule: u64, place: u64) -> u64 {
-            unreachable!()
-        }
-
-    pub fn count_lines(out: &mut [u8], at: usize, rounds: u64, turned: u64, outside: u64) -> u64 {
-            unreachable!()
-        }
-
-    pub fn frame(kit: &[u8], text: &[u8], out: &mut [u8]) -> u64 {
-            unreachable!()
-        }
-
-    pub fn mend(kit: &[u8], text: &[u8], out: &mut [u8]) -> u64 {
-            unreachable!()
-        }
 }

@@ -765,9 +765,16 @@ impl Text<'_> {
 }
 
 /// The two lines of a kit text, then rules 1 to 3.
-pub fn scan_kit(text: &[u8]) -> Answer<Design> {
+pub fn design_of_kit(text: &[u8]) -> Answer<Design> {
     let (m, t, size) = Text { bytes: text, at: 0, rule: 11 }.two_lines()?;
     design(m, t, size)
+}
+
+/// The same, then the rest: a kit text judged without buffers.
+pub fn scan_kit(text: &[u8]) -> Answer<Design> {
+    let d = design_of_kit(text)?;
+    read_kit(text, 2 * d.order(), 2 * d.order(), d.order() * d.row_bytes())?;
+    Ok(d)
 }
 
 /// "The reader takes two lines (11 ..), then 1 to 3, 6, then the rest (11); it doesn't judge lists."
@@ -906,7 +913,7 @@ fn program_kit(kit: &[u8], text: &[u8]) -> Answer<(Design, Kit)> {
     if text.len() > 32768 {
         return Err((13, 2));
     }
-    let d = scan_kit(kit)?;
+    let d = design_of_kit(kit)?;
     read_kit(kit, 2 * d.order(), 2 * d.order(), d.order() * d.row_bytes())
 }
 

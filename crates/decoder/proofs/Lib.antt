@@ -1,4 +1,2 @@
-pub mod Groups
-pub mod Limit
 pub mod Whole
 pub mod Verdict

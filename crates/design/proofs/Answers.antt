@@ -3,7 +3,7 @@
 --   passed-then    after a check that passed the rest decides
 --   check-refused, check-passed    a refusal is not accepted, and a check that passed is
 --   design-refused, design-made    the refusal of a design is that of a check, and a design that was made is accepted
---   made-params    a design that was made has the sizes that it was made from
+--   made-params, made-allowed    a design that was made has the sizes that it was made from, and is allowed
 -- Assumes nothing.
 use mathlib.Core.Path.{_≡_, refl, sym, ap, _∙_}
 use mathlib.Core.Logic.{_≢_}
@@ -19,7 +19,7 @@ use Rattle.design.specs.declared.Check.the-variants as check
 use Rattle.design.specs.declared.Design.{Design}
 use Rattle.design.specs.declared.Designed.{Designed}
 use Rattle.design.specs.declared.Designed.the-variants as designed
-use Rattle.design.specs.Answers.{refusalVerdict, verdictOf, designVerdict, DesignIs}
+use Rattle.design.specs.Answers.{refusalVerdict, verdictOf, designVerdict, DesignIs, Allowed, DesignAllowed}
 
 refusal-stays : (r : Refusal) (v : Verdict) → refusalVerdict r ≡ (refusalVerdict r then v)
 unfolding refusalVerdict
@@ -64,3 +64,7 @@ module _ {a : Designed} {d : Design} (e : a ≡ designed.Made d) where
   pub made-params : (m t M : ℕ) → DesignIs a m t M → params (d .m) (d .t) (d .size) ≡ params m t M
   unfolding DesignIs
   made-params m t M h = let i : DesignIs (designed.Made d) m t M = rw e at h in rw (i .0, i .1, i .2)
+
+pub made-allowed : {a : Designed} {d : Design} → a ≡ designed.Made d → DesignAllowed a → Allowed d
+unfolding DesignAllowed
+made-allowed e h = rw e at h

@@ -3,8 +3,7 @@
 //   r, n, k, order, area, row_bytes             the sizes of a design
 //   check_count(blocks), check_rounds(rounds)   rules 4 and 5
 //   design_check(a)                             the answer of `Design::new` as a check's
-//   check_length(place, have, want)             rule 6, for one slice
-//   group_count, check_frame_lengths            the groups of a frame, and rule 6 for its two buffers
+//   group_count                                 the groups of a frame
 //
 // An answer is an enum. `refusalVerdict`, `verdictOf` and `designVerdict` of specs/ give the table's number and place of each case, and each
 // contract says that the answer is the verdict of the rule in the crate `staircase`, for every argument that the `requires` line lets in.
@@ -15,7 +14,7 @@ ghost use mathlib.Core.Path.{_≡_};
 ghost use Prim.Native.Nat.{_+_, _*_, _/_, _≤_, _<_};
 ghost use Rattle.staircase.specs.Design.{params, most-blocks};
 ghost use Rattle.staircase.specs.Frame.{groups};
-ghost use Rattle.staircase.specs.Rules.{outOfRange, designRules, countRule, roundsRule, lengthRule, frameLengths};
+ghost use Rattle.staircase.specs.Rules.{outOfRange, designRules, countRule, roundsRule};
 ghost use Rattle.design.specs.Answers.{verdictOf, designVerdict, DesignIs, DesignAllowed};
 
 // A refusal: a rule of the table, by its name there, with the place.
@@ -56,11 +55,6 @@ const MOST_BLOCKS: u64 = 4096;
 
 // Rule 5: "above 64".
 const MOST_ROUNDS: u64 = 64;
-
-// Rule 6: "1 self, 2 parity, 3 inverse, 4 information, 5 redundancy, 6 working".
-const INFORMATION: u64 = 4;
-
-const REDUNDANCY: u64 = 5;
 
 // `x` is not from `low` to `high`.
 fn out_of_range(low: u64, high: u64, x: u64) -> bool
@@ -177,17 +171,7 @@ pub fn check_rounds(rounds: u64) -> Check
     Check::Passed
 }
 
-// Rule 6 for the slice that the rule calls `place`, which has `have` bytes where `want` are due. Constant work.
-pub fn check_length(place: u64, have: usize, want: usize) -> Check
-    ensures { λ a. ⌜ verdictOf a ≡ lengthRule place have want ⌝ }
-{
-    if have != want {
-        return Check::Refused(Refusal::Length(place));
-    }
-    Check::Passed
-}
-
-// The answer of `Design::new` as a check's. Constant work, as in the two functions below.
+// The answer of `Design::new` as a check's. Constant work, as in the function below.
 pub fn design_check(a: Designed) -> Check
     ensures { λ c. ⌜ verdictOf c ≡ designVerdict a ⌝ }
 {
@@ -203,18 +187,4 @@ pub fn group_count(blocks: u64) -> u64
     ensures { λ a. ⌜ a ≡ groups blocks ⌝ }
 {
     (blocks + 1) / 2
-}
-
-// Rule 6 for the lent information and redundancy of a frame of `blocks` blocks.
-pub fn check_frame_lengths(d: Design, blocks: u64, info: &[u8], red: &[u8]) -> Check
-    requires { ⌜ blocks ≤ most-blocks ⌝ }
-    ensures { λ a. ⌜ verdictOf a ≡ frameLengths (params (d .m) (d .t) (d .size)) blocks (now (info .entry)) (now (red .entry)) ⌝ }
-{
-    let info_length = (blocks as usize) * d.area();
-    let red_length = (group_count(blocks) as usize) * (2 * d.order());
-    let a = check_length(INFORMATION, info.len(), info_length);
-    let Check::Passed = a else {
-        return a;
-    };
-    check_length(REDUNDANCY, red.len(), red_length)
 }

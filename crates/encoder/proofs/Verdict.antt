@@ -23,7 +23,7 @@ use Rattle.design.specs.Answers.{verdictOf, designVerdict, DesignIs, Allowed}
 use Rattle.design.proofs.Answers.{refused-then, check-refused, check-passed, design-refused, design-made, made-params}
 use Rattle.design.proofs.Accepted.{count-limits, frame-lengths}
 use Rattle.rules.proofs.Accepted.{lists-permute, bytes-bits}
-use Rattle.kit.proofs.Verdict.{lengths-fit}
+use Rattle.lengths.proofs.Fit.{lengths-fit}
 use Rattle.frames.specs.Groups.{FrameFits}
 use Rattle.encoder.specs.Checks.{contentRules, lengthRules, frameRules}
 

@@ -30,7 +30,7 @@ fn check_contents(
 {
     let n = d.order();
     let rb = d.row_bytes();
-    let working = design::check_length(kit::WORKING, work.len(), n * rb);
+    let working = lengths::check_length(lengths::WORKING, work.len(), n * rb);
     let Check::Passed = working else {
         return working;
     };
@@ -56,11 +56,11 @@ fn check_lengths(
     ensures { λ a. ⌜ verdictOf a ≡ lengthRules (paramsOf d) blocks (now (own .entry)) (now (parity .entry)) (now (inverse .entry)) (now (info .entry))
         (now (red .entry)) (length (now (work .entry))) ⌝ }
 {
-    let kit = kit::check_kit_lengths(d, own, parity, inverse);
+    let kit = lengths::check_kit_lengths(d, own, parity, inverse);
     let Check::Passed = kit else {
         return kit;
     };
-    let frame = design::check_frame_lengths(d, blocks, info, red);
+    let frame = lengths::check_frame_lengths(d, blocks, info, red);
     let Check::Passed = frame else {
         return frame;
     };

@@ -109,7 +109,7 @@ abbrev pub continue : Walk → (ℕ → Scan) → Scan
 continue (stuck q) k = refused q
 continue (past ws q) k = prefix ws (k q)
 
-prefix-nil : (x : Scan) → prefix [] x ≡ x
+pub prefix-nil : (x : Scan) → prefix [] x ≡ x
 prefix-nil (refused k) = refl
 prefix-nil (read l vs) = refl
 
@@ -199,6 +199,15 @@ walk-spell (num ∷ byte b ∷ is) (v ∷ ws) t s at h k e =
 abbrev pub Oks : List Item → Type 0
 Oks [] = Unit {0}
 Oks (i ∷ is) = Ok i × Oks is
+
+pub tidy-oks : (is : List Item) → Tidy is → Oks is
+tidy-oks [] h = tt
+tidy-oks (byte b ∷ is) h = (h .0, tidy-oks is (h .1))
+tidy-oks (bit ∷ is) h = (tt, tidy-oks is h)
+tidy-oks (num ∷ []) h = absurd h
+tidy-oks (num ∷ byte b ∷ is) h = (tt, (h .1, tidy-oks is (h .2)))
+tidy-oks (num ∷ num ∷ is) h = absurd h
+tidy-oks (num ∷ bit ∷ is) h = absurd h
 
 pub record Passed (is : List Item) (s : List ℕ) (at : ℕ) (ws : List ℕ) (q : ℕ) : Type 0 where
   pub fit : Fit is ws

@@ -1,1 +1,1 @@
-// Text formats as data. No code: the definitions are in specs/, what holds of every format in proofs/ (Scan: the scan is right; Spelling: lists of items).
+// Text formats as data. No code: the definitions are in specs/, what holds of every format in proofs/ (Scan: the scan is right; Spelling, Parts: lists of items).

@@ -1,6 +1,6 @@
 // `frame`: reads kit.txt and, on standard input, block text, and prints group text, or a refusal.
 //
-// Both inputs are read up to one byte more than rule 13 lets through. Everything that is decided is in the crate `programs`.
+// Both inputs are read up to one byte more than rule 13 lets through. Everything that is decided is in the crate `framing`.
 use libc::STDIN_FILENO;
 use libc::STDOUT_FILENO;
 
@@ -33,6 +33,6 @@ fn main() {
         return;
     }
     let mut out = [0u8; 262144];
-    let m = programs::frame_output(&kit[..k], &text[..n], &mut out);
+    let m = framing::frame_output(&kit[..k], &text[..n], &mut out);
     io::write_all(STDOUT_FILENO, &out[..m]);
 }

@@ -13,13 +13,13 @@ use Rattle.formats.specs.Format.{Scan, read, scan}
 use Rattle.formats.specs.Items.{verdict}
 use Rattle.staircase.specs.Design.{most-blocks}
 use Rattle.readers.specs.Verdicts.{scanRule, mark, valuesOf}
-use Rattle.frametext.specs.FrameText.{blockFormat, frameFormat}
-use Rattle.frametext.specs.Judged.{foundScan}
+use Rattle.framescan.specs.FrameText.{blockFormat, frameFormat}
+use Rattle.framescan.specs.Judged.{foundScan}
 use Rattle.frametext.specs.Reader.{blockScan, blockRule, blockCount, frameScan, frameRule, frameCount, blocksVerdict, CountIs}
 use Rattle.frametext.specs.declared.Blocks.{Blocks}
 use Rattle.frametext.specs.declared.Blocks.the-variants.{Read, Broken}
-use Rattle.frametext.specs.declared.Found.{Found}
-use Rattle.frametext.specs.declared.Found.the-variants.{Count, Wrong}
+use Rattle.framescan.specs.declared.Found.{Found}
+use Rattle.framescan.specs.declared.Found.the-variants.{Count, Wrong}
 
 scan-wrong : (x : Scan) (q : ℕ) → format.refused q ≡ verdict x → x ≡ format.refused q
 scan-wrong (format.refused r) q e = sym e

@@ -24,14 +24,14 @@ use Rattle.design.specs.Answers.{refusalVerdict, verdictOf}
 use Rattle.design.proofs.Answers.{check-refused, check-passed}
 use Rattle.design.proofs.Accepted.{length-equal, frame-lengths}
 use Rattle.readers.specs.Verdicts.{scanRule, mark, valuesOf, kept}
-use Rattle.frametext.specs.FrameText.{blockFormat, frameFormat, groupLines}
-use Rattle.frametext.specs.Judged.{foundScan}
+use Rattle.framescan.specs.FrameText.{blockFormat, frameFormat, groupLines}
+use Rattle.framescan.specs.Judged.{foundScan}
 use Rattle.frametext.specs.Reader.{blockScan, blockRule, blockCount, blockInfo, readBlocksCall, blocksVerdict, CountIs}
 use Rattle.frametext.specs.Reader.{frameScan, frameRule, frameCount, frameInfo, frameRed, readFrameCall}
 use Rattle.frametext.specs.declared.Blocks.{Blocks}
 use Rattle.frametext.specs.declared.Blocks.the-variants.{Read, Refused}
-use Rattle.frametext.specs.declared.Found.{Found}
-use Rattle.frametext.specs.declared.Found.the-variants.{Count, Wrong}
+use Rattle.framescan.specs.declared.Found.{Found}
+use Rattle.framescan.specs.declared.Found.the-variants.{Count, Wrong}
 use Rattle.frametext.proofs.Answering.{found-wrong, found-count, blocks-found, blocks-told, frame-found, frame-told}
 use Rattle.frametext.proofs.Parts.{BlockParts, block-parts, FrameParts, frame-parts}
 

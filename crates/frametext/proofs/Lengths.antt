@@ -1,58 +1,20 @@
--- How many values items take, that these are bits, and how long their texts are at least.
---   takes, fit-length         the number of values
+-- How many values the lines of a text take, that these are bits, and how long texts are at least.
 --   Bare, fit-bits            items without numbers have bits as values
 --   spell-long                a text has a byte at least for each item
---   passed-length             the values that a walk passes with
---   lines-take .. groups-long the same of the lines of blocks and groups
+--   lines-take .. groups-long the lines of blocks and groups
 -- Assumes nothing.
 use Prim.Native.Nat.{ℕ, zero, suc, _+_, _*_, _≤_, _<_}
 use mathlib.Core.Path.{_≡_, refl, sym, ap, _∙_}
 use mathlib.Core.List.{List, [], _∷_, _++_}
 use native.Mathlib.Omega.{arith}
-use native.Mathlib.Nat.{zero-add, suc-add, zero-mul, suc-mul}
+use native.Mathlib.Nat.{zero-mul, suc-mul}
 use lib.ListN.{length, length-append, length-replicate}
 use Rattle.bch.specs.Polynomial.{Bits}
 use Rattle.formats.specs.Format.{Item, byte, num, bit, dec}
-use Rattle.formats.specs.Items.{lits, bits, bitsLine, bitsLines, past, walk, spell, Fit}
+use Rattle.formats.specs.Items.{lits, bits, bitsLine, bitsLines, spell, Fit}
 use Rattle.formats.proofs.Items.{dec-long}
-use Rattle.formats.proofs.Spelling.{Tidy, Oks, walk-sound}
-use Rattle.frametext.specs.FrameText.{groupLine, groupLines}
-
--- ---- values
-
--- how many values the items take
-unfoldable pub takes : List Item → ℕ
-takes [] = 0
-takes (byte b ∷ is) = takes is
-takes (num ∷ is) = suc (takes is)
-takes (bit ∷ is) = suc (takes is)
-
-pub fit-length : (is : List Item) (vs : List ℕ) → Fit is vs → length vs ≡ takes is
-unfolding takes
-fit-length [] [] f = refl
-fit-length [] (v ∷ vs) f = absurd f
-fit-length (byte b ∷ is) vs f = fit-length is vs f
-fit-length (num ∷ is) [] f = absurd f
-fit-length (num ∷ is) (v ∷ vs) f = ap suc (fit-length is vs (f .1))
-fit-length (bit ∷ is) [] f = absurd f
-fit-length (bit ∷ is) (v ∷ vs) f = ap suc (fit-length is vs (f .1))
-
-takes-append : (is js : List Item) → takes (is ++ js) ≡ takes is + takes js
-unfolding takes
-takes-append [] js = sym (zero-add (takes js))
-takes-append (byte b ∷ is) js = takes-append is js
-takes-append (num ∷ is) js = ap suc (takes-append is js) ∙ sym (suc-add (takes is) (takes js))
-takes-append (bit ∷ is) js = ap suc (takes-append is js) ∙ sym (suc-add (takes is) (takes js))
-
-takes-lits : (bs : List ℕ) → takes (lits bs) ≡ 0
-unfolding takes
-takes-lits [] = refl
-takes-lits (b ∷ bs) = takes-lits bs
-
-takes-bits : (n : ℕ) → takes (bits n) ≡ n
-unfolding takes
-takes-bits zero = refl
-takes-bits (suc n) = ap suc (takes-bits n)
+use Rattle.framescan.specs.FrameText.{groupLine, groupLines}
+use Rattle.framefill.proofs.Takes.{takes, takes-append, line-takes, group-takes}
 
 -- ---- bits
 
@@ -104,35 +66,7 @@ lits-length : (bs : List ℕ) → length (lits bs) ≡ length bs
 lits-length [] = refl
 lits-length (b ∷ bs) = ap suc (lits-length bs)
 
--- ---- what a walk passes with
-
-tidy-oks : (is : List Item) → Tidy is → Oks is
-tidy-oks [] h = tt
-tidy-oks (byte b ∷ is) h = (h .0, tidy-oks is (h .1))
-tidy-oks (bit ∷ is) h = (tt, tidy-oks is h)
-tidy-oks (num ∷ []) h = absurd h
-tidy-oks (num ∷ byte b ∷ is) h = (tt, (h .1, tidy-oks is (h .2)))
-tidy-oks (num ∷ num ∷ is) h = absurd h
-tidy-oks (num ∷ bit ∷ is) h = absurd h
-
-pub passed-length : (is : List Item) (s : List ℕ) (at : ℕ) (ys : List ℕ) (q : ℕ) → Tidy is → past ys q ≡ walk is s at → length ys ≡ takes is
-passed-length is s at ys q h e = fit-length is ys (walk-sound is s at ys q (tidy-oks is h) (sym e) .fit)
-
 -- ---- the lines of blocks
-
-pub part-takes : (n : ℕ) → takes (byte 32 ∷ bits n) ≡ n
-unfolding takes
-part-takes n = takes-bits n
-
-feed-takes : takes (byte 10 ∷ []) ≡ 0
-unfolding takes
-feed-takes = refl
-
-pub line-takes : (n p : ℕ) → takes (bitsLine n p) ≡ n
-unfolding bitsLine
-line-takes n p =
-    let front : List Item = lits (dec p) ++ (byte 32 ∷ bits n) in
-    omega (arith, takes-append front (byte 10 ∷ []), takes-append (lits (dec p)) (byte 32 ∷ bits n), takes-lits (dec p), part-takes n, feed-takes)
 
 pub lines-take : (n p k : ℕ) → takes (bitsLines n p k) ≡ k * n
 unfolding bitsLines takes
@@ -169,13 +103,6 @@ lines-long n p (suc k) = sum (length (bitsLine n p)) (length (bitsLines n (suc p
     sum a b e f g = omega (arith, suc-mul k (n + 3))
 
 -- ---- the lines of groups
-
-pub group-takes : (n p : ℕ) → takes (groupLine n p) ≡ 2 * n
-unfolding groupLine
-group-takes n p =
-    let last : List Item = (byte 32 ∷ bits n) ++ (byte 10 ∷ []) in
-    let both : List Item = (byte 32 ∷ bits n) ++ last in
-    omega (arith, takes-append (lits (dec p)) both, takes-append (byte 32 ∷ bits n) last, takes-append (byte 32 ∷ bits n) (byte 10 ∷ []), takes-lits (dec p), part-takes n, feed-takes)
 
 pub groups-take : (n p k : ℕ) → takes (groupLines n p k) ≡ k * (2 * n)
 unfolding groupLines takes

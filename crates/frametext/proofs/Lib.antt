@@ -1,7 +1,5 @@
 pub mod Texts
-pub mod Judging
 pub mod Lengths
-pub mod Filling
 pub mod Parts
 pub mod Answering
 pub mod Calls

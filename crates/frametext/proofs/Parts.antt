@@ -10,12 +10,14 @@ use lib.ListN.{length, drop, length-drop}
 use lib.Seq.{drop-drop, drop-append-seam}
 use Rattle.formats.specs.Format.{Item, read, scan}
 use Rattle.formats.specs.Items.{bitsLines, past, walk, spell, Fit}
+use Rattle.formats.proofs.Parts.{Split, fit-split}
 use Rattle.formats.proofs.Spelling.{walk-spell, tidy-bitsLines}
 use Rattle.staircase.specs.Design.{most-blocks}
 use Rattle.staircase.specs.Frame.{groups}
-use Rattle.frametext.specs.FrameText.{blockFormat, frameFormat, groupLines, groupItems, BlockText, FrameText}
-use Rattle.frametext.proofs.Texts.{Split, fit-append, fit-split, tidy-groupLines, blocks-read, frame-read}
-use Rattle.frametext.proofs.Lengths.{fit-length, lines-take, groups-take}
+use Rattle.framescan.specs.FrameText.{blockFormat, frameFormat, groupLines, groupItems, BlockText, FrameText}
+use Rattle.frametext.proofs.Texts.{tidy-groupLines, blocks-read, frame-read}
+use Rattle.framefill.proofs.Takes.{fit-length}
+use Rattle.frametext.proofs.Lengths.{lines-take, groups-take}
 
 -- ---- block text
 
@@ -73,9 +75,13 @@ frame-parts area n L vs s e = go (frame-read area n most-blocks L vs s (omega ar
     js = groupLines n 1 (groups L)
 
     split : 1 ≤ L → L ≤ most-blocks → drop 11 s ≡ spell (is ++ groupItems n (groups L)) vs → Split is (groupItems n (groups L)) vs → FrameParts area n L vs s
-    split h k d (us, ws, f, g, w) =
+    split h k d S =
+        let us : List ℕ = S .us in
+        let ws : List ℕ = S .vs in
+        let f : Fit is us = S .left in
+        let g : Fit (groupItems n (groups L)) ws = S .right in
         let G : List Item = groupItems n (groups L) in
-        let a : drop 11 s ≡ spell is us ++ spell G ws = d ∙ ap (spell (is ++ G)) w ∙ fit-append is G us ws f g .1 in
+        let a : drop 11 s ≡ spell is us ++ spell G ws = d ∙ S .spelt in
         let q : ℕ = 11 + length (spell is us) in
         let b : drop q s ≡ spell G ws = behind (spell is us) (spell G ws) s 11 a in
         let c : drop (q + 18) s ≡ spell js ws ++ [] = sym (drop-drop 18 q s) ∙ ap (λ (l : List ℕ). drop 18 l) b ∙ sym (append-nil (spell js ws)) in
@@ -85,7 +91,7 @@ frame-parts area n L vs s e = go (frame-read area n most-blocks L vs s (omega ar
           few = k;
           info = us;
           red = ws;
-          whole = w;
+          whole = S .all;
           info-size = fit-length is us f ∙ lines-take area 1 L;
           red-size = fit-length js ws g ∙ groups-take n 1 (groups L);
           middle = q;

@@ -19,10 +19,11 @@ use Rattle.staircase.specs.Design.{most-blocks}
 use Rattle.staircase.specs.Frame.{groups}
 use Rattle.staircase.specs.Rules.Verdict.{accepted, refused}
 use Rattle.readers.specs.Verdicts.{scanRule, mark, valuesOf}
-use Rattle.frametext.specs.FrameText.{blockNames, groupNames, blockFormat, frameFormat, groupLines, BlockText, FrameText}
+use Rattle.framescan.specs.FrameText.{blockNames, groupNames, blockFormat, frameFormat, groupLines, BlockText, FrameText}
 use Rattle.frametext.specs.Reader.{blockScan, blockRule, blockCount, blockInfo, frameScan, frameRule, frameCount, frameInfo, frameRed}
 use Rattle.frametext.proofs.Texts.{clear-blocks, clear-frame, blocks-union, union-blocks, frame-union, union-frame, blocks-read, frame-read}
-use Rattle.frametext.proofs.Lengths.{fit-length, lines-take, fit-bits, bare-append, lines-bare, groups-bare, spell-long, lines-long, groups-long}
+use Rattle.framefill.proofs.Takes.{fit-length}
+use Rattle.frametext.proofs.Lengths.{lines-take, fit-bits, bare-append, lines-bare, groups-bare, spell-long, lines-long, groups-long}
 use Rattle.frametext.proofs.Parts.{frame-parts}
 
 -- ---- a scan by its rule

@@ -3,7 +3,6 @@
 --   blocks-union, union-blocks    a text of the block format is a block text of some number of blocks, and the other way round
 --   frame-union, union-frame      the same of frame text
 --   blocks-read, frame-read       what the scan accepts is such a text
---   fit-append, fit-split         items put together, with their values
 -- Assumes nothing.
 use Prim.Native.Nat.{ℕ, zero, suc, _+_, _-_, _≤_, _<_}
 use mathlib.Core.Path.{_≡_, refl, sym, ap, subst, _∙_}
@@ -12,13 +11,15 @@ use mathlib.Core.Logic.{inl, inr}
 use native.Mathlib.Omega.{arith}
 use borrow.Author.Tests.{ne-eqb}
 use lib.Dec.{eqb}
-use Rattle.formats.specs.Format.{dec, Item, byte, num, bit, Format, end, _▷_, Renders, read, scan, Avoids, Begins, Clear}
-use Rattle.formats.specs.Items.{lits, seq, bits, bitsLine, bitsLines, spell, Fit, Spells}
+use Rattle.formats.specs.Format.{Item, byte, Format, end, _▷_, Renders, read, scan, Avoids, Begins, Clear}
+use Rattle.formats.specs.Items.{lits, seq, bitsLine, bitsLines, spell, Fit, Spells}
+use Rattle.formats.proofs.Parts.{fit-append, fit-split}
 use Rattle.formats.proofs.Scan.{dec-head, scan-sound}
-use Rattle.formats.proofs.Spelling.{seq-renders, renders-seq, Spelt, Tidy, clear-seq, tidy-append, tidy-dec, tidy-bits, tidy-bitsLine}
+use Rattle.formats.proofs.Spelling.{seq-renders, renders-seq, Spelt, Tidy, clear-seq, tidy-append, tidy-bitsLine}
 use Rattle.staircase.specs.Frame.{groups}
-use Rattle.frametext.specs.FrameText.{blockNames, blockTail, blockFormat, groupNames, groupLine, groupLines, groupTail, frameTail, frameFormat}
-use Rattle.frametext.specs.FrameText.{blockItems, groupItems, BlockText, FrameText}
+use Rattle.framescan.specs.FrameText.{blockNames, blockTail, blockFormat, groupNames, groupLine, groupLines, groupTail, frameTail, frameFormat}
+use Rattle.framescan.specs.FrameText.{blockItems, groupItems, BlockText, FrameText}
+use Rattle.framefill.proofs.Takes.{tidy-groupLine}
 
 -- CLEAR.
 begins-row : (area p : ℕ) (F : Format) → p < 10000 → Begins (seq (bitsLine area p) F)
@@ -42,13 +43,6 @@ unfolding blockFormat
 clear-blocks area most l h =
     clear-seq (lits blockNames) (seq (bitsLine area 1) (blockTail area (most - 1) 1)) (omega arith)
     (clear-seq (bitsLine area 1) (blockTail area (most - 1) 1) (tidy-bitsLine area 1 (omega arith)) (clear-blockTail area (most - 1) 1 (omega arith)))
-
-pub tidy-groupLine : (n p : ℕ) → p < 10000 → Tidy (groupLine n p)
-unfolding groupLine
-tidy-groupLine n p h =
-    let last : Tidy ((byte 32 ∷ bits n) ++ (byte 10 ∷ [])) = tidy-append (byte 32 ∷ bits n) (byte 10 ∷ []) (omega arith, tidy-bits n) (omega arith, tt) in
-    tidy-append (lits (dec p)) ((byte 32 ∷ bits n) ++ ((byte 32 ∷ bits n) ++ (byte 10 ∷ []))) (tidy-dec p h)
-    (tidy-append (byte 32 ∷ bits n) ((byte 32 ∷ bits n) ++ (byte 10 ∷ [])) (omega arith, tidy-bits n) last)
 
 pub tidy-groupLines : (n k p : ℕ) → p + k ≤ 10000 → Tidy (groupLines n p k)
 unfolding groupLines
@@ -76,32 +70,6 @@ unfolding frameFormat
 clear-frame area order most l h =
     clear-seq (lits blockNames) (seq (bitsLine area 1) (frameTail area order (most - 1) 1)) (omega arith)
     (clear-seq (bitsLine area 1) (frameTail area order (most - 1) 1) (tidy-bitsLine area 1 (omega arith)) (clear-frameTail area order (most - 1) 1 (omega arith)))
-
--- LISTS OF ITEMS PUT TOGETHER.
-pub fit-append : (is js : List Item) (ws us : List ℕ) → Fit is ws → Fit js us → Fit (is ++ js) (ws ++ us) × (spell (is ++ js) (ws ++ us) ≡ spell is ws ++ spell js us)
-fit-append [] js [] us f g = (g, refl)
-fit-append [] js (w ∷ ws) us f g = absurd f
-fit-append (byte b ∷ is) js ws us f g = let (h, e) = fit-append is js ws us f g in (h, ap (λ (l : List ℕ). b ∷ l) e)
-fit-append (num ∷ is) js [] us f g = absurd f
-fit-append (num ∷ is) js (w ∷ ws) us f g =
-    let (h, e) = fit-append is js ws us (f .1) g in
-    ((f .0, h), ap (λ (l : List ℕ). dec w ++ l) e ∙ sym (append-assoc (dec w) (spell is ws) (spell js us)))
-fit-append (bit ∷ is) js [] us f g = absurd f
-fit-append (bit ∷ is) js (w ∷ ws) us f g = let (h, e) = fit-append is js ws us (f .1) g in ((f .0, h), ap (λ (l : List ℕ). (48 + w) ∷ l) e)
-
-abbrev pub Split : List Item → List Item → List ℕ → Type 0
-Split is js vs = (ws : List ℕ) × (us : List ℕ) × Fit is ws × Fit js us × (vs ≡ ws ++ us)
-
-split-cons : (i : Item) (is js : List Item) (v : ℕ) (vs : List ℕ) → ((ws : List ℕ) → Fit is ws → Fit (i ∷ is) (v ∷ ws)) → Split is js vs → Split (i ∷ is) js (v ∷ vs)
-split-cons i is js v vs up (ws, us, f, g, e) = (v ∷ ws, us, up ws f, g, ap (λ (l : List ℕ). v ∷ l) e)
-
-pub fit-split : (is js : List Item) (vs : List ℕ) → Fit (is ++ js) vs → Split is js vs
-fit-split [] js vs f = ([], vs, tt, f, refl)
-fit-split (byte b ∷ is) js vs f = fit-split is js vs f
-fit-split (num ∷ is) js [] f = absurd f
-fit-split (num ∷ is) js (v ∷ vs) f = split-cons num is js v vs (λ ws g. (f .0, g)) (fit-split is js vs (f .1))
-fit-split (bit ∷ is) js [] f = absurd f
-fit-split (bit ∷ is) js (v ∷ vs) f = split-cons bit is js v vs (λ ws g. (f .0, g)) (fit-split is js vs (f .1))
 
 -- BLOCK TEXT IS THE UNION.
 abbrev Lines : ℕ → ℕ → ℕ → ℕ → List ℕ → List ℕ → Type 0
@@ -136,14 +104,15 @@ lines-tail area zero i L (suc j) vs s h e x = absurd (omega arith)
 lines-tail area (suc k) i L zero [] s h e (f, g) = inl (omega arith, refl, g)
 lines-tail area (suc k) i L zero (v ∷ vs) s h e (f, g) = absurd f
 lines-tail area (suc k) i L (suc j) vs s h e (f, g) =
-    inr (go (fit-split (bitsLine area (suc i)) (bitsLines area (suc (suc i)) j) vs f) (λ us t. lines-tail area k (suc i) L j us t (omega arith) (omega arith)))
+    let S = fit-split (bitsLine area (suc i)) (bitsLines area (suc (suc i)) j) vs f in
+    inr (go (S .us) (S .vs) (S .left) (S .right) (S .all) (S .spelt) (λ us t. lines-tail area k (suc i) L j us t (omega arith) (omega arith)))
   where
-    go : Split (bitsLine area (suc i)) (bitsLines area (suc (suc i)) j) vs
+    go : (ws us : List ℕ) → Fit (bitsLine area (suc i)) ws → Fit (bitsLines area (suc (suc i)) j) us → vs ≡ ws ++ us
+        → spell (bitsLine area (suc i) ++ bitsLines area (suc (suc i)) j) vs ≡ spell (bitsLine area (suc i)) ws ++ spell (bitsLines area (suc (suc i)) j) us
         → ((us t : List ℕ) → Spells (bitsLines area (suc (suc i)) j) us t → Renders (blockTail area k (suc i)) L us t)
         → Renders (seq (bitsLine area (suc i)) (blockTail area k (suc i))) L vs s
-    go (ws, us, m, n, w) ih =
-        let x = fit-append (bitsLine area (suc i)) (bitsLines area (suc (suc i)) j) ws us m n .1 in
-        rw (g, w, x) (seq-renders (bitsLine area (suc i)) (blockTail area k (suc i)) L ws us (spell (bitsLines area (suc (suc i)) j) us) m (ih us (spell (bitsLines area (suc (suc i)) j) us) (n, refl)))
+    go ws us m n w x ih =
+        rw (g, x, w) (seq-renders (bitsLine area (suc i)) (blockTail area k (suc i)) L ws us (spell (bitsLines area (suc (suc i)) j) us) m (ih us (spell (bitsLines area (suc (suc i)) j) us) (n, refl)))
 
 -- A header and the first line before the rest, taken off and put on.
 abbrev Front : ℕ → List Item
@@ -165,12 +134,15 @@ blocks-union area most L vs s l r = go (renders-seq (Front area) (blockTail area
 pub union-blocks : (area most L : ℕ) (vs s : List ℕ) → BlockText area most L vs s → Renders (blockFormat area most) L vs s
 unfolding blockFormat bitsLines
 union-blocks area most zero vs s b = absurd (omega (arith, b .some))
-union-blocks area most (suc j) vs s b = go (fit-split (Front area) (bitsLines area 2 j) vs (b .spells .0))
+union-blocks area most (suc j) vs s b =
+    let S = fit-split (Front area) (bitsLines area 2 j) vs (b .spells .0) in
+    go (S .us) (S .vs) (S .left) (S .right) (S .all) (S .spelt)
   where
-    go : Split (Front area) (bitsLines area 2 j) vs → Renders (seq (lits blockNames) (seq (bitsLine area 1) (blockTail area (most - 1) 1))) (suc j) vs s
-    go (ws, us, m, n, w) =
-        let x = fit-append (Front area) (bitsLines area 2 j) ws us m n .1 in
-        let e : s ≡ spell (Front area) ws ++ spell (bitsLines area 2 j) us = b .spells .1 ∙ ap (spell (Front area ++ bitsLines area 2 j)) w ∙ x in
+    go : (ws us : List ℕ) → Fit (Front area) ws → Fit (bitsLines area 2 j) us → vs ≡ ws ++ us
+        → spell (Front area ++ bitsLines area 2 j) vs ≡ spell (Front area) ws ++ spell (bitsLines area 2 j) us
+        → Renders (seq (lits blockNames) (seq (bitsLine area 1) (blockTail area (most - 1) 1))) (suc j) vs s
+    go ws us m n w x =
+        let e : s ≡ spell (Front area) ws ++ spell (bitsLines area 2 j) us = b .spells .1 ∙ x in
         let r = lines-tail area (most - 1) 1 (suc j) j us (spell (bitsLines area 2 j) us) (omega (arith, b .few)) (omega arith) (n, refl) in
         rw (e, w) (seq-renders (Front area) (blockTail area (most - 1) 1) (suc j) ws us (spell (bitsLines area 2 j) us) m r)
 
@@ -225,15 +197,18 @@ lines-frame area order zero i L (suc j) vs s h e x = absurd (omega arith)
 lines-frame area order (suc k) i L zero vs s h e x = inl (open-group order i L vs s (omega arith) x)
 lines-frame area order (suc k) i L (suc j) vs s h e x =
     let y = rw append-assoc at x in
-    inr (go (y .1) (fit-split (bitsLine area (suc i)) (bitsLines area (suc (suc i)) j ++ Groups order L) vs (y .0)) (λ us t. lines-frame area order k (suc i) L j us t (omega arith) (omega arith)))
+    let S = fit-split (bitsLine area (suc i)) (bitsLines area (suc (suc i)) j ++ Groups order L) vs (y .0) in
+    inr (go (y .1) (S .us) (S .vs) (S .left) (S .right) (S .all) (S .spelt) (λ us t. lines-frame area order k (suc i) L j us t (omega arith) (omega arith)))
   where
-    go : s ≡ spell (bitsLine area (suc i) ++ (bitsLines area (suc (suc i)) j ++ Groups order L)) vs → Split (bitsLine area (suc i)) (bitsLines area (suc (suc i)) j ++ Groups order L) vs
+    go : s ≡ spell (bitsLine area (suc i) ++ (bitsLines area (suc (suc i)) j ++ Groups order L)) vs → (ws us : List ℕ)
+        → Fit (bitsLine area (suc i)) ws → Fit (bitsLines area (suc (suc i)) j ++ Groups order L) us → vs ≡ ws ++ us
+        → spell (bitsLine area (suc i) ++ (bitsLines area (suc (suc i)) j ++ Groups order L)) vs
+        ≡ spell (bitsLine area (suc i)) ws ++ spell (bitsLines area (suc (suc i)) j ++ Groups order L) us
         → ((us t : List ℕ) → Spells (bitsLines area (suc (suc i)) j ++ Groups order L) us t → Renders (frameTail area order k (suc i)) L us t)
         → Renders (seq (bitsLine area (suc i)) (frameTail area order k (suc i))) L vs s
-    go g (ws, us, m, n, w) ih =
+    go g ws us m n w x ih =
         let R : List Item = bitsLines area (suc (suc i)) j ++ Groups order L in
-        let x = fit-append (bitsLine area (suc i)) R ws us m n .1 in
-        rw (g, w, x) (seq-renders (bitsLine area (suc i)) (frameTail area order k (suc i)) L ws us (spell R us) m (ih us (spell R us) (n, refl)))
+        rw (g, x, w) (seq-renders (bitsLine area (suc i)) (frameTail area order k (suc i)) L ws us (spell R us) m (ih us (spell R us) (n, refl)))
 
 pub frame-union : (area order most L : ℕ) (vs s : List ℕ) → 1 ≤ most → Renders (frameFormat area order most) L vs s → FrameText area order most L vs s
 unfolding frameFormat bitsLines
@@ -258,17 +233,20 @@ unfolding frameFormat bitsLines
 union-frame area order most zero vs s b = absurd (omega (arith, b .some))
 union-frame area order most (suc j) vs s b = go (b .few) (subst (λ (is : List Item). Spells is vs s) (append-assoc (Front area) (bitsLines area 2 j) (Groups order (suc j))) (b .spells))
   where
-    go2 : suc j ≤ most → s ≡ spell (Front area ++ (bitsLines area 2 j ++ Groups order (suc j))) vs → Split (Front area) (bitsLines area 2 j ++ Groups order (suc j)) vs
+    go2 : suc j ≤ most → s ≡ spell (Front area ++ (bitsLines area 2 j ++ Groups order (suc j))) vs → (ws us : List ℕ)
+        → Fit (Front area) ws → Fit (bitsLines area 2 j ++ Groups order (suc j)) us → vs ≡ ws ++ us
+        → spell (Front area ++ (bitsLines area 2 j ++ Groups order (suc j))) vs ≡ spell (Front area) ws ++ spell (bitsLines area 2 j ++ Groups order (suc j)) us
         → Renders (seq (Front area) (frameTail area order (most - 1) 1)) (suc j) vs s
-    go2 h g (ws, us, m, n, w) =
+    go2 h g ws us m n w x =
         let R : List Item = bitsLines area 2 j ++ Groups order (suc j) in
-        let x = fit-append (Front area) R ws us m n .1 in
-        let e : s ≡ spell (Front area) ws ++ spell R us = g ∙ ap (spell (Front area ++ R)) w ∙ x in
+        let e : s ≡ spell (Front area) ws ++ spell R us = g ∙ x in
         let r = lines-frame area order (most - 1) 1 (suc j) j us (spell R us) (omega arith) (omega arith) (n, refl) in
         rw (e, w) (seq-renders (Front area) (frameTail area order (most - 1) 1) (suc j) ws us (spell R us) m r)
 
     go : suc j ≤ most → Spells (Front area ++ (bitsLines area 2 j ++ Groups order (suc j))) vs s → Renders (seq (Front area) (frameTail area order (most - 1) 1)) (suc j) vs s
-    go h (f, g) = go2 h g (fit-split (Front area) (bitsLines area 2 j ++ Groups order (suc j)) vs f)
+    go h (f, g) =
+        let S = fit-split (Front area) (bitsLines area 2 j ++ Groups order (suc j)) vs f in
+        go2 h g (S .us) (S .vs) (S .left) (S .right) (S .all) (S .spelt)
 
 -- WHAT THE SCAN ACCEPTS is a text of its number of blocks, with the values that it reads.
 pub blocks-read : (area most L : ℕ) (vs s : List ℕ) → 1 ≤ most → most < 10000 → scan (blockFormat area most) s ≡ read L vs → BlockText area most L vs s

@@ -1,3 +1,1 @@
-pub mod FrameText
-pub mod Judged
 pub mod Reader

@@ -17,7 +17,7 @@ use Rattle.staircase.specs.Rules.{Verdict, _then_, lengthRule}
 use Rattle.staircase.specs.Rules.Verdict.{accepted, refused}
 use Rattle.design.specs.Answers.{refusalVerdict}
 use Rattle.readers.specs.Verdicts.{scanRule, mark, valuesOf, kept}
-use Rattle.frametext.specs.FrameText.{blockFormat, frameFormat}
+use Rattle.framescan.specs.FrameText.{blockFormat, frameFormat}
 use Rattle.frametext.specs.declared.Blocks.{Blocks}
 use Rattle.frametext.specs.declared.Blocks.the-variants.{Read, Refused, Broken}
 

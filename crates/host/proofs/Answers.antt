@@ -21,14 +21,12 @@ use Rattle.staircase.specs.Design.{params}
 use Rattle.staircase.specs.Frame.{Frame}
 use Rattle.staircase.specs.Rules.{Verdict, Part, designRules}
 use Rattle.staircase.specs.Calls.{Counted, Corrected, Shown}
-use Rattle.staircase.specs.Rules.Verdict.{accepted, refused}
+use Rattle.staircase.specs.Rules.Verdict.{accepted}
 use Rattle.staircase.specs.Rules.Part.{block, group}
 use Rattle.design.specs.declared.Design.{Design}
 use Rattle.design.specs.declared.Designed.{Designed}
 use Rattle.design.specs.declared.Designed.the-variants as designed
 use Rattle.design.specs.declared.Refusal.{Refusal}
-use Rattle.design.specs.declared.Refusal.the-variants.{Size, Long, Large, Count, Rounds, Length, Spare, Inverse, Bit}
-use Rattle.design.specs.declared.Refusal.the-variants as refusal
 use Rattle.design.specs.Answers.{refusalVerdict, designVerdict, DesignIs}
 use Rattle.decoder.specs.declared.Decoding.{Decoding}
 use Rattle.decoder.specs.declared.Decoding.the-variants as decoding
@@ -38,23 +36,10 @@ use Rattle.loopback.specs.declared.Looped.the-variants as looped
 use Rattle.loopback.specs.Link.{Result, resultOf}
 use Rattle.answers.specs.declared.Judged.{Judged}
 use Rattle.answers.specs.Number.{number, placeOf, judgedOf, told}
+use Rattle.answers.proofs.Refused.{refusal-whole}
 use Rattle.host.specs.Answers.{designAnswer, wordsAnswer, correctedAnswer, outcomeNumber, outcomeAnswer, showAnswer, shownPart, pasted}
 
 -- ---- designs
-
--- a refusal is refused
-refused-by : (r : Refusal) → refusalVerdict r ≡ refused (number (refusalVerdict r)) (placeOf (refusalVerdict r))
-unfolding number placeOf refusalVerdict
-refused-by (Size p) = refl
-refused-by (Long p) = refl
-refused-by (Large p) = refl
-refused-by (Count p) = refl
-refused-by (Rounds p) = refl
-refused-by (Length p) = refl
-refused-by (refusal.List p) = refl
-refused-by (Spare p) = refl
-refused-by (Inverse p) = refl
-refused-by (Bit p) = refl
 
 pub design-made : (a : Designed) (d : Design) (m t M r n k : ℕ) → a ≡ designed.Made d → designVerdict a ≡ designRules m t M → DesignIs a m t M
     → r ≡ d .m * d .t → n ≡ 2 * d .size + 2 * (d .m * d .t) → k ≡ 2 * d .size + d .m * d .t
@@ -75,7 +60,7 @@ pub design-refused : (a : Designed) (r : Refusal) (m t M : ℕ) → a ≡ design
 unfolding designAnswer designVerdict
 design-refused a r m t M e v =
     let w : refusalVerdict r ≡ designRules m t M = sym (ap designVerdict e) ∙ v in
-    (ap number w, ap (λ (x : Verdict). designAnswer x (params m t M)) (sym (refused-by r) ∙ w))
+    (ap number w, ap (λ (x : Verdict). designAnswer x (params m t M)) (sym (refusal-whole r) ∙ w))
 
 -- ---- from what a call answers to what a host is told
 

@@ -1,7 +1,5 @@
 -- The verdicts that the kit checker's steps return are those of the table.
---   lists-rule, spare-rule     rules 7 and 8 by the order that code has
---   lengths-fit                rule 6 passed: the lengths are right
---   made-allowed, design-then  a design that was made
+--   design-then    a design that was made
 --   kit-design, kit-lengths, kit-working, kit-content   the call's verdict, step by step
 -- Assumes nothing.
 use mathlib.Core.Path.{_≡_, refl, sym, ap, _∙_}
@@ -26,35 +24,7 @@ use Rattle.design.specs.Answers.{verdictOf, designVerdict, DesignIs, Allowed, D
 use Rattle.design.proofs.Answers.{refused-then, passed-then, design-refused, design-made, made-params}
 use Rattle.design.proofs.Accepted.{length-equal, list-lengths}
 
--- ---- rules 6 to 8
-
-module _ (d : Design) (n : ℕ) (e : n ≡ orderOf d) where
-  pub lists-rule : (own parity : List ℕ) {v : Verdict} → v ≡ (refuseFirst 7 0 n (badEntry n (entries n own)) then refuseFirst 7 n n (badEntry n (entries n parity)))
-      → v ≡ listRule (paramsOf d) (listsOf d own parity)
-  unfolding listRule
-  lists-rule own parity h = h ∙ ap (λ (k : ℕ). refuseFirst 7 0 k (badEntry k (entries k own)) then refuseFirst 7 k k (badEntry k (entries k parity))) e
-
-  pub spare-rule : (w : List ℕ) {v : Verdict} → v ≡ refuseFirst 8 0 n (spareRow w n) → v ≡ spareRule (paramsOf d) w
-  unfolding spareRule
-  spare-rule w h = h ∙ ap (λ (k : ℕ). refuseFirst 8 0 k (spareRow w k)) e
-
-pub lengths-fit : (s : Params) (own parity w : List ℕ) → kitLengths s own parity w ≡ accepted → FitsOrder (order s) own parity w
-unfolding kitLengths
-lengths-fit s own parity w e =
-    let a : Verdict = listLengths s own parity in
-    let b : Verdict = lengthRule 3 (length w) (order s * rowBytes (order s)) in
-    let lists = list-lengths s own parity (then-first a b e) in
-    record {
-      selfLength = lists .0;
-      parityLength = lists .1;
-      inverseLength = length-equal 3 (length w) (order s * rowBytes (order s)) (then-rest a b e);
-    }
-
 -- ---- the design
-
-pub made-allowed : {a : Designed} {d : Design} → a ≡ designed.Made d → DesignAllowed a → Allowed d
-unfolding DesignAllowed
-made-allowed e h = rw e at h
 
 pub design-then : {a : Designed} {d : Design} {u : Verdict} (v : Verdict) → designVerdict a ≡ u → a ≡ designed.Made d → v ≡ (u then v)
 design-then v n g = ap (λ (z : Verdict). z then v) (sym (design-made g) ∙ n)

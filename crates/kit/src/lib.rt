@@ -1,28 +1,18 @@
 // The kit checker: rules 1 to 3 and 6 to 9 of document 01's table.
-//   check_kit                               judges a kit
-//   check_content                           rules 7 to 9
-//   check_list_lengths, check_kit_lengths   rule 6 for the lists, and for the inverse too
+//   check_kit       judges a kit
+//   check_content   rules 7 to 9
 //
-// The rules are judged one after the other, in the table's order; the crate `inverse` has rule 9, which is most of the work.
+// The rules are judged one after the other, in the table's order; the crate `lengths` has rule 6, and `inverse` rule 9, which is most of the work.
 ghost use mathlib.Core.Path.{_≡_};
 ghost use lib.ListN.{length};
-ghost use Rattle.staircase.specs.Rules.{listLengths, kitLengths, kitRules};
+ghost use Rattle.staircase.specs.Rules.{kitRules};
 ghost use Rattle.staircase.specs.Calls.{kitVerdict};
 ghost use Rattle.design.specs.Sizes.{paramsOf, listsOf};
-ghost use Rattle.design.specs.Answers.{verdictOf, Allowed};
+ghost use Rattle.design.specs.Answers.{verdictOf};
 ghost use Rattle.inverse.specs.Fits.{KitSized};
 use design::Check;
 use design::Design;
 use design::Designed;
-
-// Rule 6: "1 self, 2 parity, 3 inverse, .., 6 working".
-const SELF: u64 = 1;
-
-const PARITY: u64 = 2;
-
-const INVERSE: u64 = 3;
-
-pub const WORKING: u64 = 6;
 
 // Rules 7 to 9 for a kit of an allowed design, with slices of their lengths.
 pub fn check_content(d: Design, own: &[u8], parity: &[u8], inverse: &[u8], work: &mut [u8]) -> Check
@@ -42,32 +32,6 @@ pub fn check_content(d: Design, own: &[u8], parity: &[u8], inverse: &[u8], work:
     inverse::check_inverse(d, own, parity, inverse, work)
 }
 
-// Rule 6 for the two lists of a design.
-pub fn check_list_lengths(d: Design, own: &[u8], parity: &[u8]) -> Check
-    ensures { λ a. ⌜ verdictOf a ≡ listLengths (paramsOf d) (now (own .entry)) (now (parity .entry)) ⌝ }
-{
-    let n = d.order();
-    let first = design::check_length(SELF, own.len(), 2 * n);
-    let Check::Passed = first else {
-        return first;
-    };
-    design::check_length(PARITY, parity.len(), 2 * n)
-}
-
-// Rule 6 for the lists and the inverse of a kit.
-pub fn check_kit_lengths(d: Design, own: &[u8], parity: &[u8], inverse: &[u8]) -> Check
-    requires { ⌜ Allowed d ⌝ }
-    ensures { λ a. ⌜ verdictOf a ≡ kitLengths (paramsOf d) (now (own .entry)) (now (parity .entry)) (now (inverse .entry)) ⌝ }
-{
-    let lists = check_list_lengths(d, own, parity);
-    let Check::Passed = lists else {
-        return lists;
-    };
-    let n = d.order();
-    let rb = d.row_bytes();
-    design::check_length(INVERSE, inverse.len(), n * rb)
-}
-
 // Judges a kit: rules 1 to 3 and 6 to 9, with the table's number and place of the first that refuses. The lists have two bytes an entry, the
 // inverse M × r packed rows, and the working bytes are as many as the inverse's; they alone are written.
 pub fn check_kit(
@@ -85,13 +49,13 @@ pub fn check_kit(
     let Designed::Made(d) = designed else {
         return design::design_check(designed);
     };
-    let lengths = check_kit_lengths(d, own, parity, inverse);
-    let Check::Passed = lengths else {
-        return lengths;
+    let fit = lengths::check_kit_lengths(d, own, parity, inverse);
+    let Check::Passed = fit else {
+        return fit;
     };
     let n = d.order();
     let rb = d.row_bytes();
-    let working = design::check_length(WORKING, work.len(), n * rb);
+    let working = lengths::check_length(lengths::WORKING, work.len(), n * rb);
     let Check::Passed = working else {
         return working;
     };

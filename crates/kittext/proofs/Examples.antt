@@ -13,7 +13,8 @@ use Rattle.readers.specs.Verdicts.{walkRule, scanRule, passed, valuesOf}
 use Rattle.staircase.specs.Rules.{sizeRule, longRule, largeRule, designRules}
 use Rattle.staircase.specs.Rules.Verdict.{accepted, refused}
 use Rattle.staircase.specs.RowsK.{selfK, parityK, inverseK}
-use Rattle.kittext.specs.KitText.{names, listNames, rowNames, pairLine, pairLines, kitBody, firsts, seconds, packs, binary, pack, packRows}
+use Rattle.kitscan.specs.KitText.{names, listNames, rowNames, pairLine, pairLines, kitBody}
+use Rattle.kitfill.specs.Bytes.{firsts, seconds, packs, binary, pack, packRows}
 use Rattle.kittext.specs.Reader.{headNumber, headRule, bodyScan, bodyRule, scanKit, selfOf, parityOf, inverseOf}
 
 abbrev pub textK : List ℕ

@@ -22,11 +22,12 @@ use Rattle.staircase.specs.Design.{params, order, wordLength}
 use Rattle.staircase.specs.Rules.{Verdict, _then_, refuse, outOfRange, sizeRule, longRule, largeRule, designRules}
 use Rattle.staircase.specs.Rules.Verdict.{accepted, refused}
 use Rattle.staircase.proofs.Rules.{then-first, then-rest, refuse-false, outOfRange-false, design-limits}
-use Rattle.kittext.specs.KitText.{headItems, kitFormat}
+use Rattle.kitscan.specs.KitText.{headItems, kitFormat}
 use Rattle.kittext.specs.Reader.{headNumber, kitParams, bodyScan, bodyRule, scanKit}
-use Rattle.kittext.specs.Answers.{Passing, restFormat}
+use Rattle.kittext.specs.Reader.{Passing}
+use Rattle.kitscan.specs.Answers.{restFormat}
 use Rattle.kittext.proofs.KitTexts.{Small, head-three, kit-rest}
-use Rattle.kittext.proofs.TwoLines.{Shown, head-read, head-stuck}
+use Rattle.kitscan.proofs.TwoLines.{Shown, head-read, head-stuck}
 
 -- ---- designs that rules 1 to 3 let through
 

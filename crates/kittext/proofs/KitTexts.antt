@@ -16,13 +16,13 @@ use lib.ListN.{length, getD, take, drop}
 use lib.Seq.{take-append-add}
 use Rattle.formats.specs.Format.{dec, digit, Format, end, Renders, Text, Shares, Longest, Scan, refused, read, scan, Clear}
 use Rattle.formats.specs.Items.{lits, seq, Walk, stuck, past, walk, spell, Fit, bitsLines, moved, scanAt}
+use Rattle.formats.proofs.Parts.{fit-none}
 use Rattle.formats.proofs.Scan.{scan-longest}
-use Rattle.formats.proofs.Spelling.{renders-seq, Spelt, Tidy, Oks, clear-seq, tidy-append, tidy-dec, tidy-bitsLines, scan-seq, scan-whole}
-use Rattle.formats.proofs.Spelling.{continue, walk-spell, walk-sound, Passed, spell-lits, fit-lits}
-use Rattle.kittext.specs.KitText.{headItems, headFormat, headBytes, listNames, rowNames, pairLines, kitBody, kitFormat, KitText}
-use Rattle.kittext.specs.Answers.{restFormat, tailItems}
-use Rattle.kittext.proofs.Counting.{fit-none, tidy-oks, tidy-pairLines}
-use Rattle.kittext.proofs.RestLaws.{prefix-nil}
+use Rattle.formats.proofs.Spelling.{renders-seq, Spelt, Tidy, Oks, clear-seq, tidy-append, tidy-dec, tidy-bitsLines, tidy-oks, scan-seq, scan-whole}
+use Rattle.formats.proofs.Spelling.{continue, prefix-nil, walk-spell, walk-sound, Passed, spell-lits, fit-lits}
+use Rattle.kitscan.specs.KitText.{headItems, headFormat, headBytes, listNames, rowNames, pairLines, kitBody, kitFormat, KitText}
+use Rattle.kitscan.specs.Answers.{restFormat, tailItems}
+use Rattle.kittext.proofs.Counting.{tidy-pairLines}
 
 -- ---- the two lines
 

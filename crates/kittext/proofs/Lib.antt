@@ -1,12 +1,5 @@
-pub mod TwoLines
-pub mod ListLines
-pub mod RowLines
-pub mod RestLaws
 pub mod ScanLaws
 pub mod Counting
-pub mod Filling
-pub mod Packing
-pub mod RowFilling
 pub mod ReadLaws
 pub mod KitTexts
 pub mod Rendering

@@ -7,7 +7,7 @@
 --   kit-read-scan, kit-read         with slices of the right lengths the reader's verdict is the scan's, and an accepted text fills them
 --   kit-renders                     an accepted text is the kit text rendered from what the reader leaves
 -- Assumes nothing.
-use Prim.Native.Nat.{ℕ, _+_, _-_, _*_, _≤_, _<_}
+use Prim.Native.Nat.{ℕ, _+_, _*_, _≤_, _<_}
 use mathlib.Core.Path.{_≡_, refl, sym, ap, _∙_}
 use mathlib.Core.List.{List, _++_}
 use mathlib.Core.Logic.{_⊎_, inl, inr}
@@ -23,14 +23,15 @@ use Rattle.staircase.specs.System.{rowBytes}
 use Rattle.staircase.specs.Rules.{Verdict, _then_, designRules, listLengths, kitLengths}
 use Rattle.staircase.specs.Rules.Verdict.{accepted, refused}
 use Rattle.staircase.proofs.Rules.{then-first, then-rest, then-accepted, length-accepted}
-use Rattle.kittext.specs.KitText.{headItems, headFormat, headBytes, listNames, rowNames, pairLines, kitFormat, KitText, firsts, seconds}
+use Rattle.kitscan.specs.KitText.{headItems, headFormat, headBytes, listNames, rowNames, pairLines, kitFormat, KitText}
+use Rattle.kitfill.specs.Bytes.{firsts, seconds}
 use Rattle.kittext.specs.Reader.{headNumber, kitParams, headRule, bodyRule, scanKit, selfOf, parityOf, inverseOf, readVerdict, readKitCall}
-use Rattle.kittext.specs.Answers.{Passing}
+use Rattle.kittext.specs.Reader.{Passing}
 use Rattle.kittext.specs.Rendered.{kitBytes}
 use Rattle.kittext.proofs.Counting.{rows-count}
-use Rattle.kittext.proofs.Filling.{packs-length}
+use Rattle.kitfill.proofs.Filling.{packs-length}
 use Rattle.kittext.proofs.KitTexts.{clear-kit, head-place, head-found, head-passed, kit-starts, kit-rest, any-place}
-use Rattle.kittext.proofs.RowFilling.{packRows-length}
+use Rattle.kitfill.proofs.RowFilling.{packRows-length}
 use Rattle.kittext.proofs.Judged.{small, not-eleven, Found, two-lines, scan-stuck, shown, scan-found, accepted-found, rule-read, rule-refused}
 use Rattle.kittext.proofs.Told.{kit-told, halves, pairs-are, self-told, parity-told, inverse-told, fit-long, rendered}
 

@@ -26,15 +26,16 @@ use Rattle.design.specs.Answers.{refusalVerdict, verdictOf}
 use Rattle.design.specs.Sizes.{paramsOf}
 use Rattle.design.proofs.Answers.{refused-then, passed-then, check-refused}
 use Rattle.design.proofs.Accepted.{length-equal, list-lengths}
-use Rattle.kittext.specs.KitText.{pairLines, firsts, seconds, packs, packRows}
+use Rattle.kitscan.specs.KitText.{pairLines}
+use Rattle.kitfill.specs.Bytes.{firsts, seconds, packs, packRows}
 use Rattle.kittext.specs.Reader.{headNumber, kitParams, headRule, bodyScan, bodyRule, selfOf, parityOf, inverseOf, readVerdict, readKitCall, kitScanVerdict, KitDesign}
-use Rattle.kittext.specs.Answers.{frontRule, frontVerdict, FrontIs, restRule, restVerdict, RestParts}
+use Rattle.kitscan.specs.Answers.{frontRule, frontVerdict, FrontIs, restRule, restVerdict, RestParts}
 use Rattle.kittext.specs.declared.KitScan.{KitScan}
 use Rattle.kittext.specs.declared.KitScan.the-variants.{Kit, Refused, Broken}
-use Rattle.kittext.specs.declared.Front.{Front}
-use Rattle.kittext.specs.declared.Front.the-variants.{Starts, Ruled, NoStart}
-use Rattle.kittext.specs.declared.Rest.{Rest}
-use Rattle.kittext.specs.declared.Rest.the-variants.{Whole, NotWhole}
+use Rattle.kitscan.specs.declared.Front.{Front}
+use Rattle.kitscan.specs.declared.Front.the-variants.{Starts, Ruled, NoStart}
+use Rattle.kitscan.specs.declared.Rest.{Rest}
+use Rattle.kitscan.specs.declared.Rest.the-variants.{Whole, NotWhole}
 use Rattle.kittext.proofs.Counting.{pairs-walked}
 use Rattle.kittext.proofs.ScanLaws.{then-three, refusal-first, Opens, front-broken, front-refused, opens, small-order, order-is, body-is, rule-is, kit-design}
 

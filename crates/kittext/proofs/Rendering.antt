@@ -13,15 +13,18 @@ use lib.ListN.{length, getD, take, drop, List·getD-append}
 use lib.Seq.{getD-take, getD-drop, getD-append-add, drop-drop}
 use Rattle.formats.specs.Format.{byte, dec}
 use Rattle.formats.specs.Items.{spell, Fit, bits, bitsLine, bitsLines}
+use Rattle.formats.proofs.Parts.{Split, fit-split, lits-first}
 use Rattle.staircase.specs.Lists.{tabulate, concat}
 use Rattle.staircase.specs.System.{rowBytes, inverseEntry}
 use Rattle.staircase.specs.Rules.{entries}
 use Rattle.staircase.proofs.System.{tabulate-same}
 use Rattle.rules.proofs.Entries.{entry-at}
-use Rattle.kittext.specs.KitText.{pairLine, pairLines, firsts, seconds, packs, binary, pack, packRows}
+use Rattle.kitscan.specs.KitText.{pairLine, pairLines}
+use Rattle.kitfill.specs.Bytes.{firsts, seconds, packs, binary, pack, packRows}
 use Rattle.kittext.specs.Rendered.{pairText, rowText}
-use Rattle.kittext.proofs.Counting.{Split, fit-split, lits-first, pair-is, Run, row-items, row-count}
-use Rattle.kittext.proofs.Packing.{length-pack}
+use Rattle.kittext.proofs.Counting.{pair-is}
+use Rattle.kitfill.proofs.RowCounts.{Run, row-items, row-count}
+use Rattle.kitfill.proofs.Packing.{length-pack}
 
 pub concat-same : (n : ℕ) (f g : ℕ → List ℕ) → ((k : ℕ) → k < n → f k ≡ g k) → concat n f ≡ concat n g
 unfolding concat

@@ -16,14 +16,14 @@ use Rattle.design.specs.declared.Refusal.{Refusal}
 use Rattle.design.specs.declared.Check.the-variants as check
 use Rattle.design.specs.Answers.{refusalVerdict, verdictOf, Allowed}
 use Rattle.design.proofs.Answers.{refused-then}
-use Rattle.kittext.specs.KitText.{headItems}
+use Rattle.kitscan.specs.KitText.{headItems}
 use Rattle.kittext.specs.Reader.{headNumber, kitParams, headRule, bodyScan, bodyRule, scanKit, kitScanVerdict, KitDesign}
-use Rattle.kittext.specs.Answers.{frontRule, frontVerdict, FrontIs, restFormat, restRule, restVerdict, RestParts}
+use Rattle.kitscan.specs.Answers.{frontRule, frontVerdict, FrontIs, restFormat, restRule, restVerdict, RestParts}
 use Rattle.kittext.specs.declared.KitScan.the-variants.{Kit, Refused, Broken}
-use Rattle.kittext.specs.declared.Front.{Front}
-use Rattle.kittext.specs.declared.Front.the-variants.{Starts, Ruled, NoStart}
-use Rattle.kittext.specs.declared.Rest.{Rest}
-use Rattle.kittext.specs.declared.Rest.the-variants.{Whole, NotWhole}
+use Rattle.kitscan.specs.declared.Front.{Front}
+use Rattle.kitscan.specs.declared.Front.the-variants.{Starts, Ruled, NoStart}
+use Rattle.kitscan.specs.declared.Rest.{Rest}
+use Rattle.kitscan.specs.declared.Rest.the-variants.{Whole, NotWhole}
 
 pub then-three : (u v w : Verdict) → ((u then v) then w) ≡ (u then (v then w))
 then-three accepted v w = refl

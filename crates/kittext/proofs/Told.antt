@@ -4,7 +4,7 @@
 --   halves, fit-long                lengths
 --   rendered                        the text of the lists and the inverse
 -- Assumes nothing.
-use Prim.Native.Nat.{ℕ, zero, suc, _+_, _-_, _*_, _≤_, _<_}
+use Prim.Native.Nat.{ℕ, zero, suc, _+_, _*_, _≤_, _<_}
 use mathlib.Core.Path.{_≡_, refl, sym, ap, ap₂, _∙_}
 use mathlib.Core.List.{List, [], _∷_, _++_, append-nil}
 use native.Mathlib.Omega.{arith}
@@ -14,7 +14,8 @@ use Rattle.formats.specs.Format as format
 use Rattle.formats.specs.Format.{Item, byte, num, bit, dec, Scan, scan, end}
 use Rattle.formats.specs.Items.{Walk, stuck, past, walk, spell, Fit, bitsLines, seq, scanAt}
 use Rattle.formats.proofs.Items.{dec-long}
-use Rattle.formats.proofs.Spelling.{continue, scan-seq, walk-sound}
+use Rattle.formats.proofs.Parts.{fit-split, lits-first}
+use Rattle.formats.proofs.Spelling.{continue, scan-seq, tidy-oks, walk-sound}
 use Rattle.readers.specs.Verdicts.{scanRule, valuesOf}
 use Rattle.staircase.specs.Design.{order}
 use Rattle.staircase.specs.Lists.{concat}
@@ -22,11 +23,12 @@ use Rattle.staircase.specs.System.{inverseEntry}
 use Rattle.staircase.specs.Rules.{Verdict, _then_, designRules, entries}
 use Rattle.staircase.specs.Rules.Verdict.{accepted, refused}
 use Rattle.staircase.proofs.Rules.{then-first, then-rest}
-use Rattle.kittext.specs.KitText.{headBytes, listNames, rowNames, pairLines, kitBody, kitFormat, firsts, seconds, packs, packRows}
+use Rattle.kitscan.specs.KitText.{headBytes, listNames, rowNames, pairLines, kitBody, kitFormat}
+use Rattle.kitfill.specs.Bytes.{firsts, seconds, packs, packRows}
 use Rattle.kittext.specs.Reader.{headNumber, kitParams, bodyScan, scanKit, selfOf, parityOf, inverseOf}
-use Rattle.kittext.specs.Answers.{restFormat, tailItems}
+use Rattle.kitscan.specs.Answers.{restFormat, tailItems}
 use Rattle.kittext.specs.Rendered.{pairText, rowText}
-use Rattle.kittext.proofs.Counting.{fit-split, lits-first, tidy-oks, pairs-count}
+use Rattle.kittext.proofs.Counting.{pairs-count}
 use Rattle.kittext.proofs.KitTexts.{tidy-body, head-passed, kit-rest}
 use Rattle.kittext.proofs.Rendering.{concat-same, pairs-render, values-small, entry-of, row-same, rows-bits, rows-render, inverse-of}
 use Rattle.kittext.proofs.Judged.{passing-small, Found, shown, order-found, body-found, scan-found, accepted-found, rule-read}

@@ -1,4 +1,2 @@
-pub mod KitText
 pub mod Reader
-pub mod Answers
 pub mod Rendered

@@ -1,6 +1,7 @@
 -- Document 01: "The reader takes two lines (11, where any numbers of one to four digits will do), then 1 to 3, 6, then the rest (11); it doesn't
 -- judge lists."
 --   headNumber, kitParams       the numbers of the second line, and what they make
+--   Passing                     the designs that rules 1 to 3 let through
 --   headRule, bodyRule          rule 11 for the two lines, and for the rest
 --   scanKit                     the scan: no slices are lent to it, so it has no rule 6
 --   selfOf, parityOf, inverseOf the lists and the inverse that a text shows
@@ -9,28 +10,26 @@
 use mathlib.Core.List.{List}
 use mathlib.Core.Path.{_≡_}
 use Prim.Native.Nat.{ℕ, _*_}
-use lib.ListN.{getD, take, drop}
+use lib.ListN.{take, drop}
 use Rattle.formats.specs.Format.{Scan, end}
-use Rattle.formats.specs.Items.{walk, values, seq, scanAt}
+use Rattle.formats.specs.Items.{walk, seq, scanAt}
 use Rattle.staircase.specs.Design.{Params, params, order}
 use Rattle.staircase.specs.Rules.{Verdict, _then_, designRules, kitLengths}
 use Rattle.design.specs.Answers.{refusalVerdict, Allowed}
 use Rattle.staircase.specs.Rules.Verdict.{accepted, refused}
-use Rattle.readers.specs.Verdicts.{walkRule, scanRule, passed, valuesOf, kept}
-use Rattle.kittext.specs.KitText.{headItems, kitBody, firsts, seconds, packs, packRows}
+use Rattle.readers.specs.Verdicts.{scanRule, passed, valuesOf, kept}
+use Rattle.kitscan.specs.KitText.{headItems, kitBody}
+unfoldable pub use Rattle.kitscan.specs.TwoLines.{headNumber, headRule}
+use Rattle.kitfill.specs.Bytes.{firsts, seconds, packs, packRows}
 use Rattle.kittext.specs.declared.KitScan.{KitScan}
 use Rattle.kittext.specs.declared.KitScan.the-variants.{Kit, Refused, Broken}
-
--- number i of the second line; 0 where there is none
-unfoldable pub headNumber : List ℕ → ℕ → ℕ
-headNumber s i = getD (values (walk headItems s 0)) i 0
 
 abbrev pub kitParams : List ℕ → Params
 kitParams s = params (headNumber s 0) (headNumber s 1) (headNumber s 2)
 
--- "The reader takes two lines (11 ..)"
-unfoldable pub headRule : List ℕ → Verdict
-headRule s = walkRule 11 (walk headItems s 0)
+-- the designs that rules 1 to 3 let through
+abbrev pub Passing : ℕ → ℕ → ℕ → Type 0
+Passing m t M = designRules m t M ≡ accepted
 
 -- the rest, read from the position after the two lines on
 unfoldable pub bodyScan : List ℕ → Scan

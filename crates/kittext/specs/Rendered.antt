@@ -10,7 +10,7 @@ use Rattle.formats.specs.Format.{dec}
 use Rattle.staircase.specs.Lists.{tabulate, concat}
 use Rattle.staircase.specs.System.{inverseEntry}
 use Rattle.staircase.specs.Rules.{entries}
-use Rattle.kittext.specs.KitText.{headBytes, listNames, rowNames}
+use Rattle.kitscan.specs.KitText.{headBytes, listNames, rowNames}
 
 -- "lines of values in that order, one space between, a line feed after each line": `place self parity`
 abbrev pub pairText : ℕ → ℕ → ℕ → List ℕ

@@ -33,7 +33,7 @@ use Rattle.design.specs.declared.Refusal.the-variants.{Size, Long, Large, Count
 use Rattle.design.specs.declared.Refusal.the-variants as refusal
 use Rattle.design.specs.Answers.{refusalVerdict}
 use Rattle.design.proofs.Accepted.{length-equal}
-use Rattle.kit.proofs.Verdict.{lengths-fit}
+use Rattle.lengths.proofs.Fit.{lengths-fit}
 use Rattle.decoder.specs.declared.Counts.{Counts}
 use Rattle.decoder.specs.declared.Decoding.the-variants as decoding
 use Rattle.decoder.specs.Answers.{correctedOf}

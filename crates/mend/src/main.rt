@@ -1,6 +1,6 @@
 // `mend`: reads kit.txt and, on standard input, block text followed by group text, and prints both corrected and three counts, or a refusal.
 //
-// Both inputs are read up to one byte more than rule 13 lets through. Everything that is decided is in the crate `programs`.
+// Both inputs are read up to one byte more than rule 13 lets through. Everything that is decided is in the crate `mending`.
 use libc::STDIN_FILENO;
 use libc::STDOUT_FILENO;
 
@@ -33,6 +33,6 @@ fn main() {
         return;
     }
     let mut out = [0u8; 262144];
-    let m = programs::mend_output(&kit[..k], &text[..n], &mut out);
+    let m = mending::mend_output(&kit[..k], &text[..n], &mut out);
     io::write_all(STDOUT_FILENO, &out[..m]);
 }

@@ -9,7 +9,7 @@ use lib.ListN.{length}
 use Rattle.staircase.specs.Rules.{Verdict, _then_}
 use Rattle.staircase.specs.Rules.Verdict.{accepted, refused}
 use Rattle.kittext.specs.Reader.{scanKit}
-use Rattle.writers.specs.Written.{refusalText}
+use Rattle.lines.specs.Written.{refusalText}
 use Rattle.programs.specs.Output.{most-input, inputRule, printed, judged}
 
 -- ---- rule 13

@@ -4,6 +4,4 @@ pub mod Printing
 pub mod Starting
 pub mod Ready
 pub mod Outputs
-pub mod Framing
 pub mod Room
-pub mod Mending

@@ -7,7 +7,7 @@ use Rattle.staircase.specs.Frame.{groups}
 use Rattle.staircase.specs.Rules.Verdict.{accepted, refused}
 use Rattle.design.specs.declared.Design.{Design}
 use Rattle.design.specs.Sizes.{orderOf}
-use Rattle.writers.specs.Written.{groupText, refusalText}
+use Rattle.lines.specs.Written.{groupText, refusalText}
 use Rattle.kittext.specs.Reader.{headNumber}
 use Rattle.frametext.specs.Reader.{blockRule, blockCount, frameRule, frameCount}
 use Rattle.programs.specs.Output.{frameCall, frameOutput, mendCall, mendText, mendOutput}

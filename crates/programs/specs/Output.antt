@@ -4,12 +4,14 @@
 --   judged           "A program tests 13 for both inputs, then reads the kit, then the blocks (12), then makes its call."
 --   frameOutput      what `frame` prints
 --   mendOutput       what `mend` prints
---   Printed          a text at the start of a lent buffer
+--   Printed          a text at the start of a lent buffer that has room for it
+--   outputIn, outputLength, Output   what a program prints, at the start of any lent buffer: one below 262,144 bytes is left as it was
 -- Assumes nothing.
 use mathlib.Core.Path.{_≡_}
+use mathlib.Core.Bool.{cond}
 use mathlib.Core.List.{List, _++_}
 use Prim.Native.Nat.{ℕ, _*_, _≤_}
-use lib.Dec.{ltb}
+use lib.Dec.{ltb, leb}
 use lib.ListN.{length, replicate}
 use lib.Seq.{sets}
 use Rattle.staircase.specs.Design.{Params, order}
@@ -17,7 +19,7 @@ use Rattle.staircase.specs.Frame.{groups}
 use Rattle.staircase.specs.Rules.{Verdict, _then_, refuse, redLength, kitWork, wordWork}
 use Rattle.staircase.specs.Rules.Verdict.{accepted, refused}
 use Rattle.staircase.specs.Calls.{Encoded, encodeCall, Corrected, decodeCall}
-use Rattle.writers.specs.Written.{blockText, groupText, refusalText, countsText}
+use Rattle.lines.specs.Written.{blockText, groupText, refusalText, countsText}
 use Rattle.kittext.specs.Reader.{headNumber, kitParams, scanKit, selfOf, parityOf, inverseOf}
 use Rattle.frametext.specs.Reader.{blockRule, blockCount, blockInfo, frameRule, frameCount, frameInfo, frameRed}
 
@@ -81,3 +83,22 @@ pub record Printed (t : List ℕ) (n : ℕ) (old new : List ℕ) : Type 0 where
   pub count : n ≡ length t
   pub within : n ≤ length old
   pub bytes : new ≡ sets old 0 t
+
+-- ---- what a program prints, at the start of any lent buffer
+
+-- no output of a program is longer
+abbrev pub most-output : ℕ
+most-output = 262144
+
+-- a lent buffer after a program's output t was written to its start, which is only done where it has most-output bytes
+unfoldable pub outputIn : List ℕ → List ℕ → List ℕ
+outputIn t old = cond (leb most-output (length old)) (sets old 0 t) old
+
+-- the number of bytes written
+unfoldable pub outputLength : List ℕ → List ℕ → ℕ
+outputLength t old = cond (leb most-output (length old)) (length t) 0
+
+pub record Output (t : List ℕ) (n : ℕ) (old new : List ℕ) : Type 0 where
+  pub count : n ≡ outputLength t old
+  pub within : n ≤ length old
+  pub bytes : new ≡ outputIn t old

@@ -18,7 +18,7 @@ use Rattle.design.specs.declared.Design.{Design}
 use Rattle.design.specs.Answers.{Allowed}
 use Rattle.design.specs.Sizes.{orderOf}
 use Rattle.decoder.specs.declared.Counts.{Counts}
-use Rattle.writers.specs.Written.{blockText, groupText, countsText}
+use Rattle.lines.specs.Written.{blockText, groupText, countsText}
 use Rattle.kittext.specs.Reader.{headNumber, scanKit}
 use Rattle.frametext.specs.Reader.{blockRule, blockCount, frameRule, frameCount}
 use Rattle.programs.specs.Output.{most-input, inputRule}

@@ -12,7 +12,7 @@ use Rattle.formats.specs.Items.{lits, stuck, past, prep, stride, walk}
 use Rattle.readers.specs.Answers.{numAt, numOf}
 use Rattle.readers.specs.declared.Num.{Num}
 use Rattle.readers.specs.declared.Num.the-variants.{Value, Bad}
-use Rattle.writers.proofs.Decimal.{dec-short}
+use Rattle.lines.proofs.Decimal.{dec-short}
 use Rattle.formats.proofs.Walking.{walk-end, walk-this, walk-other}
 
 module _ (is : List Item) (s : List ℕ) (at : ℕ) where

@@ -166,7 +166,7 @@ pub fn number_is(s: &[u8], at: usize, p: usize) -> Step
     ensures { λ r. ⌜ stepWalk r ≡ walk (lits (dec p)) (now (s .entry)) at ⌝ }
 {
     let mut text = [0u8; 20];
-    let n = writers::put_number(&mut text, 0, p as u64);
+    let n = lines::put_number(&mut text, 0, p as u64);
     literal(s, at, &text[..n])
 }
 

@@ -2,3 +2,4 @@ pub mod Accepted
 pub mod FirstPlace
 pub mod Entries
 pub mod Spare
+pub mod OfDesign

@@ -291,7 +291,7 @@ fn check_contents(
         ≡ contentRules (paramsOf d) (now (own .entry)) (now (parity .entry)) (now (info .entry)) (now (red .entry)) (length (now (work .entry))) ⌝ }
 {
     let n = d.order();
-    let working = design::check_length(kit::WORKING, work.len(), n);
+    let working = lengths::check_length(lengths::WORKING, work.len(), n);
     let Check::Passed = working else {
         return working;
     };
@@ -321,11 +321,11 @@ pub fn check_received(
     ensures { λ a. ⌜ verdictOf a ≡ receivedRules (paramsOf d) blocks (now (own .entry)) (now (parity .entry)) (now (info .entry)) (now (red .entry))
         (length (now (work .entry))) ⌝ }
 {
-    let lists = kit::check_list_lengths(d, own, parity);
+    let lists = lengths::check_list_lengths(d, own, parity);
     let Check::Passed = lists else {
         return lists;
     };
-    let frame = design::check_frame_lengths(d, blocks, info, red);
+    let frame = lengths::check_frame_lengths(d, blocks, info, red);
     let Check::Passed = frame else {
         return frame;
     };

@@ -1,7 +1,1 @@
-pub mod Chars
-pub mod Decimal
-pub mod Examples
-pub mod Lines
-pub mod Placing
-pub mod Spelled
-pub mod Storing
+pub mod Room

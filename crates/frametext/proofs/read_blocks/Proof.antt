@@ -8,39 +8,25 @@ use lib.ListN.{length}
 use borrow.Author.Needs.{needs}
 use Rattle.frametext.proofs.read_blocks.Statement.{statement}
 use Rattle.frametext.proofs.read_blocks.Tie as tie
-use Rattle.frametext.proofs.read_blocks.Reads as reads
-use Rattle.frametext.proofs.read_blocks.Lts as lts
-use Rattle.frametext.proofs.fill_lines.Reads as fill-lines-reads
-use Rattle.frametext.proofs.judge_blocks.Reads as judge-blocks-reads
-use Rattle.frametext.proofs.told.Reads as told-reads
-use Rattle.design.proofs.Design.area.Reads as area-reads
-use Rattle.design.proofs.check_length.Reads as check-length-reads
 
--- src/lib.rt:318:9
 area-requires : tie.Need-area-requires
 area-requires c κs = search needs
 
--- src/lib.rt:319:9
 judge-blocks-requires : tie.Need-judge-blocks-requires
 judge-blocks-requires c κs = search needs
 
--- src/lib.rt:320:22
 enum-known-found : tie.Need-enum-known-found
 enum-known-found c = search needs
 
--- src/lib.rt:321:9
 enum-told : tie.Need-enum-told
 enum-told c = search needs
 
--- src/lib.rt:321:9
 told-requires : tie.Need-told-requires
 told-requires c κs = search needs
 
--- src/lib.rt:321:9
 returns : tie.Need-returns
 returns c = blocks-refused _ _ _ _ (c .before .before .before .before .area .ensures .0) (c .before .before .before .judge-blocks .ensures) _ _ _ (c .before .enum-told .given .1) (c .told .ensures)
 
--- src/lib.rt:323:63
 mul-check-length : tie.Need-mul-check-length
 mul-check-length c =
     let n = c .before .found .given .0 .0 in
@@ -48,19 +34,15 @@ mul-check-length c =
     let few = blocks-few _ _ _ _ (c .before .before .before .before .area .ensures .0) (c .before .before .before .judge-blocks .ensures) n (c .before .found .given .1) in
     omega (arith, small-product n area most-blocks 4294967296 few (omega (arith, c .before .before .before .before .area .ensures .1)))
 
--- src/lib.rt:323:9
 check-length-requires : tie.Need-check-length-requires
 check-length-requires c κs = search needs
 
--- src/lib.rt:325:24
 enum-known-length : tie.Need-enum-known-length
 enum-known-length c = search needs
 
--- src/lib.rt:327:52
 enum-told-2 : tie.Need-enum-told-2
 enum-told-2 c = search needs
 
--- src/lib.rt:327:13
 fill-lines-requires : tie.Need-fill-lines-requires
 fill-lines-requires c κs =
     let t = c .before .before .before .before .before .before .before .judge-blocks .ensures in
@@ -68,15 +50,12 @@ fill-lines-requires c κs =
     let g = c .before .before .before .before .before .found .given .1 in
     (blocks-few _ _ _ _ a t _ g, length-due _ (length (c .before .before .before .before .before .before .before .before .before .before .before .args .info .now)) _ _ (c .before .before .before .check-length .ensures) (c .before .enum-told2 .given .1), blocks-pass _ _ _ _ a t _ g)
 
--- src/lib.rt:313:1
 returns-2 : tie.Need-returns-2
 returns-2 c = blocks-length _ _ _ _ (c .before .before .before .before .before .before .before .before .area .ensures .0) (c .before .before .before .before .before .before .before .judge-blocks .ensures) _ (c .before .before .before .before .before .found .given .1) _ _ (c .before .before .before .check-length .ensures) _ (c .before .length .given .1)
 
--- src/lib.rt:313:1
 same-length : tie.Need-same-length
 same-length c = search needs
 
--- src/lib.rt:313:1
 returns-3 : tie.Need-returns-3
 returns-3 c = blocks-filled _ _ _ _ (c .before .before .before .before .before .before .before .before .before .before .before .area .ensures .0) (c .before .before .before .before .before .before .before .before .before .before .judge-blocks .ensures) _ (c .before .before .before .before .before .before .before .before .found .given .1) _ _ (c .before .before .before .before .before .before .check-length .ensures) _ _ (c .before .before .before .before .enum-told2 .given .1) (c .before .before .fill-lines .ensures)
 

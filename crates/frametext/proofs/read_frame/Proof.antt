@@ -5,57 +5,37 @@ use native.Mathlib.Omega.{arith}
 use borrow.Author.Needs.{needs}
 use Rattle.frametext.proofs.read_frame.Statement.{statement}
 use Rattle.frametext.proofs.read_frame.Tie as tie
-use Rattle.frametext.proofs.read_frame.Reads as reads
-use Rattle.frametext.proofs.read_frame.Lts as lts
-use Rattle.frametext.proofs.fill_groups.Reads as fill-groups-reads
-use Rattle.frametext.proofs.fill_lines.Reads as fill-lines-reads
-use Rattle.frametext.proofs.judge_frame.Reads as judge-frame-reads
-use Rattle.frametext.proofs.told.Reads as told-reads
-use Rattle.design.proofs.Design.area.Reads as area-reads
-use Rattle.design.proofs.Design.order.Reads as order-reads
-use Rattle.design.proofs.check_frame_lengths.Reads as check-frame-lengths-reads
 
--- src/lib.rt:348:9
 area-requires : tie.Need-area-requires
 area-requires c κs = search needs
 
--- src/lib.rt:349:9
 order-requires : tie.Need-order-requires
 order-requires c κs = search needs
 
--- src/lib.rt:350:9
 judge-frame-requires : tie.Need-judge-frame-requires
 judge-frame-requires c κs = search needs
 
--- src/lib.rt:351:22
 enum-known-found : tie.Need-enum-known-found
 enum-known-found c = search needs
 
--- src/lib.rt:352:9
 enum-told : tie.Need-enum-told
 enum-told c = search needs
 
--- src/lib.rt:352:9
 told-requires : tie.Need-told-requires
 told-requires c κs = search needs
 
--- src/lib.rt:352:9
 returns : tie.Need-returns
 returns c = frame-refused _ _ _ _ _ _ _ (c .before .before .before .before .before .area .ensures .0) (c .before .before .before .before .order .ensures .0) (c .before .before .before .judge-frame .ensures) _ _ _ _ (c .before .enum-told .given .1) (c .told .ensures)
 
--- src/lib.rt:354:9
 check-frame-lengths-requires : tie.Need-check-frame-lengths-requires
 check-frame-lengths-requires c κs = frame-few _ _ _ _ _ _ _ (c .before .before .before .before .before .before .before .area .ensures .0) (c .before .before .before .before .before .before .order .ensures .0) (c .before .before .before .before .before .judge-frame .ensures) _ (c .before .before .before .found .given .1)
 
--- src/lib.rt:356:24
 enum-known-lengths : tie.Need-enum-known-lengths
 enum-known-lengths c = search needs
 
--- src/lib.rt:358:70
 enum-told-2 : tie.Need-enum-told-2
 enum-told-2 c = search needs
 
--- src/lib.rt:358:17
 fill-lines-requires : tie.Need-fill-lines-requires
 fill-lines-requires c κs =
     let v = c .before .before .before .before .before .before .before .before .before .before .before .before .before .before .before .args in
@@ -65,19 +45,16 @@ fill-lines-requires c κs =
     let g = c .before .before .before .before .before .before .before .found .given .1 in
     (frame-few _ _ _ _ _ _ _ a o t _ g, frame-room (v .d .m) (v .d .t) (v .d .size) _ _ _ _ a o t _ g (v .info .now) (v .red .now) _ (c .before .before .before .check-frame-lengths .ensures) (c .before .enum-told2 .given .1) .0, frame-pass _ _ _ _ _ _ _ a o t _ g)
 
--- src/lib.rt:359:31
 add-fill-groups : tie.Need-add-fill-groups
 add-fill-groups c =
     let h = groups-room _ _ _ _ _ _ _ (c .before .before .before .before .before .before .before .before .before .before .before .before .before .before .area .ensures .0) (c .before .before .before .before .before .before .before .before .before .before .before .before .before .order .ensures .0) (c .before .before .before .before .before .before .before .before .before .before .before .before .judge-frame .ensures) _ (c .before .before .before .before .before .before .before .before .before .before .found .given .1) _ _ (c .before .before .fill-lines .ensures) in
     omega (arith, h)
 
--- src/lib.rt:359:54
 add-fill-groups-2 : tie.Need-add-fill-groups-2
 add-fill-groups-2 c =
     let h = frame-few _ _ _ _ _ _ _ (c .before .before .before .before .before .before .before .before .before .before .before .before .before .before .area .ensures .0) (c .before .before .before .before .before .before .before .before .before .before .before .before .before .order .ensures .0) (c .before .before .before .before .before .before .before .before .before .before .before .before .judge-frame .ensures) _ (c .before .before .before .before .before .before .before .before .before .before .found .given .1) in
     omega (arith, h)
 
--- src/lib.rt:359:13
 fill-groups-requires : tie.Need-fill-groups-requires
 fill-groups-requires c κs =
     let v = c .before .before .before .before .before .before .before .before .before .before .before .before .before .before .before .before .before .before .before .args in
@@ -88,27 +65,21 @@ fill-groups-requires c κs =
     let h = frame-few _ _ _ _ _ _ _ a o t _ g in
     (omega (arith, h), frame-room (v .d .m) (v .d .t) (v .d .size) _ _ _ _ a o t _ g (v .info .now) (v .red .now) _ (c .before .before .before .before .before .before .before .check-frame-lengths .ensures) (c .before .before .before .before .before .enum-told2 .given .1) .1, groups-pass _ _ _ _ _ _ _ a o t _ g _ _ (c .before .before .before .fill-lines .ensures))
 
--- src/lib.rt:342:1
 same-length : tie.Need-same-length
 same-length c = search needs
 
--- src/lib.rt:342:1
 same-length-2 : tie.Need-same-length-2
 same-length-2 c = search needs
 
--- src/lib.rt:342:1
 returns-2 : tie.Need-returns-2
 returns-2 c = frame-length _ _ _ _ _ _ _ (c .before .before .before .before .before .before .before .before .before .before .before .area .ensures .0) (c .before .before .before .before .before .before .before .before .before .before .order .ensures .0) (c .before .before .before .before .before .before .before .before .before .judge-frame .ensures) _ (c .before .before .before .before .before .before .before .found .given .1) _ _ _ (c .before .before .before .check-frame-lengths .ensures) _ (c .before .lengths .given .1)
 
--- src/lib.rt:342:1
 same-length-3 : tie.Need-same-length-3
 same-length-3 c = search needs
 
--- src/lib.rt:342:1
 same-length-4 : tie.Need-same-length-4
 same-length-4 c = search needs
 
--- src/lib.rt:342:1
 returns-3 : tie.Need-returns-3
 returns-3 c = frame-filled _ _ _ _ _ _ _ (c .before .before .before .before .before .before .before .before .before .before .before .before .before .before .before .before .before .before .area .ensures .0) (c .before .before .before .before .before .before .before .before .before .before .before .before .before .before .before .before .before .order .ensures .0) (c .before .before .before .before .before .before .before .before .before .before .before .before .before .before .before .before .judge-frame .ensures) _ (c .before .before .before .before .before .before .before .before .before .before .before .before .before .before .found .given .1) _ _ _ (c .before .before .before .before .before .before .before .before .before .before .check-frame-lengths .ensures) _ _ _ _ (c .before .before .before .before .before .before .before .before .enum-told2 .given .1) (c .before .before .before .before .before .before .fill-lines .ensures) (c .before .before .fill-groups .ensures)
 

@@ -4,22 +4,16 @@ use Rattle.frametext.proofs.Answering.{count-told, place-told}
 use borrow.Author.Needs.{needs}
 use Rattle.frametext.proofs.told.Statement.{statement}
 use Rattle.frametext.proofs.told.Tie as tie
-use Rattle.frametext.proofs.told.Reads as reads
-use Rattle.frametext.proofs.told.Lts as lts
 
--- src/lib.rt:299:22
 enum-known-found : tie.Need-enum-known-found
 enum-known-found c = search needs
 
--- src/lib.rt:300:22
 enum-known-found-2 : tie.Need-enum-known-found-2
 enum-known-found-2 c = search needs
 
--- src/lib.rt:295:1
 returns : tie.Need-returns
 returns c = count-told _ _ (c .before .found .given .1)
 
--- src/lib.rt:295:1
 returns-2 : tie.Need-returns-2
 returns-2 c = place-told _ _ (c .before .found2 .given .1)
 

@@ -10,7 +10,7 @@ use Rattle.design.proofs.Answers.{refused-then, passed-then, check-passed}
 use Rattle.design.specs.Sizes.{paramsOf, orderOf, listsOf}
 use Rattle.rules.proofs.Accepted.{lists-permute}
 use Rattle.positions.proofs.Sizes.{order-positive}
-use Rattle.kit.proofs.Verdict.{lists-rule, spare-rule}
+use Rattle.rules.proofs.OfDesign.{lists-rule, spare-rule}
 use Rattle.kit.proofs.check_content.Statement.{statement}
 use Rattle.kit.proofs.check_content.Tie as tie
 

@@ -9,7 +9,9 @@ use Rattle.staircase.specs.Rules.{lengthRule, kitWork}
 use Rattle.staircase.proofs.Fill.{small-product}
 use Rattle.design.proofs.Answers.{check-passed}
 use Rattle.design.proofs.Accepted.{length-equal}
-use Rattle.kit.proofs.Verdict.{lengths-fit, made-allowed, kit-design, kit-lengths, kit-working, kit-content}
+use Rattle.design.proofs.Answers.{made-allowed}
+use Rattle.lengths.proofs.Fit.{lengths-fit}
+use Rattle.kit.proofs.Verdict.{kit-design, kit-lengths, kit-working, kit-content}
 use Rattle.kit.proofs.check_kit.Statement.{statement}
 use Rattle.kit.proofs.check_kit.Tie as tie
 
@@ -32,10 +34,7 @@ returns c =
     c .design-check .ensures ∙ kit-design (a .m) (a .t) (a .size) (a .own .now) (a .parity .now) (a .inverse .now) (length (a .work .now)) (w .0) (c .before .enum-told .given .1)
 
 check-kit-lengths-requires : tie.Need-check-kit-lengths-requires
-check-kit-lengths-requires c κs =
-    let a = c .before .before .before .before .before .before .before .before .args in
-    let w = c .before .before .before .new .ensures in
-    made-allowed (c .before .designed .given .1) (w .2)
+check-kit-lengths-requires c κs = tt
 
 enum-told-2 : tie.Need-enum-told-2
 enum-told-2 c = search needs

@@ -17,11 +17,11 @@ enum-known-start-2 c = search needs
 enum-known-start-3 : tie.Need-enum-known-start-3
 enum-known-start-3 c = search needs
 
-check-lengths-requires : tie.Need-check-lengths-requires
-check-lengths-requires c κs = search needs
+check-kit-lengths-requires : tie.Need-check-kit-lengths-requires
+check-kit-lengths-requires c κs = search needs
 
-enum-known-lengths : tie.Need-enum-known-lengths
-enum-known-lengths c = search needs
+enum-known-fit : tie.Need-enum-known-fit
+enum-known-fit c = search needs
 
 enum-told : tie.Need-enum-told
 enum-told c = search needs
@@ -30,7 +30,7 @@ order-requires : tie.Need-order-requires
 order-requires c κs = search needs
 
 judge-rest-requires : tie.Need-judge-rest-requires
-judge-rest-requires c κs = read-small _ _ _ _ _ (c .before .before .before .before .before .before .before .before .before .before .read-front .ensures) _ _ (c .before .before .before .before .before .before .before .before .start3 .given .1) _ (c .before .before .before .check-lengths .ensures) (c .before .enum-told .given .1) _ (c .order .ensures)
+judge-rest-requires c κs = read-small _ _ _ _ _ (c .before .before .before .before .before .before .before .before .before .before .read-front .ensures) _ _ (c .before .before .before .before .before .before .before .before .start3 .given .1) _ (c .before .before .before .check-kit-lengths .ensures) (c .before .enum-told .given .1) _ (c .order .ensures)
 
 enum-known-whole : tie.Need-enum-known-whole
 enum-known-whole c = search needs
@@ -40,12 +40,12 @@ enum-known-whole-2 c = search needs
 
 fill-lists-requires : tie.Need-fill-lists-requires
 fill-lists-requires c κs =
-    lists-ready _ _ _ _ _ (c .before .before .before .before .before .before .before .before .before .before .before .before .before .before .before .before .read-front .ensures) _ _ (c .before .before .before .before .before .before .before .before .before .before .before .before .before .before .start3 .given .1) _ (c .before .before .before .before .before .before .before .before .before .check-lengths .ensures) (c .before .before .before .before .before .before .before .enum-told .given .1) _ (c .before .before .before .before .before .before .order .ensures) _
+    lists-ready _ _ _ _ _ (c .before .before .before .before .before .before .before .before .before .before .before .before .before .before .before .before .read-front .ensures) _ _ (c .before .before .before .before .before .before .before .before .before .before .before .before .before .before .start3 .given .1) _ (c .before .before .before .before .before .before .before .before .before .check-kit-lengths .ensures) (c .before .before .before .before .before .before .before .enum-told .given .1) _ (c .before .before .before .before .before .before .order .ensures) _
     (c .before .before .before .before .before .judge-rest .ensures) _ _ (c .before .before .before .whole2 .given .1)
 
 fill-inverse-requires : tie.Need-fill-inverse-requires
 fill-inverse-requires c κs =
-    inverse-ready _ _ _ _ _ (c .before .before .before .before .before .before .before .before .before .before .before .before .before .before .before .before .before .before .before .before .before .before .read-front .ensures) _ _ (c .before .before .before .before .before .before .before .before .before .before .before .before .before .before .before .before .before .before .before .before .start3 .given .1) _ (c .before .before .before .before .before .before .before .before .before .before .before .before .before .before .before .check-lengths .ensures) (c .before .before .before .before .before .before .before .before .before .before .before .before .before .enum-told .given .1) _ (c .before .before .before .before .before .before .before .before .before .before .before .before .order .ensures) _
+    inverse-ready _ _ _ _ _ (c .before .before .before .before .before .before .before .before .before .before .before .before .before .before .before .before .before .before .before .before .before .before .read-front .ensures) _ _ (c .before .before .before .before .before .before .before .before .before .before .before .before .before .before .before .before .before .before .before .before .start3 .given .1) _ (c .before .before .before .before .before .before .before .before .before .before .before .before .before .before .before .check-kit-lengths .ensures) (c .before .before .before .before .before .before .before .before .before .before .before .before .before .enum-told .given .1) _ (c .before .before .before .before .before .before .before .before .before .before .before .before .order .ensures) _
     (c .before .before .before .before .before .before .before .before .before .before .before .judge-rest .ensures) _ _ (c .before .before .before .before .before .before .before .before .before .whole2 .given .1)
 
 returns : tie.Need-returns
@@ -64,7 +64,7 @@ same-length-3 : tie.Need-same-length-3
 same-length-3 c = search needs
 
 returns-3 : tie.Need-returns-3
-returns-3 c = read-lengths _ _ _ _ _ (c .before .before .before .before .before .before .before .before .before .before .read-front .ensures) _ _ (c .before .before .before .before .before .before .before .before .start3 .given .1) _ (c .before .before .before .check-lengths .ensures) _ (c .before .lengths .given .1)
+returns-3 c = read-lengths _ _ _ _ _ (c .before .before .before .before .before .before .before .before .before .before .read-front .ensures) _ _ (c .before .before .before .before .before .before .before .before .start3 .given .1) _ (c .before .before .before .check-kit-lengths .ensures) _ (c .before .fit .given .1)
 
 same-length-4 : tie.Need-same-length-4
 same-length-4 c = search needs
@@ -77,7 +77,7 @@ same-length-6 c = search needs
 
 returns-4 : tie.Need-returns-4
 returns-4 c =
-    read-not _ _ _ _ _ (c .before .before .before .before .before .before .before .before .before .before .before .before .before .before .read-front .ensures) _ _ (c .before .before .before .before .before .before .before .before .before .before .before .before .start3 .given .1) _ (c .before .before .before .before .before .before .before .check-lengths .ensures) (c .before .before .before .before .before .enum-told .given .1) _ (c .before .before .before .before .order .ensures) _
+    read-not _ _ _ _ _ (c .before .before .before .before .before .before .before .before .before .before .before .before .before .before .read-front .ensures) _ _ (c .before .before .before .before .before .before .before .before .before .before .before .before .start3 .given .1) _ (c .before .before .before .before .before .before .before .check-kit-lengths .ensures) (c .before .before .before .before .before .enum-told .given .1) _ (c .before .before .before .before .order .ensures) _
     (c .before .before .before .judge-rest .ensures) _ (c .before .whole .given .1)
 
 same-length-7 : tie.Need-same-length-7
@@ -91,7 +91,7 @@ same-length-9 c = search needs
 
 returns-5 : tie.Need-returns-5
 returns-5 c =
-    read-whole _ _ _ _ _ (c .before .before .before .before .before .before .before .before .before .before .before .before .before .before .before .before .before .before .before .before .before .before .before .before .before .read-front .ensures) _ _ (c .before .before .before .before .before .before .before .before .before .before .before .before .before .before .before .before .before .before .before .before .before .before .before .start3 .given .1) _ (c .before .before .before .before .before .before .before .before .before .before .before .before .before .before .before .before .before .before .check-lengths .ensures) (c .before .before .before .before .before .before .before .before .before .before .before .before .before .before .before .before .enum-told .given .1) _ (c .before .before .before .before .before .before .before .before .before .before .before .before .before .before .before .order .ensures) _
+    read-whole _ _ _ _ _ (c .before .before .before .before .before .before .before .before .before .before .before .before .before .before .before .before .before .before .before .before .before .before .before .before .before .read-front .ensures) _ _ (c .before .before .before .before .before .before .before .before .before .before .before .before .before .before .before .before .before .before .before .before .before .before .before .start3 .given .1) _ (c .before .before .before .before .before .before .before .before .before .before .before .before .before .before .before .before .before .before .check-kit-lengths .ensures) (c .before .before .before .before .before .before .before .before .before .before .before .before .before .before .before .before .enum-told .given .1) _ (c .before .before .before .before .before .before .before .before .before .before .before .before .before .before .before .order .ensures) _
     (c .before .before .before .before .before .before .before .before .before .before .before .before .before .before .judge-rest .ensures) _ _ (c .before .before .before .before .before .before .before .before .before .before .before .before .whole2 .given .1) _ _ _ (c .before .before .before .before .before .before .before .before .fill-lists .ensures .0) (c .before .before .before .before .before .before .before .before .fill-lists .ensures .1) (c .before .before .fill-inverse .ensures)
 
 pub read-kit-spec : {M : Type 1} → statement M
@@ -102,8 +102,8 @@ read-kit-spec =
     enum-known-start
     enum-known-start-2
     enum-known-start-3
-    check-lengths-requires
-    enum-known-lengths
+    check-kit-lengths-requires
+    enum-known-fit
     enum-told
     order-requires
     judge-rest-requires

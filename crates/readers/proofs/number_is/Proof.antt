@@ -6,7 +6,7 @@ use mathlib.Core.Path.{sym, ap, _∙_}
 use Prim.Native.Nat.{ℕ}
 use lib.Seq.{length-take-le}
 use Rattle.formats.specs.Items.{walk, lits}
-use Rattle.writers.proofs.Decimal.{dec-short}
+use Rattle.lines.proofs.Decimal.{dec-short}
 use Rattle.readers.proofs.Fields.{written-front}
 use borrow.Author.Needs.{needs}
 use Rattle.readers.proofs.number_is.Statement.{statement}
@@ -14,7 +14,7 @@ use Rattle.readers.proofs.number_is.Tie as tie
 use Rattle.readers.proofs.number_is.Reads as reads
 use Rattle.readers.proofs.number_is.Lts as lts
 use Rattle.readers.proofs.literal.Reads as literal-reads
-use Rattle.writers.proofs.put_number.Reads as put-number-reads
+use Rattle.lines.proofs.put_number.Reads as put-number-reads
 
 -- src/lib.rt:169:33
 slice-aggregate-put-number : tie.Need-slice-aggregate-put-number

@@ -9,7 +9,7 @@ use Rattle.staircase.specs.Rules.{lengthRule, wordWork, frameBits}
 use Rattle.design.proofs.Answers.{refused-then, passed-then, check-passed}
 use Rattle.design.proofs.Accepted.{length-equal}
 use Rattle.design.specs.Sizes.{orderOf}
-use Rattle.kit.proofs.Verdict.{lists-rule}
+use Rattle.rules.proofs.OfDesign.{lists-rule}
 use Rattle.words.specs.Checks.{contentRules}
 use Rattle.words.proofs.check_contents.Statement.{statement}
 use Rattle.words.proofs.check_contents.Tie as tie

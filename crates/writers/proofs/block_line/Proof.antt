@@ -1,11 +1,12 @@
 -- The test is that of the room for the line: digits, space, bits and line feed.
 -- Assumes nothing.
 use Prim.Native.Nat.{_+_}
-use Rattle.writers.proofs.Placing.{bits-length, told-room, told-put, told-kept}
+use Rattle.lines.proofs.Placing.{bits-length}
+use Rattle.writers.proofs.Room.{told-room, told-put, told-kept}
 use native.Mathlib.Omega.{arith}
 use lib.ListN.{length}
-use Rattle.writers.proofs.Decimal.{dec-short}
-use Rattle.writers.specs.Written.{bitsText}
+use Rattle.lines.proofs.Decimal.{dec-short}
+use Rattle.lines.specs.Written.{bitsText}
 use borrow.Author.Needs.{needs}
 use Rattle.writers.proofs.block_line.Statement.{statement}
 use Rattle.writers.proofs.block_line.Tie as tie

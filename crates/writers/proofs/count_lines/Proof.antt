@@ -1,10 +1,11 @@
 -- The test is that of the room for the two lines: 22 bytes of names, the digits, two spaces and the line feed.
 -- Assumes nothing.
 use Prim.Native.Nat.{_+_}
-use Rattle.writers.proofs.Placing.{counts-length, told-room, told-put, told-kept}
+use Rattle.lines.proofs.Placing.{counts-length}
+use Rattle.writers.proofs.Room.{told-room, told-put, told-kept}
 use native.Mathlib.Omega.{arith}
-use Rattle.writers.proofs.Decimal.{dec-short}
-use Rattle.writers.specs.Written.{countsText}
+use Rattle.lines.proofs.Decimal.{dec-short}
+use Rattle.lines.specs.Written.{countsText}
 use borrow.Author.Needs.{needs}
 use Rattle.writers.proofs.count_lines.Statement.{statement}
 use Rattle.writers.proofs.count_lines.Tie as tie

@@ -1,11 +1,12 @@
 -- The test is that of the room for the line: digits, Y, P, two spaces and the line feed.
 -- Assumes nothing.
 use Prim.Native.Nat.{_+_}
-use Rattle.writers.proofs.Placing.{group-length, told-room, told-put, told-kept}
+use Rattle.lines.proofs.Placing.{group-length}
+use Rattle.writers.proofs.Room.{told-room, told-put, told-kept}
 use native.Mathlib.Omega.{arith}
 use lib.ListN.{length}
-use Rattle.writers.proofs.Decimal.{dec-short}
-use Rattle.writers.specs.Written.{groupLineText}
+use Rattle.lines.proofs.Decimal.{dec-short}
+use Rattle.lines.specs.Written.{groupLineText}
 use borrow.Author.Needs.{needs}
 use Rattle.writers.proofs.group_line.Statement.{statement}
 use Rattle.writers.proofs.group_line.Tie as tie

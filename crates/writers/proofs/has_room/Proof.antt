@@ -2,7 +2,7 @@
 -- Assumes nothing.
 use Prim.Native.Nat.{_+_}
 use native.Mathlib.Omega.{arith}
-use Rattle.writers.proofs.Placing.{no-fit, last-fits}
+use Rattle.writers.proofs.Room.{no-fit, last-fits}
 use Rattle.writers.proofs.has_room.Statement.{statement}
 use Rattle.writers.proofs.has_room.Tie as tie
 

@@ -1,7 +1,7 @@
 -- The test is that of the room for the text.
 -- Assumes nothing.
 use Prim.Native.Nat.{_+_}
-use Rattle.writers.proofs.Placing.{told-room, told-put, told-kept}
+use Rattle.writers.proofs.Room.{told-room, told-put, told-kept}
 use native.Mathlib.Omega.{arith}
 use lib.ListN.{length}
 use borrow.Author.Needs.{needs}

@@ -1,9 +1,10 @@
 -- The test is that of the room for the two lines: fourteen bytes of names, the digits, the space and the line feed.
 -- Assumes nothing.
 use Prim.Native.Nat.{_+_}
-use Rattle.writers.proofs.Placing.{refusal-length, told-room, told-put, told-kept}
+use Rattle.lines.proofs.Placing.{refusal-length}
+use Rattle.writers.proofs.Room.{told-room, told-put, told-kept}
 use native.Mathlib.Omega.{arith}
-use Rattle.writers.specs.Written.{refusalText}
+use Rattle.lines.specs.Written.{refusalText}
 use borrow.Author.Needs.{needs}
 use Rattle.writers.proofs.refusal_lines.Statement.{statement}
 use Rattle.writers.proofs.refusal_lines.Tie as tie

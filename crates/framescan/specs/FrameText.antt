@@ -1,0 +1,69 @@
+-- Document 01, "Programs": block text, and `mend`'s text, which is block text followed by group text.
+--   blockFormat area most          "`block bits`, then number and M × M bits, for 1 to 4,096 blocks numbered from 1 in order"
+--   frameFormat area n most        block text "followed by group text in that form, with exactly G groups"
+--   BlockText, FrameText           the same texts, said by the number of blocks
+-- `area` is M × M, `n` is M × r, `most` is the largest number of blocks. The mark at a text's end is its number of blocks.
+-- Assumes nothing.
+use Prim.Native.Nat.{ℕ, zero, suc, _-_, _≤_}
+use mathlib.Core.List.{List, [], _∷_, _++_}
+use Rattle.formats.specs.Format.{Item, byte, Format, end, _▷_, opt, fork, dec}
+use Rattle.formats.specs.Items.{lits, seq, bits, bitsLine, bitsLines, Spells}
+use Rattle.staircase.specs.Frame.{groups}
+
+-- ---- block text
+
+-- `block bits` and a line feed
+abbrev pub blockNames : List ℕ
+blockNames = 98 ∷ 108 ∷ 111 ∷ 99 ∷ 107 ∷ 32 ∷ 98 ∷ 105 ∷ 116 ∷ 115 ∷ 10 ∷ []
+
+-- after i lines, at most k more: the text ends, or goes on
+unfoldable pub blockTail : ℕ → ℕ → ℕ → Format
+blockTail area zero i = end i
+blockTail area (suc k) i = opt i (seq (bitsLine area (suc i)) (blockTail area k (suc i)))
+
+unfoldable pub blockFormat : ℕ → ℕ → Format
+blockFormat area most = seq (lits blockNames) (seq (bitsLine area 1) (blockTail area (most - 1) 1))
+
+-- ---- block text followed by group text
+
+-- `group self parity` and a line feed, behind the first byte
+abbrev pub groupNames : List ℕ
+groupNames = 114 ∷ 111 ∷ 117 ∷ 112 ∷ 32 ∷ 115 ∷ 101 ∷ 108 ∷ 102 ∷ 32 ∷ 112 ∷ 97 ∷ 114 ∷ 105 ∷ 116 ∷ 121 ∷ 10 ∷ []
+
+-- "number, Y, P"
+unfoldable pub groupLine : ℕ → ℕ → List Item
+groupLine n p = lits (dec p) ++ ((byte 32 ∷ bits n) ++ ((byte 32 ∷ bits n) ++ (byte 10 ∷ [])))
+
+unfoldable pub groupLines : ℕ → ℕ → ℕ → List Item
+groupLines n p zero = []
+groupLines n p (suc k) = groupLine n p ++ groupLines n (suc p) k
+
+-- the group text of L blocks, behind its first byte
+unfoldable pub groupTail : ℕ → ℕ → Format
+groupTail n L = seq (lits groupNames ++ groupLines n 1 (groups L)) (end L)
+
+-- after i block lines, at most k more: `g` begins the group text, anything else the next block
+unfoldable pub frameTail : ℕ → ℕ → ℕ → ℕ → Format
+frameTail area n zero i = byte 103 ▷ groupTail n i
+frameTail area n (suc k) i = fork 103 (groupTail n i) (seq (bitsLine area (suc i)) (frameTail area n k (suc i)))
+
+unfoldable pub frameFormat : ℕ → ℕ → ℕ → Format
+frameFormat area n most = seq (lits blockNames) (seq (bitsLine area 1) (frameTail area n (most - 1) 1))
+
+-- ---- the same texts by the number of blocks L, with their bits vs
+
+abbrev pub blockItems : ℕ → ℕ → List Item
+blockItems area L = lits blockNames ++ bitsLines area 1 L
+
+abbrev pub groupItems : ℕ → ℕ → List Item
+groupItems n G = byte 103 ∷ (lits groupNames ++ groupLines n 1 G)
+
+pub record BlockText (area most L : ℕ) (vs s : List ℕ) : Type 0 where
+  pub some : 1 ≤ L
+  pub few : L ≤ most
+  pub spells : Spells (blockItems area L) vs s
+
+pub record FrameText (area n most L : ℕ) (vs s : List ℕ) : Type 0 where
+  pub some : 1 ≤ L
+  pub few : L ≤ most
+  pub spells : Spells (blockItems area L ++ groupItems n (groups L)) vs s

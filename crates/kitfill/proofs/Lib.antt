@@ -1,0 +1,4 @@
+pub mod RowCounts
+pub mod Filling
+pub mod Packing
+pub mod RowFilling

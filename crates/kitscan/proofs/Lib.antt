@@ -1,0 +1,4 @@
+pub mod TwoLines
+pub mod ListLines
+pub mod RowLines
+pub mod RestLaws

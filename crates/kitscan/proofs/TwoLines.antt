@@ -1,0 +1,119 @@
+-- The two lines of a kit text, as the code has them, and rules 1 to 3 for their numbers.
+--   two-second .. two-read       `last_two`
+--   lines-names .. lines-rest    `read_head`
+--   head-read                    what a text shows that starts with two lines
+--   front-none .. front-starts   `read_front`
+-- Assumes nothing.
+use Prim.Native.Nat.{ℕ}
+use mathlib.Core.Path.{_≡_, sym, ap, _∙_}
+use mathlib.Core.List.{List, [], _∷_, _++_}
+use lib.ListN.{getD}
+use Rattle.formats.specs.Format.{Item, byte, num}
+use Rattle.formats.specs.Items.{lits, Walk, stuck, past, prep, walk, onward, values}
+use Rattle.formats.proofs.Walking.{walk-append, onward-ext, prep-nil}
+use Rattle.readers.specs.declared.Step.{Step}
+use Rattle.readers.specs.declared.Step.the-variants.{Next, Refused}
+use Rattle.readers.specs.declared.Field.{Field}
+use Rattle.readers.specs.declared.Field.the-variants.{Got, Stop}
+use Rattle.readers.specs.Answers.{stepWalk, fieldWalk}
+use Rattle.readers.specs.Verdicts.{walkRule, passed}
+use Rattle.staircase.specs.Rules.{Verdict, _then_, designRules}
+use Rattle.staircase.specs.Rules.Verdict.{accepted, refused}
+use Rattle.design.specs.declared.Design.{Design}
+use Rattle.design.specs.declared.Designed.{Designed}
+use Rattle.design.specs.declared.Designed.the-variants as designed
+use Rattle.design.specs.declared.Refusal.{Refusal}
+use Rattle.design.specs.Answers.{designVerdict, DesignIs, DesignAllowed}
+use Rattle.kitscan.specs.KitText.{names, headItems}
+use Rattle.kitscan.specs.TwoLines.{headNumber, headRule}
+use Rattle.kitscan.specs.Answers.{headWalk, frontRule, frontVerdict, FrontIs}
+use Rattle.kitscan.specs.declared.Head.{Head}
+use Rattle.kitscan.specs.declared.Head.the-variants.{Lines, NoLines}
+use Rattle.kitscan.specs.declared.Front.the-variants.{Starts, Ruled, NoStart}
+
+-- the second and the third number
+abbrev Two : List Item
+Two = num ∷ byte 32 ∷ num ∷ byte 10 ∷ []
+
+module _ (s : List ℕ) (at m : ℕ) (x : Field) (ex : fieldWalk x ≡ walk (num ∷ byte 32 ∷ []) s at) where
+  two-from : walk Two s at ≡ onward (walk (num ∷ byte 32 ∷ []) s at) (λ j. walk (num ∷ byte 10 ∷ []) s j)
+  two-from = walk-append (num ∷ byte 32 ∷ []) (num ∷ byte 10 ∷ []) s at
+
+  pub two-second : (q : ℕ) → x ≡ Stop q → stuck q ≡ prep (m ∷ []) (walk (num ∷ byte 32 ∷ num ∷ byte 10 ∷ []) s at)
+  two-second q f = rw (two-from, ← ex, f)
+
+  module _ (t j : ℕ) (fx : x ≡ Got t j) (y : Field) (ey : fieldWalk y ≡ walk (num ∷ byte 10 ∷ []) s j) where
+    pub two-third : (q : ℕ) → y ≡ Stop q → stuck q ≡ prep (m ∷ []) (walk (num ∷ byte 32 ∷ num ∷ byte 10 ∷ []) s at)
+    two-third q f = rw (two-from, ← ex, fx, ← ey, f)
+
+    pub two-read : (M e : ℕ) → y ≡ Got M e → past (m ∷ t ∷ M ∷ []) e ≡ prep (m ∷ []) (walk (num ∷ byte 32 ∷ num ∷ byte 10 ∷ []) s at)
+    two-read M e f = rw (two-from, ← ex, fx, ← ey, f)
+
+-- the names and the three numbers
+module _ (s : List ℕ) (x : Step) (ex : stepWalk x ≡ walk (lits names) s 0) where
+  lines-from : walk headItems s 0 ≡ onward (walk (lits names) s 0) (λ i. onward (walk (num ∷ byte 32 ∷ []) s i) (λ j. walk Two s j))
+  lines-from =
+      walk-append (lits names) ((num ∷ byte 32 ∷ []) ++ Two) s 0
+      ∙ onward-ext (walk (lits names) s 0) _ (λ i. onward (walk (num ∷ byte 32 ∷ []) s i) (λ j. walk Two s j)) (λ i. walk-append (num ∷ byte 32 ∷ []) Two s i)
+
+  pub lines-names : (q : ℕ) → x ≡ Refused q → stuck q ≡ walk headItems s 0
+  lines-names q f = rw (lines-from, ← ex, f)
+
+  module _ (i : ℕ) (fx : x ≡ Next i) (y : Field) (ey : fieldWalk y ≡ walk (num ∷ byte 32 ∷ []) s i) where
+    pub lines-first : (q : ℕ) → y ≡ Stop q → stuck q ≡ walk headItems s 0
+    lines-first q f = rw (lines-from, ← ex, fx, ← ey, f)
+
+    pub lines-rest : (m j : ℕ) → y ≡ Got m j → (w : Walk) → w ≡ prep (m ∷ []) (walk (num ∷ byte 32 ∷ num ∷ byte 10 ∷ []) s j) → w ≡ walk headItems s 0
+    lines-rest m j f w g = rw (lines-from, ← ex, fx, ← ey, f) (g ∙ sym (prep-nil (prep (m ∷ []) (walk Two s j))))
+
+-- what a text shows that starts with two lines
+pub record Shown (s : List ℕ) (m t M q : ℕ) : Type 0 where
+  pub rule : headRule s ≡ accepted
+  pub first : headNumber s 0 ≡ m
+  pub second : headNumber s 1 ≡ t
+  pub third : headNumber s 2 ≡ M
+  pub after : passed (walk headItems s 0) ≡ q
+
+pub head-read : (s : List ℕ) (m t M q : ℕ) → walk headItems s 0 ≡ past (m ∷ t ∷ M ∷ []) q → Shown s m t M q
+unfolding headRule headNumber walkRule passed
+head-read s m t M q e =
+    record {
+      rule = ap (walkRule 11) e;
+      first = ap (λ (w : Walk). getD (values w) 0 0) e;
+      second = ap (λ (w : Walk). getD (values w) 1 0) e;
+      third = ap (λ (w : Walk). getD (values w) 2 0) e;
+      after = ap passed e;
+    }
+
+pub head-stuck : (s : List ℕ) (q : ℕ) → walk headItems s 0 ≡ stuck q → headRule s ≡ refused 11 q
+unfolding headRule walkRule
+head-stuck s q e = ap (walkRule 11) e
+
+-- the two lines, and then rules 1 to 3
+module _ (s : List ℕ) (h : Head) (eh : headWalk h ≡ walk headItems s 0) where
+  pub front-none : (q : ℕ) → h ≡ NoLines q → (frontVerdict (NoStart q) ≡ frontRule s) × FrontIs (NoStart q) s
+  unfolding frontVerdict frontRule FrontIs
+  front-none q f =
+      let w : headRule s ≡ refused 11 q = head-stuck s q (sym eh ∙ ap headWalk f) in
+      (sym (ap (λ (v : Verdict). v then designRules (headNumber s 0) (headNumber s 1) (headNumber s 2)) w), tt)
+
+  module _ (m t M q : ℕ) (f : h ≡ Lines m t M q) (x : Designed) (ex : (designVerdict x ≡ designRules m t M) × DesignIs x m t M × DesignAllowed x) where
+    shown : Shown s m t M q
+    shown = head-read s m t M q (sym eh ∙ ap headWalk f)
+
+    front-design : frontRule s ≡ designVerdict x
+    unfolding frontRule
+    front-design =
+        ap (λ (v : Verdict). v then designRules (headNumber s 0) (headNumber s 1) (headNumber s 2)) (shown .rule)
+        ∙ rw (shown .first, shown .second, shown .third) (sym (ex .0))
+
+    pub front-ruled : (r : Refusal) → x ≡ designed.Refused r → (frontVerdict (Ruled r) ≡ frontRule s) × FrontIs (Ruled r) s
+    unfolding frontVerdict FrontIs designVerdict
+    front-ruled r g = (sym (front-design ∙ ap designVerdict g), tt)
+
+    pub front-starts : (d : Design) → x ≡ designed.Made d → (frontVerdict (Starts d q) ≡ frontRule s) × FrontIs (Starts d q) s
+    unfolding frontVerdict FrontIs designVerdict DesignIs DesignAllowed
+    front-starts d g =
+        let i : DesignIs (designed.Made d) m t M = rw g at (ex .1) in
+        let a : DesignAllowed (designed.Made d) = rw g at (ex .2) in
+        (sym (front-design ∙ ap designVerdict g), (i .0 ∙ sym (shown .first), i .1 ∙ sym (shown .second), i .2 ∙ sym (shown .third), a, sym (shown .after)))

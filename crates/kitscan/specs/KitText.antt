@@ -1,0 +1,58 @@
+-- Document 01, "Kit text": the format, for a design.
+--   headItems, headFormat    the line `m t M` and the line of the three numbers, "where any numbers of one to four digits will do"
+--   pairLine, pairLines      the lines of the lists: `place`, an entry of the self list, an entry of the parity list
+--   kitBody n                what follows the two lines, for n = M × r
+--   kitFormat m t M          the kit texts of a design; its two lines are fixed bytes
+--   KitText D                the kit texts of the designs in D
+-- Assumes nothing.
+use Prim.Native.Nat.{ℕ, zero, suc, _*_}
+use mathlib.Core.List.{List, [], _∷_, _++_}
+use Rattle.formats.specs.Format.{Item, byte, num, Format, end, dec, Text}
+use Rattle.formats.specs.Items.{lits, seq, spell, bitsLines}
+
+-- ---- the two lines
+
+-- `m t M` and a line feed
+abbrev pub names : List ℕ
+names = 109 ∷ 32 ∷ 116 ∷ 32 ∷ 77 ∷ 10 ∷ []
+
+abbrev pub headItems : List Item
+headItems = lits names ++ (num ∷ byte 32 ∷ num ∷ byte 32 ∷ num ∷ byte 10 ∷ [])
+
+abbrev pub headFormat : Format
+headFormat = seq headItems (end 0)
+
+-- the two lines of a design
+abbrev pub headBytes : ℕ → ℕ → ℕ → List ℕ
+headBytes m t M = spell headItems (m ∷ t ∷ M ∷ [])
+
+-- ---- the rest
+
+-- `place self parity` and a line feed
+abbrev pub listNames : List ℕ
+listNames = 112 ∷ 108 ∷ 97 ∷ 99 ∷ 101 ∷ 32 ∷ 115 ∷ 101 ∷ 108 ∷ 102 ∷ 32 ∷ 112 ∷ 97 ∷ 114 ∷ 105 ∷ 116 ∷ 121 ∷ 10 ∷ []
+
+-- `row inverse` and a line feed
+abbrev pub rowNames : List ℕ
+rowNames = 114 ∷ 111 ∷ 119 ∷ 32 ∷ 105 ∷ 110 ∷ 118 ∷ 101 ∷ 114 ∷ 115 ∷ 101 ∷ 10 ∷ []
+
+-- "First columns run from 0": the line of place p, and the lines p to p + n - 1
+abbrev pub pairTail : List Item
+pairTail = byte 32 ∷ num ∷ byte 32 ∷ num ∷ byte 10 ∷ []
+
+unfoldable pub pairLine : ℕ → List Item
+pairLine p = lits (dec p) ++ pairTail
+
+unfoldable pub pairLines : ℕ → ℕ → List Item
+pairLines p zero = []
+pairLines p (suc n) = pairLine p ++ pairLines (suc p) n
+
+-- "`inverse` has M × r characters, column 0 first"
+unfoldable pub kitBody : ℕ → List Item
+kitBody n = lits listNames ++ (pairLines 0 n ++ (lits rowNames ++ bitsLines n 0 n))
+
+unfoldable pub kitFormat : ℕ → ℕ → ℕ → Format
+kitFormat m t M = seq (lits (headBytes m t M)) (seq (kitBody (M * (m * t))) (end 0))
+
+abbrev pub KitText : (ℕ → ℕ → ℕ → Type 0) → List ℕ → Type 0
+KitText D s = (m : ℕ) × (t : ℕ) × (M : ℕ) × D m t M × Text (kitFormat m t M) s

@@ -1,0 +1,4 @@
+pub mod Chars
+pub mod Decimal
+pub mod Placing
+pub mod Storing

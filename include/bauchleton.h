@@ -1,0 +1,100 @@
+/* The calls of Bauchleton for a host in C. Link target/staticlib/libhost.a, and for the calls on texts target/staticlib/libhosttext.a.
+
+   A slice is a pointer and a length; no two slices of a call may overlap. Buffers hold one bit a byte, lists two bytes an entry, low byte first; the
+   inverse has M * r rows of (M * r + 7) / 8 bytes. docs/WORKING.md says how many working bytes to lend.
+
+   A call of the first two parts answers 0, or the number of the rule of document 01's table that refuses. `answer` takes the refusal's place, 0 where
+   nothing is refused, and then what the line above the call names, 0 where it is refused. An `answer` of another length than the line's is left as it was.
+   A refused call leaves what it was lent as it was, but for the working bytes. */
+
+#ifndef BAUCHLETON_H
+#define BAUCHLETON_H
+
+#include <stddef.h>
+#include <stdint.h>
+
+#ifdef __cplusplus
+extern "C" {
+#endif
+
+/* ---- Kits and frames: libhost.a ---- */
+
+/* answer, 4 entries: place, r, n, k */
+uint64_t bauchleton_design(uint64_t m, uint64_t t, uint64_t size, uint64_t *answer, size_t answer_length);
+
+/* answer, 1 entry: place */
+uint64_t bauchleton_check_kit(uint64_t m, uint64_t t, uint64_t size, const uint8_t *self, size_t self_length, const uint8_t *parity,
+                              size_t parity_length, const uint8_t *inverse, size_t inverse_length, uint8_t *work, size_t work_length,
+                              uint64_t *answer, size_t answer_length);
+
+/* Writes the redundancy. answer, 1 entry: place */
+uint64_t bauchleton_encode(uint64_t m, uint64_t t, uint64_t size, uint64_t blocks, const uint8_t *self, size_t self_length,
+                           const uint8_t *parity, size_t parity_length, const uint8_t *inverse, size_t inverse_length, const uint8_t *info,
+                           size_t info_length, uint8_t *red, size_t red_length, uint8_t *work, size_t work_length, uint64_t *answer,
+                           size_t answer_length);
+
+/* answer, 2 entries: place, words outside the code */
+uint64_t bauchleton_check_words(uint64_t m, uint64_t t, uint64_t size, uint64_t blocks, const uint8_t *self, size_t self_length,
+                                const uint8_t *parity, size_t parity_length, const uint8_t *info, size_t info_length, const uint8_t *red,
+                                size_t red_length, uint8_t *work, size_t work_length, uint64_t *answer, size_t answer_length);
+
+/* Corrects information and redundancy in place. answer, 4 entries: place, rounds made, bits turned, words outside the code at the end */
+uint64_t bauchleton_decode(uint64_t m, uint64_t t, uint64_t size, uint64_t blocks, uint64_t rounds, const uint8_t *self, size_t self_length,
+                           const uint8_t *parity, size_t parity_length, uint8_t *info, size_t info_length, uint8_t *red, size_t red_length,
+                           uint8_t *work, size_t work_length, uint64_t *answer, size_t answer_length);
+
+/* Encodes, turns the bits whose byte in a pattern is not 0, and decodes.
+   answer, 5 entries: place, the call that was refused (1 the encoder, 2 the decoder, 0 neither), then the decoder's three counts */
+uint64_t bauchleton_loopback(uint64_t m, uint64_t t, uint64_t size, uint64_t blocks, uint64_t rounds, const uint8_t *self, size_t self_length,
+                             const uint8_t *parity, size_t parity_length, const uint8_t *inverse, size_t inverse_length,
+                             const uint8_t *info_errors, size_t info_errors_length, const uint8_t *red_errors, size_t red_errors_length,
+                             uint8_t *info, size_t info_length, uint8_t *red, size_t red_length, uint8_t *work, size_t work_length,
+                             uint64_t *answer, size_t answer_length);
+
+/* Copies block `number` (kind 0) or group `number` (any other kind) to the start of `out`, where it fits. answer, 2 entries: place, its length */
+uint64_t bauchleton_show(uint64_t m, uint64_t t, uint64_t size, uint64_t blocks, uint64_t kind, uint64_t number, const uint8_t *info,
+                         size_t info_length, const uint8_t *red, size_t red_length, uint8_t *out, size_t out_length, uint64_t *answer,
+                         size_t answer_length);
+
+/* ---- Reading texts: libhosttext.a ---- */
+
+/* answer, 4 entries: place, m, t, M */
+uint64_t bauchleton_scan_kit(const uint8_t *text, size_t text_length, uint64_t *answer, size_t answer_length);
+uint64_t bauchleton_read_kit(const uint8_t *text, size_t text_length, uint8_t *self, size_t self_length, uint8_t *parity, size_t parity_length,
+                             uint8_t *inverse, size_t inverse_length, uint64_t *answer, size_t answer_length);
+
+/* Block text. answer, 2 entries: place, number of blocks */
+uint64_t bauchleton_scan_blocks(uint64_t m, uint64_t t, uint64_t size, const uint8_t *text, size_t text_length, uint64_t *answer,
+                                size_t answer_length);
+uint64_t bauchleton_read_blocks(uint64_t m, uint64_t t, uint64_t size, const uint8_t *text, size_t text_length, uint8_t *info,
+                                size_t info_length, uint64_t *answer, size_t answer_length);
+
+/* Block text followed by group text. answer, 2 entries: place, number of blocks */
+uint64_t bauchleton_scan_frame(uint64_t m, uint64_t t, uint64_t size, const uint8_t *text, size_t text_length, uint64_t *answer,
+                               size_t answer_length);
+uint64_t bauchleton_read_frame(uint64_t m, uint64_t t, uint64_t size, const uint8_t *text, size_t text_length, uint8_t *info,
+                               size_t info_length, uint8_t *red, size_t red_length, uint64_t *answer, size_t answer_length);
+
+/* ---- Writing texts: libhosttext.a ----
+   Each writes from position `at` of `out` on and answers the position after what it wrote, or writes nothing and answers `at` where there is no room. */
+
+size_t bauchleton_block_line(uint8_t *out, size_t out_length, size_t at, uint64_t number, const uint8_t *bits, size_t bits_length);
+size_t bauchleton_group_line(uint8_t *out, size_t out_length, size_t at, uint64_t number, const uint8_t *self, size_t self_length,
+                             const uint8_t *parity, size_t parity_length);
+size_t bauchleton_refusal_lines(uint8_t *out, size_t out_length, size_t at, uint64_t rule, uint64_t place);
+size_t bauchleton_count_lines(uint8_t *out, size_t out_length, size_t at, uint64_t rounds, uint64_t turned, uint64_t outside);
+
+/* ---- The programs: libhosttext.a ----
+   What `frame` and `mend` print for the bytes of kit.txt and of their standard input, written to the start of `out`; answers its length. An `out` of
+   fewer than BAUCHLETON_OUTPUT bytes is left as it was, and the answer is 0. */
+
+enum { BAUCHLETON_OUTPUT = 262144 };
+
+size_t bauchleton_frame(const uint8_t *kit, size_t kit_length, const uint8_t *text, size_t text_length, uint8_t *out, size_t out_length);
+size_t bauchleton_mend(const uint8_t *kit, size_t kit_length, const uint8_t *text, size_t text_length, uint8_t *out, size_t out_length);
+
+#ifdef __cplusplus
+}
+#endif
+
+#endif
