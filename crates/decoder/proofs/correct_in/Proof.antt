@@ -21,7 +21,7 @@ run-rounds-requires : tie.Need-run-rounds-requires
 run-rounds-requires c κs =
     let p = c .before .before .before .before .before .before .before .before .before .before .before .before .before .before .before .before .before .before .before .before .before .before .before .before .before .before .before .pre in
     let t = c .before .before .before .before .before .before .before .before .before .before .before .before .before .fill-tables .ensures in
-    (ready-of _ _ _ (p .0) (t .0) (t .1 ∙ p .3), p .0 .frame, p .1, p .6, c .before .before .before .before .before .before .before .before .before .before .before .before .before .before .before .before .before .rounds-allowed .ensures .1)
+    (ready-of _ _ _ (p .0) (t .0) (t .1 ∙ p .3), p .0 .frame, p .1, p .6, omega (arith, c .before .before .before .before .before .before .before .before .before .before .before .before .before .before .before .before .before .rounds-allowed .ensures .1))
 
 outside-after-requires : tie.Need-outside-after-requires
 outside-after-requires c κs =
