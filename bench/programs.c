@@ -27,7 +27,7 @@ static size_t kit_length, text_length;
 
 /* ---- Files: the programs run in a folder of their own ---- */
 
-static char folder[] = "/tmp/programs-XXXXXX";
+static char folder[] = P_tmpdir "/programs-XXXXXX";
 static const char kit_file[] = "kit.txt", input_file[] = "input.txt", *const output_file[] = { "library.txt", "plain.txt", "nothing.txt" };
 
 static void stop(const char *what)

@@ -4,25 +4,19 @@
 -- Assumes nothing.
 use mathlib.Core.Path.{_≡_, refl, sym, ap, _∙_}
 use mathlib.Core.List.{List}
-use Prim.Native.Nat.{ℕ, _*_}
-use lib.ListN.{length}
-use Rattle.staircase.specs.Design.{Params, params, order}
-use Rattle.staircase.specs.System.{rowBytes}
-use Rattle.staircase.specs.Rules.{Verdict, _then_, refuseFirst, designRules, lengthRule, listLengths, kitLengths, kitWork, entries, interleavers, badEntry, listRule, spareRow, spareRule, kitRules}
-use Rattle.staircase.specs.Rules.Verdict.{accepted}
+use Prim.Native.Nat.{ℕ}
+use Rattle.staircase.specs.Design.{Params, params}
+use Rattle.staircase.specs.Rules.{Verdict, _then_, designRules, lengthRule, kitLengths, kitWork, interleavers, kitRules}
 use Rattle.staircase.specs.Calls.{kitVerdict}
-use Rattle.staircase.specs.Demand2.{FitsOrder}
-use Rattle.staircase.proofs.Rules.{then-first, then-rest}
 use Rattle.design.specs.declared.Refusal.{Refusal}
 use Rattle.design.specs.declared.Check.{Check}
 use Rattle.design.specs.declared.Check.the-variants as check
 use Rattle.design.specs.declared.Design.{Design}
 use Rattle.design.specs.declared.Designed.{Designed}
 use Rattle.design.specs.declared.Designed.the-variants as designed
-use Rattle.design.specs.Sizes.{paramsOf, orderOf, listsOf}
-use Rattle.design.specs.Answers.{verdictOf, designVerdict, DesignIs, Allowed, DesignAllowed}
+use Rattle.design.specs.Sizes.{paramsOf, listsOf}
+use Rattle.design.specs.Answers.{verdictOf, designVerdict, DesignIs}
 use Rattle.design.proofs.Answers.{refused-then, passed-then, design-refused, design-made, made-params}
-use Rattle.design.proofs.Accepted.{length-equal, list-lengths}
 
 -- ---- the design
 

@@ -8,131 +8,91 @@ use Rattle.programs.proofs.Room.{array-room, packed-is, bits-are, groups-are, p
 use borrow.Author.Needs.{needs}
 use Rattle.framing.proofs.frame_arrays.Statement.{statement}
 use Rattle.framing.proofs.frame_arrays.Tie as tie
-use Rattle.framing.proofs.frame_arrays.Reads as reads
-use Rattle.framing.proofs.frame_arrays.Lts as lts
-use Rattle.design.proofs.Design.area.Reads as area-reads
-use Rattle.design.proofs.Design.order.Reads as order-reads
-use Rattle.design.proofs.Design.row_bytes.Reads as row-bytes-reads
-use Rattle.design.proofs.group_count.Reads as group-count-reads
-use Rattle.framing.proofs.frame_call.Reads as frame-call-reads
-use Rattle.framing.proofs.group_bits.Reads as group-bits-reads
-use Rattle.programs.proofs.list_bytes.Reads as list-bytes-reads
-use Rattle.programs.proofs.matrix_bytes.Reads as matrix-bytes-reads
-use Rattle.programs.proofs.text_bits.Reads as text-bits-reads
 
--- src/lib.rt:133:9
 order-requires : tie.Need-order-requires
 order-requires c κs = search needs
 
--- src/lib.rt:134:22
 row-bytes-requires : tie.Need-row-bytes-requires
 row-bytes-requires c κs = search needs
 
--- src/lib.rt:134:18
 mul-packed : tie.Need-mul-packed
 mul-packed c = omega (arith, matrix-room _ _ _ (c .before .before .before .before .before .pre .0 .started) _ (c .before .order .ensures .0) _ (c .row-bytes .ensures .0))
 
--- src/lib.rt:135:36
 area-requires : tie.Need-area-requires
 area-requires c κs = search needs
 
--- src/lib.rt:135:16
 mul-bits : tie.Need-mul-bits
 mul-bits c = omega (arith, frame-info-room _ _ _ _ (c .before .before .before .before .before .before .pre .0) _ (c .area .ensures .0))
 
--- src/lib.rt:136:9
 group-count-requires : tie.Need-group-count-requires
 group-count-requires c κs = frame-few _ _ _ _ (c .before .before .before .before .before .before .pre .0)
 
--- src/lib.rt:137:37
 mul-made : tie.Need-mul-made
 mul-made c = search needs
 
--- src/lib.rt:137:16
 mul-made-2 : tie.Need-mul-made-2
 mul-made-2 c = omega (arith, frame-red-room _ _ _ _ (c .before .before .before .before .before .before .before .pre .0) _ _ (c .group-count .ensures) (c .before .before .before .order .ensures .0))
 
--- src/lib.rt:138:19
 list-bytes-requires : tie.Need-list-bytes-requires
 list-bytes-requires c κs = search needs
 
--- src/lib.rt:139:22
 list-bytes-requires-2 : tie.Need-list-bytes-requires-2
 list-bytes-requires-2 c κs = search needs
 
--- src/lib.rt:140:23
 matrix-bytes-requires : tie.Need-matrix-bytes-requires
 matrix-bytes-requires c κs = search needs
 
--- src/lib.rt:141:20
 matrix-bytes-requires-2 : tie.Need-matrix-bytes-requires-2
 matrix-bytes-requires-2 c κs = search needs
 
--- src/lib.rt:142:20
 text-bits-requires : tie.Need-text-bits-requires
 text-bits-requires c κs = search needs
 
--- src/lib.rt:143:19
 group-bits-requires : tie.Need-group-bits-requires
 group-bits-requires c κs = search needs
 
--- src/lib.rt:149:20
 mul-own : tie.Need-mul-own
 mul-own c = search needs
 
--- src/lib.rt:149:9
 array-borrow-prefix-own : tie.Need-array-borrow-prefix-own
 array-borrow-prefix-own c = array-room _ 362 (c .before .before .before .before .before .list-bytes .result) (c .before .before .before .before .before .list-bytes .ensures) (list-room _ _ _ (c .before .before .before .before .before .before .before .before .before .before .before .before .before .pre .0 .started) _ (c .before .before .before .before .before .before .before .before .before .order .ensures .0))
 
--- src/lib.rt:149:9
 slice-aggregate-frame-call : tie.Need-slice-aggregate-frame-call
 slice-aggregate-frame-call c = part-count _ 362 _ (c .before .before .before .before .before .before .list-bytes .ensures) (list-room _ _ _ (c .before .before .before .before .before .before .before .before .before .before .before .before .before .before .pre .0 .started) _ (c .before .before .before .before .before .before .before .before .before .before .order .ensures .0))
 
--- src/lib.rt:150:23
 mul-parity : tie.Need-mul-parity
 mul-parity c = search needs
 
--- src/lib.rt:150:9
 array-borrow-prefix-parity : tie.Need-array-borrow-prefix-parity
 array-borrow-prefix-parity c = array-room _ 362 (c .before .before .before .before .before .list-bytes2 .result) (c .before .before .before .before .before .list-bytes2 .ensures) (list-room _ _ _ (c .before .before .before .before .before .before .before .before .before .before .before .before .before .before .pre .0 .started) _ (c .before .before .before .before .before .before .before .before .before .before .order .ensures .0))
 
--- src/lib.rt:150:9
 slice-aggregate-frame-call-2 : tie.Need-slice-aggregate-frame-call-2
 slice-aggregate-frame-call-2 c = part-count _ 362 _ (c .before .before .before .before .before .before .list-bytes2 .ensures) (list-room _ _ _ (c .before .before .before .before .before .before .before .before .before .before .before .before .before .before .before .pre .0 .started) _ (c .before .before .before .before .before .before .before .before .before .before .before .order .ensures .0))
 
--- src/lib.rt:151:9
 array-borrow-prefix-inverse : tie.Need-array-borrow-prefix-inverse
 array-borrow-prefix-inverse c = array-room _ 4163 (c .before .before .before .before .before .matrix-bytes .result) (c .before .before .before .before .before .matrix-bytes .ensures) (matrix-room _ _ _ (c .before .before .before .before .before .before .before .before .before .before .before .before .before .before .before .pre .0 .started) _ (c .before .before .before .before .before .before .before .before .before .before .before .order .ensures .0) _ (c .before .before .before .before .before .before .before .before .before .before .row-bytes .ensures .0))
 
--- src/lib.rt:151:9
 slice-aggregate-frame-call-3 : tie.Need-slice-aggregate-frame-call-3
 slice-aggregate-frame-call-3 c = part-count _ 4163 _ (c .before .before .before .before .before .before .matrix-bytes .ensures) (matrix-room _ _ _ (c .before .before .before .before .before .before .before .before .before .before .before .before .before .before .before .before .pre .0 .started) _ (c .before .before .before .before .before .before .before .before .before .before .before .before .order .ensures .0) _ (c .before .before .before .before .before .before .before .before .before .before .before .row-bytes .ensures .0))
 
--- src/lib.rt:152:9
 array-borrow-prefix-info : tie.Need-array-borrow-prefix-info
 array-borrow-prefix-info c = array-room _ 32768 (c .before .before .before .before .text-bits .result) (c .before .before .before .before .text-bits .ensures) (frame-info-room _ _ _ _ (c .before .before .before .before .before .before .before .before .before .before .before .before .before .before .before .before .pre .0) _ (c .before .before .before .before .before .before .before .before .before .before .area .ensures .0))
 
--- src/lib.rt:152:9
 slice-aggregate-frame-call-4 : tie.Need-slice-aggregate-frame-call-4
 slice-aggregate-frame-call-4 c = part-count _ 32768 _ (c .before .before .before .before .before .text-bits .ensures) (frame-info-room _ _ _ _ (c .before .before .before .before .before .before .before .before .before .before .before .before .before .before .before .before .before .pre .0) _ (c .before .before .before .before .before .before .before .before .before .before .before .area .ensures .0))
 
--- src/lib.rt:153:9
 array-borrow-prefix-red : tie.Need-array-borrow-prefix-red
 array-borrow-prefix-red c = array-room _ 245941 (c .before .before .before .before .group-bits .result) (c .before .before .before .before .group-bits .ensures) (frame-red-room _ _ _ _ (c .before .before .before .before .before .before .before .before .before .before .before .before .before .before .before .before .before .pre .0) _ _ (c .before .before .before .before .before .before .before .before .before .before .group-count .ensures) (c .before .before .before .before .before .before .before .before .before .before .before .before .before .order .ensures .0))
 
--- src/lib.rt:153:9
 slice-aggregate-frame-call-5 : tie.Need-slice-aggregate-frame-call-5
 slice-aggregate-frame-call-5 c = part-count _ 245941 _ (c .before .before .before .before .before .group-bits .ensures) (frame-red-room _ _ _ _ (c .before .before .before .before .before .before .before .before .before .before .before .before .before .before .before .before .before .before .pre .0) _ _ (c .before .before .before .before .before .before .before .before .before .before .before .group-count .ensures) (c .before .before .before .before .before .before .before .before .before .before .before .before .before .before .order .ensures .0))
 
--- src/lib.rt:154:9
 array-borrow-prefix-work : tie.Need-array-borrow-prefix-work
 array-borrow-prefix-work c = array-room _ 4163 (c .before .before .before .before .before .before .before .matrix-bytes2 .result) (c .before .before .before .before .before .before .before .matrix-bytes2 .ensures) (matrix-room _ _ _ (c .before .before .before .before .before .before .before .before .before .before .before .before .before .before .before .before .before .before .pre .0 .started) _ (c .before .before .before .before .before .before .before .before .before .before .before .before .before .before .order .ensures .0) _ (c .before .before .before .before .before .before .before .before .before .before .before .before .before .row-bytes .ensures .0))
 
--- src/lib.rt:154:9
 slice-aggregate-frame-call-6 : tie.Need-slice-aggregate-frame-call-6
 slice-aggregate-frame-call-6 c = part-count _ 4163 _ (c .before .before .before .before .before .before .before .before .matrix-bytes2 .ensures) (matrix-room _ _ _ (c .before .before .before .before .before .before .before .before .before .before .before .before .before .before .before .before .before .before .before .pre .0 .started) _ (c .before .before .before .before .before .before .before .before .before .before .before .before .before .before .before .order .ensures .0) _ (c .before .before .before .before .before .before .before .before .before .before .before .before .before .before .row-bytes .ensures .0))
 
--- src/lib.rt:144:5
 frame-call-requires : tie.Need-frame-call-requires
 frame-call-requires c κs = (
   record {
@@ -147,11 +107,9 @@ frame-call-requires c κs = (
   c .before .before .before .before .before .before .before .before .before .before .before .before .before .before .before .before .before .before .before .before .pre .1,
 )
 
--- src/lib.rt:128:1
 same-length : tie.Need-same-length
 same-length c = search needs
 
--- src/lib.rt:128:1
 returns : tie.Need-returns
 returns c = search needs
 

@@ -6,130 +6,91 @@ use Rattle.framing.proofs.Framing.{few-blocks, group-room, frame-stops,
 use borrow.Author.Needs.{needs}
 use Rattle.framing.proofs.frame_call.Statement.{statement}
 use Rattle.framing.proofs.frame_call.Tie as tie
-use Rattle.framing.proofs.frame_call.Reads as reads
-use Rattle.framing.proofs.frame_call.Lts as lts
-use Rattle.answers.proofs.of_refusal.Reads as of-refusal-reads
-use Rattle.design.proofs.Design.order.Reads as order-reads
-use Rattle.design.proofs.group_count.Reads as group-count-reads
-use Rattle.encoder.proofs.encode.Reads as encode-reads
-use Rattle.frametext.proofs.read_blocks.Reads as read-blocks-reads
-use Rattle.kittext.proofs.read_kit.Reads as read-kit-reads
-use Rattle.texts.proofs.put_groups.Reads as put-groups-reads
-use Rattle.writers.proofs.refusal_lines.Reads as refusal-lines-reads
 
--- src/lib.rt:70:5
 read-kit-requires : tie.Need-read-kit-requires
 read-kit-requires c κs = search needs
 
--- src/lib.rt:71:5
 read-blocks-requires : tie.Need-read-blocks-requires
 read-blocks-requires c κs = search needs
 
--- src/lib.rt:73:9
 cast-encode : tie.Need-cast-encode
 cast-encode c = search needs
 
--- src/lib.rt:74:9
 cast-encode-2 : tie.Need-cast-encode-2
 cast-encode-2 c = search needs
 
--- src/lib.rt:75:9
 cast-encode-3 : tie.Need-cast-encode-3
 cast-encode-3 c = search needs
 
--- src/lib.rt:72:9
 encode-requires : tie.Need-encode-requires
 encode-requires c κs = search needs
 
--- src/lib.rt:85:24
 enum-known-made : tie.Need-enum-known-made
 enum-known-made c = search needs
 
--- src/lib.rt:86:17
 of-refusal-requires : tie.Need-of-refusal-requires
 of-refusal-requires c κs = search needs
 
--- src/lib.rt:87:13
 refusal-lines-requires : tie.Need-refusal-lines-requires
 refusal-lines-requires c κs = search needs
 
--- src/lib.rt:90:17
 enum-told : tie.Need-enum-told
 enum-told c = search needs
 
--- src/lib.rt:90:17
 group-count-requires : tie.Need-group-count-requires
 group-count-requires c κs = few-blocks _ _ _ _ _ _ _ _ _ _ (c .before .before .before .before .before .before .before .before .before .before .before .before .before .before .before .before .before .before .before .before .before .before .before .before .before .before .before .before .before .before .before .before .before .before .before .before .before .before .before .pre .0)
 
--- src/lib.rt:91:41
 order-requires : tie.Need-order-requires
 order-requires c κs = search needs
 
--- src/lib.rt:91:13
 put-groups-requires : tie.Need-put-groups-requires
 put-groups-requires c κs = (group-bits _ _ _ _ _ _ _ _ _ _ (c .before .before .before .before .before .before .before .before .before .before .before .before .before .before .before .before .before .before .before .before .before .before .before .before .before .before .before .before .before .before .before .before .before .before .before .before .before .before .before .before .before .before .before .pre .0) _ _ (c .before .before .before .before .before .before .before .before .before .before .encode .ensures .1) _ _ (c .before .before .before .before .before .before .before .before .before .before .encode .kept .1 .1 .1 .1 .1 .1 .1 .1 .0) (c .before .before .before .group-count .ensures) (c .before .order .ensures .0), (few-groups _ _ _ _ _ _ _ _ _ _ (c .before .before .before .before .before .before .before .before .before .before .before .before .before .before .before .before .before .before .before .before .before .before .before .before .before .before .before .before .before .before .before .before .before .before .before .before .before .before .before .before .before .before .before .pre .0) _ _ (c .before .before .before .before .before .before .before .before .before .before .encode .ensures .1) _ _ (c .before .before .before .before .before .before .before .before .before .before .encode .kept .1 .1 .1 .1 .1 .1 .1 .1 .0) (c .before .before .before .group-count .ensures) (c .before .order .ensures .0), group-room _ _ _ _ _ _ _ _ _ _ (c .before .before .before .before .before .before .before .before .before .before .before .before .before .before .before .before .before .before .before .before .before .before .before .before .before .before .before .before .before .before .before .before .before .before .before .before .before .before .before .before .before .before .before .pre .0) _ _ (c .before .before .before .before .before .before .before .before .before .before .encode .ensures .1) _ _ (c .before .before .before .before .before .before .before .before .before .before .encode .kept .1 .1 .1 .1 .1 .1 .1 .1 .0) (c .before .before .before .group-count .ensures) (c .before .order .ensures .0) _ (c .before .before .before .before .before .before .before .before .before .before .before .before .before .before .before .before .before .before .before .before .before .before .before .before .before .before .before .before .before .before .before .before .before .before .before .before .before .before .before .before .before .before .before .pre .1)))
 
--- src/lib.rt:52:1
 same-length : tie.Need-same-length
 same-length c = search (needs, c .before .before .before .before .before .before .before .before .before .before .before .before .before .before .before .before .before .before .before .before .before .before .before .before .before .before .before .before .before .before .before .before .read-kit .kept)
 
--- src/lib.rt:52:1
 same-length-2 : tie.Need-same-length-2
 same-length-2 c = search (needs, c .before .before .before .before .before .before .before .before .before .before .before .before .before .before .before .before .before .before .before .before .before .before .before .before .before .before .before .before .before .before .before .before .read-kit .kept)
 
--- src/lib.rt:52:1
 same-length-3 : tie.Need-same-length-3
 same-length-3 c = search (needs, c .before .before .before .before .before .before .before .before .before .before .before .before .before .before .before .before .before .before .before .before .before .before .before .before .before .before .before .before .before .before .before .before .read-kit .kept)
 
--- src/lib.rt:52:1
 same-length-4 : tie.Need-same-length-4
 same-length-4 c = search needs
 
--- src/lib.rt:52:1
 same-length-5 : tie.Need-same-length-5
 same-length-5 c = search needs
 
--- src/lib.rt:52:1
 same-length-6 : tie.Need-same-length-6
 same-length-6 c = search needs
 
--- src/lib.rt:52:1
 same-length-7 : tie.Need-same-length-7
 same-length-7 c = search needs
 
--- src/lib.rt:52:1
 returns : tie.Need-returns
 returns c = printed-refusal _ _ _ _ _ _ (frame-stops _ _ _ _ _ _ _ _ _ _ (c .before .before .before .before .before .before .before .before .before .before .before .before .before .before .before .before .before .before .before .before .before .before .before .before .before .before .before .before .before .before .before .before .before .before .before .before .before .before .before .before .before .before .before .before .before .pre .0) _ _ _ _ (c .before .before .before .before .before .before .before .before .before .before .before .before .before .before .before .before .before .before .before .before .before .before .before .before .before .before .before .before .before .before .before .before .read-kit .ensures .1 .1 .0) (c .before .before .before .before .before .before .before .before .before .before .before .before .before .before .before .before .before .before .before .before .before .before .before .before .before .before .before .before .before .before .before .before .read-kit .ensures .1 .1 .1 .0) (c .before .before .before .before .before .before .before .before .before .before .before .before .before .before .before .before .before .before .before .before .before .before .before .before .before .before .before .before .before .before .before .before .read-kit .ensures .1 .1 .1 .1) (c .before .before .before .before .before .before .before .before .before .before .before .before .before .before .before .before .before .before .before .before .before .before .before .before .read-blocks .ensures .1 .1) _ _ (c .before .before .before .before .before .before .before .before .before .before .before .before .encode .ensures .0) (c .before .before .before .before .before .before .before .before .before .before .before .before .encode .ensures .1) _ _ (c .before .before .before .before .before .before .made .given .1) (c .before .before .before .before .of-refusal .ensures)) (c .before .before .before .before .before .before .before .before .before .before .before .before .before .before .before .before .before .before .before .before .before .before .before .before .before .before .before .before .before .before .before .before .before .before .before .before .before .before .before .before .before .before .before .before .before .pre .1) (c .before .before .refusal-lines .ensures .0) (c .before .before .refusal-lines .ensures .1)
 
--- src/lib.rt:52:1
 same-length-8 : tie.Need-same-length-8
 same-length-8 c = search (needs, c .before .before .before .before .before .before .before .before .before .before .before .before .before .before .before .before .before .before .before .before .before .before .before .before .before .before .before .before .before .before .before .before .before .read-kit .kept)
 
--- src/lib.rt:52:1
 same-length-9 : tie.Need-same-length-9
 same-length-9 c = search (needs, c .before .before .before .before .before .before .before .before .before .before .before .before .before .before .before .before .before .before .before .before .before .before .before .before .before .before .before .before .before .before .before .before .before .read-kit .kept)
 
--- src/lib.rt:52:1
 same-length-10 : tie.Need-same-length-10
 same-length-10 c = search (needs, c .before .before .before .before .before .before .before .before .before .before .before .before .before .before .before .before .before .before .before .before .before .before .before .before .before .before .before .before .before .before .before .before .before .read-kit .kept)
 
--- src/lib.rt:52:1
 same-length-11 : tie.Need-same-length-11
 same-length-11 c = search needs
 
--- src/lib.rt:52:1
 same-length-12 : tie.Need-same-length-12
 same-length-12 c = search needs
 
--- src/lib.rt:52:1
 same-length-13 : tie.Need-same-length-13
 same-length-13 c = search needs
 
--- src/lib.rt:52:1
 same-length-14 : tie.Need-same-length-14
 same-length-14 c = search needs
 
--- src/lib.rt:52:1
 returns-2 : tie.Need-returns-2
 returns-2 c = printed-text _ _ _ _ _ (frame-prints _ _ _ _ _ _ _ _ _ _ (c .before .before .before .before .before .before .before .before .before .before .before .before .before .before .before .before .before .before .before .before .before .before .before .before .before .before .before .before .before .before .before .before .before .before .before .before .before .before .before .before .before .before .before .before .before .before .pre .0) _ _ _ _ (c .before .before .before .before .before .before .before .before .before .before .before .before .before .before .before .before .before .before .before .before .before .before .before .before .before .before .before .before .before .before .before .before .before .read-kit .ensures .1 .1 .0) (c .before .before .before .before .before .before .before .before .before .before .before .before .before .before .before .before .before .before .before .before .before .before .before .before .before .before .before .before .before .before .before .before .before .read-kit .ensures .1 .1 .1 .0) (c .before .before .before .before .before .before .before .before .before .before .before .before .before .before .before .before .before .before .before .before .before .before .before .before .before .before .before .before .before .before .before .before .before .read-kit .ensures .1 .1 .1 .1) (c .before .before .before .before .before .before .before .before .before .before .before .before .before .before .before .before .before .before .before .before .before .before .before .before .before .read-blocks .ensures .1 .1) _ _ (c .before .before .before .before .before .before .before .before .before .before .before .before .before .encode .ensures .0) (c .before .before .before .before .before .before .before .before .before .before .before .before .before .encode .ensures .1) (c .before .before .before .before .before .before .before .enum-told .given .1) _ _ (c .before .before .before .before .before .before .group-count .ensures) (c .before .before .before .before .order .ensures .0)) (group-room _ _ _ _ _ _ _ _ _ _ (c .before .before .before .before .before .before .before .before .before .before .before .before .before .before .before .before .before .before .before .before .before .before .before .before .before .before .before .before .before .before .before .before .before .before .before .before .before .before .before .before .before .before .before .before .before .before .pre .0) _ _ (c .before .before .before .before .before .before .before .before .before .before .before .before .before .encode .ensures .1) _ _ (c .before .before .before .before .before .before .before .before .before .before .before .before .before .encode .kept .1 .1 .1 .1 .1 .1 .1 .1 .0) (c .before .before .before .before .before .before .group-count .ensures) (c .before .before .before .before .order .ensures .0) _ (c .before .before .before .before .before .before .before .before .before .before .before .before .before .before .before .before .before .before .before .before .before .before .before .before .before .before .before .before .before .before .before .before .before .before .before .before .before .before .before .before .before .before .before .before .before .before .pre .1)) (c .before .before .put-groups .ensures .0) (c .before .before .put-groups .ensures .1)
 

@@ -8,131 +8,91 @@ use Rattle.programs.proofs.Room.{array-room, packed-is, bits-are, groups-are, p
 use borrow.Author.Needs.{needs}
 use Rattle.mending.proofs.mend_arrays.Statement.{statement}
 use Rattle.mending.proofs.mend_arrays.Tie as tie
-use Rattle.mending.proofs.mend_arrays.Reads as reads
-use Rattle.mending.proofs.mend_arrays.Lts as lts
-use Rattle.design.proofs.Design.area.Reads as area-reads
-use Rattle.design.proofs.Design.order.Reads as order-reads
-use Rattle.design.proofs.Design.row_bytes.Reads as row-bytes-reads
-use Rattle.design.proofs.group_count.Reads as group-count-reads
-use Rattle.mending.proofs.entry_bytes.Reads as entry-bytes-reads
-use Rattle.programs.proofs.list_bytes.Reads as list-bytes-reads
-use Rattle.programs.proofs.matrix_bytes.Reads as matrix-bytes-reads
-use Rattle.mending.proofs.mend_call.Reads as mend-call-reads
-use Rattle.programs.proofs.text_bits.Reads as text-bits-reads
 
--- src/lib.rt:255:9
 order-requires : tie.Need-order-requires
 order-requires c κs = search needs
 
--- src/lib.rt:256:22
 row-bytes-requires : tie.Need-row-bytes-requires
 row-bytes-requires c κs = search needs
 
--- src/lib.rt:256:18
 mul-packed : tie.Need-mul-packed
 mul-packed c = omega (arith, matrix-room _ _ _ (c .before .before .before .before .before .pre .0 .started) _ (c .before .order .ensures .0) _ (c .row-bytes .ensures .0))
 
--- src/lib.rt:257:36
 area-requires : tie.Need-area-requires
 area-requires c κs = search needs
 
--- src/lib.rt:257:16
 mul-bits : tie.Need-mul-bits
 mul-bits c = omega (arith, mend-info-room _ _ _ _ (c .before .before .before .before .before .before .pre .0) _ (c .area .ensures .0))
 
--- src/lib.rt:258:9
 group-count-requires : tie.Need-group-count-requires
 group-count-requires c κs = mend-few _ _ _ _ (c .before .before .before .before .before .before .pre .0)
 
--- src/lib.rt:259:37
 mul-made : tie.Need-mul-made
 mul-made c = search needs
 
--- src/lib.rt:259:16
 mul-made-2 : tie.Need-mul-made-2
 mul-made-2 c = omega (arith, mend-red-room _ _ _ _ (c .before .before .before .before .before .before .before .pre .0) _ _ (c .group-count .ensures) (c .before .before .before .order .ensures .0))
 
--- src/lib.rt:260:19
 list-bytes-requires : tie.Need-list-bytes-requires
 list-bytes-requires c κs = search needs
 
--- src/lib.rt:261:22
 list-bytes-requires-2 : tie.Need-list-bytes-requires-2
 list-bytes-requires-2 c κs = search needs
 
--- src/lib.rt:262:23
 matrix-bytes-requires : tie.Need-matrix-bytes-requires
 matrix-bytes-requires c κs = search needs
 
--- src/lib.rt:263:20
 entry-bytes-requires : tie.Need-entry-bytes-requires
 entry-bytes-requires c κs = search needs
 
--- src/lib.rt:264:20
 text-bits-requires : tie.Need-text-bits-requires
 text-bits-requires c κs = search needs
 
--- src/lib.rt:265:19
 text-bits-requires-2 : tie.Need-text-bits-requires-2
 text-bits-requires-2 c κs = search needs
 
--- src/lib.rt:271:20
 mul-own : tie.Need-mul-own
 mul-own c = search needs
 
--- src/lib.rt:271:9
 array-borrow-prefix-own : tie.Need-array-borrow-prefix-own
 array-borrow-prefix-own c = array-room _ 362 (c .before .before .before .before .before .list-bytes .result) (c .before .before .before .before .before .list-bytes .ensures) (list-room _ _ _ (c .before .before .before .before .before .before .before .before .before .before .before .before .before .pre .0 .started) _ (c .before .before .before .before .before .before .before .before .before .order .ensures .0))
 
--- src/lib.rt:271:9
 slice-aggregate-mend-call : tie.Need-slice-aggregate-mend-call
 slice-aggregate-mend-call c = part-count _ 362 _ (c .before .before .before .before .before .before .list-bytes .ensures) (list-room _ _ _ (c .before .before .before .before .before .before .before .before .before .before .before .before .before .before .pre .0 .started) _ (c .before .before .before .before .before .before .before .before .before .before .order .ensures .0))
 
--- src/lib.rt:272:23
 mul-parity : tie.Need-mul-parity
 mul-parity c = search needs
 
--- src/lib.rt:272:9
 array-borrow-prefix-parity : tie.Need-array-borrow-prefix-parity
 array-borrow-prefix-parity c = array-room _ 362 (c .before .before .before .before .before .list-bytes2 .result) (c .before .before .before .before .before .list-bytes2 .ensures) (list-room _ _ _ (c .before .before .before .before .before .before .before .before .before .before .before .before .before .before .pre .0 .started) _ (c .before .before .before .before .before .before .before .before .before .before .order .ensures .0))
 
--- src/lib.rt:272:9
 slice-aggregate-mend-call-2 : tie.Need-slice-aggregate-mend-call-2
 slice-aggregate-mend-call-2 c = part-count _ 362 _ (c .before .before .before .before .before .before .list-bytes2 .ensures) (list-room _ _ _ (c .before .before .before .before .before .before .before .before .before .before .before .before .before .before .before .pre .0 .started) _ (c .before .before .before .before .before .before .before .before .before .before .before .order .ensures .0))
 
--- src/lib.rt:273:9
 array-borrow-prefix-inverse : tie.Need-array-borrow-prefix-inverse
 array-borrow-prefix-inverse c = array-room _ 4163 (c .before .before .before .before .before .matrix-bytes .result) (c .before .before .before .before .before .matrix-bytes .ensures) (matrix-room _ _ _ (c .before .before .before .before .before .before .before .before .before .before .before .before .before .before .before .pre .0 .started) _ (c .before .before .before .before .before .before .before .before .before .before .before .order .ensures .0) _ (c .before .before .before .before .before .before .before .before .before .before .row-bytes .ensures .0))
 
--- src/lib.rt:273:9
 slice-aggregate-mend-call-3 : tie.Need-slice-aggregate-mend-call-3
 slice-aggregate-mend-call-3 c = part-count _ 4163 _ (c .before .before .before .before .before .before .matrix-bytes .ensures) (matrix-room _ _ _ (c .before .before .before .before .before .before .before .before .before .before .before .before .before .before .before .before .pre .0 .started) _ (c .before .before .before .before .before .before .before .before .before .before .before .before .order .ensures .0) _ (c .before .before .before .before .before .before .before .before .before .before .before .row-bytes .ensures .0))
 
--- src/lib.rt:274:9
 array-borrow-prefix-info : tie.Need-array-borrow-prefix-info
 array-borrow-prefix-info c = array-room _ 32768 (c .before .before .before .before .text-bits .result) (c .before .before .before .before .text-bits .ensures) (mend-info-room _ _ _ _ (c .before .before .before .before .before .before .before .before .before .before .before .before .before .before .before .before .pre .0) _ (c .before .before .before .before .before .before .before .before .before .before .area .ensures .0))
 
--- src/lib.rt:274:9
 slice-aggregate-mend-call-4 : tie.Need-slice-aggregate-mend-call-4
 slice-aggregate-mend-call-4 c = part-count _ 32768 _ (c .before .before .before .before .before .text-bits .ensures) (mend-info-room _ _ _ _ (c .before .before .before .before .before .before .before .before .before .before .before .before .before .before .before .before .before .pre .0) _ (c .before .before .before .before .before .before .before .before .before .before .before .area .ensures .0))
 
--- src/lib.rt:275:9
 array-borrow-prefix-red : tie.Need-array-borrow-prefix-red
 array-borrow-prefix-red c = array-room _ 32768 (c .before .before .before .before .text-bits2 .result) (c .before .before .before .before .text-bits2 .ensures) (mend-red-room _ _ _ _ (c .before .before .before .before .before .before .before .before .before .before .before .before .before .before .before .before .before .pre .0) _ _ (c .before .before .before .before .before .before .before .before .before .before .group-count .ensures) (c .before .before .before .before .before .before .before .before .before .before .before .before .before .order .ensures .0))
 
--- src/lib.rt:275:9
 slice-aggregate-mend-call-5 : tie.Need-slice-aggregate-mend-call-5
 slice-aggregate-mend-call-5 c = part-count _ 32768 _ (c .before .before .before .before .before .text-bits2 .ensures) (mend-red-room _ _ _ _ (c .before .before .before .before .before .before .before .before .before .before .before .before .before .before .before .before .before .before .pre .0) _ _ (c .before .before .before .before .before .before .before .before .before .before .before .group-count .ensures) (c .before .before .before .before .before .before .before .before .before .before .before .before .before .before .order .ensures .0))
 
--- src/lib.rt:276:9
 array-borrow-prefix-work : tie.Need-array-borrow-prefix-work
 array-borrow-prefix-work c = array-room _ 181 (c .before .before .before .before .before .before .before .entry-bytes .result) (c .before .before .before .before .before .before .before .entry-bytes .ensures) (entry-room _ _ _ (c .before .before .before .before .before .before .before .before .before .before .before .before .before .before .before .before .before .before .pre .0 .started) _ (c .before .before .before .before .before .before .before .before .before .before .before .before .before .before .order .ensures .0))
 
--- src/lib.rt:276:9
 slice-aggregate-mend-call-6 : tie.Need-slice-aggregate-mend-call-6
 slice-aggregate-mend-call-6 c = part-count _ 181 _ (c .before .before .before .before .before .before .before .before .entry-bytes .ensures) (entry-room _ _ _ (c .before .before .before .before .before .before .before .before .before .before .before .before .before .before .before .before .before .before .before .pre .0 .started) _ (c .before .before .before .before .before .before .before .before .before .before .before .before .before .before .before .order .ensures .0))
 
--- src/lib.rt:266:5
 mend-call-requires : tie.Need-mend-call-requires
 mend-call-requires c κs = (
   record {
@@ -147,11 +107,9 @@ mend-call-requires c κs = (
   c .before .before .before .before .before .before .before .before .before .before .before .before .before .before .before .before .before .before .before .before .pre .1,
 )
 
--- src/lib.rt:250:1
 same-length : tie.Need-same-length
 same-length c = search needs
 
--- src/lib.rt:250:1
 returns : tie.Need-returns
 returns c = search needs
 

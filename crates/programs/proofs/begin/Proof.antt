@@ -4,48 +4,34 @@ use Rattle.programs.proofs.Starting.{stops-long-kit, stops-long-text, s
 use borrow.Author.Needs.{needs}
 use Rattle.programs.proofs.begin.Statement.{statement}
 use Rattle.programs.proofs.begin.Tie as tie
-use Rattle.programs.proofs.begin.Reads as reads
-use Rattle.programs.proofs.begin.Lts as lts
-use Rattle.answers.proofs.of_refusal.Reads as of-refusal-reads
-use Rattle.kittext.proofs.scan_kit.Reads as scan-kit-reads
 
--- src/lib.rt:35:9
 returns : tie.Need-returns
 returns c = stops-long-kit _ _ (c .if1 .taken)
 
--- src/lib.rt:38:9
 returns-2 : tie.Need-returns-2
 returns-2 c = stops-long-text _ _ (c .before .if1 .left) (c .if2 .taken)
 
--- src/lib.rt:40:9
 scan-kit-requires : tie.Need-scan-kit-requires
 scan-kit-requires c κs = search needs
 
--- src/lib.rt:42:22
 enum-known-scan : tie.Need-enum-known-scan
 enum-known-scan c = search needs
 
--- src/lib.rt:43:26
 enum-known-scan-2 : tie.Need-enum-known-scan-2
 enum-known-scan-2 c = search needs
 
--- src/lib.rt:44:17
 of-refusal-requires : tie.Need-of-refusal-requires
 of-refusal-requires c κs = search needs
 
--- src/lib.rt:47:25
 enum-known-scan-3 : tie.Need-enum-known-scan-3
 enum-known-scan-3 c = search needs
 
--- src/lib.rt:31:1
 returns-3 : tie.Need-returns-3
 returns-3 c = starts-kit _ _ (c .before .before .before .before .before .if1 .left) (c .before .before .before .before .if2 .left) _ (c .before .before .before .scan-kit .ensures .0) _ (c .before .scan .given .1) (c .before .before .before .scan-kit .ensures .1)
 
--- src/lib.rt:31:1
 returns-4 : tie.Need-returns-4
 returns-4 c = stops-refused _ _ (c .before .before .before .before .before .before .if1 .left) (c .before .before .before .before .before .if2 .left) _ (c .before .before .before .before .scan-kit .ensures .0) _ _ (c .before .before .scan2 .given .1) (c .of-refusal .ensures)
 
--- src/lib.rt:31:1
 returns-5 : tie.Need-returns-5
 returns-5 c = stops-broken _ _ (c .before .before .before .before .before .if1 .left) (c .before .before .before .before .if2 .left) _ (c .before .before .before .scan-kit .ensures .0) _ (c .before .scan3 .given .1)
 
