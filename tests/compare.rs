@@ -11,12 +11,13 @@ mod host;
 mod reference;
 
 use reference::*;
-use std::cell::{Cell, RefCell};
 use std::collections::{BTreeMap, HashMap};
 use std::io::Write;
+use std::ops::Range;
 use std::path::PathBuf;
 use std::process::{Command, Stdio};
-use std::rc::Rc;
+use std::sync::atomic::{AtomicU64, AtomicUsize, Ordering::Relaxed};
+use std::sync::{Arc, Mutex};
 
 const GUARD: usize = 8;
 const OUT: usize = 262_144; // the least that bauchleton_frame and bauchleton_mend want to be lent
@@ -175,22 +176,22 @@ fn designs(rows: usize) -> Vec<Design> {
 
 struct Context {
     seed: u64,
-    kits: RefCell<HashMap<(u64, u64, u64), Rc<Good>>>,
+    kits: Mutex<HashMap<(u64, u64, u64), Arc<Good>>>,
     programs: Option<(PathBuf, PathBuf)>,
     folder: PathBuf,
     /// failures of the group so far; the first 20 are printed
-    printed: Cell<u64>,
+    printed: AtomicU64,
 }
 
 impl Context {
-    fn kit(&self, d: Design) -> Rc<Good> {
+    fn kit(&self, d: Design) -> Arc<Good> {
         let key = (d.m, d.t, d.size);
-        if let Some(found) = self.kits.borrow().get(&key) {
-            return found.clone();
-        }
-        let made = Rc::new(search(d, self.seed));
-        self.kits.borrow_mut().insert(key, made.clone());
-        made
+        let found = self.kits.lock().unwrap().get(&key).cloned();
+        found.unwrap_or_else(|| {
+            let made = Arc::new(search(d, self.seed));
+            self.kits.lock().unwrap().insert(key, made.clone());
+            made
+        })
     }
 }
 
@@ -286,6 +287,7 @@ struct Case<'a> {
     context: &'a Context,
     group: &'static str,
     index: usize,
+    thread: usize,
     rng: Rng,
     passed: u64,
     failed: u64,
@@ -298,8 +300,7 @@ struct Case<'a> {
 impl Case<'_> {
     fn fail(&mut self, what: String) {
         self.failed += 1;
-        self.context.printed.set(self.context.printed.get() + 1);
-        if self.context.printed.get() <= 20 {
+        if self.context.printed.fetch_add(1, Relaxed) < 20 {
             println!("FAILED {} {} {}: {what}", self.group, self.context.seed, self.index);
         }
     }
@@ -529,7 +530,7 @@ impl Case<'_> {
     /// The program itself, in its folder with kit.txt: standard output, and the folder afterwards.
     fn runs(&mut self, mend: bool, kit: &[u8], text: &[u8]) {
         let Some((frame_path, mend_path)) = &self.context.programs else { return };
-        let folder = &self.context.folder;
+        let folder = &self.context.folder.join(self.thread.to_string());
         std::fs::create_dir_all(folder).unwrap();
         std::fs::write(folder.join("kit.txt"), kit).unwrap();
         let mut child = Command::new(if mend { mend_path } else { frame_path })
@@ -571,7 +572,7 @@ impl Case<'_> {
         Lent::new(&good.kit, blocks, info, red)
     }
     /// A small kit that passes.
-    fn small(&mut self) -> Rc<Good> {
+    fn small(&mut self) -> Arc<Good> {
         let d = self.rng.pick(&designs(60));
         self.context.kit(d)
     }
@@ -580,6 +581,37 @@ impl Case<'_> {
 // ---------------------------------------------------------------- The run
 
 mod groups;
+
+/// How many comparisons of a group held and failed, and how often each rule's number was the right answer.
+type Counts = (u64, u64, BTreeMap<u64, u64>);
+
+/// Runs the cases of a group, a thread for each processor: each takes the next case that is left.
+fn run_group(context: &Context, group: &'static str, run: fn(&mut Case), cases: Range<usize>) -> Counts {
+    let next = AtomicUsize::new(cases.start);
+    let work = |thread: usize| {
+        let mut counts: Counts = Default::default();
+        loop {
+            let index = next.fetch_add(1, Relaxed);
+            if index >= cases.end {
+                return counts;
+            }
+            let rng = Rng::new(&[hash(group), context.seed, index as u64]);
+            let numbers = std::mem::take(&mut counts.2);
+            let mut case = Case { context, group, index, thread, rng, passed: 0, failed: 0, answer_extra: 0, numbers };
+            run(&mut case);
+            counts = (counts.0 + case.passed, counts.1 + case.failed, case.numbers);
+        }
+    };
+    std::thread::scope(|scope| {
+        let work = &work;
+        let processors = std::thread::available_parallelism().map_or(1, |n| n.get());
+        let threads: Vec<_> = (0..processors).map(|thread| scope.spawn(move || work(thread))).collect();
+        threads.into_iter().map(|thread| thread.join().unwrap()).fold(Counts::default(), |mut all, counts| {
+            counts.2.into_iter().for_each(|(number, count)| *all.2.entry(number).or_default() += count);
+            (all.0 + counts.0, all.1 + counts.1, all.2)
+        })
+    })
+}
 
 fn main() {
     let mut words: Vec<String> = std::env::args().skip(1).collect();
@@ -592,25 +624,18 @@ fn main() {
     let seed = words.get(1).map_or(1, |word| word.parse().expect("a seed"));
     let index: Option<usize> = words.get(2).map(|word| word.parse().expect("an index"));
     let folder = std::env::temp_dir().join(format!("compare-{}", std::process::id()));
-    let context = Context { seed, kits: RefCell::default(), programs, folder, printed: Cell::new(0) };
+    let context = Context { seed, kits: Mutex::default(), programs, folder, printed: AtomicU64::new(0) };
     let (mut passed, mut failed) = (0, 0);
     for &(group, count, run) in groups::GROUPS {
         if only.is_some_and(|name| name != group) || group.starts_with("program-") && context.programs.is_none() {
             continue;
         }
         let start = std::time::Instant::now();
-        context.printed.set(0);
-        let (mut cases, mut good, mut bad) = (0, 0, 0);
-        let mut numbers: BTreeMap<u64, u64> = BTreeMap::new();
-        for index in index.map_or(0..count(), |index| index..index + 1) {
-            let rng = Rng::new(&[hash(group), seed, index as u64]);
-            let mut case = Case { context: &context, group, index, rng, passed: 0, failed: 0, answer_extra: 0, numbers };
-            run(&mut case);
-            (cases, good, bad) = (cases + 1, good + case.passed, bad + case.failed);
-            numbers = case.numbers;
-        }
+        context.printed.store(0, Relaxed);
+        let cases = index.map_or(0..count(), |index| index..index + 1);
+        let (good, bad, numbers) = run_group(&context, group, run, cases.clone());
         let seconds = start.elapsed().as_secs_f64();
-        println!("{group}: {cases} cases, {good} passed, {bad} failed, {seconds:.1} s; numbers {numbers:?}");
+        println!("{group}: {} cases, {good} passed, {bad} failed, {seconds:.1} s; numbers {numbers:?}", cases.len());
         (passed, failed) = (passed + good, failed + bad);
     }
     drop(std::fs::remove_dir_all(&context.folder));
