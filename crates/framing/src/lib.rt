@@ -10,9 +10,6 @@ use design::Design;
 use frametext::Blocks;
 use programs::Start;
 
-// No output of a program is longer.
-const MOST_OUTPUT: usize = 262144;
-
 // Redundancy of as many groups as the longest block text has. Only its length is told.
 fn group_bits() -> [u8; 245941]
     ensures { λ a. ⌜ 245941 ≡ length a ⌝ }
@@ -130,7 +127,7 @@ fn frame_inputs(kit: &[u8], text: &[u8], out: &mut [u8]) -> usize
 pub fn frame_output(kit: &[u8], text: &[u8], out: &mut [u8]) -> usize
     ensures { λ a. ⌜ Output (frameOutput (now (kit .entry)) (now (text .entry))) a (now (out .entry)) (now (out .exit)) ⌝ }
 {
-    if out.len() < MOST_OUTPUT {
+    if out.len() < programs::MOST_OUTPUT {
         return 0;
     }
     frame_inputs(kit, text, out)

@@ -11,9 +11,6 @@ use design::Design;
 use frametext::Blocks;
 use programs::Start;
 
-// No output of a program is longer.
-const MOST_OUTPUT: usize = 262144;
-
 // The entries of a list. Only their number is told.
 fn entry_bytes() -> [u8; 181]
     ensures { λ a. ⌜ 181 ≡ length a ⌝ }
@@ -147,7 +144,7 @@ fn mend_inputs(kit: &[u8], text: &[u8], out: &mut [u8]) -> usize
 pub fn mend_output(kit: &[u8], text: &[u8], out: &mut [u8]) -> usize
     ensures { λ a. ⌜ Output (mendOutput (now (kit .entry)) (now (text .entry))) a (now (out .entry)) (now (out .exit)) ⌝ }
 {
-    if out.len() < MOST_OUTPUT {
+    if out.len() < programs::MOST_OUTPUT {
         return 0;
     }
     mend_inputs(kit, text, out)

@@ -2,12 +2,12 @@
 --   printed-text, printed-refusal   a text that has room
 --   output-printed, output-none     what a program prints, where the buffer is long enough and where it is not
 -- Assumes nothing.
-use mathlib.Core.Path.{_≡_, _∙_}
+use mathlib.Core.Path.{_≡_, refl, sym, _∙_}
 use mathlib.Core.List.{List}
 use Prim.Native.Nat.{ℕ, _+_, _≤_, _<_}
 use native.Mathlib.Omega.{arith}
 use lib.ListN.{length}
-use lib.Seq.{sets}
+use lib.Seq.{sets, length-sets, length-take-le}
 use borrow.Author.Tests.{lt-leb, le-leb}
 use Rattle.lines.specs.Written.{refusalText}
 use Rattle.lines.proofs.Decimal.{dec-short}
@@ -33,10 +33,15 @@ pub output-printed : (t : List ℕ) (n : ℕ) (old new : List ℕ) → 262144 �
 unfolding outputIn outputLength
 output-printed t n old new h p =
     let e = le-leb 262144 (length old) h in
-    record { count = rw e (p .count); within = p .within; bytes = rw e (p .bytes) }
+    record {
+      count = rw e (p .count);
+      within = p .within;
+      part = sym (length-take-le n new (rw (p .bytes, length-sets old 0 t) (p .within)));
+      bytes = rw e (p .bytes);
+    }
 
 pub output-none : (t old : List ℕ) → length old < 262144 → Output t 0 old old
 unfolding outputIn outputLength
 output-none t old h =
     let e = lt-leb 262144 (length old) h in
-    record { count = rw e; within = omega arith; bytes = rw e }
+    record { count = rw e; within = omega arith; part = refl; bytes = rw e }

@@ -12,7 +12,7 @@ use mathlib.Core.Bool.{cond}
 use mathlib.Core.List.{List, _++_}
 use Prim.Native.Nat.{ℕ, _*_, _≤_}
 use lib.Dec.{ltb, leb}
-use lib.ListN.{length, replicate}
+use lib.ListN.{length, replicate, take}
 use lib.Seq.{sets}
 use Rattle.staircase.specs.Design.{Params, order}
 use Rattle.staircase.specs.Frame.{groups}
@@ -98,7 +98,9 @@ outputIn t old = cond (leb most-output (length old)) (sets old 0 t) old
 unfoldable pub outputLength : List ℕ → List ℕ → ℕ
 outputLength t old = cond (leb most-output (length old)) (length t) 0
 
+-- `within` and `part` follow from the others; they are stated for a caller who takes the first n bytes
 pub record Output (t : List ℕ) (n : ℕ) (old new : List ℕ) : Type 0 where
   pub count : n ≡ outputLength t old
   pub within : n ≤ length old
+  pub part : n ≡ length (take n new)
   pub bytes : new ≡ outputIn t old

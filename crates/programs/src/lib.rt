@@ -1,5 +1,6 @@
 // What the two programs share. What each prints is defined in specs/Output.antt, for every kit.txt and every standard input; the crates `framing` and
 // `mending` make it, and the programs themselves only read their inputs and write it.
+//   MOST_OUTPUT                            the bytes that an output may have
 //   begin(kit, text)                       rule 13 for both inputs, then the kit: its design, or a refusal
 //   list_bytes, matrix_bytes, text_bits    arrays of fixed lengths
 //
@@ -14,6 +15,9 @@ use kittext::KitScan;
 
 // Rule 13: "above 32,768 bytes".
 const MOST_INPUT: usize = 32768;
+
+// No output of a program is longer.
+pub const MOST_OUTPUT: usize = 262144;
 
 // The design of a program's kit, or the number and place of a refusal.
 pub enum Start {
