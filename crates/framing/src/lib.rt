@@ -36,8 +36,8 @@ fn frame_call(
     requires { ⌜ 262144 ≤ length (now out) ⌝ }
     ensures { λ a. ⌜ Printed (frameOutput (now (kit .entry)) (now (text .entry))) a (now (out .entry)) (now (out .exit)) ⌝ }
 {
-    kittext::read_kit(kit, &mut own[..], &mut parity[..], &mut inverse[..]);
-    frametext::read_blocks(text, d, &mut info[..]);
+    kittext::read_kit(kit, own, parity, inverse);
+    frametext::read_blocks(text, d, info);
     let made = encoder::encode(
         d.m as u64,
         d.t as u64,
@@ -47,8 +47,8 @@ fn frame_call(
         &parity[..],
         &inverse[..],
         &info[..],
-        &mut red[..],
-        &mut work[..],
+        red,
+        work,
     );
     match made {
         Check::Refused(r) => {

@@ -56,8 +56,8 @@ fn mend_call(
     requires { ⌜ 262144 ≤ length (now out) ⌝ }
     ensures { λ a. ⌜ Printed (mendOutput (now (kit .entry)) (now (text .entry))) a (now (out .entry)) (now (out .exit)) ⌝ }
 {
-    kittext::read_kit(kit, &mut own[..], &mut parity[..], &mut inverse[..]);
-    frametext::read_frame(text, d, &mut info[..], &mut red[..]);
+    kittext::read_kit(kit, own, parity, inverse);
+    frametext::read_frame(text, d, info, red);
     let made = decoder::decode(
         d.m as u64,
         d.t as u64,
@@ -66,9 +66,9 @@ fn mend_call(
         0,
         &own[..],
         &parity[..],
-        &mut info[..],
-        &mut red[..],
-        &mut work[..],
+        info,
+        red,
+        work,
     );
     match made {
         Decoding::Refused(r) => {
