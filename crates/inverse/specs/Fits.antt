@@ -1,6 +1,6 @@
 -- What a design and the slices of a kit are once rules 1 to 7 have passed.
---   KitSized                     an allowed design, and slices of their lengths
---   KitFits                      and lists that are permutations
+--   KitSized   an allowed design, and slices of their lengths
+--   KitFits    and lists that are permutations
 -- Assumes nothing.
 use mathlib.Core.Path.{_≡_}
 use mathlib.Core.List.{List}
@@ -20,10 +20,6 @@ pub record KitSized (d : Design) (own parity inverse work : List ℕ) : Type 0 w
   pub workLength : length work ≡ orderOf d * rowBytes (orderOf d)
 
 pub record KitFits (d : Design) (own parity inverse work : List ℕ) : Type 0 where
-  pub allowed : Allowed d
-  pub ownLength : length own ≡ 2 * orderOf d
-  pub parityLength : length parity ≡ 2 * orderOf d
-  pub inverseLength : length inverse ≡ orderOf d * rowBytes (orderOf d)
-  pub workLength : length work ≡ orderOf d * rowBytes (orderOf d)
+  pub sized : KitSized d own parity inverse work
   pub ownPermutes : Permutes (orderOf d) (λ p. getD (listsOf d own parity .self) p 0)
   pub parityPermutes : Permutes (orderOf d) (λ p. getD (listsOf d own parity .parity) p 0)

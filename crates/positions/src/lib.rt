@@ -8,13 +8,12 @@ ghost use Prim.Native.Nat.{_*_};
 ghost use lib.ListN.{length};
 ghost use Rattle.bch.specs.Code.{generator};
 ghost use Rattle.bch.specs.Powers.{PositionPowers};
-ghost use Rattle.staircase.specs.Design.{params, wordLength};
 ghost use Rattle.design.specs.Answers.{Allowed};
 use design::Design;
 
-// Fills `table` with the power of x that each position of a word carries.
+// Fills `table` with the power of x that each position of a word of as many bits carries; a shorter table has those of a word's last positions.
 pub fn fill_table(d: Design, table: &mut [u32])
-    requires { ⌜ Allowed d × (length (now table) ≡ wordLength (params (d .m) (d .t) (d .size))) ⌝ }
+    requires { ⌜ Allowed d ⌝ }
     ensures { λ u. ⌜ PositionPowers (generator (d .m) (d .t)) (d .m * d .t) (now (table .exit)) × (length (now (table .exit)) ≡ length (now (table .entry))) ⌝ }
 {
     let r = d.r();

@@ -1,3 +1,3 @@
 pub mod Search
-pub mod Found
 pub mod Sizes
+pub mod Found

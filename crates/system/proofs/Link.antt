@@ -1,5 +1,4 @@
 -- The packed rows and columns are those of the system A.
---   PartOf s part         `part` holds the powers of x that the bits of X and Y carry
 --   rowEntry-system       an entry of a row, for the place that the parity list sends to it
 --   columnEntry-system    an entry of a column, for the place that the self list sends to it
 --   rowEntry-spare, columnEntry-spare   bits past the order are 0
@@ -13,7 +12,6 @@ use native.Mathlib.Omega.{arith}
 use lib.Dec.{eqb}
 use lib.ListN.{length, getD}
 use borrow.Author.Tests.{ne-eqb}
-use Rattle.bch.specs.Powers.{powerMod}
 use Rattle.staircase.specs.Lists.{bitSum, tabulate}
 use Rattle.staircase.specs.Design.{Params, Interleavers, order}
 use Rattle.staircase.specs.System.{stack, unstack, preimage, systemEntry}
@@ -23,11 +21,7 @@ use Rattle.staircase.proofs.Permutation.{preimage-sent}
 use Rattle.staircase.proofs.System.{Proper, unstack-lt}
 use Rattle.staircase.proofs.Entries.{coefficient, system-row, system-column}
 use Rattle.system.proofs.Terms.{run-terms, spread-terms, place-below, stackOf-below, run-end}
-use Rattle.system.specs.Rows.{stackOf, runTerm, spreadTerm, rowEntry, columnEntry}
-
-pub record PartOf (s : Params) (part : List ℕ) : Type 0 where
-  pub long : length part ≡ s .r
-  pub powers : (b : ℕ) → b < s .r → getD part b 0 ≡ powerMod (s .g) (s .r) (2 * s .r - 1 - b)
+use Rattle.system.specs.Rows.{PartOf, stackOf, runTerm, spreadTerm, rowEntry, columnEntry}
 
 -- ---- past the order
 

@@ -1,5 +1,6 @@
 -- Packed rows and columns of the system A, by what code has at hand: the r powers of x that the bits of X and Y carry (`part`), the entries of
 -- a list, and the place in Q or X that a list sends somewhere.
+--   PartOf s part       `part` holds the powers of x that the bits of X and Y carry
 --   Added old new f     each bit of a packed row plus f
 --   stackOf             the place in the stack of a place of Y or P
 --   runTerm, spreadTerm what r bits add that lie side by side, or where a list sends them
@@ -9,11 +10,17 @@
 use mathlib.Core.Path.{_≡_}
 use mathlib.Core.Bool.{cond}
 use mathlib.Core.List.{List}
-use Prim.Native.Nat.{ℕ, _+_, _-_, _*_, _/_, _%_, _^_}
+use Prim.Native.Nat.{ℕ, _+_, _-_, _*_, _/_, _%_, _^_, _<_}
 use lib.Dec.{eqb}
 use lib.ListN.{length, getD}
+use Rattle.bch.specs.Powers.{powerMod}
 use Rattle.staircase.specs.Lists.{bitSum, sumBits, tabulate}
+use Rattle.staircase.specs.Design.{Params}
 use Rattle.matrix.specs.Packed.{packedBit}
+
+pub record PartOf (s : Params) (part : List ℕ) : Type 0 where
+  pub long : length part ≡ s .r
+  pub powers : (b : ℕ) → b < s .r → getD part b 0 ≡ powerMod (s .g) (s .r) (2 * s .r - 1 - b)
 
 abbrev pub Added : List ℕ → List ℕ → (ℕ → ℕ) → Type 0
 Added old new f = (length new ≡ length old) × ((k : ℕ) → packedBit new k ≡ bitSum (packedBit old k) (f k))

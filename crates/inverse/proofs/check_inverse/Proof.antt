@@ -1,109 +1,78 @@
--- The first wrong entry of A W, or else of W A, is the place; none is a kit that passes.
+-- The first r of the last 2 r powers are those of X and Y.
 -- Assumes nothing.
 use native.Mathlib.Omega.{arith}
 use borrow.Author.Needs.{needs}
 use mathlib.Core.Path.{_≡_, ap, _∙_}
-use Prim.Native.Nat.{ℕ, _+_, _*_, _≤_}
-use Rattle.staircase.specs.Rules.Verdict.{refused}
-use Rattle.design.specs.Sizes.{paramsOf, orderOf, listsOf}
-use Rattle.design.specs.Answers.{refusalVerdict, verdictOf}
-use Rattle.products.proofs.Sizes.{square-small}
-use Rattle.inverse.proofs.Verdict.{inverse-left, inverse-right, inverse-none}
+use mathlib.Core.List.{List}
+use Prim.Native.Nat.{ℕ, _*_, _-_, _≤_}
+use lib.ListN.{length, take, drop}
+use Rattle.design.specs.Sizes.{paramsOf}
+use Rattle.positions.proofs.Parts.{part-within, middle-is}
+use Rattle.positions.proofs.Sizes.{r-small}
+use Rattle.inverse.proofs.Link.{part-of}
 use Rattle.inverse.proofs.check_inverse.Statement.{statement}
 use Rattle.inverse.proofs.check_inverse.Tie as tie
 
-order-requires : tie.Need-order-requires
-order-requires c κs = search needs
+r-requires : tie.Need-r-requires
+r-requires c κs = search needs
 
-mul-all : tie.Need-mul-all
-mul-all c =
-    let a = c .before .before .before .before .before .args in
-    let h = c .before .before .before .before .before .pre in
-    let e : c .order .result ≡ orderOf (a .d) = c .order .ensures .0 in
-    let q : c .order .result * c .order .result ≡ orderOf (a .d) * orderOf (a .d) = ap (λ (k : ℕ). k * k) e in
-    let u = square-small (c .order .result) (omega (arith, h .allowed .order-high)) in
-    omega arith
+mul-fill-table : tie.Need-mul-fill-table
+mul-fill-table c = search needs
 
-left-place-requires : tie.Need-left-place-requires
-left-place-requires c κs = search needs
+sub-fill-table : tie.Need-sub-fill-table
+sub-fill-table c = search needs
+
+part-powers-start : tie.Need-part-powers-start
+part-powers-start c = search needs
+
+part-powers-end : tie.Need-part-powers-end
+part-powers-end c = omega (arith, r-small (c .before .before .before .before .before .args .d) (c .before .before .before .before .before .pre .sized .allowed))
+
+fill-table-requires : tie.Need-fill-table-requires
+fill-table-requires c κs = search needs
+
+sub-judge : tie.Need-sub-judge
+sub-judge c = search needs
+
+part-judge-start : tie.Need-part-judge-start
+part-judge-start c = search needs
+
+part-judge-end : tie.Need-part-judge-end
+part-judge-end c =
+    let f = c .before .before .fill-table in
+    let q : c .before .before .before .before .r .result ≤ length (f .last .1 .0) = omega arith in
+    part-within (f .last .1 .0) _ _ q
+
+judge-requires : tie.Need-judge-requires
+judge-requires c κs =
+    let a = c .before .before .before .before .before .before .before .before .before .before .before .args in
+    let h = c .before .before .before .before .before .before .before .before .before .before .before .pre in
+    let f = c .before .before .before .before .fill-table in
+    let r = c .before .before .before .before .before .before .r in
+    let d : r .result - 0 ≡ a .d .m * a .d .t = omega arith in
+    let q : r .result ≤ length (f .last .1 .0) = omega arith in
+    let w : length (f .last .1 .0) ≡ 2 * (a .d .m * a .d .t) = omega arith in
+    (h, part-of (paramsOf (a .d)) (f .last .1 .0) _ (f .ensures .0) w (middle-is (f .last .1 .0) _ 0 (r .result) (omega arith) q ∙ ap (λ (k : ℕ). take k (f .last .1 .0)) d) (c .before .judge-arg .given .2 ∙ d))
 
 same-length : tie.Need-same-length
 same-length c = search needs
 
 returns : tie.Need-returns
-unfolding verdictOf refusalVerdict
-returns c =
-    let a = c .before .before .before .before .before .before .before .before .before .before .args in
-    let h = c .before .before .before .before .before .before .before .before .before .before .pre in
-    let e : c .before .before .before .before .before .order .result ≡ orderOf (a .d) = c .before .before .before .before .before .order .ensures .0 in
-    let q : c .before .before .before .before .before .order .result * c .before .before .before .before .before .order .result ≡ orderOf (a .d) * orderOf (a .d) = ap (λ (k : ℕ). k * k) e in
-    inverse-left (paramsOf (a .d)) (listsOf (a .d) (a .own .now) (a .parity .now)) (a .inverse .now) (c .before .before .before .left-place .result) (c .before .before .before .left-place .ensures) (omega arith)
-
-right-place-requires : tie.Need-right-place-requires
-right-place-requires c κs =
-    let h = c .before .before .before .before .before .before .before .before .before .before .before .pre in
-    record {
-      allowed = h .allowed;
-      ownLength = h .ownLength;
-      parityLength = h .parityLength;
-      inverseLength = h .inverseLength;
-      workLength = omega (arith, h .workLength);
-      ownPermutes = h .ownPermutes;
-      parityPermutes = h .parityPermutes;
-    }
-
-add-t17 : tie.Need-add-t17
-add-t17 c =
-    let a = c .before .before .before .before .before .before .before .before .before .before .before .before .before .before .before .args in
-    let h = c .before .before .before .before .before .before .before .before .before .before .before .before .before .before .before .pre in
-    let e : c .before .before .before .before .before .before .before .before .before .before .order .result ≡ orderOf (a .d) = c .before .before .before .before .before .before .before .before .before .before .order .ensures .0 in
-    let q : c .before .before .before .before .before .before .before .before .before .before .order .result * c .before .before .before .before .before .before .before .before .before .before .order .result ≡ orderOf (a .d) * orderOf (a .d) = ap (λ (k : ℕ). k * k) e in
-    let u = square-small (c .before .before .before .before .before .before .before .before .before .before .order .result) (omega (arith, h .allowed .order-high)) in
-    omega arith
-
-same-length-2 : tie.Need-same-length-2
-same-length-2 c = search needs
-
-returns-2 : tie.Need-returns-2
-unfolding verdictOf refusalVerdict
-returns-2 c =
-    let a = c .before .before .before .before .before .before .before .before .before .before .before .before .before .before .before .args in
-    let h = c .before .before .before .before .before .before .before .before .before .before .before .before .before .before .before .pre in
-    let e : c .before .before .before .before .before .before .before .before .before .before .order .result ≡ orderOf (a .d) = c .before .before .before .before .before .before .before .before .before .before .order .ensures .0 in
-    let q : c .before .before .before .before .before .before .before .before .before .before .order .result * c .before .before .before .before .before .before .before .before .before .before .order .result ≡ orderOf (a .d) * orderOf (a .d) = ap (λ (k : ℕ). k * k) e in
-    let x = c .before .before .before .before .before .before .before .before .left-place in
-    let y = c .before .before .before .right-place in
-    let g : orderOf (a .d) * orderOf (a .d) ≤ x .result = omega arith in
-    ap (λ (k : ℕ). refused 9 (k + y .result)) q
-    ∙ inverse-right (paramsOf (a .d)) (listsOf (a .d) (a .own .now) (a .parity .now)) (a .inverse .now) (x .result) (x .ensures) g (y .result) (y .ensures) (omega arith)
-
-same-length-3 : tie.Need-same-length-3
-same-length-3 c = search needs
-
-returns-3 : tie.Need-returns-3
-unfolding verdictOf
-returns-3 c =
-    let a = c .before .before .before .before .before .before .before .before .before .before .before .before .before .before .before .args in
-    let h = c .before .before .before .before .before .before .before .before .before .before .before .before .before .before .before .pre in
-    let e : c .before .before .before .before .before .before .before .before .before .before .order .result ≡ orderOf (a .d) = c .before .before .before .before .before .before .before .before .before .before .order .ensures .0 in
-    let q : c .before .before .before .before .before .before .before .before .before .before .order .result * c .before .before .before .before .before .before .before .before .before .before .order .result ≡ orderOf (a .d) * orderOf (a .d) = ap (λ (k : ℕ). k * k) e in
-    let x = c .before .before .before .before .before .before .before .before .left-place in
-    let y = c .before .before .before .right-place in
-    let g : orderOf (a .d) * orderOf (a .d) ≤ x .result = omega arith in
-    inverse-none (paramsOf (a .d)) (listsOf (a .d) (a .own .now) (a .parity .now)) (a .inverse .now) (x .result) (x .ensures) g (y .result) (y .ensures) (omega arith)
+returns c = search needs
 
 pub check-inverse-spec : {M : Type 1} → statement M
 check-inverse-spec =
     tie.close
     (tie.spec
-    order-requires
-    mul-all
-    left-place-requires
+    r-requires
+    mul-fill-table
+    sub-fill-table
+    part-powers-start
+    part-powers-end
+    fill-table-requires
+    sub-judge
+    part-judge-start
+    part-judge-end
+    judge-requires
     same-length
-    returns
-    right-place-requires
-    add-t17
-    same-length-2
-    returns-2
-    same-length-3
-    returns-3)
+    returns)

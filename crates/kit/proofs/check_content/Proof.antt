@@ -82,15 +82,7 @@ check-inverse-requires c κs =
     let e : c .before .before .before .before .before .before .before .before .before .order .result ≡ orderOf (a .d) = c .before .before .before .before .before .before .before .before .before .order .ensures .0 in
     let x = lists-rule (a .d) (c .before .before .before .before .before .before .before .before .before .order .result) e (a .own .now) (a .parity .now) (c .before .before .before .before .before .before .before .check-lists .ensures) in
     let p = lists-permute (paramsOf (a .d)) (listsOf (a .d) (a .own .now) (a .parity .now)) (sym x ∙ check-passed (c .before .before .before .before .enum-told .given .1)) in
-    record {
-      allowed = h .allowed;
-      ownLength = h .ownLength;
-      parityLength = h .parityLength;
-      inverseLength = h .inverseLength;
-      workLength = h .workLength;
-      ownPermutes = p .0;
-      parityPermutes = p .1;
-    }
+    record { sized = h; ownPermutes = p .0; parityPermutes = p .1 }
 
 same-length : tie.Need-same-length
 same-length c = search needs

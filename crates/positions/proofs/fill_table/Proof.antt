@@ -27,12 +27,12 @@ cast-fill-positions : tie.Need-cast-fill-positions
 cast-fill-positions c = search needs
 
 shl-fill-positions : tie.Need-shl-fill-positions
-shl-fill-positions c = let a = c .before .before .before .before .before .args in omega (arith, r-small (a .d) (c .before .before .before .before .before .pre .0))
+shl-fill-positions c = let a = c .before .before .before .before .before .args in omega (arith, r-small (a .d) (c .before .before .before .before .before .pre))
 
 fill-positions-requires : tie.Need-fill-positions-requires
 fill-positions-requires c κs =
     let d = c .before .before .before .before .before .before .args .d in
-    let h = c .before .before .before .before .before .before .pre .0 in
+    let h = c .before .before .before .before .before .before .pre in
     let k = code-of d h in
     let e : c .before .before .before .before .r .result ≡ d .m * d .t = c .before .before .before .before .r .ensures .0 in
     let u : c .before .before .before .before .r .result ≤ 30 = omega (arith, r-small d h) in

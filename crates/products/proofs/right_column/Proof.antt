@@ -1,17 +1,15 @@
--- A packed column of A masks the planes, and the first wrong entry of the sum is that of the column.
+-- The packed column of A has no bit past n, and the first wrong entry of its line is that of the column.
 -- Assumes nothing.
 use native.Mathlib.Omega.{arith}
 use borrow.Author.Needs.{needs}
-use mathlib.Core.Path.{_≡_, _∙_, subst}
-use Prim.Native.Nat.{ℕ, _+_, _*_, _/_, _<_}
-use lib.ListN.{length, getD}
+use mathlib.Core.Path.{_≡_, _∙_}
+use Prim.Native.Nat.{_+_, _/_}
+use lib.ListN.{length}
 use Rattle.staircase.specs.Rules.{entries}
 use Rattle.system.specs.Rows.{columnEntry}
-use Rattle.system.proofs.Terms.{sized}
-use Rattle.system.proofs.Link.{columnEntry-spare}
-use Rattle.products.specs.Products.{rightWrong}
 use Rattle.positions.proofs.Parts.{part-fits, part-is}
-use Rattle.products.proofs.Found.{found}
+use Rattle.products.proofs.Sizes.{column-spare}
+use Rattle.products.proofs.Found.{line-spare, line-found}
 use Rattle.products.proofs.right_column.Statement.{statement}
 use Rattle.products.proofs.right_column.Tie as tie
 
@@ -28,62 +26,41 @@ part-column-end : tie.Need-part-column-end
 part-column-end c = search needs
 
 system-column-requires : tie.Need-system-column-requires
-system-column-requires c κs = search needs
+system-column-requires c κs =
+    let a = c .before .before .before .before .args in
+    let h = c .before .before .before .before .pre in
+    let s = h .0 in
+    (s .order, h .1, h .2, s .listLength, omega arith, omega arith, s .r-small, s .permutes .below)
 
-sub-mask-rows : tie.Need-sub-mask-rows
-sub-mask-rows c = search needs
+sub-first-in-line : tie.Need-sub-first-in-line
+sub-first-in-line c = search needs
 
-part-acc-start : tie.Need-part-acc-start
-part-acc-start c = search needs
+part-first-in-line-start : tie.Need-part-first-in-line-start
+part-first-in-line-start c = search needs
 
-part-acc-end : tie.Need-part-acc-end
-part-acc-end c = search needs
+part-first-in-line-end : tie.Need-part-first-in-line-end
+part-first-in-line-end c =
+    let s = c .before .before .system-column in
+    let d : length (s .last .0) ≡ (c .before .before .before .before .before .before .before .args .n + 7) / 8 = omega arith in
+    part-fits (s .last .0) _ _ d
 
-sub-mask-rows-2 : tie.Need-sub-mask-rows-2
-sub-mask-rows-2 c = search needs
-
-part-mask-rows-start : tie.Need-part-mask-rows-start
-part-mask-rows-start c = search needs
-
-part-mask-rows-end : tie.Need-part-mask-rows-end
-part-mask-rows-end c =
-    let d : length (c .before .before .before .system-column .last .0) ≡ (c .before .before .before .before .before .before .before .before .args .n + 7) / 8 = omega arith in
-    part-fits (c .before .before .before .system-column .last .0) _ _ d
-
-mask-rows-requires : tie.Need-mask-rows-requires
-mask-rows-requires c κs = search needs
-
-sub-first-wrong : tie.Need-sub-first-wrong
-sub-first-wrong c = search needs
-
-part-first-wrong-start : tie.Need-part-first-wrong-start
-part-first-wrong-start c = search needs
-
-part-first-wrong-end : tie.Need-part-first-wrong-end
-part-first-wrong-end c =
-    let d : length (c .before .before .mask-rows .last .0) ≡ c .before .before .before .before .before .before .before .before .before .before .before .before .args .n = omega arith in
-    part-fits (c .before .before .mask-rows .last .0) _ _ d
-
-first-wrong-requires : tie.Need-first-wrong-requires
-first-wrong-requires c κs = search needs
+first-in-line-requires : tie.Need-first-in-line-requires
+first-in-line-requires c κs =
+    let a = c .before .before .before .before .before .before .before .before .args in
+    let s = c .before .before .before .system-column in
+    let f = columnEntry (a .part .now) (entries (a .n) (a .parity .now)) (a .size) (a .y) (a .j) in
+    let d : length (s .last .0) ≡ (a .n + 7) / 8 = omega arith in
+    let h = c .before .before .before .before .before .before .before .before .pre in
+    let l = h .0 in
+    (l .positive, l .small, omega arith, l .planesLength, line-spare (a .n) f (s .last .0) _ (s .ensures .1) (part-is _ _ _ d) (column-spare (a .n) (a .size) (a .parity .now) (a .part .now) (a .t .now) l (a .y) (a .j) (h .2) (h .1)))
 
 returns : tie.Need-returns
-unfolding rightWrong
 returns c =
-    let a = c .before .before .before .before .before .before .before .before .before .before .before .before .before .before .args in
-    let h = c .before .before .before .before .before .before .before .before .before .before .before .before .before .before .pre in
-    let s = c .before .before .before .before .before .before .before .before .before .system-column in
-    let m = c .before .before .before .before .mask-rows in
-    let l = entries (a .n) (a .parity .now) in
-    let z = sized (a .size) (length (a .part .now)) (a .n) (a .j) (a .y) (h .0) (h .3) (h .4) in
-    let small : (q : ℕ) → q < a .size * length (a .part .now) → getD l q 0 < a .size * length (a .part .now) =
-    λ q i. subst (λ (w : ℕ). getD l q 0 < w) (h .0) (h .8 q (omega arith)) in
-    let d₁ : length (s .last .0) ≡ (a .n + 7) / 8 = omega arith in
-    let d₂ : length (m .last .0) ≡ a .n = omega arith in
-    c .first-wrong .ensures
-    ∙ found (a .t .now) (a .n) (a .j) (columnEntry (a .part .now) l (a .size) (a .y) (a .j))
-    (λ k i. columnEntry-spare (a .part .now) l (a .size) (z .size-positive) (z .r-positive) small (a .y) (a .j) k (omega arith) (omega arith))
-    (s .last .0) _ (m .last .0) _ (s .ensures .1) (part-is _ _ _ d₁) (m .ensures .1) (part-is _ _ _ d₂) d₂
+    let a = c .before .before .before .before .before .before .before .before .before .args in
+    let s = c .before .before .before .before .system-column in
+    let f = columnEntry (a .part .now) (entries (a .n) (a .parity .now)) (a .size) (a .y) (a .j) in
+    let d : length (s .last .0) ≡ (a .n + 7) / 8 = omega arith in
+    c .first-in-line .ensures ∙ line-found (a .n) f (s .last .0) _ (s .ensures .1) (part-is _ _ _ d) (a .t .now) (a .j)
 
 pub right-column-spec : {M : Type 1} → statement M
 right-column-spec =
@@ -94,15 +71,8 @@ right-column-spec =
     part-column-start
     part-column-end
     system-column-requires
-    sub-mask-rows
-    part-acc-start
-    part-acc-end
-    sub-mask-rows-2
-    part-mask-rows-start
-    part-mask-rows-end
-    mask-rows-requires
-    sub-first-wrong
-    part-first-wrong-start
-    part-first-wrong-end
-    first-wrong-requires
+    sub-first-in-line
+    part-first-in-line-start
+    part-first-in-line-end
+    first-in-line-requires
     returns)
