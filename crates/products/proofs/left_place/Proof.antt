@@ -24,9 +24,7 @@ part-places-end : tie.Need-part-places-end
 part-places-end c = search needs
 
 fill-inverse-requires : tie.Need-fill-inverse-requires
-fill-inverse-requires c κs =
-    let s = c .before .before .before .before .before .pre .1 in
-    (s .listLength, omega arith, s .small, s .permutes)
+fill-inverse-requires c κs = search needs
 
 sub-left-rows : tie.Need-sub-left-rows
 sub-left-rows c = search needs

@@ -26,11 +26,7 @@ part-row-end : tie.Need-part-row-end
 part-row-end c = search needs
 
 system-row-requires : tie.Need-system-row-requires
-system-row-requires c κs =
-    let a = c .before .before .before .before .args in
-    let h = c .before .before .before .before .pre in
-    let s = h .0 in
-    (s .order, h .1, h .2, s .listLength, omega arith, omega arith, s .r-small, s .permutes .below)
+system-row-requires c κs = search needs
 
 sub-first-in-line : tie.Need-sub-first-in-line
 sub-first-in-line c = search needs

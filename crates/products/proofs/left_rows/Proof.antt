@@ -1,6 +1,7 @@
 -- The loop's invariant: the rows before `e` have no wrong entry. The measure is the number of rows left.
 -- Assumes nothing.
 use native.Mathlib.Omega.{arith}
+use borrow.Author.Needs.{needs}
 use mathlib.Core.Path.{_≡_, sym, ap, _∙_, subst}
 use mathlib.Core.Bool.{Bool, false}
 use mathlib.Core.List.{List}
@@ -40,22 +41,19 @@ source-requires c κs =
     (h .1 ∙ d, omega (arith, d, s .small), omega (arith, d), subst (λ (n : ℕ). (q : ℕ) → q < n → getD (a .places .now) q 0 < n) d (h .2))
 
 left-row-requires : tie.Need-left-row-requires Inv-loop μ-loop
-left-row-requires c κs =
-    let h = c .before .before .before .before .before .before .before .pre in
-    let u = c .source .ensures .1 in
-    (h .0, omega arith, omega (arith, h .0 .order, u))
+left-row-requires c κs = search needs
 
 mul-result : tie.Need-mul-result Inv-loop μ-loop
 mul-result c =
     let l = c .before .before .before .before .loop in
     let a = c .before .before .before .before .before .before .before .before .before .args in
-    omega (arith, stretch-end (l .e) (a .n) (a .n) (omega arith), square-small (a .n) (c .before .before .before .before .before .before .before .before .before .pre .0 .small))
+    omega (arith, stretch-end (l .e) (a .n) (a .n) (omega arith), stretch-end (c .before .left-row .result) (a .n) (a .n) (omega arith), square-small (a .n) (c .before .before .before .before .before .before .before .before .before .pre .0 .small))
 
 add-result : tie.Need-add-result Inv-loop μ-loop
 add-result c =
     let l = c .before .before .before .before .loop in
     let a = c .before .before .before .before .before .before .before .before .before .args in
-    omega (arith, stretch-end (l .e) (a .n) (a .n) (omega arith), square-small (a .n) (c .before .before .before .before .before .before .before .before .before .pre .0 .small))
+    omega (arith, stretch-end (l .e) (a .n) (a .n) (omega arith), stretch-end (c .before .left-row .result) (a .n) (a .n) (omega arith), square-small (a .n) (c .before .before .before .before .before .before .before .before .before .pre .0 .small))
 
 returns : tie.Need-returns Inv-loop μ-loop
 returns c =

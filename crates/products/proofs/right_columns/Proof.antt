@@ -1,6 +1,7 @@
 -- The loop's invariant: `best` is the first wrong place in the columns before `j`. The measure is the number of columns left.
 -- Assumes nothing.
 use native.Mathlib.Omega.{arith}
+use borrow.Author.Needs.{needs}
 use mathlib.Core.Path.{_≡_, sym, ap, _∙_, subst}
 use mathlib.Core.Bool.{Bool}
 use mathlib.Core.List.{List}
@@ -10,6 +11,7 @@ use native.Mathlib.Nat.{mul-le-mul-right}
 use lib.ListN.{length, getD}
 use Rattle.staircase.specs.Lists.{firstWhere}
 use Rattle.staircase.specs.Rules.{entries}
+use Rattle.staircase.proofs.Fill.{stretch-end}
 use Rattle.staircase.proofs.Search.{firstWhere-le}
 use Rattle.system.specs.Rows.{columnEntry}
 use Rattle.products.specs.Products.{wrongIn, unstackOf}
@@ -44,22 +46,21 @@ source-requires c κs =
     (h .1 ∙ d, omega (arith, d, s .small), omega (arith, d), subst (λ (n : ℕ). (q : ℕ) → q < n → getD (a .places .now) q 0 < n) d (h .2))
 
 right-column-requires : tie.Need-right-column-requires Inv-loop μ-loop
-right-column-requires c κs =
-    let h = c .before .before .before .before .before .before .before .pre in
-    let u = c .source .ensures .1 in
-    (h .0, omega arith, omega (arith, h .0 .order, u))
+right-column-requires c κs = search needs
 
 mul-place : tie.Need-mul-place Inv-loop μ-loop
 mul-place c =
+    let l = c .before .before .before .loop in
     let a = c .before .before .before .before .before .before .before .before .args in
     let q : c .right-column .result ≤ a .n = subst (λ (z : ℕ). z ≤ a .n) (sym (c .right-column .ensures)) (firstWhere-le (a .n) _) in
-    omega (arith, mul-le-mul-right (a .n) q, square-small (a .n) (c .before .before .before .before .before .before .before .before .pre .0 .small))
+    omega (arith, mul-le-mul-right (a .n) q, stretch-end (l .j) (a .n) (a .n) (omega arith), square-small (a .n) (c .before .before .before .before .before .before .before .before .pre .0 .small))
 
 add-place : tie.Need-add-place Inv-loop μ-loop
 add-place c =
+    let l = c .before .before .before .loop in
     let a = c .before .before .before .before .before .before .before .before .args in
     let q : c .right-column .result ≤ a .n = subst (λ (z : ℕ). z ≤ a .n) (sym (c .right-column .ensures)) (firstWhere-le (a .n) _) in
-    omega (arith, mul-le-mul-right (a .n) q, square-small (a .n) (c .before .before .before .before .before .before .before .before .pre .0 .small))
+    omega (arith, mul-le-mul-right (a .n) q, stretch-end (l .j) (a .n) (a .n) (omega arith), square-small (a .n) (c .before .before .before .before .before .before .before .before .pre .0 .small))
 
 add-j : tie.Need-add-j Inv-loop μ-loop
 add-j c = omega arith
