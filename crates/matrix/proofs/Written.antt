@@ -2,7 +2,6 @@
 --   written-more   what holds of each place written holds after one more
 --   written-part   the same, after a part of several places was lent and came back
 --   rest-more      the places that are not written yet are as they were
---   everywhere     what holds of the places below n and of those from n on holds of all
 -- Assumes nothing.
 use mathlib.Core.Path.{_≡_, refl, sym, ap, _∙_, subst}
 use mathlib.Core.Bool.{Bool, true, false}
@@ -45,10 +44,3 @@ written-part P l ys a k h e before here q m = go (ltb q a) refl
 
 pub rest-more : (l a : List ℕ) (i v : ℕ) → ((q : ℕ) → i ≤ q → getD l q 0 ≡ getD a q 0) → (q : ℕ) → i + 1 ≤ q → getD (set l i v) q 0 ≡ getD a q 0
 rest-more l a i v h q k = getD-set-other l i q v 0 (λ e. omega arith) ∙ h q (omega arith)
-
-pub everywhere : (P : ℕ → Type 0) (n : ℕ) → ((q : ℕ) → q < n → P q) → ((q : ℕ) → n ≤ q → P q) → (q : ℕ) → P q
-everywhere P n low high q = go (ltb q n) refl
-  where
-    go : (z : Bool) → ltb q n ≡ z → P q
-    go true e = low q (ltb-true q n e)
-    go false e = high q (ltb-false q n e)
