@@ -86,7 +86,7 @@ pub fn mask_rows(acc: &mut [u8], row: &[u8], t: &[u8], n: usize)
 }
 
 // Entry (i, j) of the identity.
-fn unit(i: usize, j: usize) -> u32
+fn identity_entry(i: usize, j: usize) -> u32
     ensures { λ r. ⌜ r ≡ identity i j ⌝ }
 {
     if i == j {
@@ -104,7 +104,7 @@ pub fn first_wrong(acc: &[u8], e: usize) -> usize
 {
     for x in 0..acc.len() {
         let odd = u8::count_ones(acc[x]) % 2;
-        if odd != unit(e, x) {
+        if odd != identity_entry(e, x) {
             return x;
         }
     }
