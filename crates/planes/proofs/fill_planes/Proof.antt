@@ -3,7 +3,7 @@
 use mathlib.Core.Path.{_≡_, _∙_}
 use mathlib.Core.Bool.{Bool, cond}
 use mathlib.Core.List.{List}
-use Prim.Native.Nat.{ℕ, _+_, _-_, _*_, _≤_, _<_}
+use Prim.Native.Nat.{ℕ, _+_, _-_, _*_, _/_, _%_, _≤_, _<_}
 use native.Mathlib.Nat.{mul-comm}
 use native.Mathlib.Omega.{arith}
 use borrow.Rule.Slice.PartMut.{same-len-mid}
@@ -21,7 +21,7 @@ entries w n columns k x = cond columns (inverseEntry w n x k) (paddedEntry w n k
 
 abbrev Inv-loop : tie.InvT-loop
 Inv-loop w n t₀ columns rb b₀ t b =
-    (b ≤ rowBytes n) × (length t ≡ length t₀) × ((q : ℕ) → q < b * n → PlaneByte n (entries w n columns) q (getD t q 0))
+    (b ≤ rowBytes n) × (length t ≡ length t₀) × ((q : ℕ) → q < b * n → PlaneByte (entries w n columns) (q / n) (q % n) (getD t q 0))
 
 abbrev μ-loop : tie.MeasureT-loop
 μ-loop w n t₀ columns rb b₀ t b = rowBytes n - b

@@ -2,25 +2,25 @@
 -- Assumes nothing.
 use mathlib.Core.Path.{_≡_, sym}
 use mathlib.Core.List.{List}
-use Prim.Native.Nat.{ℕ, _+_, _-_, _*_, _≤_, _<_}
+use Prim.Native.Nat.{ℕ, _-_, _≤_, _<_}
 use native.Mathlib.Omega.{arith}
 use borrow.Author.Count.{below-none}
 use lib.ListN.{length, getD, length-set}
 use lib.Arith.{digits-lt}
 use Rattle.staircase.specs.System.{rowBytes, inverseEntry}
-use Rattle.matrix.proofs.Bits.{bit}
 use Rattle.matrix.proofs.Packed.{inverseEntry-at}
 use Rattle.matrix.proofs.Written.{written-more}
+use Rattle.planes.proofs.Planes.{PlaneByte}
 use Rattle.planes.proofs.plane_of_columns.Statement.{statement}
 use Rattle.planes.proofs.plane_of_columns.Tie as tie
 
--- v has the entries of row x in the columns from 8 b on
-abbrev Row : List ℕ → ℕ → ℕ → ℕ → ℕ → Type 0
-Row w n b x v = (r : ℕ) → r < 8 → bit v r ≡ inverseEntry w n x (8 * b + r)
+-- the matrix w, its columns as rows
+abbrev entries : List ℕ → ℕ → ℕ → ℕ → ℕ
+entries w n k x = inverseEntry w n x k
 
 abbrev Inv-loop : tie.InvT-loop
 Inv-loop plane₀ w n rb b i₀ i-end plane i =
-    (i-end ≡ n) × (i ≤ n) × (length plane ≡ n) × ((x : ℕ) → x < i → Row w n b x (getD plane x 0))
+    (i-end ≡ n) × (i ≤ n) × (length plane ≡ n) × ((x : ℕ) → x < i → PlaneByte (entries w n) b x (getD plane x 0))
 
 abbrev μ-loop : tie.MeasureT-loop
 μ-loop plane₀ w n rb b i₀ i-end plane i = n - i
@@ -54,7 +54,7 @@ loop-again c =
       omega arith,
       omega arith,
       simp length-set (omega arith),
-      written-more (Row (a .w .now) (a .n) (a .b)) (l .plane) (l .i) _ (omega arith) (l .inv .3)
+      written-more (PlaneByte (entries (a .w .now) (a .n)) (a .b)) (l .plane) (l .i) _ (omega arith) (l .inv .3)
           (λ r h. rw e (sym (inverseEntry-at (a .w .now) (a .n) (l .i) (a .b) r h))),
     )
 

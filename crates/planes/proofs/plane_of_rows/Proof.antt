@@ -9,12 +9,13 @@ use lib.ListN.{length, getD}
 use Rattle.matrix.specs.Packed.{paddedEntry}
 use Rattle.matrix.proofs.Bits.{bit}
 use Rattle.matrix.proofs.Written.{written-part}
+use Rattle.planes.proofs.Planes.{PlaneByte}
 use Rattle.planes.proofs.plane_of_rows.Statement.{statement}
 use Rattle.planes.proofs.plane_of_rows.Tie as tie
 
--- v has the entries of column x in the rows from 8 b on
+-- a column that there is; the last block may have more
 abbrev Column : List ℕ → ℕ → ℕ → ℕ → ℕ → Type 0
-Column w n b x v = x < n → (r : ℕ) → r < 8 → bit v r ≡ paddedEntry w n (8 * b + r) x
+Column w n b x v = x < n → PlaneByte (paddedEntry w n) b x v
 
 -- byte s of the turned block y of q is column 8 c + s
 block-column : (w : List ℕ) (n b c q y s v : ℕ) → s < 8 → ((r : ℕ) → r < 8 → bit v r ≡ bit y (8 * s + r))
