@@ -7,7 +7,7 @@
 use mathlib.Core.Path.{_≡_, refl, sym, ap, ap₂, _∙_}
 use mathlib.Core.List.{List}
 use Prim.Native.Nat.{ℕ, zero, suc, _+_, _-_, _*_, _%_, _≤_, _<_}
-use native.Mathlib.Nat.{zero-add, suc-add, zero-mul, add-sub-cancel-left}
+use native.Mathlib.Nat.{add-zero, add-suc, zero-mul, add-sub-cancel-left}
 use native.Mathlib.Omega.{arith}
 use lib.Bits.{bitAnd, bitXor, and-comm, xor-zero-r}
 use lib.Count.{onesIn, ones}
@@ -15,21 +15,18 @@ use lib.ListN.{getD, take, drop, replicate, getD-replicate}
 use lib.Seq.{getD-take, getD-drop}
 use Rattle.staircase.specs.Lists.{bitSum, sumBits}
 use Rattle.staircase.specs.System.{rowBytes}
-use Rattle.staircase.proofs.Matrix.{bitSum-assoc, bitSum-zero, zero-bitSum, sumBits-lt, sumBits-same, sumBits-zero}
+use Rattle.staircase.proofs.Matrix.{bitSum-assoc, bitSum-zero, sumBits-lt, sumBits-same, sumBits-zero}
+use Rattle.staircase.proofs.Entries.{sumBits-last}
 use Rattle.matrix.specs.Packed.{packedBit, planeBit}
 use Rattle.matrix.proofs.Bits.{bit, odd-xor, odd-and}
 use Rattle.matrix.proofs.Packed.{packedBit-at, planeBit-at}
 
 sumBits-add : (n m : ℕ) (f : ℕ → ℕ) → sumBits (n + m) f ≡ bitSum (sumBits n f) (sumBits m (λ r. f (n + r)))
 unfolding sumBits
-sumBits-add zero m f =
-    ap (λ (z : ℕ). sumBits z f) (zero-add m) ∙ sumBits-same m f (λ r. f (zero + r)) (λ r l. ap f (sym (zero-add r)))
-    ∙ sym (zero-bitSum (sumBits m (λ r. f (zero + r))) (sumBits-lt m (λ r. f (zero + r))))
-sumBits-add (suc n) m f =
-    ap (λ (z : ℕ). sumBits z f) (suc-add n m)
-    ∙ ap (bitSum (f zero)) (sumBits-add n m (λ k. f (suc k))
-    ∙ ap (bitSum (sumBits n (λ k. f (suc k)))) (sumBits-same m (λ r. f (suc (n + r))) (λ r. f (suc n + r)) (λ r l. ap f (sym (suc-add n r)))))
-    ∙ sym (bitSum-assoc (f zero) (sumBits n (λ k. f (suc k))) (sumBits m (λ r. f (suc n + r))))
+sumBits-add n zero f = ap (λ (z : ℕ). sumBits z f) (add-zero n) ∙ sym (bitSum-zero (sumBits n f) (sumBits-lt n f))
+sumBits-add n (suc m) f =
+    ap (λ (z : ℕ). sumBits z f) (add-suc n m) ∙ sumBits-last (n + m) f ∙ ap (λ (z : ℕ). bitSum z (f (n + m))) (sumBits-add n m f)
+    ∙ bitSum-assoc (sumBits n f) (sumBits m (λ r. f (n + r))) (f (n + m)) ∙ ap (bitSum (sumBits n f)) (sym (sumBits-last m (λ r. f (n + r))))
 
 -- ---- masked bytes
 
