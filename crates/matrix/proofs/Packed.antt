@@ -1,20 +1,19 @@
 -- Packed rows and planes.
 --   packedBit-at, planeBit-at, inverseEntry-at, paddedEntry-at   a bit by its byte
---   packedBit-add          a bit added to a packed row
---   PlaneByte, planes-more, planes-all   planes by their bytes, a plane more, and all of them
---   in-rows, plane-end, plane-length     a byte of a row, and a plane, lie within the whole; a plane that is lent
+--   packedBit-zeros          the bits of zeros
+--   packedBit-add            a bit added to a packed row
+--   plane-end, plane-length  a plane lies within the whole; its length where it is lent
 -- Assumes nothing.
-use mathlib.Core.Path.{_≡_, sym, ap, _∙_}
+use mathlib.Core.Path.{_≡_, refl, sym, ap, _∙_}
 use mathlib.Core.Bool.{Bool, true, false, cond}
-use mathlib.Core.List.{List, _++_}
-use Prim.Native.Nat.{ℕ, _+_, _-_, _*_, _/_, _%_, _^_, _≤_, _<_}
-use native.Mathlib.Nat.{mod-lt, mul-comm, add-mul, one-mul, add-sub-cancel-left}
+use mathlib.Core.List.{List}
+use Prim.Native.Nat.{ℕ, zero, suc, _+_, _-_, _*_, _/_, _%_, _^_, _≤_, _<_}
+use native.Mathlib.Nat.{mod-lt, mul-comm, add-sub-cancel-left}
 use native.Mathlib.Decide.{ℕ-discrete}
 use native.Mathlib.Omega.{arith}
-use lib.Arith.{digits-lt, digits-div, digits-mod}
 use lib.Bits.{bitXor}
 use lib.Dec.{eqb, ltb}
-use lib.ListN.{length, getD, set, take, drop}
+use lib.ListN.{length, getD, set, take, drop, replicate}
 use lib.Seq.{getD-set-same, getD-set-other}
 use borrow.Author.Tests.{ne-eqb}
 use borrow.Rule.Slice.PartMut.{mid-len}
@@ -23,9 +22,8 @@ use Rattle.staircase.specs.System.{rowBytes, inverseEntry}
 use Rattle.staircase.proofs.Matrix.{bitSum-zero}
 use Rattle.staircase.proofs.Fill.{stretch-end}
 use Rattle.staircase.proofs.Entries.{eqb-iff}
-use Rattle.matrix.specs.Packed.{packedBit, planeBit, Planes, paddedEntry}
+use Rattle.matrix.specs.Packed.{packedBit, planeBit, paddedEntry}
 use Rattle.matrix.proofs.Bits.{bit, bit-lt, bit-zero, bit-added}
-use Rattle.matrix.proofs.Written.{written-part}
 
 -- ---- a bit by its byte
 
@@ -50,6 +48,15 @@ paddedEntry-at w n i b r h = go (ltb i n)
     go : (z : Bool) → cond z (inverseEntry w n i (8 * b + r)) 0 ≡ bit (cond z (getD w (i * rowBytes n + b) 0) 0) r
     go true = inverseEntry-at w n i b r h
     go false = sym (bit-zero r)
+
+zeros-at : (n i : ℕ) → _≡_ {A = ℕ} (getD (replicate n 0) i 0) 0
+zeros-at zero i = refl
+zeros-at (suc n) zero = refl
+zeros-at (suc n) (suc i) = zeros-at n i
+
+pub packedBit-zeros : (n k : ℕ) → packedBit (replicate n 0) k ≡ 0
+unfolding packedBit
+packedBit-zeros n k = ap (λ (z : ℕ). bit z (k % 8)) (zeros-at n (k / 8)) ∙ bit-zero (k % 8)
 
 -- ---- a bit added to a packed row: v is added to bit k, and j is any bit
 
@@ -86,10 +93,6 @@ module _ (row : List ℕ) (k v : ℕ) (in-row : k / 8 < length row) (small : v <
 
 -- ---- places
 
--- byte c of row i, of n rows of m bytes
-pub in-rows : (i n m c : ℕ) → i < n → c < m → i * m + c < n * m
-in-rows i n m c h k = digits-lt h k
-
 -- plane b of m planes of n bytes
 pub plane-end : (b n m : ℕ) → b < m → b * n + n ≤ n * m
 plane-end b n m h = omega (arith, stretch-end b m n h, mul-comm m n)
@@ -97,28 +100,3 @@ plane-end b n m h = omega (arith, stretch-end b m n h, mul-comm m n)
 -- lent as a part it has n bytes
 pub plane-length : (t : List ℕ) (b n m : ℕ) → b < m → length t ≡ n * m → length (take (b * n + n - b * n) (drop (b * n) t)) ≡ n
 plane-length t b n m h e = mid-len (b * n) (b * n + n) t (omega (arith, plane-end b n m h)) ∙ add-sub-cancel-left (b * n) n
-
--- ---- planes by their bytes
-
--- byte q of planes of n columns has the entries f of its column, in the eight rows of its plane
-abbrev pub PlaneByte : ℕ → (ℕ → ℕ → ℕ) → ℕ → ℕ → Type 0
-PlaneByte n f q v = (r : ℕ) → r < 8 → bit v r ≡ f (8 * (q / n) + r) (q % n)
-
--- plane b of m was lent as a part and came back as ys, with the entries of its rows
-pub planes-more : (n m : ℕ) (f : ℕ → ℕ → ℕ) (t ys : List ℕ) (b : ℕ) → b < m → length t ≡ n * m
-    → length ys ≡ length (take (b * n + n - b * n) (drop (b * n) t)) → ((q : ℕ) → q < b * n → PlaneByte n f q (getD t q 0))
-    → ((x : ℕ) → x < n → (r : ℕ) → r < 8 → bit (getD ys x 0) r ≡ f (8 * b + r) x)
-    → (q : ℕ) → q < (b + 1) * n → PlaneByte n f q (getD (take (b * n) t ++ (ys ++ drop (b * n + n - b * n) (drop (b * n) t))) q 0)
-planes-more n m f t ys b h d e before here q l =
-    let k : (b + 1) * n ≡ b * n + n = rw (add-mul b 1 n, one-mul n) in
-    rw (add-sub-cancel-left (b * n) n)
-    (written-part (PlaneByte n f) t ys (b * n) n (omega (arith, plane-end b n m h)) (e ∙ plane-length t b n m h d) before
-    (λ x k r g. here x k r g ∙ rw (digits-div b k, digits-mod b k)) q (omega arith))
-
-pub planes-all : (t : List ℕ) (n : ℕ) (f : ℕ → ℕ → ℕ) → ((q : ℕ) → q < n * rowBytes n → PlaneByte n f q (getD t q 0)) → Planes t n f
-unfolding planeBit
-planes-all t n f h k x l m =
-    let b : k / 8 < rowBytes n = omega arith in
-    let q : k / 8 * n + x < n * rowBytes n = rw (mul-comm n (rowBytes n)) (digits-lt b m) in
-    let e : 8 * (k / 8) + k % 8 ≡ k = omega arith in
-    h (k / 8 * n + x) q (k % 8) (omega arith) ∙ rw (digits-div (k / 8) m, digits-mod (k / 8) m, e)

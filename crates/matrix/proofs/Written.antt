@@ -2,24 +2,21 @@
 --   written-more   what holds of each place written holds after one more
 --   written-part   the same, after a part of several places was lent and came back
 --   rest-more      the places that are not written yet are as they were
---   everywhere     what holds of the places below n and of those from n on holds of all
 -- Assumes nothing.
 use mathlib.Core.Path.{_≡_, refl, sym, ap, _∙_, subst}
 use mathlib.Core.Bool.{Bool, true, false}
 use mathlib.Core.List.{List, _++_}
 use Prim.Native.Nat.{ℕ, _+_, _-_, _≤_, _<_}
 use native.Mathlib.Omega.{arith}
-use borrow.Author.Count.{below-more}
 use borrow.Author.Tests.{ltb-true, ltb-false}
 use lib.Dec.{ltb}
 use lib.ListN.{length, getD, set, take, drop, List·getD-append}
-use lib.Seq.{length-take-le, getD-take, getD-append-add, getD-set-same, getD-set-other}
+use lib.Seq.{length-take-le, getD-take, getD-append-add, getD-set-other}
+use Rattle.bch.proofs.Store.{set-each}
 
 pub written-more : (P : ℕ → ℕ → Type 0) (l : List ℕ) (i v : ℕ) → i < length l → ((q : ℕ) → q < i → P q (getD l q 0)) → P i v
     → (q : ℕ) → q < i + 1 → P q (getD (set l i v) q 0)
-written-more P l i v h before here =
-    below-more (λ (q : ℕ). P q (getD (set l i v) q 0)) i
-    (λ q k. subst (P q) (sym (getD-set-other l i q v 0 (λ e. omega arith))) (before q k)) (subst (P i) (sym (getD-set-same l i v 0 h)) here)
+written-more P l i v h before here = set-each (λ (q z : ℕ). q < i + 1 → P q z) l i v h (λ k. here) (λ q d k. before q (omega arith))
 
 -- the part of k places from a on came back as ys
 pub written-part : (P : ℕ → ℕ → Type 0) (l ys : List ℕ) (a k : ℕ) → a ≤ length l → length ys ≡ k
@@ -45,10 +42,3 @@ written-part P l ys a k h e before here q m = go (ltb q a) refl
 
 pub rest-more : (l a : List ℕ) (i v : ℕ) → ((q : ℕ) → i ≤ q → getD l q 0 ≡ getD a q 0) → (q : ℕ) → i + 1 ≤ q → getD (set l i v) q 0 ≡ getD a q 0
 rest-more l a i v h q k = getD-set-other l i q v 0 (λ e. omega arith) ∙ h q (omega arith)
-
-pub everywhere : (P : ℕ → Type 0) (n : ℕ) → ((q : ℕ) → q < n → P q) → ((q : ℕ) → n ≤ q → P q) → (q : ℕ) → P q
-everywhere P n low high q = go (ltb q n) refl
-  where
-    go : (z : Bool) → ltb q n ≡ z → P q
-    go true e = low q (ltb-true q n e)
-    go false e = high q (ltb-false q n e)

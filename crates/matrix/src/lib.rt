@@ -51,7 +51,7 @@ fn mask_in(acc: &mut [u8], plane: &[u8], v: u8)
     requires { ⌜ length (now acc) ≡ length (now plane) ⌝ }
     ensures { λ r. ⌜
         (length (now (acc .exit)) ≡ length (now (acc .entry)))
-        × ((x : ℕ)
+        × ((x : ℕ) → x < length (now (acc .entry))
         → getD (now (acc .exit)) x 0 ≡ bitXor (getD (now (acc .entry)) x 0) (bitAnd (getD (now (plane .entry)) x 0) v))
         ⌝ }
 {
@@ -74,19 +74,19 @@ pub fn mask_rows(acc: &mut [u8], row: &[u8], t: &[u8], n: usize)
         ≡ sumBits (8 * rowBytes n) (λ k. packedBit (now (row .entry)) k * planeBit (now (t .entry)) n k x))
         ⌝ }
 {
-    clear(&mut acc[..]);
+    clear(acc);
     for b in 0..row.len() {
         let v = row[b];
         if v != 0 {
             let a = b * n;
             let e = a + n;
-            mask_in(&mut acc[..], &t[a..e], v);
+            mask_in(acc, &t[a..e], v);
         }
     }
 }
 
 // Entry (i, j) of the identity.
-fn unit(i: usize, j: usize) -> u32
+fn identity_entry(i: usize, j: usize) -> u32
     ensures { λ r. ⌜ r ≡ identity i j ⌝ }
 {
     if i == j {
@@ -104,7 +104,7 @@ pub fn first_wrong(acc: &[u8], e: usize) -> usize
 {
     for x in 0..acc.len() {
         let odd = u8::count_ones(acc[x]) % 2;
-        if odd != unit(e, x) {
+        if odd != identity_entry(e, x) {
             return x;
         }
     }

@@ -77,8 +77,8 @@ fn put_block(part: &mut [u8], q: u64)
     }
 }
 
-// Plane b of w: a byte for each column, with the entries of the rows 8 b to 8 b + 7.
-fn fill_plane(plane: &mut [u8], w: &[u8], n: usize, rb: usize, b: usize)
+// Plane b of the rows of w: a byte for each column, with the entries of the rows 8 b to 8 b + 7.
+fn plane_of_rows(plane: &mut [u8], w: &[u8], n: usize, rb: usize, b: usize)
     requires { ⌜ (n ≤ 4096) × (length (now plane) ≡ n) × (rb ≡ rowBytes n) × (length (now w) ≡ n * rb) × (b < rb) ⌝ }
     ensures { λ u. ⌜
         (length (now (plane .exit)) ≡ length (now (plane .entry)))
@@ -94,6 +94,53 @@ fn fill_plane(plane: &mut [u8], w: &[u8], n: usize, rb: usize, b: usize)
     }
 }
 
+// Plane b of the columns of w: byte b of each of the n rows of rb bytes, with the entries of the columns 8 b to 8 b + 7.
+fn plane_of_columns(plane: &mut [u8], w: &[u8], n: usize, rb: usize, b: usize)
+    requires { ⌜ (length (now plane) ≡ n) × (rb ≡ rowBytes n) × (length (now w) ≡ n * rb) × (b < rb) ⌝ }
+    ensures { λ u. ⌜
+        (length (now (plane .exit)) ≡ length (now (plane .entry)))
+        × ((x : ℕ) → x < n → (r : ℕ) → r < 8
+        → getD (now (plane .exit)) x 0 / 2 ^ r % 2 ≡ inverseEntry (now (w .entry)) n x (8 * b + r))
+        ⌝ }
+{
+    for i in 0..plane.len() {
+        plane[i] = w[i * rb + b];
+    }
+}
+
+// Plane b of the columns or of the rows of w.
+fn fill_plane(plane: &mut [u8], w: &[u8], n: usize, rb: usize, b: usize, columns: bool)
+    requires { ⌜ (n ≤ 4096) × (length (now plane) ≡ n) × (rb ≡ rowBytes n) × (length (now w) ≡ n * rb) × (b < rb) ⌝ }
+    ensures { λ u. ⌜
+        (length (now (plane .exit)) ≡ length (now (plane .entry)))
+        × ((x : ℕ) → x < n → (r : ℕ) → r < 8
+        → getD (now (plane .exit)) x 0 / 2 ^ r % 2
+        ≡ cond columns (inverseEntry (now (w .entry)) n x (8 * b + r)) (paddedEntry (now (w .entry)) n (8 * b + r) x))
+        ⌝ }
+{
+    if columns {
+        plane_of_columns(plane, w, n, rb, b);
+        return;
+    }
+    plane_of_rows(plane, w, n, rb, b);
+}
+
+// The planes of the columns or of the rows of w.
+fn fill_planes(w: &[u8], n: usize, t: &mut [u8], columns: bool)
+    requires { ⌜ (1 ≤ n) × (n ≤ 4096) × (length (now w) ≡ n * rowBytes n) × (length (now t) ≡ n * rowBytes n) ⌝ }
+    ensures { λ r. ⌜
+        (length (now (t .exit)) ≡ length (now (t .entry)))
+        × Planes (now (t .exit)) n (λ k x. cond columns (inverseEntry (now (w .entry)) n x k) (paddedEntry (now (w .entry)) n k x))
+        ⌝ }
+{
+    let rb = (n + 7) / 8;
+    for b in 0..rb {
+        let a = b * n;
+        let e = a + n;
+        fill_plane(&mut t[a..e], w, n, rb, b, columns);
+    }
+}
+
 // Lays the packed matrix w, of n rows and n columns, out in the lent planes t: its rows are their rows, and the rows from n on are 0. Each byte of w
 // is read and each of t written once.
 pub fn transpose_bits(w: &[u8], n: usize, t: &mut [u8])
@@ -103,25 +150,7 @@ pub fn transpose_bits(w: &[u8], n: usize, t: &mut [u8])
         × Planes (now (t .exit)) n (λ k x. cond (ltb k n) (inverseEntry (now (w .entry)) n k x) 0)
         ⌝ }
 {
-    let rb = (n + 7) / 8;
-    for b in 0..rb {
-        let a = b * n;
-        let e = a + n;
-        fill_plane(&mut t[a..e], w, n, rb, b);
-    }
-}
-
-// Byte b of each of the n rows of rb bytes.
-fn fill_column(plane: &mut [u8], w: &[u8], n: usize, rb: usize, b: usize)
-    requires { ⌜ (length (now plane) ≡ n) × (length (now w) ≡ n * rb) × (b < rb) ⌝ }
-    ensures { λ u. ⌜
-        (length (now (plane .exit)) ≡ length (now (plane .entry)))
-        × ((x : ℕ) → x < n → getD (now (plane .exit)) x 0 ≡ getD (now (w .entry)) (x * rb + b) 0)
-        ⌝ }
-{
-    for i in 0..plane.len() {
-        plane[i] = w[i * rb + b];
-    }
+    fill_planes(w, n, t, false);
 }
 
 // Lays the packed matrix w, of n rows and n columns, out in the lent planes t: its columns are their rows, spare columns too. Each byte of w is read and
@@ -133,10 +162,5 @@ pub fn transpose_bytes(w: &[u8], n: usize, t: &mut [u8])
         × Planes (now (t .exit)) n (λ k x. inverseEntry (now (w .entry)) n x k)
         ⌝ }
 {
-    let rb = (n + 7) / 8;
-    for b in 0..rb {
-        let a = b * n;
-        let e = a + n;
-        fill_column(&mut t[a..e], w, n, rb, b);
-    }
+    fill_planes(w, n, t, true);
 }

@@ -12,93 +12,82 @@ use native.Mathlib.Omega.{arith}
 use lib.Dec.{eqb}
 use lib.ListN.{length, getD}
 use borrow.Author.Tests.{ne-eqb}
-use Rattle.staircase.specs.Lists.{bitSum, tabulate}
+use Rattle.staircase.specs.Lists.{bitSum, sumBits}
 use Rattle.staircase.specs.Design.{Params, Interleavers, order}
 use Rattle.staircase.specs.System.{stack, unstack, preimage, systemEntry}
 use Rattle.staircase.specs.Demand2.{Permutes}
-use Rattle.staircase.proofs.Matrix.{sumBits-same, sumBits-zero}
+use Rattle.staircase.proofs.Matrix.{sumBits-same, sumBits-sum, sumBits-zero}
 use Rattle.staircase.proofs.Permutation.{preimage-sent}
 use Rattle.staircase.proofs.System.{Proper, unstack-lt}
 use Rattle.staircase.proofs.Entries.{coefficient, system-row, system-column}
-use Rattle.system.proofs.Terms.{run-terms, spread-terms, place-below, stackOf-below, run-end}
-use Rattle.system.specs.Rows.{PartOf, stackOf, runTerm, spreadTerm, rowEntry, columnEntry}
+use Rattle.system.proofs.Terms.{place-below, stackOf-below, run-end}
+use Rattle.system.specs.Rows.{PartOf, stackOf, digit, vectorTerm, vectorEntry, rowEntry, columnEntry}
 
 -- ---- past the order
-
-run-past : (n : ℕ) (f : ℕ → ℕ) (base k : ℕ) → base + n ≤ k → runTerm (tabulate n f) base k ≡ 0
-run-past n f base k h =
-    run-terms n f base k
-    ∙ sumBits-zero n (λ b. cond (eqb (base + b) k) (f b) 0) (λ b l. ap (λ (z : Bool). cond z (f b) 0) (ne-eqb (base + b) k (λ e. omega arith)))
-
-spread-past : (n : ℕ) (f : ℕ → ℕ) (list : List ℕ) (size a k : ℕ) → ((b : ℕ) → b < n → stackOf size n (getD list (b * size + a) 0) < k) → spreadTerm (tabulate n f) list size a k ≡ 0
-spread-past n f list size a k h =
-    spread-terms n f list size a k
-    ∙ sumBits-zero n (λ b. cond (eqb (stackOf size n (getD list (b * size + a) 0)) k) (f b) 0)
-    (λ b l. ap (λ (z : Bool). cond z (f b) 0) (ne-eqb (stackOf size n (getD list (b * size + a) 0)) k (λ e. let z = h b l in omega (arith, z, e))))
 
 module _ (part list : List ℕ) (size : ℕ) (mpos : 0 < size) (rpos : 0 < length part) (small : (q : ℕ) → q < size * length part → getD list q 0 < size * length part) where
   abbrev r : ℕ
   r = length part
 
-  spread-small : (a k : ℕ) → a < size → size * length part ≤ k → (b : ℕ) → b < length part → stackOf size (length part) (getD list (b * size + a) 0) < k
-  spread-small a k ha hk b hb = let z = stackOf-below size r (getD list (b * size + a) 0) mpos (small (b * size + a) (place-below size r b a hb ha)) in omega (arith, z)
+  vectorEntry-spare : (digits : ℕ → ℕ → ℕ) (p e k : ℕ) → e < size * length part → size * length part ≤ k → vectorEntry digits (length part) list size p e k ≡ 0
+  unfolding vectorEntry
+  vectorEntry-spare digits p e k he hk =
+      sumBits-zero r (vectorTerm digits r list size p e k)
+      (λ b h.
+      let y : ℕ = getD list (b * size + p % size) 0 in
+      let own = run-end size r e rpos he in
+      let sent = stackOf-below size r y mpos (small (b * size + p % size) (place-below size r b (p % size) h (mod-lt p mpos))) in
+      ap₂ (λ (u v : Bool). bitSum (cond u (digits (e % r) b) 0) (cond v (digits (p / size) b) 0))
+      (ne-eqb (e / r * r + b) k (λ q. omega (arith, own))) (ne-eqb (stackOf size r y) k (λ q. omega (arith, sent))))
 
   pub rowEntry-spare : (p e k : ℕ) → e < size * length part → size * length part ≤ k → rowEntry part list size p e k ≡ 0
   unfolding rowEntry
-  rowEntry-spare p e k he hk =
-      ap₂ bitSum
-      (run-past r (λ b. getD part b 0 / 2 ^ (r - 1 - e % r) % 2) (e / r * r) k (let z = run-end size r e rpos he in omega (arith, z)))
-      (spread-past r (λ b. getD part b 0 / 2 ^ (r - 1 - p / size) % 2) list size (p % size) k (spread-small (p % size) k (mod-lt p mpos) hk))
+  rowEntry-spare = vectorEntry-spare (λ a b. digit part b a)
 
   pub columnEntry-spare : (x j k : ℕ) → j < size * length part → size * length part ≤ k → columnEntry part list size x j k ≡ 0
   unfolding columnEntry
-  columnEntry-spare x j k hj hk =
-      ap₂ bitSum
-      (run-past r (λ b. getD part (j % r) 0 / 2 ^ (r - 1 - b) % 2) (j / r * r) k (let z = run-end size r j rpos hj in omega (arith, z)))
-      (spread-past r (λ b. getD part (x / size) 0 / 2 ^ (r - 1 - b) % 2) list size (x % size) k (spread-small (x % size) k (mod-lt x mpos) hk))
+  columnEntry-spare = vectorEntry-spare (λ a b. digit part a b)
 
 -- ---- the system
 
 module _ (s : Params) (ok : Proper s) (l : Interleavers)
     (ps : Permutes (order s) (λ p. getD (l .self) p 0)) (pp : Permutes (order s) (λ p. getD (l .parity) p 0)) (part : List ℕ) (P : PartOf s part) where
-  digit-is : (b a : ℕ) → b < s .r → getD part b 0 / 2 ^ (s .r - 1 - a) % 2 ≡ coefficient s b a
+  digit-is : (b a : ℕ) → b < s .r → digit part b a ≡ coefficient s b a
   unfolding coefficient
-  digit-is b a h = ap (λ (x : ℕ). x / 2 ^ (s .r - 1 - a) % 2) (P .powers b h)
+  digit-is b a h = ap₂ (λ (x r : ℕ). x / 2 ^ (r - 1 - a) % 2) (P .powers b h) (P .long)
+
+  -- the place that a list sends to entry e is in row p / M of X or Q
+  source-row : (list : List ℕ) → Permutes (order s) (λ p. getD list p 0) → (e : ℕ) → e < order s → preimage list (order s) (unstack s e) / s .M < s .r
+  source-row list perm e h =
+      div-lt-iff-lt-mul (ok .mpos) .1
+      (subst (λ (z : ℕ). preimage list (order s) (unstack s e) < z) (mul-comm (s .M) (s .r)) (preimage-sent list (order s) perm (unstack s e) (unstack-lt s l ok e h) .0))
+
+  vectorEntry-sums : (digits c : ℕ → ℕ → ℕ) → ((a b : ℕ) → a < s .r → b < s .r → digits a b ≡ c a b) → (list : List ℕ) (p e k : ℕ) → p / s .M < s .r
+      → vectorEntry digits (length part) list (s .M) p e k
+      ≡ bitSum (sumBits (s .r) (λ b. cond (eqb (e / s .r * s .r + b) k) (c (e % s .r) b) 0))
+      (sumBits (s .r) (λ b. cond (eqb (stack s (getD list (b * s .M + p % s .M) 0)) k) (c (p / s .M) b) 0))
+  unfolding vectorEntry
+  vectorEntry-sums digits c same list p e k hp =
+      ap (λ (r : ℕ). sumBits r (vectorTerm digits r list (s .M) p e k)) (P .long)
+      ∙ sumBits-same (s .r) (vectorTerm digits (s .r) list (s .M) p e k) (vectorTerm c (s .r) list (s .M) p e k)
+      (λ b h.
+      ap₂ (λ (u v : ℕ). bitSum (cond (eqb (e / s .r * s .r + b) k) u 0) (cond (eqb (stack s (getD list (b * s .M + p % s .M) 0)) k) v 0))
+      (same (e % s .r) b (mod-lt e (ok .rpos)) h) (same (p / s .M) b hp h))
+      ∙ sumBits-sum (s .r) (λ b. cond (eqb (e / s .r * s .r + b) k) (c (e % s .r) b) 0)
+      (λ b. cond (eqb (stack s (getD list (b * s .M + p % s .M) 0)) k) (c (p / s .M) b) 0)
 
   pub rowEntry-system : (e k : ℕ) → e < order s → k < order s
       → rowEntry part (l .self) (s .M) (preimage (l .parity) (order s) (unstack s e)) e k ≡ systemEntry s l e k
   unfolding rowEntry
   rowEntry-system e k he hk =
-      let p : ℕ = preimage (l .parity) (order s) (unstack s e) in
-      ap (λ (r : ℕ). bitSum (runTerm (tabulate r (λ b. getD part b 0 / 2 ^ (r - 1 - e % r) % 2)) (e / r * r) k)
-      (spreadTerm (tabulate r (λ b. getD part b 0 / 2 ^ (r - 1 - p / s .M) % 2)) (l .self) (s .M) (p % s .M) k)) (P .long)
-      ∙ ap₂ bitSum
-      (run-terms (s .r) (λ b. getD part b 0 / 2 ^ (s .r - 1 - e % s .r) % 2) (e / s .r * s .r) k
-      ∙ sumBits-same (s .r) (λ b. cond (eqb (e / s .r * s .r + b) k) (getD part b 0 / 2 ^ (s .r - 1 - e % s .r) % 2) 0)
-      (λ b. cond (eqb (e / s .r * s .r + b) k) (coefficient s b (e % s .r)) 0) (λ b m. ap (λ (v : ℕ). cond (eqb (e / s .r * s .r + b) k) v 0) (digit-is b (e % s .r) m)))
-      (spread-terms (s .r) (λ b. getD part b 0 / 2 ^ (s .r - 1 - p / s .M) % 2) (l .self) (s .M) (p % s .M) k
-      ∙ sumBits-same (s .r) (λ b. cond (eqb (stack s (getD (l .self) (b * s .M + p % s .M) 0)) k) (getD part b 0 / 2 ^ (s .r - 1 - p / s .M) % 2) 0)
-      (λ b. cond (eqb (stack s (getD (l .self) (b * s .M + p % s .M) 0)) k) (coefficient s b (p / s .M)) 0)
-      (λ b m. ap (λ (v : ℕ). cond (eqb (stack s (getD (l .self) (b * s .M + p % s .M) 0)) k) v 0) (digit-is b (p / s .M) m)))
+      vectorEntry-sums (λ a b. digit part b a) (λ a b. coefficient s b a) (λ a b ha hb. digit-is b a hb) (l .self) (preimage (l .parity) (order s) (unstack s e)) e k
+      (source-row (l .parity) pp e he)
       ∙ sym (system-row s ok l ps pp e k he hk)
 
   pub columnEntry-system : (j k : ℕ) → j < order s → k < order s
       → columnEntry part (l .parity) (s .M) (preimage (l .self) (order s) (unstack s j)) j k ≡ systemEntry s l k j
   unfolding columnEntry
   columnEntry-system j k hj hk =
-      let x : ℕ = preimage (l .self) (order s) (unstack s j) in
-      let hx : x / s .M < s .r = div-lt-iff-lt-mul (ok .mpos) .1 (subst (λ (z : ℕ). x < z) (mul-comm (s .M) (s .r)) (below-of j hj)) in
-      ap (λ (r : ℕ). bitSum (runTerm (tabulate r (λ b. getD part (j % r) 0 / 2 ^ (r - 1 - b) % 2)) (j / r * r) k)
-      (spreadTerm (tabulate r (λ b. getD part (x / s .M) 0 / 2 ^ (r - 1 - b) % 2)) (l .parity) (s .M) (x % s .M) k)) (P .long)
-      ∙ ap₂ bitSum
-      (run-terms (s .r) (λ b. getD part (j % s .r) 0 / 2 ^ (s .r - 1 - b) % 2) (j / s .r * s .r) k
-      ∙ sumBits-same (s .r) (λ b. cond (eqb (j / s .r * s .r + b) k) (getD part (j % s .r) 0 / 2 ^ (s .r - 1 - b) % 2) 0)
-      (λ b. cond (eqb (j / s .r * s .r + b) k) (coefficient s (j % s .r) b) 0) (λ b m. ap (λ (v : ℕ). cond (eqb (j / s .r * s .r + b) k) v 0) (digit-is (j % s .r) b (mod-lt j (ok .rpos)))))
-      (spread-terms (s .r) (λ b. getD part (x / s .M) 0 / 2 ^ (s .r - 1 - b) % 2) (l .parity) (s .M) (x % s .M) k
-      ∙ sumBits-same (s .r) (λ b. cond (eqb (stack s (getD (l .parity) (b * s .M + x % s .M) 0)) k) (getD part (x / s .M) 0 / 2 ^ (s .r - 1 - b) % 2) 0)
-      (λ b. cond (eqb (stack s (getD (l .parity) (b * s .M + x % s .M) 0)) k) (coefficient s (x / s .M) b) 0)
-      (λ b m. ap (λ (v : ℕ). cond (eqb (stack s (getD (l .parity) (b * s .M + x % s .M) 0)) k) v 0) (digit-is (x / s .M) b hx)))
+      vectorEntry-sums (λ a b. digit part a b) (coefficient s) (λ a b ha hb. digit-is a b ha) (l .parity) (preimage (l .self) (order s) (unstack s j)) j k
+      (source-row (l .self) ps j hj)
       ∙ sym (system-column s ok l ps pp k j hk hj)
-    where
-      below-of : (j : ℕ) → j < order s → preimage (l .self) (order s) (unstack s j) < order s
-      below-of j hj = preimage-sent (l .self) (order s) ps (unstack s j) (unstack-lt s l ok j hj) .0

@@ -1,59 +1,50 @@
 -- Packed rows and columns of the system A, by what code has at hand: the r powers of x that the bits of X and Y carry (`part`), the entries of
 -- a list, and the place in Q or X that a list sends somewhere.
---   PartOf s part       `part` holds the powers of x that the bits of X and Y carry
---   Added old new f     each bit of a packed row plus f
---   stackOf             the place in the stack of a place of Y or P
---   runTerm, spreadTerm what r bits add that lie side by side, or where a list sends them
---   rowEntry            an entry of a row of A
---   columnEntry         an entry of a column of A
+--   PartOf s part            `part` holds the powers of x that the bits of X and Y carry
+--   stackOf                  the place in the stack of a place of Y or P
+--   digit part b a           digit a of power b, the highest first: what bit b of X or Y adds to bit a of the parity
+--   vectorDigit, vectorTerm  the digits that a row or a column of A takes, and what two of them add to an entry
+--   vectorEntry              an entry of a row or a column
+--   rowEntry, columnEntry    an entry of a row, of a column
 -- Assumes nothing.
 use mathlib.Core.Path.{_≡_}
-use mathlib.Core.Bool.{cond}
+use mathlib.Core.Bool.{Bool, cond}
 use mathlib.Core.List.{List}
 use Prim.Native.Nat.{ℕ, _+_, _-_, _*_, _/_, _%_, _^_, _<_}
 use lib.Dec.{eqb}
 use lib.ListN.{length, getD}
 use Rattle.bch.specs.Powers.{powerMod}
-use Rattle.staircase.specs.Lists.{bitSum, sumBits, tabulate}
+use Rattle.staircase.specs.Lists.{bitSum, sumBits}
 use Rattle.staircase.specs.Design.{Params}
-use Rattle.matrix.specs.Packed.{packedBit}
 
 pub record PartOf (s : Params) (part : List ℕ) : Type 0 where
   pub long : length part ≡ s .r
   pub powers : (b : ℕ) → b < s .r → getD part b 0 ≡ powerMod (s .g) (s .r) (2 * s .r - 1 - b)
 
-abbrev pub Added : List ℕ → List ℕ → (ℕ → ℕ) → Type 0
-Added old new f = (length new ≡ length old) × ((k : ℕ) → packedBit new k ≡ bitSum (packedBit old k) (f k))
-
 -- `stack` of staircase/specs/System.antt, by the two sizes
 abbrev pub stackOf : ℕ → ℕ → ℕ → ℕ
 stackOf size r q = q % size * r + q / size
 
--- value b at bit base + b
-unfoldable pub runTerm : List ℕ → ℕ → ℕ → ℕ
-runTerm values base k = sumBits (length values) (λ b. cond (eqb (base + b) k) (getD values b 0) 0)
+abbrev pub digit : List ℕ → ℕ → ℕ → ℕ
+digit part b a = getD part b 0 / 2 ^ (length part - 1 - a) % 2
 
--- value b where the list sends place b × size + a
-unfoldable pub spreadTerm : List ℕ → List ℕ → ℕ → ℕ → ℕ → ℕ
-spreadTerm values list size a k =
-    sumBits (length values) (λ b. cond (eqb (stackOf size (length values) (getD list (b * size + a) 0)) k) (getD values b 0) 0)
+-- digit b of power a for a column, digit a of power b for a row
+abbrev pub vectorDigit : List ℕ → Bool → ℕ → ℕ → ℕ
+vectorDigit part column a b = cond column (digit part a b) (digit part b a)
 
--- digit `shift` of each of some numbers
-abbrev pub digitsAt : List ℕ → ℕ → List ℕ
-digitsAt part shift = tabulate (length part) (λ b. getD part b 0 / 2 ^ shift % 2)
+-- the two digits b, at entry k: one is in the run of r entries that holds entry e, the other where the list sends bit b of the word of place p
+abbrev pub vectorTerm : (ℕ → ℕ → ℕ) → ℕ → List ℕ → ℕ → ℕ → ℕ → ℕ → ℕ → ℕ
+vectorTerm digits r list size p e k b =
+    bitSum (cond (eqb (e / r * r + b) k) (digits (e % r) b) 0)
+    (cond (eqb (stackOf size r (getD list (b * size + p % size) 0)) k) (digits (p / size) b) 0)
 
--- the n low digits of a number, the highest first
-abbrev pub digitsOf : ℕ → ℕ → List ℕ
-digitsOf n x = tabulate n (λ b. x / 2 ^ (n - 1 - b) % 2)
+unfoldable pub vectorEntry : (ℕ → ℕ → ℕ) → ℕ → List ℕ → ℕ → ℕ → ℕ → ℕ → ℕ
+vectorEntry digits r list size p e k = sumBits r (vectorTerm digits r list size p e k)
 
 -- entry k of row e of A, where the parity list sends place p of Q to entry e
 unfoldable pub rowEntry : List ℕ → List ℕ → ℕ → ℕ → ℕ → ℕ → ℕ
-rowEntry part own size p e k =
-    bitSum (runTerm (digitsAt part (length part - 1 - e % length part)) (e / length part * length part) k)
-    (spreadTerm (digitsAt part (length part - 1 - p / size)) own size (p % size) k)
+rowEntry part own size p e k = vectorEntry (λ a b. digit part b a) (length part) own size p e k
 
 -- entry k of column j of A, where the self list sends place x of X to entry j of the stacked Y
 unfoldable pub columnEntry : List ℕ → List ℕ → ℕ → ℕ → ℕ → ℕ → ℕ
-columnEntry part parity size x j k =
-    bitSum (runTerm (digitsOf (length part) (getD part (j % length part) 0)) (j / length part * length part) k)
-    (spreadTerm (digitsOf (length part) (getD part (x / size) 0)) parity size (x % size) k)
+columnEntry part parity size x j k = vectorEntry (λ a b. digit part a b) (length part) parity size x j k

@@ -4,8 +4,8 @@
 //   system_column   one packed column of A
 //
 // A bit of Y is a bit of one column word and, through the self list, of one row word. What it adds to the r parity bits of either word is the power
-// of x that its position carries, so a row or column of A takes r digits of powers side by side and r digits where a list sends them. Nothing
-// of A is kept: a row costs r steps.
+// of x that its position carries, so a row or column of A takes r digits of powers side by side and r digits where a list sends them: a row
+// one digit of each power, a column the digits of one. Nothing of A is kept.
 ghost use mathlib.Core.Path.{_≡_};
 ghost use Prim.Native.Nat.{ℕ, _+_, _*_, _-_, _/_, _%_, _≤_, _<_};
 ghost use lib.ListN.{length, getD};
@@ -13,7 +13,7 @@ ghost use Rattle.staircase.specs.System.{preimage};
 ghost use Rattle.staircase.specs.Rules.{entries};
 ghost use Rattle.staircase.specs.Demand2.{Permutes};
 ghost use Rattle.matrix.specs.Packed.{packedBit};
-ghost use Rattle.system.specs.Rows.{Added, runTerm, spreadTerm, digitsAt, digitsOf, rowEntry, columnEntry};
+ghost use Rattle.system.specs.Rows.{stackOf, digit, vectorDigit, vectorEntry, rowEntry, columnEntry};
 
 // Fills `out` with the inverse of a list of n entries that is a permutation: entry q is the place that the list sends to q.
 pub fn fill_inverse(list: &[u8], n: usize, out: &mut [u16])
@@ -27,60 +27,61 @@ pub fn fill_inverse(list: &[u8], n: usize, out: &mut [u16])
     }
 }
 
-// Adds digit `shift` of entry b of `part` to bit base + b of a packed row.
-fn run_at(row: &mut [u8], part: &[u32], shift: usize, base: usize)
-    requires { ⌜ (base + length (now part) ≤ 8 * length (now row)) × (length (now row) ≤ 512) × (shift < 32) ⌝ }
-    ensures { λ u. ⌜ Added (now (row .entry)) (now (row .exit)) (runTerm (digitsAt (now (part .entry)) shift) base) ⌝ }
+// Digit a of power b, the highest first: what bit b of X or Y adds to bit a of the parity.
+fn digit_at(part: &[u32], b: usize, a: usize) -> u8
+    requires { ⌜ (length (now part) ≤ 32) × (b < length (now part)) × (a < length (now part)) ⌝ }
+    ensures { λ v. ⌜ (v ≡ digit (now (part .entry)) b a) × (v < 2) ⌝ }
 {
-    for b in 0..part.len() {
-        let v = ((part[b] >> shift) % 2) as u8;
-        matrix::add_bit(row, base + b, v);
-    }
+    ((part[b] >> (part.len() - 1 - a)) % 2) as u8
 }
 
-// Adds the r low digits of x, the highest first, to the bits of a packed row from `base` on.
-fn run_of(row: &mut [u8], x: u32, r: usize, base: usize)
-    requires { ⌜ (base + r ≤ 8 * length (now row)) × (length (now row) ≤ 512) × (r ≤ 32) ⌝ }
-    ensures { λ u. ⌜ Added (now (row .entry)) (now (row .exit)) (runTerm (digitsOf r x) base) ⌝ }
+// Digit b of power a for a column, digit a of power b for a row.
+fn vector_digit(part: &[u32], column: bool, a: usize, b: usize) -> u8
+    requires { ⌜ (length (now part) ≤ 32) × (a < length (now part)) × (b < length (now part)) ⌝ }
+    ensures { λ v. ⌜ (v ≡ vectorDigit (now (part .entry)) column a b) × (v < 2) ⌝ }
 {
-    for b in 0..r {
-        let v = ((x >> (r - 1 - b)) % 2) as u8;
-        matrix::add_bit(row, base + b, v);
+    if column {
+        return digit_at(part, a, b);
     }
+    digit_at(part, b, a)
 }
 
-// Adds digit `shift` of entry b of `part` to the bit of a packed row where the list sends place b × size + a.
-fn spread_at(
-    row: &mut [u8],
+// Where the list sends place b × size + a, as an entry of the stack.
+fn sent(list: &[u8], n: usize, size: usize, r: usize, b: usize, a: usize) -> usize
+    requires { ⌜ (n ≡ size * r) × (b < r) × (a < size) × (length (now list) ≡ 2 * n) × (n ≤ 4096)
+        × ((q : ℕ) → q < n → getD (entries n (now list)) q 0 < n) ⌝ }
+    ensures { λ k. ⌜ (k ≡ stackOf size r (getD (entries n (now (list .entry))) (b * size + a) 0)) × (k < n) ⌝ }
+{
+    let y = rules::entry(list, b * size + a);
+    y % size * r + y / size
+}
+
+// Makes `out` row or column e of A, for a list, `part` and the place p that the other list sends to entry e. The work grows with r and the bytes
+// of `out`.
+fn fill_vector(
+    out: &mut [u8],
     list: &[u8],
     n: usize,
     part: &[u32],
-    shift: usize,
     size: usize,
-    a: usize,
+    column: bool,
+    p: usize,
+    e: usize,
 )
-    requires { ⌜ (n ≡ size * length (now part)) × (a < size) × (length (now list) ≡ 2 * n) × (n ≤ 8 * length (now row)) × (length (now row) ≤ 512)
-        × (shift < 32) × ((p : ℕ) → p < n → getD (entries n (now list)) p 0 < n) ⌝ }
-    ensures { λ u. ⌜ Added (now (row .entry)) (now (row .exit)) (spreadTerm (digitsAt (now (part .entry)) shift) (entries n (now (list .entry))) size a) ⌝ }
+    requires { ⌜ (n ≡ size * length (now part)) × (e < n) × (p < n) × (length (now list) ≡ 2 * n) × (n ≤ 8 * length (now out)) × (length (now out) ≤ 512)
+        × (length (now part) ≤ 32) × ((q : ℕ) → q < n → getD (entries n (now list)) q 0 < n) ⌝ }
+    ensures { λ u. ⌜ (length (now (out .exit)) ≡ length (now (out .entry)))
+        × ((k : ℕ) → packedBit (now (out .exit)) k
+        ≡ vectorEntry (vectorDigit (now (part .entry)) column) (length (now (part .entry))) (entries n (now (list .entry))) size p e k) ⌝ }
 {
     let r = part.len();
+    matrix::clear(out);
     for b in 0..r {
-        let v = ((part[b] >> shift) % 2) as u8;
-        let y = rules::entry(list, b * size + a);
-        matrix::add_bit(row, y % size * r + y / size, v);
-    }
-}
-
-// Adds the r low digits of x, the highest first, to the bits of a packed row where the list sends the places b × size + a.
-fn spread_of(row: &mut [u8], list: &[u8], n: usize, x: u32, r: usize, size: usize, a: usize)
-    requires { ⌜ (n ≡ size * r) × (a < size) × (length (now list) ≡ 2 * n) × (n ≤ 8 * length (now row)) × (length (now row) ≤ 512)
-        × (r ≤ 32) × ((p : ℕ) → p < n → getD (entries n (now list)) p 0 < n) ⌝ }
-    ensures { λ u. ⌜ Added (now (row .entry)) (now (row .exit)) (spreadTerm (digitsOf r x) (entries n (now (list .entry))) size a) ⌝ }
-{
-    for b in 0..r {
-        let v = ((x >> (r - 1 - b)) % 2) as u8;
-        let y = rules::entry(list, b * size + a);
-        matrix::add_bit(row, y % size * r + y / size, v);
+        let v = vector_digit(part, column, e % r, b);
+        matrix::add_bit(out, e / r * r + b, v);
+        let w = vector_digit(part, column, p / size, b);
+        let k = sent(list, n, size, r, b, p % size);
+        matrix::add_bit(out, k, w);
     }
 }
 
@@ -99,10 +100,7 @@ pub fn system_row(
     ensures { λ u. ⌜ (length (now (row .exit)) ≡ length (now (row .entry)))
         × ((k : ℕ) → packedBit (now (row .exit)) k ≡ rowEntry (now (part .entry)) (entries n (now (own .entry))) size p e k) ⌝ }
 {
-    let r = part.len();
-    matrix::clear(row);
-    run_at(row, part, r - 1 - e % r, e / r * r);
-    spread_at(row, own, n, part, r - 1 - p / size, size, p % size);
+    fill_vector(row, own, n, part, size, false, p, e);
 }
 
 // Makes `column` column j of A, for the parity list, `part` and the place x of X that the self list sends to entry j of the stacked Y.
@@ -120,8 +118,5 @@ pub fn system_column(
     ensures { λ u. ⌜ (length (now (column .exit)) ≡ length (now (column .entry)))
         × ((k : ℕ) → packedBit (now (column .exit)) k ≡ columnEntry (now (part .entry)) (entries n (now (parity .entry))) size x j k) ⌝ }
 {
-    let r = part.len();
-    matrix::clear(column);
-    run_of(column, part[j % r], r, j / r * r);
-    spread_of(column, parity, n, part[x / size], r, size, x % size);
+    fill_vector(column, parity, n, part, size, true, x, j);
 }

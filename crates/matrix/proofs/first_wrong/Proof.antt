@@ -38,8 +38,8 @@ loop-holds c = (omega arith, omega arith, below-none _)
 shared-slice-read-odd : tie.Need-shared-slice-read-odd Inv-loop μ-loop
 shared-slice-read-odd c = omega arith
 
-unit-requires : tie.Need-unit-requires Inv-loop μ-loop
-unit-requires c κs = tt
+identity-entry-requires : tie.Need-identity-entry-requires Inv-loop μ-loop
+identity-entry-requires c κs = tt
 
 returns : tie.Need-returns Inv-loop μ-loop
 returns c =
@@ -47,7 +47,7 @@ returns c =
     let l = c .before .before .before .before .loop in
     sym
     (firstWhere-is _ (wrong (a .acc .now) (a .e)) (l .x) (omega arith)
-    (is-wrong (a .acc .now) (a .e) (l .x) _ (c .before .unit .ensures) (c .if1 .taken)) (l .inv .2))
+    (is-wrong (a .acc .now) (a .e) (l .x) _ (c .before .identity-entry .ensures) (c .if1 .taken)) (l .inv .2))
 
 add-x : tie.Need-add-x Inv-loop μ-loop
 add-x c = omega arith
@@ -62,7 +62,7 @@ loop-again c =
       omega arith,
       omega arith,
       below-more (λ k. wrong (a .acc .now) (a .e) k ≡ false) (l .x) (l .inv .2)
-          (is-right (a .acc .now) (a .e) (l .x) _ (c .before .unit .ensures) (c .if1 .left)),
+          (is-right (a .acc .now) (a .e) (l .x) _ (c .before .identity-entry .ensures) (c .if1 .left)),
     )
 
 returns-2 : tie.Need-returns-2 Inv-loop μ-loop
@@ -80,7 +80,7 @@ first-wrong-spec =
     μ-loop
     loop-holds
     shared-slice-read-odd
-    unit-requires
+    identity-entry-requires
     returns
     add-x
     loop-less

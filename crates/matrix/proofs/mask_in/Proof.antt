@@ -1,23 +1,19 @@
 -- The loop's invariant: the first `x` bytes are masked in and the others as they were. The measure is the number of bytes left.
 -- Assumes nothing.
-use mathlib.Core.Path.{_≡_, refl, sym, ap, _∙_}
+use mathlib.Core.Path.{_≡_, refl, ap}
 use mathlib.Core.List.{List}
 use Prim.Native.Nat.{ℕ, _-_, _≤_, _<_}
 use native.Mathlib.Omega.{arith}
 use borrow.Author.Count.{below-none}
-use lib.Bits.{bitAnd, bitXor, xor-zero-r}
-use lib.ListN.{length, getD, length-set, List·getD-eq-default}
-use Rattle.matrix.proofs.Written.{written-more, rest-more, everywhere}
+use lib.Bits.{bitAnd, bitXor}
+use lib.ListN.{length, getD, length-set}
+use Rattle.matrix.proofs.Written.{written-more, rest-more}
 use Rattle.matrix.proofs.mask_in.Statement.{statement}
 use Rattle.matrix.proofs.mask_in.Tie as tie
 
 -- what is left at place q
 abbrev masked : List ℕ → List ℕ → ℕ → ℕ → ℕ
 masked acc plane v q = bitXor (getD acc q 0) (bitAnd (getD plane q 0) v)
-
--- past the end both are 0
-past-end : (acc plane : List ℕ) (v q : ℕ) → length plane ≤ q → getD acc q 0 ≡ masked acc plane v q
-past-end acc plane v q h = sym (ap (λ (z : ℕ). bitXor (getD acc q 0) (bitAnd z v)) (List·getD-eq-default plane 0 h) ∙ xor-zero-r (getD acc q 0))
 
 abbrev Inv-loop : tie.InvT-loop
 Inv-loop acc₀ plane v x₀ x-end acc x =
@@ -62,12 +58,9 @@ same-length c = omega arith
 
 returns : tie.Need-returns Inv-loop μ-loop
 returns c =
-    let a = c .before .before .args in
-    let l = c .before .loop in (
-      omega arith,
-      everywhere (λ q. getD (l .acc) q 0 ≡ masked (a .acc .now) (a .plane .now) (a .v) q) (l .x) (l .inv .3)
-          (λ q h. l .inv .4 q h ∙ past-end (a .acc .now) (a .plane .now) (a .v) q (omega arith)),
-    )
+    let l = c .before .loop in
+    let e : l .x ≡ length (c .before .before .args .acc .now) = omega arith in
+    (omega arith, rw e at (l .inv .3))
 
 pub mask-in-spec : {M : Type 1} → statement M
 mask-in-spec =

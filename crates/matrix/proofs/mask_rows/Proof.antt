@@ -73,7 +73,7 @@ loop-again c =
       ⊎-elim
           (λ w.
           rw (w .6)
-          (masked-more (a .row .now) (a .t .now) (a .n) (l .acc) (l .b) (l .inv .3) (w .3 .last .0) (c .before .shared-slice-known3 .given (l .b) .fits) (w .3 .ensures .1)))
+          (masked-more (a .row .now) (a .t .now) (a .n) (l .acc) (l .b) (l .inv .3) (w .3 .last .0) (c .before .shared-slice-known3 .given (l .b) .fits) (λ x h. w .3 .ensures .1 x (omega arith))))
           (λ w. rw (w .1) (masked-skip (a .row .now) (a .t .now) (a .n) (l .acc) (l .b) (l .inv .3) (w .0 .left))) (c .if1 .came),
     )
 

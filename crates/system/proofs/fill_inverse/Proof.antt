@@ -1,18 +1,26 @@
 -- The loop's invariant: the places that entries before `p` name are filled. The measure is the number of entries left.
 -- Assumes nothing.
-use native.Mathlib.Omega.{arith}
 use mathlib.Core.Path.{_≡_, sym, ap, _∙_}
-use Prim.Native.Nat.{ℕ, _-_, _≤_, _<_}
+use mathlib.Core.List.{List}
+use Prim.Native.Nat.{ℕ, _+_, _-_, _≤_, _<_}
+use native.Mathlib.Omega.{arith}
+use borrow.Author.Count.{below-more}
 use lib.ListN.{length, getD, set, length-set}
-use Rattle.staircase.specs.Rules.{entries}
-use Rattle.rules.proofs.Entries.{entry-at}
 use lib.Seq.{getD-set-same, getD-set-other}
-use native.Mathlib.Nat.{eq-or-lt-of-le}
-use mathlib.Core.Logic.{⊎-elim}
+use Rattle.staircase.specs.Rules.{entries}
 use Rattle.staircase.specs.System.{preimage}
 use Rattle.staircase.proofs.Permutation.{preimage-sent}
+use Rattle.rules.proofs.Entries.{entry-at}
 use Rattle.system.proofs.fill_inverse.Statement.{statement}
 use Rattle.system.proofs.fill_inverse.Tie as tie
+
+-- number p is stored at x, the place that f gives it
+inverse-more : (f : ℕ → ℕ) (out : List ℕ) (p x : ℕ) → x ≡ f p → x < length out → ((k : ℕ) → k < p → f k ≡ f p → ⊥)
+    → ((k : ℕ) → k < p → getD out (f k) 0 ≡ k) → (k : ℕ) → k < p + 1 → getD (set out x p) (f k) 0 ≡ k
+inverse-more f out p x is inside once before =
+    below-more (λ (k : ℕ). getD (set out x p) (f k) 0 ≡ k) p
+    (λ k h. getD-set-other out x (f k) p 0 (λ e. once k h (e ∙ is)) ∙ before k h)
+    (ap (λ (z : ℕ). getD (set out x p) z 0) (sym is) ∙ getD-set-same out x p 0 inside)
 
 abbrev Inv-loop : tie.InvT-loop
 Inv-loop list n out₀ p₀ out p = (p ≤ n) × (length out ≡ n) × ((k : ℕ) → k < p → getD out (getD (entries n list) k 0) 0 ≡ k)
@@ -54,16 +62,8 @@ loop-again c =
     let q : getD (entries (a .n) (a .list .now)) (l .p) 0 < a .n = c .before .before .before .before .before .pre .3 .below (l .p) (omega arith) in (
       omega arith,
       simp length-set (omega arith),
-      λ k h.
-          ⊎-elim
-          (λ (e : k ≡ l .p).
-          ap (λ (z : ℕ). getD (set (l .out) (c .entry .result) (l .p)) z 0) (ap (λ (z : ℕ). getD (entries (a .n) (a .list .now)) z 0) e ∙ sym y)
-          ∙ getD-set-same (l .out) (c .entry .result) (l .p) 0 (omega arith) ∙ sym e)
-          (λ (m : k < l .p).
-          getD-set-other (l .out) (c .entry .result) (getD (entries (a .n) (a .list .now)) k 0) (l .p) 0
-          (λ d. let z = c .before .before .before .before .before .pre .3 .once k (l .p) (omega arith) (omega arith) (d ∙ y) in omega arith)
-          ∙ l .inv .2 k m)
-          (eq-or-lt-of-le {n = k} {m = l .p} (omega arith)),
+      inverse-more (λ k. getD (entries (a .n) (a .list .now)) k 0) (l .out) (l .p) (c .entry .result) y (omega arith)
+          (λ k h d. let z = c .before .before .before .before .before .pre .3 .once k (l .p) (omega arith) (omega arith) d in omega arith) (l .inv .2),
     )
 
 same-length : tie.Need-same-length Inv-loop μ-loop

@@ -1,23 +1,30 @@
 -- The loop's invariant: the bytes of the first `b` planes have their entries. The measure is the number of planes left.
 -- Assumes nothing.
 use mathlib.Core.Path.{_≡_, _∙_}
-use Prim.Native.Nat.{ℕ, _+_, _-_, _*_, _≤_, _<_}
+use mathlib.Core.Bool.{Bool, cond}
+use mathlib.Core.List.{List}
+use Prim.Native.Nat.{ℕ, _+_, _-_, _*_, _/_, _%_, _≤_, _<_}
 use native.Mathlib.Nat.{mul-comm}
 use native.Mathlib.Omega.{arith}
 use borrow.Rule.Slice.PartMut.{same-len-mid}
 use lib.ListN.{length, getD}
-use Rattle.staircase.specs.System.{rowBytes}
+use Rattle.staircase.specs.System.{rowBytes, inverseEntry}
 use Rattle.matrix.specs.Packed.{paddedEntry}
-use Rattle.matrix.proofs.Packed.{PlaneByte, planes-more, planes-all, plane-end, plane-length}
-use Rattle.planes.proofs.transpose_bits.Statement.{statement}
-use Rattle.planes.proofs.transpose_bits.Tie as tie
+use Rattle.matrix.proofs.Packed.{plane-end, plane-length}
+use Rattle.planes.proofs.Planes.{PlaneByte, planes-more, planes-all}
+use Rattle.planes.proofs.fill_planes.Statement.{statement}
+use Rattle.planes.proofs.fill_planes.Tie as tie
+
+-- the matrix w, its columns as rows or its rows
+abbrev entries : List ℕ → ℕ → Bool → ℕ → ℕ → ℕ
+entries w n columns k x = cond columns (inverseEntry w n x k) (paddedEntry w n k x)
 
 abbrev Inv-loop : tie.InvT-loop
-Inv-loop w n t₀ rb b₀ t b =
-    (b ≤ rowBytes n) × (length t ≡ length t₀) × ((q : ℕ) → q < b * n → PlaneByte n (paddedEntry w n) q (getD t q 0))
+Inv-loop w n t₀ columns rb b₀ t b =
+    (b ≤ rowBytes n) × (length t ≡ length t₀) × ((q : ℕ) → q < b * n → PlaneByte (entries w n columns) (q / n) (q % n) (getD t q 0))
 
 abbrev μ-loop : tie.MeasureT-loop
-μ-loop w n t₀ rb b₀ t b = rowBytes n - b
+μ-loop w n t₀ columns rb b₀ t b = rowBytes n - b
 
 add-rb : tie.Need-add-rb Inv-loop μ-loop
 add-rb c = omega arith
@@ -65,7 +72,7 @@ loop-again c =
     let filled = c .before .before .fill-plane in (
       omega arith,
       same-len-mid (l .b * a .n) (l .b * a .n + a .n - l .b * a .n) (l .t) (filled .last .0) (filled .ensures .0) ∙ l .inv .1,
-      planes-more (a .n) (rowBytes (a .n)) (paddedEntry (a .w .now) (a .n)) (l .t) (filled .last .0) (l .b) (omega arith) (omega arith) (filled .ensures .0) (l .inv .2)
+      planes-more (a .n) (rowBytes (a .n)) (entries (a .w .now) (a .n) (a .columns)) (l .t) (filled .last .0) (l .b) (omega arith) (omega arith) (filled .ensures .0) (l .inv .2)
           (filled .ensures .1),
     )
 
@@ -77,10 +84,10 @@ returns c =
     let a = c .before .before .before .before .args in
     let l = c .before .loop in
     let e : l .b ≡ rowBytes (a .n) = omega arith in
-    (omega arith, planes-all (l .t) (a .n) (paddedEntry (a .w .now) (a .n)) (rw (e, mul-comm (rowBytes (a .n)) (a .n)) at (l .inv .2)))
+    (omega arith, planes-all (l .t) (a .n) (entries (a .w .now) (a .n) (a .columns)) (rw (e, mul-comm (rowBytes (a .n)) (a .n)) at (l .inv .2)))
 
-pub transpose-bits-spec : {M : Type 1} → statement M
-transpose-bits-spec =
+pub fill-planes-spec : {M : Type 1} → statement M
+fill-planes-spec =
     tie.close
     (tie.spec
     Inv-loop
