@@ -9,14 +9,13 @@ use mathlib.Core.Bool.{Bool, true, false, cond}
 use mathlib.Core.List.{List}
 use Prim.Native.Nat.{ℕ, zero, suc, _+_, _-_, _*_, _/_, _%_, _^_, _≤_, _<_}
 use native.Mathlib.Nat.{mod-lt, mul-comm, add-sub-cancel-left}
-use native.Mathlib.Decide.{ℕ-discrete}
 use native.Mathlib.Omega.{arith}
 use lib.Bits.{bitXor}
 use lib.Dec.{eqb, ltb}
 use lib.ListN.{length, getD, set, take, drop, replicate}
-use lib.Seq.{getD-set-same, getD-set-other}
 use borrow.Author.Tests.{ne-eqb}
 use borrow.Rule.Slice.PartMut.{mid-len}
+use Rattle.bch.proofs.Store.{set-each}
 use Rattle.staircase.specs.Lists.{bitSum}
 use Rattle.staircase.specs.System.{rowBytes, inverseEntry}
 use Rattle.staircase.proofs.Matrix.{bitSum-zero}
@@ -58,38 +57,20 @@ pub packedBit-zeros : (n k : ℕ) → packedBit (replicate n 0) k ≡ 0
 unfolding packedBit
 packedBit-zeros n k = ap (λ (z : ℕ). bit z (k % 8)) (zeros-at n (k / 8)) ∙ bit-zero (k % 8)
 
--- ---- a bit added to a packed row: v is added to bit k, and j is any bit
-
-module _ (row : List ℕ) (k v : ℕ) (in-row : k / 8 < length row) (small : v < 2) (j : ℕ) where
-  old : ℕ
-  old = getD row (k / 8) 0
-
-  new : ℕ
-  new = bitXor old (v * 2 ^ (k % 8) % 2 ^ 8)
-
-  Added : Type 0
-  Added = packedBit (set row (k / 8) new) j ≡ bitSum (packedBit row j) (cond (eqb k j) v 0)
-
-  same-byte : j / 8 ≡ k / 8 → Added
-  unfolding packedBit old new Added
-  same-byte e =
-      rw (e, getD-set-same row (k / 8) new 0 in-row)
-      (bit-added old v (k % 8) (j % 8) small (mod-lt k (omega arith))
-      ∙ ap (λ (z : Bool). bitSum (bit old (j % 8)) (cond z v 0)) (eqb-iff (k % 8) (j % 8) k j (λ q. omega arith) (ap (λ (z : ℕ). z % 8))))
-
-  other-byte : (j / 8 ≡ k / 8 → ⊥) → Added
-  unfolding packedBit old new Added
-  other-byte d =
-      rw (getD-set-other row (k / 8) (j / 8) new 0 d, ne-eqb k j (λ e. d (omega arith)))
-      (sym (bitSum-zero (bit (getD row (j / 8) 0) (j % 8)) (bit-lt (getD row (j / 8) 0) (j % 8))))
-
-  pub packedBit-add : packedBit (set row (k / 8) (bitXor (getD row (k / 8) 0) (v * 2 ^ (k % 8) % 2 ^ 8))) j ≡ bitSum (packedBit row j) (cond (eqb k j) v 0)
-  unfolding old new Added
-  packedBit-add = go (ℕ-discrete (j / 8) (k / 8))
-    where
-      go : Dec (j / 8 ≡ k / 8) → Added
-      go (yes e) = same-byte e
-      go (no d) = other-byte d
+-- v is added to bit k, and j is any bit
+pub packedBit-add : (row : List ℕ) (k v : ℕ) → k / 8 < length row → v < 2 → (j : ℕ)
+    → packedBit (set row (k / 8) (bitXor (getD row (k / 8) 0) (v * 2 ^ (k % 8) % 2 ^ 8))) j ≡ bitSum (packedBit row j) (cond (eqb k j) v 0)
+unfolding packedBit
+packedBit-add row k v in-row small j =
+    set-each (λ (q z : ℕ). j / 8 ≡ q → bit z (j % 8) ≡ bitSum (bit (getD row q 0) (j % 8)) (cond (eqb k j) v 0)) row (k / 8)
+    (bitXor (getD row (k / 8) 0) (v * 2 ^ (k % 8) % 2 ^ 8)) in-row
+    (λ e.
+    bit-added (getD row (k / 8) 0) v (k % 8) (j % 8) small (mod-lt k (omega arith))
+    ∙ ap (λ (z : Bool). bitSum (bit (getD row (k / 8) 0) (j % 8)) (cond z v 0)) (eqb-iff (k % 8) (j % 8) k j (λ q. omega arith) (ap (λ (z : ℕ). z % 8))))
+    (λ q d e.
+    sym (ap (λ (z : Bool). bitSum (bit (getD row q 0) (j % 8)) (cond z v 0)) (ne-eqb k j (λ i. d (omega arith)))
+    ∙ bitSum-zero (bit (getD row q 0) (j % 8)) (bit-lt (getD row q 0) (j % 8))))
+    (j / 8) refl
 
 -- ---- places
 

@@ -1,7 +1,7 @@
--- A block of eight rows of eight bits in a number of 64 bits, a byte a row, turned by three exchanges of bits: rows become columns.
---   exchange d mask x   the bits of x under the mask and those d places higher change places
---   exchange-bit        what stands at bit k then
---   turned, turned-bit  the three exchanges: bit (s, r) is what bit (r, s) was
+-- A block of eight rows of eight bits in a number of 64 bits, a byte a row, transposed by three exchanges of bits: rows become columns.
+--   exchange d mask x           the bits of x under the mask and those d places higher change places
+--   exchange-bit                what stands at bit k then
+--   transposed, transposed-bit  the three exchanges: bit (s, r) is what bit (r, s) was
 --   Loaded, loaded-none, loaded-more, loaded-all   a block of which r rows are there
 -- Assumes nothing.
 use mathlib.Core.Path.{_≡_, refl, sym, ap, ap₂, _∙_}
@@ -95,8 +95,8 @@ mask₂ = 0x0000CCCC0000CCCC
 abbrev mask₄ : ℕ
 mask₄ = 0x00000000F0F0F0F0
 
-unfoldable pub turned : ℕ → ℕ
-turned x = exchange 28 mask₄ (exchange 14 mask₂ (exchange 7 mask₁ x))
+unfoldable pub transposed : ℕ → ℕ
+transposed x = exchange 28 mask₄ (exchange 14 mask₂ (exchange 7 mask₁ x))
 
 -- two tables that are equal agree below their length
 agree : (n : ℕ) (f g : ℕ → ℕ) → tabulate n f ≡ tabulate n g → (k : ℕ) → k < n → f k ≡ g k
@@ -127,9 +127,9 @@ exchange-step : (d mask x k : ℕ) → k < 64 → unsound d mask k ≡ 0 → (so
 unfolding unsound
 exchange-step d mask x k h e = (omega arith, exchange-bit d mask x k h (omega arith))
 
-pub turned-bit : (x k : ℕ) → k < 64 → bit (turned x) k ≡ bit x (8 * (k % 8) + k / 8)
-unfolding turned
-turned-bit x k h =
+pub transposed-bit : (x k : ℕ) → k < 64 → bit (transposed x) k ≡ bit x (8 * (k % 8) + k / 8)
+unfolding transposed
+transposed-bit x k h =
     let a = exchange-step 28 mask₄ (exchange 14 mask₂ (exchange 7 mask₁ x)) k h (sound₄ k h) in
     let b = exchange-step 14 mask₂ (exchange 7 mask₁ x) (source 28 mask₄ k) (a .0) (sound₂ (source 28 mask₄ k) (a .0)) in
     let c = exchange-step 7 mask₁ x (source 14 mask₂ (source 28 mask₄ k)) (b .0) (sound₁ (source 14 mask₂ (source 28 mask₄ k)) (b .0)) in

@@ -2,7 +2,7 @@
 //   transpose_bits(w, n, t)    planes with eight rows a byte: plane b has a byte for each column, with the entries of the rows 8 b to 8 b + 7 in it
 //   transpose_bytes(w, n, t)   planes with eight columns a byte: plane b has byte b of each row
 //
-// A matrix comes into planes of rows by blocks of eight rows and eight columns, 64 bits in one number, which three exchanges of bits turn
+// A matrix comes into planes of rows by blocks of eight rows and eight columns, 64 bits in one number, which three exchanges of bits transpose
 // (H. Warren, "Hacker's Delight", section 7-3). The crate `matrix` says what planes are for.
 //
 // n is the order, 1 to 4,096, and a packed row has rowBytes n bytes. Every function leaves the lengths of what it is lent as they are.
@@ -40,8 +40,8 @@ fn block_at(w: &[u8], n: usize, rb: usize, b: usize, c: usize) -> u64
     q
 }
 
-// A block with rows for columns.
-fn turn(x: u64) -> u64
+// A block with rows for columns. In its squares of two, of four and of eight rows the two quarters off the diagonal change places.
+fn transpose_block(x: u64) -> u64
     ensures { λ y. ⌜ ((r s : ℕ) → r < 8 → s < 8 → y / 2 ^ (8 * s + r) % 2 ≡ x / 2 ^ (8 * r + s) % 2) ⌝ }
 {
     let a = (x ^ (x >> 7)) & 0x00AA00AA00AA00AA;
@@ -87,7 +87,7 @@ fn plane_of_rows(plane: &mut [u8], w: &[u8], n: usize, rb: usize, b: usize)
         ⌝ }
 {
     for c in 0..rb {
-        let q = turn(block_at(w, n, rb, b, c));
+        let q = transpose_block(block_at(w, n, rb, b, c));
         let x = 8 * c;
         let e = block_end(x, n);
         put_block(&mut plane[x..e], q);

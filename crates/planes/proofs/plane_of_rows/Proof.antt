@@ -17,11 +17,11 @@ use Rattle.planes.proofs.plane_of_rows.Tie as tie
 abbrev Column : List ℕ → ℕ → ℕ → ℕ → ℕ → Type 0
 Column w n b x v = x < n → PlaneByte (paddedEntry w n) b x v
 
--- byte s of the turned block y of q is column 8 c + s
+-- byte s of the transposed block y of q is column 8 c + s
 block-column : (w : List ℕ) (n b c q y s v : ℕ) → s < 8 → ((r : ℕ) → r < 8 → bit v r ≡ bit y (8 * s + r))
     → ((r s : ℕ) → r < 8 → s < 8 → bit y (8 * s + r) ≡ bit q (8 * r + s))
     → ((r s : ℕ) → r < 8 → s < 8 → bit q (8 * r + s) ≡ paddedEntry w n (8 * b + r) (8 * c + s)) → Column w n b (8 * c + s) v
-block-column w n b c q y s v h put turned block in-n r g = put r g ∙ turned r s g h ∙ block r s g h
+block-column w n b c q y s v h put transposed block in-n r g = put r g ∙ transposed r s g h ∙ block r s g h
 
 abbrev Inv-loop : tie.InvT-loop
 Inv-loop plane₀ w n rb b c₀ plane c = (c ≤ rb) × (length plane ≡ n) × ((x : ℕ) → x < 8 * c → Column w n b x (getD plane x 0))
@@ -35,8 +35,8 @@ loop-holds c = (omega arith, omega arith, λ x h. absurd (omega arith))
 block-at-requires : tie.Need-block-at-requires Inv-loop μ-loop
 block-at-requires c κs = omega arith
 
-turn-requires : tie.Need-turn-requires Inv-loop μ-loop
-turn-requires c κs = tt
+transpose-block-requires : tie.Need-transpose-block-requires Inv-loop μ-loop
+transpose-block-requires c κs = tt
 
 mul-x : tie.Need-mul-x Inv-loop μ-loop
 mul-x c = omega arith
@@ -79,7 +79,7 @@ loop-again c =
           (put .0 ∙ m) (l .inv .2)
           (λ s i.
           block-column (a .w .now) (a .n) (a .b) (l .c) _ _ s _ (omega arith) (put .1 s (omega arith))
-          (c .before .before .before .before .before .turn .ensures) (c .before .before .before .before .before .before .block-at .ensures))
+          (c .before .before .before .before .before .transpose-block .ensures) (c .before .before .before .before .before .before .block-at .ensures))
           x (omega (arith, end .ensures .3 x (omega arith) in-n)) in-n,
     )
 
@@ -97,7 +97,7 @@ plane-of-rows-spec =
     μ-loop
     loop-holds
     block-at-requires
-    turn-requires
+    transpose-block-requires
     mul-x
     block-end-requires
     sub-put-block
