@@ -3,7 +3,7 @@
 --   left-is, right-is    a wrong entry of A W, of W A
 -- Assumes nothing.
 use mathlib.Core.Path.{_≡_, sym, ap, ap₂, _∙_}
-use mathlib.Core.Bool.{Bool, not, cond}
+use mathlib.Core.Bool.{Bool, true, false, not, cond}
 use mathlib.Core.List.{List}
 use Prim.Native.Nat.{ℕ, _+_, _-_, _*_, _/_, _%_, _<_}
 use native.Mathlib.Nat.{mul-comm, mod-lt, div-lt-iff-lt-mul}
@@ -22,9 +22,9 @@ use Rattle.staircase.proofs.Matrix.{sumBits-same}
 use Rattle.staircase.proofs.System.{Proper}
 use Rattle.staircase.proofs.Entries.{eqb-iff}
 use Rattle.matrix.specs.Packed.{planeBit, Planes}
-use Rattle.system.specs.Rows.{PartOf, rowEntry, columnEntry}
-use Rattle.system.proofs.Link.{rowEntry-system, columnEntry-system}
-use Rattle.products.specs.Products.{wrongIn, leftWrong, rightWrong, unstackOf}
+use Rattle.system.specs.Lines.{PartOf, unstackOf, lineEntry}
+use Rattle.system.proofs.Link.{lineEntry-row, lineEntry-column}
+use Rattle.products.specs.Products.{wrongIn, leftWrong, rightWrong}
 
 pub part-of : (s : Params) (powers part : List ℕ) → PositionPowers (s .g) (s .r) powers → length powers ≡ 2 * s .r
     → part ≡ take (s .r) powers → length part ≡ s .r → PartOf s part
@@ -55,8 +55,8 @@ module _ (s : Params) (ok : Proper s) (l : Interleavers)
       let e : ℕ = i / n in
       let x : ℕ = i % n in
       let he : e < n = div-lt-iff-lt-mul pos .1 h in
-      wrong-line (rowEntry part (l .self) (s .M) (preimage (l .parity) n (unstackOf (s .M) (length part) e)) e) t n e x (systemEntry s l e) (λ k. inverseEntry w n k x)
-      (λ k m. ap (λ (r : ℕ). rowEntry part (l .self) (s .M) (preimage (l .parity) n (unstackOf (s .M) r e)) e k) (P .long) ∙ rowEntry-system s ok l ps pp part P e k he m)
+      wrong-line (lineEntry part false (l .self) (s .M) (preimage (l .parity) n (unstackOf (s .M) (length part) e)) e) t n e x (systemEntry s l e) (λ k. inverseEntry w n k x)
+      (λ k m. ap (λ (r : ℕ). lineEntry part false (l .self) (s .M) (preimage (l .parity) n (unstackOf (s .M) r e)) e k) (P .long) ∙ lineEntry-row s ok l ps pp part P e k he m)
       (λ k m. planes k x (omega arith) (mod-lt i pos) ∙ ap (λ (z : Bool). cond z (inverseEntry w n k x) 0) (lt-ltb k n m))
 
   pub right-is : Planes t (order s) (λ k x. inverseEntry w (order s) x k) → (i : ℕ) → i < order s * order s
@@ -65,8 +65,8 @@ module _ (s : Params) (ok : Proper s) (l : Interleavers)
   right-is planes i h =
       let e : ℕ = i / n in
       let j : ℕ = i % n in
-      wrong-line (columnEntry part (l .parity) (s .M) (preimage (l .self) n (unstackOf (s .M) (length part) j)) j) t n j e (λ k. systemEntry s l k j) (inverseEntry w n e)
-      (λ k m. ap (λ (r : ℕ). columnEntry part (l .parity) (s .M) (preimage (l .self) n (unstackOf (s .M) r j)) j k) (P .long) ∙ columnEntry-system s ok l ps pp part P j k (mod-lt i pos) m)
+      wrong-line (lineEntry part true (l .parity) (s .M) (preimage (l .self) n (unstackOf (s .M) (length part) j)) j) t n j e (λ k. systemEntry s l k j) (inverseEntry w n e)
+      (λ k m. ap (λ (r : ℕ). lineEntry part true (l .parity) (s .M) (preimage (l .self) n (unstackOf (s .M) r j)) j k) (P .long) ∙ lineEntry-column s ok l ps pp part P j k (mod-lt i pos) m)
       (λ k m. planes k e (omega arith) (div-lt-iff-lt-mul pos .1 h))
       ∙ ap₂ (λ (v u : ℕ). not (eqb v u))
       (sumBits-same n (λ k. systemEntry s l k j * inverseEntry w n e k) (λ k. inverseEntry w n e k * systemEntry s l k j) (λ k m. mul-comm (systemEntry s l k j) (inverseEntry w n e k)))

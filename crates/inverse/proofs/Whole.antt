@@ -18,7 +18,7 @@ use Rattle.design.specs.declared.Design.{Design}
 use Rattle.design.specs.Sizes.{paramsOf, orderOf, listsOf}
 use Rattle.design.proofs.Generator.{proper-of}
 use Rattle.matrix.specs.Packed.{Planes}
-use Rattle.system.specs.Rows.{PartOf}
+use Rattle.system.specs.Lines.{PartOf}
 use Rattle.positions.proofs.Sizes.{r-small, order-positive}
 use Rattle.products.specs.Products.{Side, leftWrong, rightWrong}
 use Rattle.products.proofs.Search.{firstWhere-same}

@@ -10,7 +10,7 @@ ghost use Rattle.staircase.specs.System.{systemEntry, inverseEntry};
 ghost use Rattle.staircase.specs.Rules.{wrongEntry, inverseRule};
 ghost use Rattle.design.specs.Sizes.{paramsOf, orderOf, listsOf};
 ghost use Rattle.design.specs.Answers.{verdictOf};
-ghost use Rattle.system.specs.Rows.{PartOf};
+ghost use Rattle.system.specs.Lines.{PartOf};
 ghost use Rattle.inverse.specs.Fits.{KitFits};
 use design::Check;
 use design::Design;
@@ -30,7 +30,7 @@ fn left_place(
         (wrongEntry (orderOf d) (systemEntry (paramsOf d) (listsOf d (now (own .entry)) (now (parity .entry)))) (inverseEntry (now (inverse .entry)) (orderOf d))) ⌝ }
 {
     let n = d.order();
-    planes::transpose_bits(inverse, n, work);
+    planes::planes_of_rows(inverse, n, work);
     products::left_place(own, parity, n, part, d.size as usize, &work[..])
 }
 
@@ -48,7 +48,7 @@ fn right_place(
         (wrongEntry (orderOf d) (inverseEntry (now (inverse .entry)) (orderOf d)) (systemEntry (paramsOf d) (listsOf d (now (own .entry)) (now (parity .entry))))) ⌝ }
 {
     let n = d.order();
-    planes::transpose_bytes(inverse, n, work);
+    planes::planes_of_columns(inverse, n, work);
     products::right_place(own, parity, n, part, d.size as usize, &work[..])
 }
 

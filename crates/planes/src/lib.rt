@@ -1,6 +1,6 @@
 // Lays a packed square matrix of bits out in planes.
-//   transpose_bits(w, n, t)    planes with eight rows a byte: plane b has a byte for each column, with the entries of the rows 8 b to 8 b + 7 in it
-//   transpose_bytes(w, n, t)   planes with eight columns a byte: plane b has byte b of each row
+//   planes_of_rows(w, n, t)      planes with eight rows a byte: plane b has a byte for each column, with the entries of the rows 8 b to 8 b + 7 in it
+//   planes_of_columns(w, n, t)   planes with eight columns a byte: plane b has byte b of each row
 //
 // A matrix comes into planes of rows by blocks of eight rows and eight columns, 64 bits in one number, which three exchanges of bits transpose
 // (H. Warren, "Hacker's Delight", section 7-3). The crate `matrix` says what planes are for.
@@ -143,7 +143,7 @@ fn fill_planes(w: &[u8], n: usize, t: &mut [u8], columns: bool)
 
 // Lays the packed matrix w, of n rows and n columns, out in the lent planes t: its rows are their rows, and the rows from n on are 0. Each byte of w
 // is read and each of t written once.
-pub fn transpose_bits(w: &[u8], n: usize, t: &mut [u8])
+pub fn planes_of_rows(w: &[u8], n: usize, t: &mut [u8])
     requires { ⌜ (1 ≤ n) × (n ≤ 4096) × (length (now w) ≡ n * rowBytes n) × (length (now t) ≡ n * rowBytes n) ⌝ }
     ensures { λ r. ⌜
         (length (now (t .exit)) ≡ length (now (t .entry)))
@@ -155,7 +155,7 @@ pub fn transpose_bits(w: &[u8], n: usize, t: &mut [u8])
 
 // Lays the packed matrix w, of n rows and n columns, out in the lent planes t: its columns are their rows, spare columns too. Each byte of w is read and
 // each of t written once.
-pub fn transpose_bytes(w: &[u8], n: usize, t: &mut [u8])
+pub fn planes_of_columns(w: &[u8], n: usize, t: &mut [u8])
     requires { ⌜ (1 ≤ n) × (n ≤ 4096) × (length (now w) ≡ n * rowBytes n) × (length (now t) ≡ n * rowBytes n) ⌝ }
     ensures { λ r. ⌜
         (length (now (t .exit)) ≡ length (now (t .entry)))

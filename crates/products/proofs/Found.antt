@@ -20,7 +20,8 @@ use Rattle.staircase.proofs.Matrix.{sumBits-same}
 use Rattle.staircase.proofs.Permutation.{preimage-sent}
 use Rattle.matrix.specs.Packed.{packedBit, planeBit}
 use Rattle.matrix.proofs.Product.{sum-spare}
-use Rattle.products.specs.Products.{wrongIn, unstackOf}
+use Rattle.system.specs.Lines.{unstackOf}
+use Rattle.products.specs.Products.{wrongIn}
 use Rattle.products.proofs.Search.{firstWhere-same}
 use Rattle.products.proofs.Sizes.{unstacked}
 

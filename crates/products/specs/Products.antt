@@ -2,12 +2,11 @@
 --   Side                    what one list, the powers of x and the planes are once rules 1 to 7 have passed
 --   wrongIn                 an entry of one line of a product is not the identity's
 --   leftWrong, rightWrong   entry x of row e of A W, entry i of column j of W A, is not the identity's
---   unstackOf               `unstack` of staircase/specs/System.antt, by the two sizes
 -- Assumes nothing.
 use mathlib.Core.Path.{_≡_}
-use mathlib.Core.Bool.{Bool, not}
+use mathlib.Core.Bool.{Bool, true, false, not}
 use mathlib.Core.List.{List}
-use Prim.Native.Nat.{ℕ, _+_, _*_, _/_, _%_, _≤_, _<_}
+use Prim.Native.Nat.{ℕ, _*_, _≤_, _<_}
 use lib.Dec.{eqb}
 use lib.ListN.{length, getD}
 use Rattle.staircase.specs.Lists.{sumBits}
@@ -15,7 +14,7 @@ use Rattle.staircase.specs.System.{rowBytes, identity, preimage}
 use Rattle.staircase.specs.Rules.{entries}
 use Rattle.staircase.specs.Demand2.{Permutes}
 use Rattle.matrix.specs.Packed.{planeBit}
-use Rattle.system.specs.Rows.{rowEntry, columnEntry}
+use Rattle.system.specs.Lines.{unstackOf, lineEntry}
 
 -- n is the order M × r, `part` the r powers of x that the bits of X and Y carry
 pub record Side (n size : ℕ) (list part t : List ℕ) : Type 0 where
@@ -27,17 +26,14 @@ pub record Side (n size : ℕ) (list part t : List ℕ) : Type 0 where
   pub planesLength : length t ≡ n * rowBytes n
   pub permutes : Permutes n (λ p. getD (entries n list) p 0)
 
-abbrev pub unstackOf : ℕ → ℕ → ℕ → ℕ
-unstackOf size r e = e % r * size + e / r
-
 -- line e of a product has the entries `line` of one factor, and the planes the lines of the other
 unfoldable pub wrongIn : (ℕ → ℕ) → List ℕ → ℕ → ℕ → ℕ → Bool
 wrongIn line t n e x = not (eqb (sumBits n (λ k. line k * planeBit t n k x)) (identity e x))
 
 -- the planes hold the columns of W
 unfoldable pub leftWrong : List ℕ → List ℕ → List ℕ → ℕ → List ℕ → ℕ → ℕ → ℕ → Bool
-leftWrong part own parity size t n e = wrongIn (rowEntry part own size (preimage parity n (unstackOf size (length part) e)) e) t n e
+leftWrong part own parity size t n e = wrongIn (lineEntry part false own size (preimage parity n (unstackOf size (length part) e)) e) t n e
 
 -- the planes hold the rows of W
 unfoldable pub rightWrong : List ℕ → List ℕ → List ℕ → ℕ → List ℕ → ℕ → ℕ → ℕ → Bool
-rightWrong part own parity size t n j = wrongIn (columnEntry part parity size (preimage own n (unstackOf size (length part) j)) j) t n j
+rightWrong part own parity size t n j = wrongIn (lineEntry part true parity size (preimage own n (unstackOf size (length part) j)) j) t n j

@@ -6,14 +6,15 @@
 // and only its non-zero bytes are used: each masks all n columns of W at once, from a copy of W in which byte b of every column stands side
 // by side. W A goes the same way with a column of A and the bytes of W's rows side by side. The work grows with n² r, n being M × r.
 ghost use mathlib.Core.Path.{_≡_};
+ghost use mathlib.Core.Bool.{true, false};
 ghost use Prim.Native.Nat.{ℕ, _*_, _/_, _%_, _≤_, _<_};
 ghost use lib.ListN.{length, getD};
 ghost use Rattle.staircase.specs.Lists.{firstWhere};
 ghost use Rattle.staircase.specs.System.{rowBytes};
 ghost use Rattle.staircase.specs.Rules.{entries};
 ghost use Rattle.matrix.specs.Packed.{packedBit};
-ghost use Rattle.system.specs.Rows.{rowEntry, columnEntry};
-ghost use Rattle.products.specs.Products.{Side, wrongIn, leftWrong, rightWrong, unstackOf};
+ghost use Rattle.system.specs.Lines.{unstackOf, lineEntry};
+ghost use Rattle.products.specs.Products.{Side, wrongIn, leftWrong, rightWrong};
 
 // The first wrong entry of line e of a product, or n, for the packed line of one factor and the planes of the other.
 fn first_in_line(line: &[u8], t: &[u8], n: usize, e: usize) -> usize
@@ -26,34 +27,25 @@ fn first_in_line(line: &[u8], t: &[u8], n: usize, e: usize) -> usize
     matrix::first_wrong(&acc[0..n], e)
 }
 
-// The first wrong entry of row e of A W, or n, where the parity list sends place p to entry e.
-fn left_row(own: &[u8], n: usize, part: &[u32], size: usize, t: &[u8], p: usize, e: usize) -> usize
-    requires { ⌜ Side n size (now own) (now part) (now t) × (e < n) × (p < n) ⌝ }
-    ensures { λ a. ⌜ a ≡ firstWhere n (wrongIn (rowEntry (now (part .entry)) (entries n (now (own .entry))) size p e) (now (t .entry)) n e) ⌝ }
-{
-    let rb = (n + 7) / 8;
-    let mut row = [0u8; 512];
-    system::system_row(&mut row[0..rb], own, n, part, size, p, e);
-    first_in_line(&row[0..rb], t, n, e)
-}
-
-// The first wrong entry of column j of W A, or n, where the self list sends place y to entry j.
-fn right_column(
-    parity: &[u8],
+// The first wrong entry of row e of A W, or n, for the self list, where the parity list sends place p to entry e; of column e of W A, where
+// `column` is true, for the parity list, where the self list does.
+fn line_first(
+    list: &[u8],
     n: usize,
     part: &[u32],
     size: usize,
+    column: bool,
     t: &[u8],
-    y: usize,
-    j: usize,
+    p: usize,
+    e: usize,
 ) -> usize
-    requires { ⌜ Side n size (now parity) (now part) (now t) × (j < n) × (y < n) ⌝ }
-    ensures { λ a. ⌜ a ≡ firstWhere n (wrongIn (columnEntry (now (part .entry)) (entries n (now (parity .entry))) size y j) (now (t .entry)) n j) ⌝ }
+    requires { ⌜ Side n size (now list) (now part) (now t) × (e < n) × (p < n) ⌝ }
+    ensures { λ a. ⌜ a ≡ firstWhere n (wrongIn (lineEntry (now (part .entry)) column (entries n (now (list .entry))) size p e) (now (t .entry)) n e) ⌝ }
 {
     let rb = (n + 7) / 8;
-    let mut column = [0u8; 512];
-    system::system_column(&mut column[0..rb], parity, n, part, size, y, j);
-    first_in_line(&column[0..rb], t, n, j)
+    let mut line = [0u8; 512];
+    system::system_line(&mut line[0..rb], list, n, part, size, column, p, e);
+    first_in_line(&line[0..rb], t, n, e)
 }
 
 // The place that a list sends to line e, from the places of the list's inverse.
@@ -67,12 +59,12 @@ fn source(places: &[u16], size: usize, r: usize, e: usize) -> usize
 // The place of the first wrong entry of A W, row by row, or n²: `places` is the inverse of the parity list.
 fn left_rows(own: &[u8], n: usize, part: &[u32], size: usize, t: &[u8], places: &[u16]) -> usize
     requires { ⌜ Side n size (now own) (now part) (now t) × (length (now places) ≡ n) × ((q : ℕ) → q < n → getD (now places) q 0 < n) ⌝ }
-    ensures { λ a. ⌜ a ≡ firstWhere (n * n) (λ i. wrongIn (rowEntry (now (part .entry)) (entries n (now (own .entry))) size
+    ensures { λ a. ⌜ a ≡ firstWhere (n * n) (λ i. wrongIn (lineEntry (now (part .entry)) false (entries n (now (own .entry))) size
         (getD (now (places .entry)) (unstackOf size (length (now (part .entry))) (i / n)) 0) (i / n)) (now (t .entry)) n (i / n) (i % n)) ⌝ }
 {
     for e in 0..n {
         let p = source(places, size, part.len(), e);
-        let x = left_row(own, n, part, size, t, p, e);
+        let x = line_first(own, n, part, size, false, t, p, e);
         if x < n {
             return e * n + x;
         }
@@ -90,13 +82,13 @@ fn right_columns(
     places: &[u16],
 ) -> usize
     requires { ⌜ Side n size (now parity) (now part) (now t) × (length (now places) ≡ n) × ((q : ℕ) → q < n → getD (now places) q 0 < n) ⌝ }
-    ensures { λ a. ⌜ a ≡ firstWhere (n * n) (λ i. wrongIn (columnEntry (now (part .entry)) (entries n (now (parity .entry))) size
+    ensures { λ a. ⌜ a ≡ firstWhere (n * n) (λ i. wrongIn (lineEntry (now (part .entry)) true (entries n (now (parity .entry))) size
         (getD (now (places .entry)) (unstackOf size (length (now (part .entry))) (i % n)) 0) (i % n)) (now (t .entry)) n (i % n) (i / n)) ⌝ }
 {
     let mut best = n * n;
     for j in 0..n {
         let y = source(places, size, part.len(), j);
-        let i = right_column(parity, n, part, size, t, y, j);
+        let i = line_first(parity, n, part, size, true, t, y, j);
         let place = i * n + j;
         if place < best {
             best = place;

@@ -1,10 +1,10 @@
 -- The packed rows and columns are those of the system A.
---   rowEntry-system       an entry of a row, for the place that the parity list sends to it
---   columnEntry-system    an entry of a column, for the place that the self list sends to it
---   rowEntry-spare, columnEntry-spare   bits past the order are 0
+--   lineEntry-spare    bits past the order are 0
+--   lineEntry-row      an entry of a row, for the place that the parity list sends to it
+--   lineEntry-column   an entry of a column, for the place that the self list sends to it
 -- Assumes nothing.
 use mathlib.Core.Path.{_≡_, sym, ap, ap₂, _∙_, subst}
-use mathlib.Core.Bool.{Bool, cond}
+use mathlib.Core.Bool.{Bool, true, false, cond}
 use mathlib.Core.List.{List}
 use Prim.Native.Nat.{ℕ, _+_, _-_, _*_, _/_, _%_, _^_, _≤_, _<_}
 use native.Mathlib.Nat.{mod-lt, mul-comm, div-lt-iff-lt-mul}
@@ -21,7 +21,7 @@ use Rattle.staircase.proofs.Permutation.{preimage-sent}
 use Rattle.staircase.proofs.System.{Proper, unstack-lt}
 use Rattle.staircase.proofs.Entries.{coefficient, system-row, system-column}
 use Rattle.system.proofs.Terms.{place-below, stackOf-below, run-end}
-use Rattle.system.specs.Rows.{PartOf, stackOf, digit, vectorTerm, vectorEntry, rowEntry, columnEntry}
+use Rattle.system.specs.Lines.{PartOf, stackOf, digit, lineDigit, lineTerm, lineEntry}
 
 -- ---- past the order
 
@@ -29,24 +29,16 @@ module _ (part list : List ℕ) (size : ℕ) (mpos : 0 < size) (rpos : 0 < lengt
   abbrev r : ℕ
   r = length part
 
-  vectorEntry-spare : (digits : ℕ → ℕ → ℕ) (p e k : ℕ) → e < size * length part → size * length part ≤ k → vectorEntry digits (length part) list size p e k ≡ 0
-  unfolding vectorEntry
-  vectorEntry-spare digits p e k he hk =
-      sumBits-zero r (vectorTerm digits r list size p e k)
+  pub lineEntry-spare : (column : Bool) (p e k : ℕ) → e < size * length part → size * length part ≤ k → lineEntry part column list size p e k ≡ 0
+  unfolding lineEntry
+  lineEntry-spare column p e k he hk =
+      sumBits-zero r (lineTerm (lineDigit part column) r list size p e k)
       (λ b h.
       let y : ℕ = getD list (b * size + p % size) 0 in
       let own = run-end size r e rpos he in
       let sent = stackOf-below size r y mpos (small (b * size + p % size) (place-below size r b (p % size) h (mod-lt p mpos))) in
-      ap₂ (λ (u v : Bool). bitSum (cond u (digits (e % r) b) 0) (cond v (digits (p / size) b) 0))
+      ap₂ (λ (u v : Bool). bitSum (cond u (lineDigit part column (e % r) b) 0) (cond v (lineDigit part column (p / size) b) 0))
       (ne-eqb (e / r * r + b) k (λ q. omega (arith, own))) (ne-eqb (stackOf size r y) k (λ q. omega (arith, sent))))
-
-  pub rowEntry-spare : (p e k : ℕ) → e < size * length part → size * length part ≤ k → rowEntry part list size p e k ≡ 0
-  unfolding rowEntry
-  rowEntry-spare = vectorEntry-spare (λ a b. digit part b a)
-
-  pub columnEntry-spare : (x j k : ℕ) → j < size * length part → size * length part ≤ k → columnEntry part list size x j k ≡ 0
-  unfolding columnEntry
-  columnEntry-spare = vectorEntry-spare (λ a b. digit part a b)
 
 -- ---- the system
 
@@ -62,32 +54,28 @@ module _ (s : Params) (ok : Proper s) (l : Interleavers)
       div-lt-iff-lt-mul (ok .mpos) .1
       (subst (λ (z : ℕ). preimage list (order s) (unstack s e) < z) (mul-comm (s .M) (s .r)) (preimage-sent list (order s) perm (unstack s e) (unstack-lt s l ok e h) .0))
 
-  vectorEntry-sums : (digits c : ℕ → ℕ → ℕ) → ((a b : ℕ) → a < s .r → b < s .r → digits a b ≡ c a b) → (list : List ℕ) (p e k : ℕ) → p / s .M < s .r
-      → vectorEntry digits (length part) list (s .M) p e k
+  lineEntry-sums : (column : Bool) (c : ℕ → ℕ → ℕ) → ((a b : ℕ) → a < s .r → b < s .r → lineDigit part column a b ≡ c a b) → (list : List ℕ) (p e k : ℕ) → p / s .M < s .r
+      → lineEntry part column list (s .M) p e k
       ≡ bitSum (sumBits (s .r) (λ b. cond (eqb (e / s .r * s .r + b) k) (c (e % s .r) b) 0))
       (sumBits (s .r) (λ b. cond (eqb (stack s (getD list (b * s .M + p % s .M) 0)) k) (c (p / s .M) b) 0))
-  unfolding vectorEntry
-  vectorEntry-sums digits c same list p e k hp =
-      ap (λ (r : ℕ). sumBits r (vectorTerm digits r list (s .M) p e k)) (P .long)
-      ∙ sumBits-same (s .r) (vectorTerm digits (s .r) list (s .M) p e k) (vectorTerm c (s .r) list (s .M) p e k)
+  unfolding lineEntry
+  lineEntry-sums column c same list p e k hp =
+      ap (λ (r : ℕ). sumBits r (lineTerm (lineDigit part column) r list (s .M) p e k)) (P .long)
+      ∙ sumBits-same (s .r) (lineTerm (lineDigit part column) (s .r) list (s .M) p e k) (lineTerm c (s .r) list (s .M) p e k)
       (λ b h.
       ap₂ (λ (u v : ℕ). bitSum (cond (eqb (e / s .r * s .r + b) k) u 0) (cond (eqb (stack s (getD list (b * s .M + p % s .M) 0)) k) v 0))
       (same (e % s .r) b (mod-lt e (ok .rpos)) h) (same (p / s .M) b hp h))
       ∙ sumBits-sum (s .r) (λ b. cond (eqb (e / s .r * s .r + b) k) (c (e % s .r) b) 0)
       (λ b. cond (eqb (stack s (getD list (b * s .M + p % s .M) 0)) k) (c (p / s .M) b) 0)
 
-  pub rowEntry-system : (e k : ℕ) → e < order s → k < order s
-      → rowEntry part (l .self) (s .M) (preimage (l .parity) (order s) (unstack s e)) e k ≡ systemEntry s l e k
-  unfolding rowEntry
-  rowEntry-system e k he hk =
-      vectorEntry-sums (λ a b. digit part b a) (λ a b. coefficient s b a) (λ a b ha hb. digit-is b a hb) (l .self) (preimage (l .parity) (order s) (unstack s e)) e k
-      (source-row (l .parity) pp e he)
+  pub lineEntry-row : (e k : ℕ) → e < order s → k < order s
+      → lineEntry part false (l .self) (s .M) (preimage (l .parity) (order s) (unstack s e)) e k ≡ systemEntry s l e k
+  lineEntry-row e k he hk =
+      lineEntry-sums false (λ a b. coefficient s b a) (λ a b ha hb. digit-is b a hb) (l .self) (preimage (l .parity) (order s) (unstack s e)) e k (source-row (l .parity) pp e he)
       ∙ sym (system-row s ok l ps pp e k he hk)
 
-  pub columnEntry-system : (j k : ℕ) → j < order s → k < order s
-      → columnEntry part (l .parity) (s .M) (preimage (l .self) (order s) (unstack s j)) j k ≡ systemEntry s l k j
-  unfolding columnEntry
-  columnEntry-system j k hj hk =
-      vectorEntry-sums (λ a b. digit part a b) (coefficient s) (λ a b ha hb. digit-is a b ha) (l .parity) (preimage (l .self) (order s) (unstack s j)) j k
-      (source-row (l .self) ps j hj)
+  pub lineEntry-column : (j k : ℕ) → j < order s → k < order s
+      → lineEntry part true (l .parity) (s .M) (preimage (l .self) (order s) (unstack s j)) j k ≡ systemEntry s l k j
+  lineEntry-column j k hj hk =
+      lineEntry-sums true (coefficient s) (λ a b ha hb. digit-is a b ha) (l .parity) (preimage (l .self) (order s) (unstack s j)) j k (source-row (l .self) ps j hj)
       ∙ sym (system-column s ok l ps pp k j hk hj)

@@ -12,7 +12,7 @@ use lib.Arith.{digits-lt}
 use Rattle.staircase.specs.Lists.{bitSum, sumBits}
 use Rattle.staircase.proofs.Matrix.{bitSum-assoc}
 use Rattle.staircase.proofs.Entries.{sumBits-last}
-use Rattle.system.specs.Rows.{stackOf}
+use Rattle.system.specs.Lines.{stackOf}
 
 pub sum-more : (f : ℕ → ℕ) (b x₀ x₁ x₂ u v : ℕ) → x₀ ≡ sumBits b f → x₁ ≡ bitSum x₀ u → x₂ ≡ bitSum x₁ v → f b ≡ bitSum u v → x₂ ≡ sumBits (b + 1) f
 sum-more f b x₀ x₁ x₂ u v before first second term =

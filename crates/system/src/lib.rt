@@ -1,7 +1,6 @@
 // Rows and columns of the system A, packed, one at a time. A row and a column have at most 2 r ones.
-//   fill_inverse    the inverse of a permutation
-//   system_row      one packed row of A
-//   system_column   one packed column of A
+//   fill_inverse   the inverse of a permutation
+//   system_line    one packed row or column of A
 //
 // A bit of Y is a bit of one column word and, through the self list, of one row word. What it adds to the r parity bits of either word is the power
 // of x that its position carries, so a row or column of A takes r digits of powers side by side and r digits where a list sends them: a row
@@ -13,7 +12,7 @@ ghost use Rattle.staircase.specs.System.{preimage};
 ghost use Rattle.staircase.specs.Rules.{entries};
 ghost use Rattle.staircase.specs.Demand2.{Permutes};
 ghost use Rattle.matrix.specs.Packed.{packedBit};
-ghost use Rattle.system.specs.Rows.{stackOf, digit, vectorDigit, vectorEntry, rowEntry, columnEntry};
+ghost use Rattle.system.specs.Lines.{stackOf, digit, lineDigit, lineEntry};
 
 // Fills `out` with the inverse of a list of n entries that is a permutation: entry q is the place that the list sends to q.
 pub fn fill_inverse(list: &[u8], n: usize, out: &mut [u16])
@@ -36,9 +35,9 @@ fn digit_at(part: &[u32], b: usize, a: usize) -> u8
 }
 
 // Digit b of power a for a column, digit a of power b for a row.
-fn vector_digit(part: &[u32], column: bool, a: usize, b: usize) -> u8
+fn line_digit(part: &[u32], column: bool, a: usize, b: usize) -> u8
     requires { ⌜ (length (now part) ≤ 32) × (a < length (now part)) × (b < length (now part)) ⌝ }
-    ensures { λ v. ⌜ (v ≡ vectorDigit (now (part .entry)) column a b) × (v < 2) ⌝ }
+    ensures { λ v. ⌜ (v ≡ lineDigit (now (part .entry)) column a b) × (v < 2) ⌝ }
 {
     if column {
         return digit_at(part, a, b);
@@ -56,9 +55,9 @@ fn sent(list: &[u8], n: usize, size: usize, r: usize, b: usize, a: usize) -> usi
     y % size * r + y / size
 }
 
-// Makes `out` row or column e of A, for a list, `part` and the place p that the other list sends to entry e. The work grows with r and the bytes
-// of `out`.
-fn fill_vector(
+// Makes `out` row e of A, for the self list and the place p that the parity list sends to entry e; where `column` is true column e, for the parity
+// list and the place p that the self list sends to it. The work grows with r and the bytes of `out`.
+pub fn system_line(
     out: &mut [u8],
     list: &[u8],
     n: usize,
@@ -72,51 +71,15 @@ fn fill_vector(
         × (length (now part) ≤ 32) × ((q : ℕ) → q < n → getD (entries n (now list)) q 0 < n) ⌝ }
     ensures { λ u. ⌜ (length (now (out .exit)) ≡ length (now (out .entry)))
         × ((k : ℕ) → packedBit (now (out .exit)) k
-        ≡ vectorEntry (vectorDigit (now (part .entry)) column) (length (now (part .entry))) (entries n (now (list .entry))) size p e k) ⌝ }
+        ≡ lineEntry (now (part .entry)) column (entries n (now (list .entry))) size p e k) ⌝ }
 {
     let r = part.len();
     matrix::clear(out);
     for b in 0..r {
-        let v = vector_digit(part, column, e % r, b);
+        let v = line_digit(part, column, e % r, b);
         matrix::add_bit(out, e / r * r + b, v);
-        let w = vector_digit(part, column, p / size, b);
+        let w = line_digit(part, column, p / size, b);
         let k = sent(list, n, size, r, b, p % size);
         matrix::add_bit(out, k, w);
     }
-}
-
-// Makes `row` row e of A, for the self list, `part` and the place p of Q that the parity list sends to entry e.
-pub fn system_row(
-    row: &mut [u8],
-    own: &[u8],
-    n: usize,
-    part: &[u32],
-    size: usize,
-    p: usize,
-    e: usize,
-)
-    requires { ⌜ (n ≡ size * length (now part)) × (e < n) × (p < n) × (length (now own) ≡ 2 * n) × (n ≤ 8 * length (now row)) × (length (now row) ≤ 512)
-        × (length (now part) ≤ 32) × ((q : ℕ) → q < n → getD (entries n (now own)) q 0 < n) ⌝ }
-    ensures { λ u. ⌜ (length (now (row .exit)) ≡ length (now (row .entry)))
-        × ((k : ℕ) → packedBit (now (row .exit)) k ≡ rowEntry (now (part .entry)) (entries n (now (own .entry))) size p e k) ⌝ }
-{
-    fill_vector(row, own, n, part, size, false, p, e);
-}
-
-// Makes `column` column j of A, for the parity list, `part` and the place x of X that the self list sends to entry j of the stacked Y.
-pub fn system_column(
-    column: &mut [u8],
-    parity: &[u8],
-    n: usize,
-    part: &[u32],
-    size: usize,
-    x: usize,
-    j: usize,
-)
-    requires { ⌜ (n ≡ size * length (now part)) × (j < n) × (x < n) × (length (now parity) ≡ 2 * n) × (n ≤ 8 * length (now column))
-        × (length (now column) ≤ 512) × (length (now part) ≤ 32) × ((q : ℕ) → q < n → getD (entries n (now parity)) q 0 < n) ⌝ }
-    ensures { λ u. ⌜ (length (now (column .exit)) ≡ length (now (column .entry)))
-        × ((k : ℕ) → packedBit (now (column .exit)) k ≡ columnEntry (now (part .entry)) (entries n (now (parity .entry))) size x j k) ⌝ }
-{
-    fill_vector(column, parity, n, part, size, true, x, j);
 }

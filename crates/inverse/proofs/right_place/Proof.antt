@@ -13,8 +13,8 @@ use Rattle.inverse.proofs.right_place.Tie as tie
 order-requires : tie.Need-order-requires
 order-requires c κs = search needs
 
-transpose-bytes-requires : tie.Need-transpose-bytes-requires
-transpose-bytes-requires c κs =
+planes-of-columns-requires : tie.Need-planes-of-columns-requires
+planes-of-columns-requires c κs =
     let s = c .before .before .before .before .before .before .before .pre .0 .sized in
     let e = c .before .order .ensures .0 in
     (omega (arith, order-positive (c .before .before .before .before .before .before .before .args .d) (s .allowed)), omega (arith, s .allowed .order-high), s .inverseLength ∙ ap (λ (k : ℕ). k * rowBytes k) (sym e), s .workLength ∙ ap (λ (k : ℕ). k * rowBytes k) (sym e))
@@ -27,7 +27,7 @@ right-place-requires c κs =
     let a = c .before .before .before .before .before .before .before .before .before .before .before .before .args in
     let h = c .before .before .before .before .before .before .before .before .before .before .before .before .pre in
     let o = c .before .before .before .before .before .before .order in
-    let t = c .before .before .before .before .transpose-bytes in
+    let t = c .before .before .before .before .planes-of-columns in
     sides (a .d) (a .own .now) (a .parity .now) (a .inverse .now) (a .work .now) (h .0) (o .result) (o .ensures .0) (a .part .now) (h .1) _ (t .ensures .0)
 
 same-length : tie.Need-same-length
@@ -38,7 +38,7 @@ returns c =
     let a = c .before .before .before .before .before .before .before .before .before .before .before .before .before .args in
     let h = c .before .before .before .before .before .before .before .before .before .before .before .before .before .pre in
     let o = c .before .before .before .before .before .before .before .order in
-    let t = c .before .before .before .before .before .transpose-bytes in
+    let t = c .before .before .before .before .before .planes-of-columns in
     c .right-place .ensures ∙ right-found (a .d) (a .own .now) (a .parity .now) (a .inverse .now) (a .work .now) (h .0) (o .result) (o .ensures .0) (a .part .now) (h .1) _ (t .ensures .1)
 
 pub right-place-spec : {M : Type 1} → statement M
@@ -46,7 +46,7 @@ right-place-spec =
     tie.close
     (tie.spec
     order-requires
-    transpose-bytes-requires
+    planes-of-columns-requires
     cast-right-place
     right-place-requires
     same-length

@@ -3,10 +3,11 @@
 use native.Mathlib.Omega.{arith}
 use borrow.Author.Needs.{needs}
 use mathlib.Core.Path.{_≡_, _∙_}
+use mathlib.Core.Bool.{false}
 use Prim.Native.Nat.{ℕ, _/_, _%_}
 use lib.ListN.{length}
 use Rattle.staircase.specs.Rules.{entries}
-use Rattle.system.specs.Rows.{rowEntry}
+use Rattle.system.specs.Lines.{lineEntry}
 use Rattle.positions.proofs.Parts.{part-fits, part-is}
 use Rattle.products.specs.Products.{wrongIn, leftWrong}
 use Rattle.products.proofs.Sizes.{line-row}
@@ -52,7 +53,7 @@ returns c =
     let f = c .before .before .before .before .fill-inverse in
     c .left-rows .ensures
     ∙ sent-found (a .n) (entries (a .n) (a .parity .now)) (h .1 .permutes) (f .last .1 .1 .0) _ (f .ensures .1) (part-is _ _ _ (f .ensures .0)) (a .size) (length (a .part .now)) (h .1 .order)
-    (λ i. i / a .n) (line-row (a .n) (h .1 .positive)) (λ p i. wrongIn (rowEntry (a .part .now) (entries (a .n) (a .own .now)) (a .size) p (i / a .n)) (a .t .now) (a .n) (i / a .n) (i % a .n))
+    (λ i. i / a .n) (line-row (a .n) (h .1 .positive)) (λ p i. wrongIn (lineEntry (a .part .now) false (entries (a .n) (a .own .now)) (a .size) p (i / a .n)) (a .t .now) (a .n) (i / a .n) (i % a .n))
 
 pub left-place-spec : {M : Type 1} → statement M
 left-place-spec =

@@ -11,8 +11,8 @@ use lib.ListN.{length, getD}
 use Rattle.staircase.specs.Lists.{firstWhere}
 use Rattle.staircase.specs.Rules.{entries}
 use Rattle.staircase.proofs.Fill.{stretch-end}
-use Rattle.system.specs.Rows.{rowEntry}
-use Rattle.products.specs.Products.{wrongIn, unstackOf}
+use Rattle.system.specs.Lines.{unstackOf, lineEntry}
+use Rattle.products.specs.Products.{wrongIn}
 use Rattle.products.proofs.Search.{row-found, row-clean, rows-none}
 use Rattle.products.proofs.Sizes.{square-small}
 use Rattle.products.proofs.left_rows.Statement.{statement}
@@ -20,7 +20,7 @@ use Rattle.products.proofs.left_rows.Tie as tie
 
 -- entry x of row e is wrong
 abbrev wrong : (own : List ℕ) (n : ℕ) (part : List ℕ) (size : ℕ) (t places : List ℕ) → ℕ → ℕ → Bool
-wrong own n part size t places e = wrongIn (rowEntry part (entries n own) size (getD places (unstackOf size (length part) e) 0) e) t n e
+wrong own n part size t places e = wrongIn (lineEntry part false (entries n own) size (getD places (unstackOf size (length part) e) 0) e) t n e
 
 abbrev Inv-loop : tie.InvT-loop
 Inv-loop own n part size t places e₀ e = (e ≤ n) × ((i : ℕ) → i < e * n → wrong own n part size t places (i / n) (i % n) ≡ false)
@@ -40,28 +40,28 @@ source-requires c κs =
     let d = s .order in
     (h .1 ∙ d, omega (arith, d, s .small), omega (arith, d), subst (λ (n : ℕ). (q : ℕ) → q < n → getD (a .places .now) q 0 < n) d (h .2))
 
-left-row-requires : tie.Need-left-row-requires Inv-loop μ-loop
-left-row-requires c κs = search needs
+line-first-requires : tie.Need-line-first-requires Inv-loop μ-loop
+line-first-requires c κs = search needs
 
 mul-result : tie.Need-mul-result Inv-loop μ-loop
 mul-result c =
     let l = c .before .before .before .before .loop in
     let a = c .before .before .before .before .before .before .before .before .before .args in
-    omega (arith, stretch-end (l .e) (a .n) (a .n) (omega arith), stretch-end (c .before .left-row .result) (a .n) (a .n) (omega arith), square-small (a .n) (c .before .before .before .before .before .before .before .before .before .pre .0 .small))
+    omega (arith, stretch-end (l .e) (a .n) (a .n) (omega arith), stretch-end (c .before .line-first .result) (a .n) (a .n) (omega arith), square-small (a .n) (c .before .before .before .before .before .before .before .before .before .pre .0 .small))
 
 add-result : tie.Need-add-result Inv-loop μ-loop
 add-result c =
     let l = c .before .before .before .before .loop in
     let a = c .before .before .before .before .before .before .before .before .before .args in
-    omega (arith, stretch-end (l .e) (a .n) (a .n) (omega arith), stretch-end (c .before .left-row .result) (a .n) (a .n) (omega arith), square-small (a .n) (c .before .before .before .before .before .before .before .before .before .pre .0 .small))
+    omega (arith, stretch-end (l .e) (a .n) (a .n) (omega arith), stretch-end (c .before .line-first .result) (a .n) (a .n) (omega arith), square-small (a .n) (c .before .before .before .before .before .before .before .before .before .pre .0 .small))
 
 returns : tie.Need-returns Inv-loop μ-loop
 returns c =
     let l = c .before .before .before .before .loop in
     let a = c .before .before .before .before .before .before .before .before .before .args in
-    let r = c .before .left-row in
+    let r = c .before .line-first in
     let s = c .before .before .source .ensures .0 in
-    let x : r .result ≡ firstWhere (a .n) (wrong (a .own .now) (a .n) (a .part .now) (a .size) (a .t .now) (a .places .now) (l .e)) = r .ensures ∙ ap (λ (p : ℕ). firstWhere (a .n) (wrongIn (rowEntry (a .part .now) (entries (a .n) (a .own .now)) (a .size) p (l .e)) (a .t .now) (a .n) (l .e))) s in
+    let x : r .result ≡ firstWhere (a .n) (wrong (a .own .now) (a .n) (a .part .now) (a .size) (a .t .now) (a .places .now) (l .e)) = r .ensures ∙ ap (λ (p : ℕ). firstWhere (a .n) (wrongIn (lineEntry (a .part .now) false (entries (a .n) (a .own .now)) (a .size) p (l .e)) (a .t .now) (a .n) (l .e))) s in
     row-found (a .n) (wrong (a .own .now) (a .n) (a .part .now) (a .size) (a .t .now) (a .places .now)) (l .e) (r .result) (omega arith) (omega arith) x (l .inv .1)
 
 add-e : tie.Need-add-e Inv-loop μ-loop
@@ -74,9 +74,9 @@ loop-again : tie.Need-loop-again Inv-loop μ-loop
 loop-again c =
     let l = c .before .before .before .before .loop in
     let a = c .before .before .before .before .before .before .before .before .before .args in
-    let r = c .before .left-row in
+    let r = c .before .line-first in
     let s = c .before .before .source .ensures .0 in
-    let x : r .result ≡ firstWhere (a .n) (wrong (a .own .now) (a .n) (a .part .now) (a .size) (a .t .now) (a .places .now) (l .e)) = r .ensures ∙ ap (λ (p : ℕ). firstWhere (a .n) (wrongIn (rowEntry (a .part .now) (entries (a .n) (a .own .now)) (a .size) p (l .e)) (a .t .now) (a .n) (l .e))) s in
+    let x : r .result ≡ firstWhere (a .n) (wrong (a .own .now) (a .n) (a .part .now) (a .size) (a .t .now) (a .places .now) (l .e)) = r .ensures ∙ ap (λ (p : ℕ). firstWhere (a .n) (wrongIn (lineEntry (a .part .now) false (entries (a .n) (a .own .now)) (a .size) p (l .e)) (a .t .now) (a .n) (l .e))) s in
     (omega arith, row-clean (a .n) (wrong (a .own .now) (a .n) (a .part .now) (a .size) (a .t .now) (a .places .now)) (l .e) (r .result) (omega arith) x (l .inv .1))
 
 mul-result-2 : tie.Need-mul-result-2 Inv-loop μ-loop
@@ -96,7 +96,7 @@ left-rows-spec =
     μ-loop
     loop-holds
     source-requires
-    left-row-requires
+    line-first-requires
     mul-result
     add-result
     returns

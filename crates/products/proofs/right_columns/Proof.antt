@@ -3,7 +3,7 @@
 use native.Mathlib.Omega.{arith}
 use borrow.Author.Needs.{needs}
 use mathlib.Core.Path.{_≡_, sym, ap, _∙_, subst}
-use mathlib.Core.Bool.{Bool}
+use mathlib.Core.Bool.{Bool, true}
 use mathlib.Core.List.{List}
 use mathlib.Core.Logic.{⊎-elim}
 use Prim.Native.Nat.{ℕ, _+_, _*_, _-_, _/_, _%_, _≤_, _<_}
@@ -13,8 +13,8 @@ use Rattle.staircase.specs.Lists.{firstWhere}
 use Rattle.staircase.specs.Rules.{entries}
 use Rattle.staircase.proofs.Fill.{stretch-end}
 use Rattle.staircase.proofs.Search.{firstWhere-le}
-use Rattle.system.specs.Rows.{columnEntry}
-use Rattle.products.specs.Products.{wrongIn, unstackOf}
+use Rattle.system.specs.Lines.{unstackOf, lineEntry}
+use Rattle.products.specs.Products.{wrongIn}
 use Rattle.products.proofs.Search.{Best, best-none, best-more, best-kept, best-is}
 use Rattle.products.proofs.Sizes.{square-small}
 use Rattle.products.proofs.right_columns.Statement.{statement}
@@ -22,7 +22,7 @@ use Rattle.products.proofs.right_columns.Tie as tie
 
 -- entry i of column j is wrong
 abbrev wrong : (parity : List ℕ) (n : ℕ) (part : List ℕ) (size : ℕ) (t places : List ℕ) → ℕ → ℕ → Bool
-wrong parity n part size t places j = wrongIn (columnEntry part (entries n parity) size (getD places (unstackOf size (length part) j) 0) j) t n j
+wrong parity n part size t places j = wrongIn (lineEntry part true (entries n parity) size (getD places (unstackOf size (length part) j) 0) j) t n j
 
 abbrev Inv-loop : tie.InvT-loop
 Inv-loop parity n part size t places best₀ j₀ best j = (j ≤ n) × Best n (wrong parity n part size t places) best j
@@ -45,21 +45,21 @@ source-requires c κs =
     let d = s .order in
     (h .1 ∙ d, omega (arith, d, s .small), omega (arith, d), subst (λ (n : ℕ). (q : ℕ) → q < n → getD (a .places .now) q 0 < n) d (h .2))
 
-right-column-requires : tie.Need-right-column-requires Inv-loop μ-loop
-right-column-requires c κs = search needs
+line-first-requires : tie.Need-line-first-requires Inv-loop μ-loop
+line-first-requires c κs = search needs
 
 mul-place : tie.Need-mul-place Inv-loop μ-loop
 mul-place c =
     let l = c .before .before .before .loop in
     let a = c .before .before .before .before .before .before .before .before .args in
-    let q : c .right-column .result ≤ a .n = subst (λ (z : ℕ). z ≤ a .n) (sym (c .right-column .ensures)) (firstWhere-le (a .n) _) in
+    let q : c .line-first .result ≤ a .n = subst (λ (z : ℕ). z ≤ a .n) (sym (c .line-first .ensures)) (firstWhere-le (a .n) _) in
     omega (arith, mul-le-mul-right (a .n) q, stretch-end (l .j) (a .n) (a .n) (omega arith), square-small (a .n) (c .before .before .before .before .before .before .before .before .pre .0 .small))
 
 add-place : tie.Need-add-place Inv-loop μ-loop
 add-place c =
     let l = c .before .before .before .loop in
     let a = c .before .before .before .before .before .before .before .before .args in
-    let q : c .right-column .result ≤ a .n = subst (λ (z : ℕ). z ≤ a .n) (sym (c .right-column .ensures)) (firstWhere-le (a .n) _) in
+    let q : c .line-first .result ≤ a .n = subst (λ (z : ℕ). z ≤ a .n) (sym (c .line-first .ensures)) (firstWhere-le (a .n) _) in
     omega (arith, mul-le-mul-right (a .n) q, stretch-end (l .j) (a .n) (a .n) (omega arith), square-small (a .n) (c .before .before .before .before .before .before .before .before .pre .0 .small))
 
 add-j : tie.Need-add-j Inv-loop μ-loop
@@ -72,9 +72,9 @@ loop-again : tie.Need-loop-again Inv-loop μ-loop
 loop-again c =
     let l = c .before .before .before .before .loop in
     let a = c .before .before .before .before .before .before .before .before .before .args in
-    let k = c .before .right-column in
+    let k = c .before .line-first in
     let s = c .before .before .source .ensures .0 in
-    let x : k .result ≡ firstWhere (a .n) (wrong (a .parity .now) (a .n) (a .part .now) (a .size) (a .t .now) (a .places .now) (l .j)) = k .ensures ∙ ap (λ (p : ℕ). firstWhere (a .n) (wrongIn (columnEntry (a .part .now) (entries (a .n) (a .parity .now)) (a .size) p (l .j)) (a .t .now) (a .n) (l .j))) s in
+    let x : k .result ≡ firstWhere (a .n) (wrong (a .parity .now) (a .n) (a .part .now) (a .size) (a .t .now) (a .places .now) (l .j)) = k .ensures ∙ ap (λ (p : ℕ). firstWhere (a .n) (wrongIn (lineEntry (a .part .now) true (entries (a .n) (a .parity .now)) (a .size) p (l .j)) (a .t .now) (a .n) (l .j))) s in
     let hj : l .j < a .n = omega arith in (
       omega arith,
       ⊎-elim
@@ -98,7 +98,7 @@ right-columns-spec =
     mul-best
     loop-holds
     source-requires
-    right-column-requires
+    line-first-requires
     mul-place
     add-place
     add-j

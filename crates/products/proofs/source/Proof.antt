@@ -3,7 +3,7 @@
 use native.Mathlib.Omega.{arith}
 use mathlib.Core.Path.{_≡_, refl}
 use Prim.Native.Nat.{_+_, _*_, _/_, _%_}
-use Rattle.products.specs.Products.{unstackOf}
+use Rattle.system.specs.Lines.{unstackOf}
 use Rattle.products.proofs.Sizes.{unstacked}
 use Rattle.products.proofs.source.Statement.{statement}
 use Rattle.products.proofs.source.Tie as tie

@@ -8,7 +8,7 @@ use native.Mathlib.Omega.{arith}
 use lib.ListN.{getD}
 use Rattle.staircase.specs.Rules.{entries}
 use Rattle.rules.proofs.Entries.{entry-at}
-use Rattle.system.specs.Rows.{stackOf}
+use Rattle.system.specs.Lines.{stackOf}
 use Rattle.system.proofs.Terms.{place-below, stackOf-below}
 use Rattle.system.proofs.sent.Statement.{statement}
 use Rattle.system.proofs.sent.Tie as tie

@@ -8,15 +8,15 @@ use Rattle.staircase.specs.Lists.{sumBits}
 use Rattle.staircase.specs.Rules.{entries}
 use Rattle.matrix.specs.Packed.{packedBit}
 use Rattle.matrix.proofs.Packed.{packedBit-zeros}
-use Rattle.system.specs.Rows.{vectorDigit, vectorTerm, vectorEntry}
+use Rattle.system.specs.Lines.{lineDigit, lineTerm, lineEntry}
 use Rattle.system.proofs.Terms.{Sized, sized, sum-more}
-use Rattle.system.proofs.fill_vector.Statement.{statement}
-use Rattle.system.proofs.fill_vector.Tie as tie
+use Rattle.system.proofs.system_line.Statement.{statement}
+use Rattle.system.proofs.system_line.Tie as tie
 
 abbrev Inv-loop : tie.InvT-loop
 Inv-loop out₀ list n part size column p e r b₀ out b =
     Sized size (length part) e p × (b ≤ length part) × (length out ≡ length out₀)
-    × ((k : ℕ) → packedBit out k ≡ sumBits b (vectorTerm (vectorDigit part column) (length part) (entries n list) size p e k))
+    × ((k : ℕ) → packedBit out k ≡ sumBits b (lineTerm (lineDigit part column) (length part) (entries n list) size p e k))
 
 abbrev μ-loop : tie.MeasureT-loop
 μ-loop out₀ list n part size column p e r b₀ out b = length part - b
@@ -35,11 +35,11 @@ loop-holds c =
       λ k. rw (c .before .before .clear .ensures) (packedBit-zeros (length (a .out .now)) k),
     )
 
-rem-vector-digit : tie.Need-rem-vector-digit Inv-loop μ-loop
-rem-vector-digit c = omega arith
+rem-line-digit : tie.Need-rem-line-digit Inv-loop μ-loop
+rem-line-digit c = omega arith
 
-vector-digit-requires : tie.Need-vector-digit-requires Inv-loop μ-loop
-vector-digit-requires c κs = omega arith
+line-digit-requires : tie.Need-line-digit-requires Inv-loop μ-loop
+line-digit-requires c κs = omega arith
 
 div-add-bit : tie.Need-div-add-bit Inv-loop μ-loop
 div-add-bit c = omega arith
@@ -53,11 +53,11 @@ add-add-bit c = omega arith
 add-bit-requires : tie.Need-add-bit-requires Inv-loop μ-loop
 add-bit-requires c κs = omega arith
 
-div-vector-digit : tie.Need-div-vector-digit Inv-loop μ-loop
-div-vector-digit c = omega arith
+div-line-digit : tie.Need-div-line-digit Inv-loop μ-loop
+div-line-digit c = omega arith
 
-vector-digit-requires-2 : tie.Need-vector-digit-requires-2 Inv-loop μ-loop
-vector-digit-requires-2 c κs = omega arith
+line-digit-requires-2 : tie.Need-line-digit-requires-2 Inv-loop μ-loop
+line-digit-requires-2 c κs = omega arith
 
 rem-sent : tie.Need-rem-sent Inv-loop μ-loop
 rem-sent c = omega arith
@@ -78,15 +78,15 @@ loop-again : tie.Need-loop-again Inv-loop μ-loop
 loop-again c =
     let a = c .before .before .before .before .before .before .before .before .before .before .before .before .before .before .before .before .before .before .before .before .args in
     let l = c .before .before .before .before .before .before .before .before .before .before .before .before .loop in
-    let v = c .before .before .before .before .before .before .before .before .before .before .vector-digit .ensures .0 in
+    let v = c .before .before .before .before .before .before .before .before .before .before .line-digit .ensures .0 in
     let first = c .before .before .before .before .before .before .before .before .add-bit .ensures in
-    let w = c .before .before .before .before .before .vector-digit2 .ensures .0 in
+    let w = c .before .before .before .before .before .line-digit2 .ensures .0 in
     let place = c .before .before .before .before .sent .ensures .0 in
     let second = c .before .before .add-bit2 .ensures in (
       l .inv .0,
       omega arith,
       second .0 ∙ first .0 ∙ l .inv .2,
-      λ k. sum-more (vectorTerm (vectorDigit (a .part .now) (a .column)) (length (a .part .now)) (entries (a .n) (a .list .now)) (a .size) (a .p) (a .e) k) (l .b) _ _ _ _ _
+      λ k. sum-more (lineTerm (lineDigit (a .part .now) (a .column)) (length (a .part .now)) (entries (a .n) (a .list .now)) (a .size) (a .p) (a .e) k) (l .b) _ _ _ _ _
           (l .inv .3 k) (first .1 k) (second .1 k) (sym (rw (v, w, place))),
     )
 
@@ -94,28 +94,28 @@ same-length : tie.Need-same-length Inv-loop μ-loop
 same-length c = omega arith
 
 returns : tie.Need-returns Inv-loop μ-loop
-unfolding vectorEntry
+unfolding lineEntry
 returns c =
     let l = c .before .loop in
     let e : l .b ≡ length (c .before .before .before .before .before .before .before .before .before .args .part .now) = omega arith in
     (omega arith, λ k. rw e at (l .inv .3 k))
 
-pub fill-vector-spec : {M : Type 1} → statement M
-fill-vector-spec =
+pub system-line-spec : {M : Type 1} → statement M
+system-line-spec =
     tie.close
     (tie.spec
     Inv-loop
     μ-loop
     clear-requires
     loop-holds
-    rem-vector-digit
-    vector-digit-requires
+    rem-line-digit
+    line-digit-requires
     div-add-bit
     mul-add-bit
     add-add-bit
     add-bit-requires
-    div-vector-digit
-    vector-digit-requires-2
+    div-line-digit
+    line-digit-requires-2
     rem-sent
     sent-requires
     add-bit-requires-2

@@ -1,8 +1,8 @@
 -- A row has the digits of a column with the two numbers exchanged.
 -- Assumes nothing.
 use borrow.Author.Needs.{needs}
-use Rattle.system.proofs.vector_digit.Statement.{statement}
-use Rattle.system.proofs.vector_digit.Tie as tie
+use Rattle.system.proofs.line_digit.Statement.{statement}
+use Rattle.system.proofs.line_digit.Tie as tie
 
 digit-at-requires : tie.Need-digit-at-requires
 digit-at-requires c κs = search needs
@@ -16,5 +16,5 @@ digit-at-requires-2 c κs = search needs
 returns-2 : tie.Need-returns-2
 returns-2 c = rw (c .before .if1 .left) (c .digit-at2 .ensures)
 
-pub vector-digit-spec : {M : Type 1} → statement M
-vector-digit-spec = tie.close (tie.spec digit-at-requires returns digit-at-requires-2 returns-2)
+pub line-digit-spec : {M : Type 1} → statement M
+line-digit-spec = tie.close (tie.spec digit-at-requires returns digit-at-requires-2 returns-2)
