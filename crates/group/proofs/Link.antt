@@ -19,7 +19,8 @@ use Rattle.staircase.specs.System.{Contents, zeros, stack, unstack, preimage, c
 use Rattle.staircase.specs.Demand2.{Permutes}
 use Rattle.staircase.proofs.Matrix.{sumBits-lt, sumBits-same}
 use Rattle.staircase.proofs.Permutation.{preimage-sent}
-use Rattle.staircase.proofs.System.{Proper, Binary, tabulate-at, tabulate-same, unstack-lt}
+use Rattle.staircase.proofs.System.{Proper, unstack-lt}
+use Rattle.staircase.proofs.Tables.{Binary, tabulate-at, tabulate-same}
 use Rattle.staircase.proofs.Entries.{columnRemainder, rowRemainder, columnParity-powers, rowParity-powers}
 use Rattle.blocks.specs.Blocks.{columnSum, rowSum, Powers}
 use Rattle.blocks.proofs.Link.{SameBlock, part-powers, columnSum-is, rowSum-is}
@@ -49,7 +50,7 @@ module _ (s : Params) (ok : Proper s) (table : List ℕ) (P : Powers s table) wh
     column-digit k h =
         let q : ℕ = unstack s k in
         let c : k / s .r < s .M = div-lt-iff-lt-mul (ok .rpos) .1 h in
-        sym (columnParity-powers s ok odd even zeros ho he zeros-binary q (unstack-lt s l ok k h)
+        sym (columnParity-powers s ok odd even zeros ho he zeros-binary q (unstack-lt s ok k h)
         ∙ ap (λ (x : ℕ). digit x (s .r) (q / s .M)) (no-y (columnRemainder s odd even (q % s .M)) (λ b. b * s .M + q % s .M))
         ∙ ap₂ (λ (a d : ℕ). digit (columnRemainder s odd even a) (s .r) d) (digits-mod (k % s .r) c) (digits-div (k % s .r) c)
         ∙ ap (λ (x : ℕ). digit x (s .r) (k % s .r)) (sym (tabulate-at (s .M) (columnSum table (s .M) o e) 0 (k / s .r) c ∙ columnSum-is s table P o e odd even so se (k / s .r) c)))
@@ -66,7 +67,7 @@ module _ (s : Params) (ok : Proper s) (table : List ℕ) (P : Powers s table) wh
     unfolding constantBit constantEntry residual
     constantBit-is k h =
         let q : ℕ = unstack s k in
-        let hq : q < order s = unstack-lt s l ok k h in
+        let hq : q < order s = unstack-lt s ok k h in
         ap₂ bitSum (column-digit k h)
         (ap (λ (p : ℕ). digit (getD rows (p % s .M) 0) (s .r) (p / s .M)) (sent q hq)
         ∙ row-digit (preimage (l .parity) (order s) q) (preimage-sent (l .parity) (order s) pp q hq .0))

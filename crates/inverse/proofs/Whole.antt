@@ -16,10 +16,9 @@ use Rattle.staircase.specs.Rules.{entries, wrongEntry}
 use Rattle.staircase.specs.Demand2.{Permutes}
 use Rattle.design.specs.declared.Design.{Design}
 use Rattle.design.specs.Sizes.{paramsOf, orderOf, listsOf}
-use Rattle.design.proofs.Generator.{proper-of}
+use Rattle.design.proofs.Allowed.{proper-of, r-small, order-positive}
 use Rattle.matrix.specs.Packed.{Planes}
 use Rattle.system.specs.Lines.{PartOf}
-use Rattle.positions.proofs.Sizes.{r-small, order-positive}
 use Rattle.products.specs.Products.{Side, leftWrong, rightWrong}
 use Rattle.products.proofs.Search.{firstWhere-same}
 use Rattle.inverse.specs.Fits.{KitFits}

@@ -19,7 +19,7 @@ use Rattle.bch.proofs.Store.{set-each}
 use Rattle.staircase.specs.Lists.{bitSum}
 use Rattle.staircase.specs.System.{rowBytes, inverseEntry}
 use Rattle.staircase.proofs.Matrix.{bitSum-zero}
-use Rattle.staircase.proofs.Fill.{stretch-end}
+use Rattle.staircase.proofs.Bounds.{stretch-end}
 use Rattle.staircase.proofs.Entries.{eqb-iff}
 use Rattle.matrix.specs.Packed.{packedBit, planeBit, paddedEntry}
 use Rattle.matrix.proofs.Bits.{bit, bit-lt, bit-zero, bit-added}

@@ -52,7 +52,7 @@ module _ (s : Params) (ok : Proper s) (l : Interleavers)
   source-row : (list : List ℕ) → Permutes (order s) (λ p. getD list p 0) → (e : ℕ) → e < order s → preimage list (order s) (unstack s e) / s .M < s .r
   source-row list perm e h =
       div-lt-iff-lt-mul (ok .mpos) .1
-      (subst (λ (z : ℕ). preimage list (order s) (unstack s e) < z) (mul-comm (s .M) (s .r)) (preimage-sent list (order s) perm (unstack s e) (unstack-lt s l ok e h) .0))
+      (subst (λ (z : ℕ). preimage list (order s) (unstack s e) < z) (mul-comm (s .M) (s .r)) (preimage-sent list (order s) perm (unstack s e) (unstack-lt s ok e h) .0))
 
   lineEntry-sums : (column : Bool) (c : ℕ → ℕ → ℕ) → ((a b : ℕ) → a < s .r → b < s .r → lineDigit part column a b ≡ c a b) → (list : List ℕ) (p e k : ℕ) → p / s .M < s .r
       → lineEntry part column list (s .M) p e k

@@ -8,7 +8,7 @@ use Prim.Native.Nat.{ℕ, _*_, _-_, _≤_}
 use lib.ListN.{length, take, drop}
 use Rattle.design.specs.Sizes.{paramsOf}
 use Rattle.positions.proofs.Parts.{part-within, middle-is}
-use Rattle.positions.proofs.Sizes.{r-small}
+use Rattle.design.proofs.Allowed.{r-small}
 use Rattle.inverse.proofs.Link.{part-of}
 use Rattle.inverse.proofs.check_inverse.Statement.{statement}
 use Rattle.inverse.proofs.check_inverse.Tie as tie

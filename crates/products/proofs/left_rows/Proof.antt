@@ -10,7 +10,7 @@ use native.Mathlib.Nat.{zero-mul}
 use lib.ListN.{length, getD}
 use Rattle.staircase.specs.Lists.{firstWhere}
 use Rattle.staircase.specs.Rules.{entries}
-use Rattle.staircase.proofs.Fill.{stretch-end}
+use Rattle.staircase.proofs.Bounds.{stretch-end}
 use Rattle.system.specs.Lines.{unstackOf, lineEntry}
 use Rattle.products.specs.Products.{wrongIn}
 use Rattle.products.proofs.Search.{row-found, row-clean, rows-none}

@@ -11,7 +11,7 @@ use native.Mathlib.Nat.{mul-le-mul-right}
 use lib.ListN.{length, getD}
 use Rattle.staircase.specs.Lists.{firstWhere}
 use Rattle.staircase.specs.Rules.{entries}
-use Rattle.staircase.proofs.Fill.{stretch-end}
+use Rattle.staircase.proofs.Bounds.{stretch-end}
 use Rattle.staircase.proofs.Search.{firstWhere-le}
 use Rattle.system.specs.Lines.{unstackOf, lineEntry}
 use Rattle.products.specs.Products.{wrongIn}
