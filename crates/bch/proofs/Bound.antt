@@ -9,7 +9,7 @@ use mathlib.Core.Path.{_≡_, refl, sym, ap, ap₂, _∙_}
 use mathlib.Core.Logic.{_≢_}
 use mathlib.Core.List.{List, [], _∷_}
 use Prim.Native.Nat.{ℕ, zero, suc, _+_, _-_, _*_, _/_, _%_, _^_, _≤_, _<_}
-use native.Mathlib.Nat.{zero-mul, suc-mul, add-comm, suc-inj, suc-ne-zero, le-refl, le-trans, not-suc-le-zero, zero-lt-suc}
+use native.Mathlib.Nat.{suc-inj, suc-ne-zero, le-refl, le-trans, not-suc-le-zero, zero-lt-suc}
 use native.Mathlib.Decide.{ℕ-discrete}
 use native.Mathlib.Omega.{arith}
 use lib.Arith.{bin-ind}
@@ -18,60 +18,50 @@ use lib.ListN.{length}
 use Rattle.bch.specs.Polynomial.{Bits, _⊕_, timesX, iterate, polyAt, horner, remainder}
 use Rattle.bch.specs.Code.{distance, unlike}
 use Rattle.bch.proofs.Sum.{bit-ind, ⊕-self, ⊕-zero-right, ⊕-below}
-use Rattle.bch.proofs.Polynomial.{linear-zero, iterate-linear, iterate-add, polyAt-zero}
-use Rattle.bch.proofs.Field.{Primitive, mul, field, timesX-lin, two-below, iterate-below, iterate-mul, power-injective, power-nonzero}
+use Rattle.bch.proofs.Polynomial.{linear-zero, iterate-add, iterate-iterate, polyAt-zero}
+use Rattle.bch.proofs.Modulus.{iterate-timesX-linear, iterate-timesX-below}
+use Rattle.bch.proofs.Field.{Primitive, mul, field, two-below, power-below, iterate-mul, power-injective, power-nonzero}
 use Rattle.bch.proofs.Algebra.{square-sum, mul-zero, mul-left-comm}
 use Rattle.bch.proofs.Vandermonde.{All, Distinct, powerSum, vandermonde}
 use Rattle.bch.proofs.Distance.{distance-comm, distance-triangle, distance-zero}
 use Rattle.bch.proofs.Word.{sumWord, sumWord-length, sumWord-bits, horner-cons, remainder-root, remainder-sum}
 
--- the steps of a map of i steps
-pub times-times : (T : ℕ → ℕ) (i k v : ℕ) → iterate (iterate T i) k v ≡ iterate T (k * i) v
-unfolding iterate
-times-times T i zero v = ap (λ n. iterate T n v) (sym (zero-mul i))
-times-times T i (suc k) v =
-    ap (iterate T i) (times-times T i k v) ∙ sym (iterate-add T i (k * i) v) ∙ ap (λ n. iterate T n v) (add-comm i (k * i) ∙ sym (suc-mul k i))
-
--- the powers of x that the ones of a word carry
-unfoldable pub locators : (ℕ → ℕ) → List ℕ → List ℕ
+locators : (ℕ → ℕ) → List ℕ → List ℕ
 locators X [] = []
 locators X (zero ∷ w) = locators X w
 locators X (suc b ∷ w) = iterate X (length w) 1 ∷ locators X w
 
 module _ (f d : ℕ) (P : Primitive f d) where
   -- ---- values of a word are power sums
-  times-times-below : (k i v : ℕ) → v < 2 ^ d → iterate (iterate (timesX f d) k) i v < 2 ^ d
-  times-times-below k i v h = rw (times-times (timesX f d) k i v) (iterate-below f d P (i * k) v h)
+  steps-below : (k i v : ℕ) → v < 2 ^ d → iterate (iterate (timesX f d) k) i v < 2 ^ d
+  steps-below k i v h = rw (iterate-iterate (timesX f d) k i v) (iterate-timesX-below f d (P .degree) (i * k) v h)
 
   iterated : (k i v : ℕ) → v < 2 ^ d → iterate (mul f d (iterate (timesX f d) k 1)) i v ≡ iterate (iterate (timesX f d) k) i v
   unfolding iterate
   iterated k zero v h = refl
   iterated k (suc i) v h =
       ap (mul f d (iterate (timesX f d) k 1)) (iterated k i v h)
-      ∙ sym (iterate-mul f d P k (iterate (iterate (timesX f d) k) i v) (times-times-below k i v h))
+      ∙ sym (iterate-mul f d P k (iterate (iterate (timesX f d) k) i v) (steps-below k i v h))
 
-  pub power-below : (k : ℕ) → iterate (timesX f d) k 1 < 2 ^ d
-  power-below k = iterate-below f d P k 1 (two-below f d P)
-
-  pub term : (k i : ℕ)
+  term : (k i : ℕ)
       → iterate (mul f d (iterate (timesX f d) k 1)) i (mul f d 1 (iterate (timesX f d) k 1)) ≡ iterate (iterate (timesX f d) (suc i)) k 1
   term k i =
-      ap (iterate (mul f d (iterate (timesX f d) k 1)) i) (field f d P .mul-one (iterate (timesX f d) k 1) (power-below k))
-      ∙ iterated k i (iterate (timesX f d) k 1) (power-below k)
-      ∙ times-times (timesX f d) k i (iterate (timesX f d) k 1)
+      ap (iterate (mul f d (iterate (timesX f d) k 1)) i) (field f d P .mul-one (iterate (timesX f d) k 1) (power-below f d P k))
+      ∙ iterated k i (iterate (timesX f d) k 1) (power-below f d P k)
+      ∙ iterate-iterate (timesX f d) k i (iterate (timesX f d) k 1)
       ∙ sym (iterate-add (timesX f d) (i * k) k 1)
       ∙ ap (λ n. iterate (timesX f d) n 1) (omega arith)
-      ∙ sym (times-times (timesX f d) (suc i) k 1)
+      ∙ sym (iterate-iterate (timesX f d) (suc i) k 1)
 
   power-sums : (i : ℕ) (w : List ℕ) → Bits w → powerSum (mul f d) (mul f d 1) i (locators (timesX f d) w) ≡ horner (iterate (timesX f d) (suc i)) 0 w
   unfolding locators powerSum horner
   power-sums i [] h = refl
   power-sums i (zero ∷ w) h =
       power-sums i w (λ k. h (suc k))
-      ∙ ap (λ n. horner (iterate (timesX f d) (suc i)) n w) (sym (⊕-zero-right (iterate (timesX f d) (suc i) 0) ∙ linear-zero (iterate (timesX f d) (suc i)) (iterate-linear (timesX f d) (timesX-lin f d P) (suc i))))
+      ∙ ap (λ n. horner (iterate (timesX f d) (suc i)) n w) (sym (⊕-zero-right (iterate (timesX f d) (suc i) 0) ∙ linear-zero (iterate (timesX f d) (suc i)) (iterate-timesX-linear f d (suc i))))
   power-sums i (suc zero ∷ w) h =
       ap₂ _⊕_ (term (length w) i) (power-sums i w (λ k. h (suc k)))
-      ∙ sym (horner-cons (iterate (timesX f d) (suc i)) (iterate-linear (timesX f d) (timesX-lin f d P) (suc i)) 1 w)
+      ∙ sym (horner-cons (iterate (timesX f d) (suc i)) (iterate-timesX-linear f d (suc i)) 1 w)
   power-sums i (suc (suc b) ∷ w) h = absurd (omega (arith, h 0))
 
   -- ---- the locators differ
@@ -79,7 +69,7 @@ module _ (f d : ℕ) (P : Primitive f d) where
   unfolding locators
   loc-below [] = tt
   loc-below (zero ∷ w) = loc-below w
-  loc-below (suc b ∷ w) = (power-below (length w), loc-below w)
+  loc-below (suc b ∷ w) = (power-below f d P (length w), loc-below w)
 
   loc-apart : (k : ℕ) → k < 2 ^ d - 1 → (w : List ℕ) → length w ≤ k → All (λ y. y ≢ iterate (timesX f d) k 1) (locators (timesX f d) w)
   unfolding locators
@@ -96,18 +86,18 @@ module _ (f d : ℕ) (P : Primitive f d) where
   loc-distinct (zero ∷ w) h = loc-distinct w (omega arith)
   loc-distinct (suc b ∷ w) h = (loc-apart (length w) h w (le-refl (length w)), loc-distinct w (omega arith))
 
-  none : (w : List ℕ) → length w ≤ 2 ^ d - 1 → All (λ x. mul f d 1 x ≡ 0) (locators (timesX f d) w) → length (locators (timesX f d) w) ≡ 0
+  none : (w : List ℕ) → All (λ x. mul f d 1 x ≡ 0) (locators (timesX f d) w) → length (locators (timesX f d) w) ≡ 0
   unfolding locators
-  none [] h z = refl
-  none (zero ∷ w) h z = none w (omega arith) z
-  none (suc b ∷ w) h z =
-      absurd (power-nonzero f d P (length w) (omega arith) (sym (field f d P .mul-one (iterate (timesX f d) (length w) 1) (power-below (length w))) ∙ z .0))
+  none [] z = refl
+  none (zero ∷ w) z = none w z
+  none (suc b ∷ w) z =
+      absurd (power-nonzero f d P (length w) (sym (field f d P .mul-one (iterate (timesX f d) (length w) 1) (power-below f d P (length w))) ∙ z .0))
 
   -- a word with at most n ones is 0 if its values at the first n powers are
-  pub light : (n : ℕ) (w : List ℕ) → Bits w → length w ≤ 2 ^ d - 1 → length (locators (timesX f d) w) ≤ n
+  light : (n : ℕ) (w : List ℕ) → Bits w → length w ≤ 2 ^ d - 1 → length (locators (timesX f d) w) ≤ n
       → ((i : ℕ) → i < n → horner (iterate (timesX f d) (suc i)) 0 w ≡ 0) → length (locators (timesX f d) w) ≡ 0
   light n w hw hl hn h =
-      none w hl
+      none w
       (vandermonde d (mul f d) (field f d P) (locators (timesX f d) w) (mul f d 1) (loc-below w) (loc-distinct w hl) (field f d P .mul-below 1)
       (λ i l. power-sums i w hw ∙ h i (omega arith)))
 
@@ -129,12 +119,12 @@ module _ (f d : ℕ) (P : Primitive f d) where
   unfolding horner
   square-value i [] hw s h = refl
   square-value i (b ∷ w) hw s h =
-      square-value i w (λ k. hw (suc k)) (iterate (timesX f d) i s ⊕ b) (⊕-below d (iterate (timesX f d) i s) b (iterate-below f d P i s h) (le-trans (hw 0) (two-below f d P)))
+      square-value i w (λ k. hw (suc k)) (iterate (timesX f d) i s ⊕ b) (⊕-below d (iterate (timesX f d) i s) b (iterate-timesX-below f d (P .degree) i s h) (le-trans (hw 0) (two-below f d P)))
       ∙ ap (λ n. horner (iterate (timesX f d) (i + i)) n w)
       (square-sum d (mul f d) (field f d P) (iterate (timesX f d) i s) b ∙ ap₂ _⊕_ (square-times i s h) (square-bit b (hw 0)))
 
   -- the values at the odd powers settle those at the even ones
-  pub even-values : (n : ℕ) (w : List ℕ) → Bits w → ((i : ℕ) → i % 2 ≡ 1 → i < n → horner (iterate (timesX f d) i) 0 w ≡ 0)
+  even-values : (n : ℕ) (w : List ℕ) → Bits w → ((i : ℕ) → i % 2 ≡ 1 → i < n → horner (iterate (timesX f d) i) 0 w ≡ 0)
       → (i : ℕ) → 0 < i → i < n → horner (iterate (timesX f d) i) 0 w ≡ 0
   even-values n w hw odd =
       bin-ind (λ (i : ℕ). 0 < i → i < n → horner (iterate (timesX f d) i) 0 w ≡ 0) (λ h l. absurd (not-suc-le-zero h))
@@ -167,11 +157,11 @@ module _ (f d : ℕ) (P : Primitive f d) where
       loc-cons a b (hv 0) (hw 0) (sumWord v w) ∙ ap (λ n. unlike a b + n) (loc-distance v w (λ k. hv (suc k)) (λ k. hw (suc k)) (suc-inj h))
 
   module _ (g r t : ℕ) (roots : (i : ℕ) → i % 2 ≡ 1 → i < 2 * t → polyAt (iterate (timesX f d) i) g 1 ≡ 0) where
-    pub codeword-values : (w : List ℕ) → Bits w → remainder g r w ≡ 0 → (i : ℕ) → 0 < i → i < 2 * t + 1 → horner (iterate (timesX f d) i) 0 w ≡ 0
+    codeword-values : (w : List ℕ) → Bits w → remainder g r w ≡ 0 → (i : ℕ) → 0 < i → i < 2 * t + 1 → horner (iterate (timesX f d) i) 0 w ≡ 0
     codeword-values w hw hc =
         even-values (2 * t + 1) w hw
         (λ i o l.
-        sym (remainder-root (iterate (timesX f d) i) (iterate-linear (timesX f d) (timesX-lin f d P) i) g r (roots i o (omega arith)) w hw)
+        sym (remainder-root (iterate (timesX f d) i) (iterate-timesX-linear f d i) g r (roots i o (omega arith)) w hw)
         ∙ ap (λ n. polyAt (iterate (timesX f d) i) n 1) hc ∙ polyAt-zero (iterate (timesX f d) i) 1)
 
     -- the BCH bound

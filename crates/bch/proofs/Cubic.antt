@@ -18,8 +18,8 @@ use Rattle.bch.specs.Locator.{Solution, TripleOf, PowerIs}
 use Rattle.bch.proofs.Sum.{⊕·simp, ⊕-self, ⊕-equal, ⊕-below}
 use Rattle.bch.proofs.Field.{Field, mul}
 use Rattle.bch.proofs.Primitive.{field-laws, every-power}
-use Rattle.bch.proofs.Algebra.{sum-mul, mul-zero, mul-left-comm, cancel}
-use Rattle.bch.proofs.Locator.{power-below, power-not-zero, power-add, power-square, power-cube, quotient, pair-sum}
+use Rattle.bch.proofs.Algebra.{sum-mul, mul-zero, zero-mul, mul-left-comm, cancel}
+use Rattle.bch.proofs.Locator.{power-below, power-not-zero, power-add, power-square, power-cube, power-fifth, quotient, pair-sum}
 
 module _ (m : ℕ) (_·_ : ℕ → ℕ → ℕ) (F : Field m _·_) where
   infixl 70 _·_
@@ -39,7 +39,7 @@ module _ (m : ℕ) (_·_ : ℕ → ℕ → ℕ) (F : Field m _·_) where
   scaled c z = simp (F .mul-sum, F .mul-assoc, mul-left-comm m _·_ F, ⊕·simp)
 
   root-one : (a b : ℕ) → a · (a · a) ⊕ (a · a ⊕ (a · b ⊕ b · b)) · a ⊕ a · (b · (a ⊕ b)) ≡ 0
-  root-one a b = sym (cubic a a b) ∙ ap (λ n. n · ((a ⊕ b) · (a ⊕ (a ⊕ b)))) (⊕-self a) ∙ F .mul-comm 0 _ ∙ mul-zero m _·_ F _
+  root-one a b = sym (cubic a a b) ∙ ap (λ n. n · ((a ⊕ b) · (a ⊕ (a ⊕ b)))) (⊕-self a) ∙ zero-mul m _·_ F _
 
   -- a product of three is 0 only where one of them is
   zero-of-three : (a b c : ℕ) → a < 2 ^ m → b < 2 ^ m → c < 2 ^ m → a · (b · c) ≡ 0 → (a ≡ 0) ⊎ ((b ≡ 0) ⊎ (c ≡ 0))
@@ -64,15 +64,6 @@ module _ (m : ℕ) (low : 4 ≤ m) (high : m ≤ 10) where
 
   F : Field m (mul (fieldPoly m) m)
   F = field-laws m low high
-
-  power-fifth : (e : ℕ) → power m (5 * e) ≡ power m e · (power m e · power m e · (power m e · power m e))
-  power-fifth e =
-      let q : 5 * e ≡ e + (2 * e + 2 * e) = omega arith in
-      ap (power m) q ∙ power-add m low high e (2 * e + 2 * e)
-      ∙ ap (λ n. power m e · n) (power-add m low high (2 * e) (2 * e) ∙ ap₂ (λ (a b : ℕ). a · b) (power-square m low high e) (power-square m low high e))
-
-  times-zero : (a : ℕ) → 0 · a ≡ 0
-  times-zero a = F .mul-comm 0 a ∙ mul-zero m _·_ F a
 
   by-power : (k s p : ℕ) (f : ℕ → ℕ) → s < 2 ^ m → PowerIs m k s p → f 0 ≡ 0 → ((e : ℕ) → power m (k * e) ≡ f (power m e)) → p ≡ f s
   by-power k s p f below P f-zero f-power = go (ℕ-discrete s 0)
@@ -120,15 +111,15 @@ module _ (m : ℕ) (low : 4 ≤ m) (high : m ≤ 10) where
 
     defect : {p : ℕ} → PowerIs m 3 s p → p ⊕ c ≡ a · (b · (a ⊕ b))
     defect {p} P =
-        ap₂ _⊕_ (by-power 3 s p (λ n. n · (n · n)) s-below P (times-zero (0 · 0)) (power-cube m low high) ∙ ap (λ n. n · (n · n)) (T .sum))
+        ap₂ _⊕_ (by-power 3 s p (λ n. n · (n · n)) s-below P (zero-mul m _·_ F (0 · 0)) (power-cube m low high) ∙ ap (λ n. n · (n · n)) (T .sum))
         (T .cubes ∙ ap₂ _⊕_ (power-cube m low high i) (ap₂ _⊕_ (power-cube m low high j) (power-cube m low high k)))
         ∙ three-cubes m _·_ F x y z
 
     fifth-defect : {q : ℕ} → PowerIs m 5 s q → q ⊕ f ≡ a · (b · (a ⊕ b)) · (a · a ⊕ (a · b ⊕ b · b))
     fifth-defect {q} Q =
         ap₂ _⊕_
-        (by-power 5 s q (λ n. n · (n · n · (n · n))) s-below Q (times-zero (0 · 0 · (0 · 0))) power-fifth ∙ ap (λ n. n · (n · n · (n · n))) (T .sum))
-        (T .fifths ∙ ap₂ _⊕_ (power-fifth i) (ap₂ _⊕_ (power-fifth j) (power-fifth k)))
+        (by-power 5 s q (λ n. n · (n · n · (n · n))) s-below Q (zero-mul m _·_ F (0 · 0 · (0 · 0))) (power-fifth m low high) ∙ ap (λ n. n · (n · n · (n · n))) (T .sum))
+        (T .fifths ∙ ap₂ _⊕_ (power-fifth m low high i) (ap₂ _⊕_ (power-fifth m low high j) (power-fifth m low high k)))
         ∙ three-fifths m _·_ F x y z
 
     pub cubic-defect : {p : ℕ} → PowerIs m 3 s p → p ⊕ c ≢ 0

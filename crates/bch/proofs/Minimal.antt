@@ -1,71 +1,35 @@
--- The minimal polynomials and the generators.
---   least-is           what the least number is that passes a test
---   minimals           the minimal polynomials as numbers
---   minimal            they are the least polynomials with their roots, of degree m: one computed test over 21 polynomials. A polynomial that
---                      takes power i of the root to the root shows that no smaller one vanishes there.
---   Fits               what rule 2 leaves of m and t
---   generator-degree, generator-roots   for all m and t of a design
+-- The minimal polynomials.
+--   minimals   the minimal polynomials as numbers
+--   Fits       what rule 2 leaves of m and t
+--   minimal    they are the least polynomials with their roots, of degree m: one computed test over 21 polynomials. A polynomial that takes
+--              power i of the root to the root shows that no smaller one vanishes there.
 -- Assumes nothing.
 use mathlib.Core.Path.{_≡_, refl, sym, ap, ap₂, _∙_, subst⁻¹}
-use mathlib.Core.Logic.{⊎-elim}
-use mathlib.Core.Bool.{Bool, true, false, _&&_, _||_}
+use mathlib.Core.Bool.{Bool, _&&_, _||_}
 use mathlib.Core.List.{List, [], _∷_}
-use Prim.Native.Nat.{ℕ, zero, suc, _+_, _-_, _*_, _/_, _%_, _^_, _≤_, _<_, zero-le}
-use native.Mathlib.Nat.{zero-lt-suc, mod-lt, div-eq-of-lt, zero-mul, one-mul, le-refl, pow-suc, suc-add, mul-suc, mul-zero, div-lt-iff-lt-mul, lt-of-lt-of-le, le-trans, div-div-eq-div-mul, mul-div-mul-right, zero-add, div-one, eq-or-lt-of-le, div-eq-of-lt-le, pow-succ'}
+use Prim.Native.Nat.{ℕ, suc, _+_, _-_, _*_, _/_, _%_, _^_, _≤_, _<_, zero-le}
+use native.Mathlib.Nat.{le-trans, div-eq-of-lt-le}
 use native.Mathlib.Decide.{decLt}
 use native.Mathlib.Omega.{arith}
-use lib.Arith.{lt-one}
-use lib.Pow.{pow-pos, pow-mono, split, pow-add}
-use lib.Bits.{xor-shifted}
+use lib.Pow.{pow-mono, pow-add}
 use lib.Dec.{T, eqb, leb, eqb→eq, leb→le}
+use lib.Ieee.Fits.{and-l, and-r}
 use lib.ListN.{getD}
-use Rattle.bch.specs.Polynomial.{_⊕_, _⊗_, timesX, iterate, polyAt, polyAtDigits}
+use Rattle.bch.specs.Polynomial.{_⊕_, timesX, iterate, polyAt, polyAtDigits}
 use Rattle.bch.specs.Field.{fieldPoly, valueAt}
-use Rattle.bch.specs.Code.{leastFrom, minimalPoly, generator}
-use Rattle.bch.proofs.Sum.{mod2-bit, bit-ind, ⊕-self, ⊕-zero-right, ⊕-equal, ⊕-shift, ⊕-double}
-use Rattle.bch.proofs.Polynomial.{linear-zero, linear-bit, iterate-linear, polyAt-zero, polyAt-sum, polyAt-linear, polyAt-comm, polyAt-product, polyAt-horner, product-bit}
-use Rattle.bch.proofs.Modulus.{timesX-linear, below-of-quotient, degree-high, degree-low}
-use Rattle.bch.proofs.Field.{and-l, and-r}
-use Rattle.bch.proofs.Primitive.{allFrom, all-from}
+use Rattle.bch.specs.Code.{leastFrom, minimalPoly}
+use Rattle.bch.proofs.Tests.{or-r, allFrom, all-from, least-is}
+use Rattle.bch.proofs.Sum.{⊕-self, ⊕-equal, ⊕-shift}
+use Rattle.bch.proofs.Polynomial.{polyAt-zero, polyAt-sum}
+use Rattle.bch.proofs.Modulus.{iterate-timesX-linear, below-of-quotient, degree-high, degree-low}
+use Rattle.bch.proofs.PowerSum.{xorSum-same, linear-bits}
 
-pub is-true : (b : Bool) → T b → b ≡ true
-is-true true t = refl
-is-true false t = absurd t
-
-pub is-false : (b : Bool) → (T b → ⊥) → b ≡ false
-is-false true f = absurd (f tt)
-is-false false f = refl
-
--- ---- the least number that passes a test
-pub least-is : (P : ℕ → Bool) (n a c : ℕ) → a ≤ c → c < a + n → T (P c) → ((p : ℕ) → a ≤ p → p < c → T (P p) → ⊥) → leastFrom P n a ≡ c
-unfolding leastFrom
-least-is P zero a c h l t none = absurd (omega arith)
-least-is P (suc n) a c h l t none =
-    ⊎-elim
-    (λ (e : a ≡ c). first (subst⁻¹ (λ k. T (P k)) e t) ∙ e)
-    (λ (k : a < c). next (none a (le-refl a) k) ∙ least-is P n (suc a) c k (omega arith) t (λ p q. none p (omega arith)))
-    (eq-or-lt-of-le h)
-  where
-    first : T (P a) → leastFrom P (suc n) a ≡ a
-    first t = rw (is-true (P a) t, leastFrom)
-
-    next : (T (P a) → ⊥) → leastFrom P (suc n) a ≡ leastFrom P n (suc a)
-    next f = rw (is-false (P a) f, leastFrom)
-
-by-parts : (p m : ℕ) → p / 2 ^ m * 2 ^ m ⊕ p % 2 ^ m ≡ p
-unfolding _⊕_
-by-parts p m = xor-shifted (p / 2 ^ m) m (p % 2 ^ m) (mod-lt p (pow-pos m)) ∙ split p m
-
--- ---- a linear map that keeps the powers of 2 keeps every number
-pub keeps : (K : ℕ → ℕ) → ((a b : ℕ) → K (a ⊕ b) ≡ K a ⊕ K b) → (m : ℕ) → ((k : ℕ) → k < m → K (2 ^ k) ≡ 2 ^ k) → (p : ℕ) → p < 2 ^ m → K p ≡ p
-keeps K lin zero h p l = ap K (lt-one l) ∙ linear-zero K lin ∙ sym (lt-one l)
-keeps K lin (suc m) h p l =
-    let x : ℕ = p / 2 ^ m in
-    let y : ℕ = p % 2 ^ m in
-    let b : x < 2 = div-lt-iff-lt-mul (pow-pos m) .1 (omega arith) in
-    ap K (sym (by-parts p m)) ∙ lin (x * 2 ^ m) y
-    ∙ ap₂ _⊕_ (linear-bit K lin x (2 ^ m) b ∙ ap (λ n. x * n) (h m (le-refl (suc m)))) (keeps K lin m (λ k i. h k (omega arith)) y (mod-lt p (pow-pos m)))
-    ∙ by-parts p m
+-- a linear map that keeps the powers of 2 keeps every number
+keeps : (K : ℕ → ℕ) → ((a b : ℕ) → K (a ⊕ b) ≡ K a ⊕ K b) → (m : ℕ) → ((k : ℕ) → k < m → K (2 ^ k) ≡ 2 ^ k) → (p : ℕ) → p < 2 ^ m → K p ≡ p
+keeps K lin m h p l =
+    linear-bits m K lin p l
+    ∙ xorSum-same m (λ k. (p / 2 ^ k % 2) * K (2 ^ k)) (λ k. (p / 2 ^ k % 2) * 2 ^ k) (λ k i. ap (λ n. p / 2 ^ k % 2 * n) (h k i))
+    ∙ sym (linear-bits m (λ v. v) (λ a b. refl) p l)
 
 -- ---- a polynomial c of degree m that is 0 at T, and no polynomial of a lower degree is, is the least
 -- T undone: v as a polynomial in the product with q modulo c
@@ -131,10 +95,6 @@ tested : T (allFrom (λ m. allFrom (minimalTest m) 0 3) 4 7)
 unfolding allFrom minimalTest minimals undoing undo valueAt fieldPoly polyAt polyAtDigits iterate timesX _⊕_
 tested = tt
 
-pub or-r : (a b : Bool) → T (a || b) → (T a → ⊥) → T b
-or-r true b t f = absurd (f tt)
-or-r false b t f = t
-
 pub record Minimal (m i c : ℕ) : Type 0 where
   pub is-minimal : minimalPoly m i ≡ c
   pub degree : c / 2 ^ m ≡ 1
@@ -154,64 +114,8 @@ minimal m t lo hi ht fits =
     let deg : c / 2 ^ m ≡ 1 = eqb→eq (c / 2 ^ m) 1 (and-l (eqb (c / 2 ^ m) 1) _ t₂) in
     let van : valueAt m i c ≡ 0 = eqb→eq (valueAt m i c) 0 (and-l (eqb (valueAt m i c) 0) _ t₃) in
     let is : minimalPoly m i ≡ c =
-    minimal-is T′ (iterate-linear (timesX (fieldPoly m) m) (timesX-linear (fieldPoly m) m) i) m c q (omega arith) deg van
+    minimal-is T′ (iterate-timesX-linear (fieldPoly m) m i) m c q (omega arith) deg van
     (λ k l. eqb→eq (undo c q m (valueAt m i (2 ^ k))) (2 ^ k)
     (all-from (λ k. eqb (undo c q m (valueAt m i (2 ^ k))) (2 ^ k)) 0 m (and-r (eqb (valueAt m i c) 0) _ t₃) k zero-le (omega arith)))
     in
     record { is-minimal = is; degree = deg; vanishes = van }
-
--- ---- the degree of a product
-product-horner : (p q : ℕ) → p ⊗ q ≡ (p / 2 ⊗ q) * 2 ⊕ (p % 2) * q
-unfolding _⊗_
-product-horner p q = polyAt-horner (λ v. v * 2) ⊕-double p q
-
-pub product-degree : (a b p q : ℕ) → p / 2 ^ a ≡ 1 → q / 2 ^ b ≡ 1 → (p ⊗ q) / 2 ^ (a + b) ≡ 1
-product-degree zero b p q hp hq =
-    ap (λ n. n ⊗ q / 2 ^ (0 + b)) (sym (div-one p) ∙ hp) ∙ ap (λ n. n / 2 ^ (0 + b)) (product-bit 1 q (le-refl 2) ∙ one-mul q)
-    ∙ ap (λ n. q / 2 ^ n) (zero-add b) ∙ hq
-product-degree (suc a) b p q hp hq =
-    ap (λ n. n / 2 ^ (suc a + b)) (product-horner p q) ∙ ⊕-shift ((p / 2 ⊗ q) * 2) ((p % 2) * q) (suc a + b)
-    ∙ ap₂ _⊕_
-    (ap (λ n. (p / 2 ⊗ q) * 2 / n) (ap (λ n. 2 ^ n) (suc-add a b) ∙ pow-suc 2 (a + b)) ∙ mul-div-mul-right (p / 2 ⊗ q) (2 ^ (a + b)) (zero-lt-suc 1)
-    ∙ product-degree a b (p / 2) q (div-div-eq-div-mul p 2 (2 ^ a) ∙ ap (λ n. p / n) (sym (pow-succ' 2 a)) ∙ hp) hq)
-    (div-eq-of-lt (lt-of-lt-of-le (small (p % 2) (mod2-bit p)) (pow-mono {i = suc b} (omega arith))))
-    ∙ ⊕-zero-right 1
-  where
-    small : (x : ℕ) → x < 2 → x * q < 2 ^ suc b
-    small x h = bit-ind (λ (x : ℕ). x * q < 2 ^ suc b) (rw zero-mul (pow-pos (suc b))) (rw (one-mul, pow-succ') (degree-high q b hq)) x h
-
--- ---- the generator
-pub generator-degree : (m t : ℕ) → 4 ≤ m → m ≤ 10 → t ≤ 3 → Fits m t → generator m t / 2 ^ (m * t) ≡ 1
-unfolding generator
-generator-degree m zero lo hi ht fits = ap (λ n. 1 / 2 ^ n) (mul-zero m)
-generator-degree m (suc t) lo hi ht fits =
-    let M = minimal m t lo hi ht fits in
-    ap (λ n. (generator m t ⊗ minimalPoly m (2 * t + 1)) / 2 ^ n) (mul-suc m t)
-    ∙ product-degree (m * t) m (generator m t) (minimalPoly m (2 * t + 1)) (generator-degree m t lo hi (omega arith) (omega arith))
-    (ap (λ n. n / 2 ^ m) (M .is-minimal) ∙ M .degree)
-
-pub generator-roots : (m t : ℕ) → 4 ≤ m → m ≤ 10 → t ≤ 3 → Fits m t → (i : ℕ) → i % 2 ≡ 1 → i < 2 * t → valueAt m i (generator m t) ≡ 0
-unfolding generator valueAt
-generator-roots m zero lo hi ht fits i o l = absurd (omega arith)
-generator-roots m (suc t) lo hi ht fits i o l =
-    polyAt-product X lin G M 1
-    ∙ ⊎-elim
-    (λ (e : i ≡ 2 * t + 1). ap (polyAt X G) (ap (λ n. polyAt (iterate (timesX (fieldPoly m) m) n) M 1) e ∙ last) ∙ linear-zero (polyAt X G) (polyAt-linear X lin G))
-    (λ (k : i < 2 * t + 1).
-    polyAt-comm X lin G M 1 ∙ ap (polyAt X M) (generator-roots m t lo hi (omega arith) (omega arith) i o (omega arith)) ∙ linear-zero (polyAt X M) (polyAt-linear X lin M))
-    (eq-or-lt-of-le {n = i} {m = 2 * t + 1} (omega arith))
-  where
-    X : ℕ → ℕ
-    X = iterate (timesX (fieldPoly m) m) i
-
-    lin : (a b : ℕ) → X (a ⊕ b) ≡ X a ⊕ X b
-    lin = iterate-linear (timesX (fieldPoly m) m) (timesX-linear (fieldPoly m) m) i
-
-    G : ℕ
-    G = generator m t
-
-    M : ℕ
-    M = minimalPoly m (2 * t + 1)
-
-    last : polyAt (iterate (timesX (fieldPoly m) m) (2 * t + 1)) M 1 ≡ 0
-    last = let K = minimal m t lo hi ht fits in ap (valueAt m (2 * t + 1)) (K .is-minimal) ∙ K .vanishes

@@ -15,11 +15,9 @@ use lib.Pow.{pow-pos, pow-mono}
 use lib.ListN.{length}
 use Rattle.bch.specs.Polynomial.{Bits, _⊕_, _⊗_, timesX, iterate, polyAt, horner, remainder}
 use Rattle.bch.proofs.Sum.{⊕·simp, mod2-bit, ⊕-assoc, ⊕-comm, ⊕-self, ⊕-zero-right, ⊕-swap, ⊕-below, ⊕-double}
-use Rattle.bch.proofs.Polynomial.{linear-zero, linear-bit, polyAt-bit, polyAt-double, polyAt-sum, polyAt-linear, polyAt-map, polyAt-product, polyAt-zero, product-double, product-sum-l, product-bit, product-zero}
+use Rattle.bch.proofs.Polynomial.{linear-zero, linear-bit, iterate-inner, polyAt-bit, polyAt-double, polyAt-sum, polyAt-linear, polyAt-map, polyAt-product, polyAt-zero, product-double, product-sum-l, product-bit, product-zero}
 use Rattle.bch.proofs.Modulus.{timesX-linear, timesX-below, polyAt-modulus}
-use Rattle.bch.proofs.Field.{iterate-inner}
 
--- the sum of two words, place by place
 unfoldable pub sumWord : List ℕ → List ℕ → List ℕ
 sumWord [] w = []
 sumWord (a ∷ v) [] = []
@@ -39,7 +37,7 @@ sumWord-bits (a ∷ v) (b ∷ w) hv hw zero = ⊕-below 1 a b (hv 0) (hw 0)
 sumWord-bits (a ∷ v) (b ∷ w) hv hw (suc k) = sumWord-bits v w (λ j. hv (suc j)) (λ j. hw (suc j)) k
 
 module _ (T : ℕ → ℕ) (lin : (a b : ℕ) → T (a ⊕ b) ≡ T a ⊕ T b) where
-  pub horner-sum : (v w : List ℕ) (s u : ℕ) → length v ≡ length w → horner T (s ⊕ u) (sumWord v w) ≡ horner T s v ⊕ horner T u w
+  horner-sum : (v w : List ℕ) (s u : ℕ) → length v ≡ length w → horner T (s ⊕ u) (sumWord v w) ≡ horner T s v ⊕ horner T u w
   unfolding horner sumWord
   horner-sum [] [] s u h = refl
   horner-sum [] (b ∷ w) s u h = absurd (suc-ne-zero (length w) (sym h))
@@ -104,7 +102,6 @@ module _ (T : ℕ → ℕ) (lin : (a b : ℕ) → T (a ⊕ b) ≡ T a ⊕ T b) w
   power-value (suc e) = ap (λ n. polyAt T n 1) (pow-suc 2 e) ∙ double-stands (2 ^ e) ∙ ap T (power-value e)
 
 -- ---- division
--- the word as a polynomial
 unfoldable pub wordPoly : List ℕ → ℕ
 wordPoly w = horner (λ v. v * 2) 0 w
 
@@ -125,14 +122,13 @@ module _ (g r : ℕ) where
       (p, ap (λ n. horner (λ v. v * 2) n w) (divide-step q s b) ∙ e)
 
   -- every word is a multiple of g and its remainder
-  pub divide : (w : List ℕ) → (p : ℕ) × (wordPoly w ≡ p ⊗ g ⊕ remainder g r w)
+  divide : (w : List ℕ) → (p : ℕ) × (wordPoly w ≡ p ⊗ g ⊕ remainder g r w)
   unfolding wordPoly remainder
   divide w =
       let (p, e) = divide-from w 0 0 in
       (p, ap (λ n. horner (λ v. v * 2) n w) (sym (⊕-zero-right (0 ⊗ g) ∙ product-zero g)) ∙ e)
 
   module _ (pos : 0 < r) (deg : g / 2 ^ r ≡ 1) where
-    -- g divides a word exactly when the remainder is 0
     pub divides : (w : List ℕ) → Bits w → (p : ℕ) → wordPoly w ≡ p ⊗ g → remainder g r w ≡ 0
     unfolding wordPoly remainder
     divides w hw p e =

@@ -11,7 +11,8 @@ use lib.ListN.{length, take, drop}
 use Rattle.bch.specs.Field.{powerTable}
 use Rattle.bch.specs.Locator.{LogTable, HalfTable, CubicTable, FieldTables}
 use Rattle.bch.proofs.Store.{part-written, part-before}
-use Rattle.logarithms.proofs.Tables.{sizes, powers-length}
+use Rattle.bch.proofs.Powers.{powers-length}
+use Rattle.logarithms.proofs.Tables.{sizes}
 
 module _ (m q : ℕ) (low : 4 ≤ m) (high : m ≤ 10) (powers logs halves cubics l : List ℕ) (powers-are : powers ≡ powerTable m (2 ^ m - 1)) (L : LogTable m logs)
     (H : HalfTable m halves) (C : CubicTable m cubics) (long : length l ≡ 4 * 2 ^ m) (is : q ≡ 2 ^ m) where

@@ -16,7 +16,8 @@ use lib.ListN.{getD}
 use Rattle.bch.specs.Polynomial.{_⊗_}
 use Rattle.bch.specs.Code.{generator}
 use Rattle.bch.proofs.Modulus.{degree-high}
-use Rattle.bch.proofs.Minimal.{Fits, tableAt, minimals, minimal, generator-degree}
+use Rattle.bch.proofs.Minimal.{Fits, tableAt, minimals, minimal}
+use Rattle.bch.proofs.Generator.{generator-degree}
 
 unfoldable pub productAt : ℕ → ℕ → ℕ
 productAt m zero = 1

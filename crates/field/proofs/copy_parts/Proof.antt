@@ -7,7 +7,8 @@ use borrow.Author.Needs.{needs}
 use borrow.Rule.Slice.PartMut.{mid-len}
 use lib.ListN.{length}
 use Rattle.bch.specs.Locator.{LogTable, HalfTable, CubicTable}
-use Rattle.logarithms.proofs.Tables.{sizes, powers-length}
+use Rattle.bch.proofs.Powers.{powers-length}
+use Rattle.logarithms.proofs.Tables.{sizes}
 use Rattle.field.proofs.Quarters.{three-filled-length, quarters-filled}
 use Rattle.field.proofs.copy_parts.Statement.{statement}
 use Rattle.field.proofs.copy_parts.Tie as tie

@@ -4,8 +4,7 @@ use mathlib.Core.Path.{_≡_, refl}
 use Prim.Native.Nat.{_-_, _*_, _≤_}
 use native.Mathlib.Omega.{arith}
 use lib.ListN.{length, getD, length-set}
-use Rattle.remainders.proofs.Tables.{Added, added-more}
-use Rattle.remainders.proofs.Bounds.{spread-bit}
+use Rattle.remainders.proofs.Tables.{spread-bit, Added, added-more}
 use Rattle.remainders.proofs.add_bits.Statement.{statement}
 use Rattle.remainders.proofs.add_bits.Tie as tie
 

@@ -6,8 +6,7 @@ use native.Mathlib.Omega.{arith}
 use lib.Bits.{bitXor}
 use lib.ListN.{length, getD}
 use Rattle.bch.specs.Powers.{xorSum}
-use Rattle.remainders.proofs.Tables.{xorSum-more}
-use Rattle.remainders.proofs.Bounds.{spread-bit}
+use Rattle.remainders.proofs.Tables.{spread-bit, xorSum-more}
 use Rattle.remainders.proofs.dot.Statement.{statement}
 use Rattle.remainders.proofs.dot.Tie as tie
 
