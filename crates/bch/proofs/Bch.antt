@@ -52,7 +52,7 @@ module _ (m t : ℕ) (C : Code m t) where
   degree = generator-degree m t (C .m-low) (C .m-high) (C .t-high) (C .fits)
 
   pub codeword-multiple : (w : List ℕ) → isCodeword (generator m t) (m * t) w ≡ true → (q : ℕ) × (wordPoly w ≡ q ⊗ generator m t)
-  codeword-multiple w c = multiple g (m * t) degree-positive degree w (codeword-zero g (m * t) w c)
+  codeword-multiple w c = multiple g (m * t) w (codeword-zero g (m * t) w c)
 
   pub multiple-codeword : (w : List ℕ) → Bits w → (q : ℕ) → wordPoly w ≡ q ⊗ generator m t → isCodeword (generator m t) (m * t) w ≡ true
   multiple-codeword w hw q e = zero-codeword g (m * t) w (divides g (m * t) degree-positive degree w hw q e)

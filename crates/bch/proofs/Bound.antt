@@ -13,7 +13,6 @@ use native.Mathlib.Nat.{suc-inj, suc-ne-zero, le-refl, le-trans, not-suc-le-zero
 use native.Mathlib.Decide.{ℕ-discrete}
 use native.Mathlib.Omega.{arith}
 use lib.Arith.{bin-ind}
-use lib.Dec.{T}
 use lib.ListN.{length}
 use Rattle.bch.specs.Polynomial.{Bits, _⊕_, timesX, iterate, polyAt, horner, remainder}
 use Rattle.bch.specs.Code.{distance, unlike}

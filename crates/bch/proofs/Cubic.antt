@@ -8,18 +8,22 @@
 -- Assumes nothing.
 use mathlib.Core.Path.{_≡_, sym, ap, ap₂, _∙_, subst⁻¹}
 use mathlib.Core.Logic.{_≢_, _⊎_, inl, inr, ⊎-map}
-use Prim.Native.Nat.{ℕ, zero, suc, _+_, _-_, _*_, _^_, _≤_, _<_}
-use native.Mathlib.Nat.{zero-lt-suc}
+use Prim.Native.Nat.{ℕ, _+_, _-_, _*_, _^_, _≤_, _<_}
 use native.Mathlib.Decide.{ℕ-discrete}
-use native.Mathlib.Omega.{arith}
-use Rattle.bch.specs.Polynomial.{_⊕_, iterate}
+use Rattle.bch.specs.Polynomial.{_⊕_}
 use Rattle.bch.specs.Field.{fieldPoly, power}
 use Rattle.bch.specs.Locator.{Solution, TripleOf, PowerIs}
 use Rattle.bch.proofs.Sum.{⊕·simp, ⊕-self, ⊕-equal, ⊕-below}
 use Rattle.bch.proofs.Field.{Field, mul}
 use Rattle.bch.proofs.Primitive.{field-laws, every-power}
 use Rattle.bch.proofs.Algebra.{sum-mul, mul-zero, zero-mul, mul-left-comm, cancel}
-use Rattle.bch.proofs.Locator.{power-below, power-not-zero, power-add, power-square, power-cube, power-fifth, quotient, pair-sum}
+use Rattle.bch.proofs.Locator.{power-below, power-not-zero, power-add, power-square, power-cube, power-fifth, quotient, solution-positive, pair-sum}
+
+third : (x y z : ℕ) → x ⊕ y ≡ y ⊕ z ⊕ (x ⊕ z)
+third x y z = simp ⊕·simp
+
+others : (x y z : ℕ) → (y ⊕ z ⊕ (x ⊕ (y ⊕ z)) ≡ x) × (x ⊕ z ⊕ (x ⊕ (y ⊕ z)) ≡ y) × (y ⊕ z ⊕ (x ⊕ z) ⊕ (x ⊕ (y ⊕ z)) ≡ z)
+others x y z = (simp ⊕·simp, simp ⊕·simp, simp ⊕·simp)
 
 module _ (m : ℕ) (_·_ : ℕ → ℕ → ℕ) (F : Field m _·_) where
   infixl 70 _·_
@@ -71,17 +75,6 @@ module _ (m : ℕ) (low : 4 ≤ m) (high : m ≤ 10) where
       go : Dec (s ≡ 0) → p ≡ f s
       go (yes z) = P .0 z ∙ sym (ap f z ∙ f-zero)
       go (no d) = let (e, e-below, e-is) = every-power m low high s below d in P .1 e e-below (sym e-is) ∙ f-power e ∙ ap f e-is
-
-  third : (x y z : ℕ) → x ⊕ y ≡ y ⊕ z ⊕ (x ⊕ z)
-  third x y z = simp ⊕·simp
-
-  others : (x y z : ℕ) → (y ⊕ z ⊕ (x ⊕ (y ⊕ z)) ≡ x) × (x ⊕ z ⊕ (x ⊕ (y ⊕ z)) ≡ y) × (y ⊕ z ⊕ (x ⊕ z) ⊕ (x ⊕ (y ⊕ z)) ≡ z)
-  others x y z = (simp ⊕·simp, simp ⊕·simp, simp ⊕·simp)
-
-  positive : (g : ℕ) → power m (2 * g) ⊕ 1 ≢ 0 → 0 < g
-  unfolding power iterate
-  positive zero nz = absurd (nz (⊕-self 1))
-  positive (suc g) nz = zero-lt-suc g
 
   -- three powers of the root, and the cube and the fifth power of their sum
   module _ {s c f i j k : ℕ} (T : TripleOf m s c f i j k) where
@@ -163,7 +156,7 @@ module _ (m : ℕ) (low : 4 ≤ m) (high : m ≤ 10) where
           F .mul-sum (power m g) (power m (2 * g)) 1
           ∙ ap₂ _⊕_ (ap (λ n. power m g · n) (power-square m low high g)) (F .mul-comm (power m g) 1 ∙ F .mul-one (power m g) (power-below m low high g))
 
-      divided : (g : ℕ) → w · power m g ≡ a → (0 < g) × Solution m 2 v g
+      divided : (g : ℕ) → w · power m g ≡ a → Solution m 2 v g
       divided g here =
           let r : ℕ = power m g in
           let r-below : r < 2 ^ m = power-below m low high g in
@@ -176,14 +169,14 @@ module _ (m : ℕ) (low : 4 ≤ m) (high : m ≤ 10) where
           let nz : power m (2 * g) ⊕ 1 ≢ 0 = λ z. power-not-zero m low high v (sym solves ∙ ap (λ n. r · n) z ∙ mul-zero m _·_ F r) in
           let (t, t-below, t-is) =
           every-power m low high (power m (2 * g) ⊕ 1) (⊕-below m (power m (2 * g)) 1 (power-below m low high (2 * g)) (F .one-below)) nz in
-          (positive g nz, (t, t-is, power-add m low high g t ∙ ap (λ n. r · n) t-is ∙ solves))
+          (t, t-is, power-add m low high g t ∙ ap (λ n. r · n) t-is ∙ solves)
 
       pub cubic-solution : (g : ℕ) × (0 < g) × (g < 2 ^ m - 1) × Solution m 2 v g
       cubic-solution =
           let (e, e-below, e-is) = every-power m low high a a-below (pair-sum m low high j k (T .j-below) (T .k-below) (T .apart-jk)) in
           let (g, g-below, g-is) = quotient m low high e h in
-          let (g-above, solves) = divided g (F .mul-comm w (power m g) ∙ sym (power-add m low high g h) ∙ g-is ∙ e-is) in
-          (g, g-above, g-below, solves)
+          let solved = divided g (F .mul-comm w (power m g) ∙ sym (power-add m low high g h) ∙ g-is ∙ e-is) in
+          (g, solution-positive m low high 2 v g solved, g-below, solved)
 
       pub cubic-root : (g : ℕ) → Solution m 2 v g → (power m (h + g) ⊕ s ≡ x) ⊎ ((power m (h + g) ⊕ s ≡ y) ⊎ (power m (h + g) ⊕ s ≡ z))
       cubic-root g (t, t-is, solves) =

@@ -6,7 +6,7 @@
 --   log-power      what a table of logarithms says of an element
 --   quarter-powers, quarter-logs, quarter-halves, quarter-cubics   the tables of a field as they are lent on, by quarters
 --   not-one        a square of a power that is not 1 is not 1
---   solution-only  power e solves the equation for one v
+--   solution-only, solution-positive   power e solves the equation for one v, and 1 for none
 --   pair-sum       two powers differ
 --   pair-defect    the sum of the cubes is not the cube of the sum
 --   pair-halving   the equation z² + z = power v, from which the two are found, has a solution
@@ -16,7 +16,7 @@ use mathlib.Core.Path.{_≡_, refl, sym, ap, ap₂, _∙_, subst⁻¹}
 use mathlib.Core.Logic.{_≢_, _⊎_, ⊎-map}
 use mathlib.Core.List.{List}
 use Prim.Native.Nat.{ℕ, zero, suc, _+_, _-_, _*_, _/_, _%_, _^_, _≤_, _<_}
-use native.Mathlib.Nat.{add-comm, zero-add, zero-mul, one-mul, suc-mul, div-add-mod', zero-lt-suc}
+use native.Mathlib.Nat.{add-comm, zero-add, zero-mul, mul-zero, one-mul, suc-mul, div-add-mod', zero-lt-suc}
 use native.Mathlib.Decide.{ℕ-discrete}
 use native.Mathlib.Omega.{arith}
 use lib.ListN.{length, getD, take, drop}
@@ -133,6 +133,11 @@ module _ (m : ℕ) (low : 4 ≤ m) (high : m ≤ 10) where
       power-one-only v w v-below w-below
       (sym v-is ∙ power-add e f ∙ ap (λ n. power m e · n) (f-is ∙ sym g-is) ∙ sym (power-add e g) ∙ w-is)
 
+  pub solution-positive : (k v e : ℕ) → Solution m k v e → 0 < e
+  unfolding power iterate
+  solution-positive k v zero (f, f-is, v-is) = absurd (power-not-zero f (f-is ∙ ap (λ n. power m n ⊕ 1) (mul-zero k) ∙ ⊕-self 1))
+  solution-positive k v (suc e) s = zero-lt-suc e
+
   -- ---- a pair of powers and their sum
   -- (z + 1) s is z s + s
   plus-one-times : (x h : ℕ) → (power m h ⊕ 1) · power m x ≡ power m (h + x) ⊕ power m x
@@ -172,14 +177,8 @@ module _ (m : ℕ) (low : 4 ≤ m) (high : m ≤ 10) where
       ∙ ap (λ n. power m x · n) (power-add (h + x) (g + x) ∙ ap₂ (λ (a b : ℕ). a · b) h-is g-is ∙ sym (power-add e f))
       ∙ sym (power-add x (e + f)) ∙ sym (product e f x sum) ∙ sym cube ∙ ap (power m) (add-comm v (3 * x)))
       in
-      (h, positive h h-is, h-below, (g, plus-one ∙ ap (λ n. power m n ⊕ 1) (sym (one-mul h)), solves))
-    where
-      -- power e is not the sum, since power f is not 0
-      positive : (h : ℕ) → power m (h + x) ≡ power m e → 0 < h
-      positive zero is =
-          absurd (power-not-zero f (sym (⊕-self-left (power m e) (power m f))
-          ∙ ap (λ n. power m e ⊕ n) (sym sum ∙ ap (power m) (omega arith) ∙ is) ∙ ⊕-self (power m e)))
-      positive (suc h) is = zero-lt-suc h
+      let solved : Solution m 1 v h = (g, plus-one ∙ ap (λ n. power m n ⊕ 1) (sym (one-mul h)), solves) in
+      (h, solution-positive 1 v h solved, h-below, solved)
 
   pub pair-root : (e f x v h : ℕ) → e < 2 ^ m - 1 → f < 2 ^ m - 1 → e ≢ f → power m x ≡ power m e ⊕ power m f
       → power m (v + 3 * x) ≡ power m (3 * e) ⊕ power m (3 * f) ⊕ power m (3 * x) → Solution m 1 v h

@@ -21,7 +21,7 @@ use Rattle.bch.specs.Code.{leastFrom, minimalPoly}
 use Rattle.bch.proofs.Tests.{or-r, allFrom, all-from, least-is}
 use Rattle.bch.proofs.Sum.{⊕-self, ⊕-equal, ⊕-shift}
 use Rattle.bch.proofs.Polynomial.{polyAt-zero, polyAt-sum}
-use Rattle.bch.proofs.Modulus.{iterate-timesX-linear, below-of-quotient, degree-high, degree-low}
+use Rattle.bch.proofs.Modulus.{below-of-quotient, degree-high, degree-low}
 use Rattle.bch.proofs.PowerSum.{xorSum-same, linear-bits}
 
 -- a linear map that keeps the powers of 2 keeps every number
@@ -36,7 +36,7 @@ keeps K lin m h p l =
 undo : (c q m v : ℕ) → ℕ
 undo c q m v = polyAt (polyAt (timesX c m) q) v 1
 
-module _ (T′ : ℕ → ℕ) (lin : (a b : ℕ) → T′ (a ⊕ b) ≡ T′ a ⊕ T′ b) (m c q : ℕ) (pos : 0 < m) (deg : c / 2 ^ m ≡ 1) (zero-at : polyAt T′ c 1 ≡ 0)
+module _ (T′ : ℕ → ℕ) (m c q : ℕ) (pos : 0 < m) (deg : c / 2 ^ m ≡ 1) (zero-at : polyAt T′ c 1 ≡ 0)
     (undone : (k : ℕ) → k < m → undo c q m (polyAt T′ (2 ^ k) 1) ≡ 2 ^ k) where
   undo-all : (p : ℕ) → p < 2 ^ m → undo c q m (polyAt T′ p 1) ≡ p
   unfolding undo
@@ -53,7 +53,7 @@ module _ (T′ : ℕ → ℕ) (lin : (a b : ℕ) → T′ (a ⊕ b) ≡ T′ a �
   only-root p h e =
       ⊕-equal
       (no-root (p ⊕ c)
-      (below-of-quotient c m (p ⊕ c) (⊕-shift p c m ∙ ap₂ _⊕_ h deg ∙ ⊕-self 1))
+      (below-of-quotient m (p ⊕ c) (⊕-shift p c m ∙ ap₂ _⊕_ h deg ∙ ⊕-self 1))
       (polyAt-sum T′ p c 1 ∙ ap₂ _⊕_ e zero-at ∙ ⊕-self 0))
 
   minimal-is : leastFrom (λ p. eqb (polyAt T′ p 1) 0) (2 ^ (m + 1)) 2 ≡ c
@@ -114,7 +114,7 @@ minimal m t lo hi ht fits =
     let deg : c / 2 ^ m ≡ 1 = eqb→eq (c / 2 ^ m) 1 (and-l (eqb (c / 2 ^ m) 1) _ t₂) in
     let van : valueAt m i c ≡ 0 = eqb→eq (valueAt m i c) 0 (and-l (eqb (valueAt m i c) 0) _ t₃) in
     let is : minimalPoly m i ≡ c =
-    minimal-is T′ (iterate-timesX-linear (fieldPoly m) m i) m c q (omega arith) deg van
+    minimal-is T′ m c q (omega arith) deg van
     (λ k l. eqb→eq (undo c q m (valueAt m i (2 ^ k))) (2 ^ k)
     (all-from (λ k. eqb (undo c q m (valueAt m i (2 ^ k))) (2 ^ k)) 0 m (and-r (eqb (valueAt m i c) 0) _ t₃) k zero-le (omega arith)))
     in

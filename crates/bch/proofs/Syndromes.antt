@@ -53,7 +53,7 @@ module _ (m : ℕ) (low : 4 ≤ m) (high : m ≤ 10) where
   pub value-below : (i p : ℕ) → valueAt m i p < 2 ^ m
   unfolding valueAt
   value-below i p =
-      polyAt-within (fieldPoly m) m (iterate (timesX (fieldPoly m) m) i) (iterate-timesX-below (fieldPoly m) m (primitive m low high .degree) i) p 1
+      polyAt-within m (iterate (timesX (fieldPoly m) m) i) (iterate-timesX-below (fieldPoly m) m (primitive m low high .degree) i) p 1
       (two-below (fieldPoly m) m (primitive m low high))
 
   value-small : (i p : ℕ) → valueAt m i p < 65536

@@ -128,6 +128,9 @@ module _ (g r : ℕ) where
       let (p, e) = divide-from w 0 0 in
       (p, ap (λ n. horner (λ v. v * 2) n w) (sym (⊕-zero-right (0 ⊗ g) ∙ product-zero g)) ∙ e)
 
+  pub multiple : (w : List ℕ) → remainder g r w ≡ 0 → (p : ℕ) × (wordPoly w ≡ p ⊗ g)
+  multiple w h = let (p, e) = divide w in (p, e ∙ ap (λ n. p ⊗ g ⊕ n) h ∙ ⊕-zero-right (p ⊗ g))
+
   module _ (pos : 0 < r) (deg : g / 2 ^ r ≡ 1) where
     pub divides : (w : List ℕ) → Bits w → (p : ℕ) → wordPoly w ≡ p ⊗ g → remainder g r w ≡ 0
     unfolding wordPoly remainder
@@ -135,9 +138,6 @@ module _ (g r : ℕ) where
         let T : ℕ → ℕ = timesX g r in
         sym (value T (timesX-linear g r) (λ v. v * 2) (double-stands T (timesX-linear g r)) w hw)
         ∙ ap (λ n. polyAt T n 1) e ∙ polyAt-product T (timesX-linear g r) p g 1 ∙ ap (polyAt T p) (polyAt-modulus g r deg pos) ∙ linear-zero (polyAt T p) (polyAt-linear T (timesX-linear g r) p)
-
-    pub multiple : (w : List ℕ) → remainder g r w ≡ 0 → (p : ℕ) × (wordPoly w ≡ p ⊗ g)
-    multiple w h = let (p, e) = divide w in (p, e ∙ ap (λ n. p ⊗ g ⊕ n) h ∙ ⊕-zero-right (p ⊗ g))
 
     below-from : (w : List ℕ) → Bits w → (s : ℕ) → s < 2 ^ r → horner (timesX g r) s w < 2 ^ r
     unfolding horner
