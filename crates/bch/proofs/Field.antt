@@ -94,7 +94,7 @@ module _ (f d : ℕ) (P : Primitive f d) where
   cycle v h = ap (iterate (timesX f d) (2 ^ d - 1)) (sym (value-of-one v h)) ∙ iterate-polyAt (2 ^ d - 1) v 1 ∙ ap (polyAt (timesX f d) v) power-order ∙ value-of-one v h
 
   -- a power of x can be taken away
-  pub iterate-injective : (j u v : ℕ) → j ≤ (2 ^ d - 1) → u < 2 ^ d → v < 2 ^ d → iterate (timesX f d) j u ≡ iterate (timesX f d) j v → u ≡ v
+  iterate-injective : (j u v : ℕ) → j ≤ (2 ^ d - 1) → u < 2 ^ d → v < 2 ^ d → iterate (timesX f d) j u ≡ iterate (timesX f d) j v → u ≡ v
   iterate-injective j u v h hu hv e =
       sym (undo u hu) ∙ ap (iterate (timesX f d) ((2 ^ d - 1) - j)) e ∙ undo v hv
     where

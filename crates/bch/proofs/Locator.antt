@@ -1,16 +1,16 @@
--- Two errors from the sum of their powers of the root and the sum of the cubes, for m from 4 to 10.
+-- The powers of the root, tables over them, and two errors from the sum of their powers and the sum of the cubes, for m from 4 to 10.
 --   power-below, power-cycle, power-one-only, power-not-zero   the powers of the root
 --   power-rounds, power-mod   an exponent reduced by the number of powers
 --   power-add, power-square, power-cube, power-fifth   products of powers
 --   quotient       a power over a power
+--   not-one        a power that is not 1, and its square, plus 1 are not 0
 --   log-power      what a table of logarithms says of an element
---   quarter-powers, quarter-logs, quarter-halves, quarter-cubics   the tables of a field as they are lent on, by quarters
---   not-one        a square of a power that is not 1 is not 1
 --   solution-only, solution-positive   power e solves the equation for one v, and 1 for none
 --   pair-sum       two powers differ
 --   pair-defect    the sum of the cubes is not the cube of the sum
 --   pair-halving   the equation z² + z = power v, from which the two are found, has a solution
 --   pair-root      and each solution leads to one of the two
+--   quarter-powers, quarter-logs, quarter-halves, quarter-cubics   the tables of a field as they are lent on, by quarters
 -- Assumes nothing.
 use mathlib.Core.Path.{_≡_, refl, sym, ap, ap₂, _∙_, subst⁻¹}
 use mathlib.Core.Logic.{_≢_, _⊎_, ⊎-map}

@@ -1,6 +1,6 @@
 -- A number as a polynomial in a map, and products of polynomials.
 --   linear-zero, linear-bit, iterate-linear   linear maps
---   iterate-add, iterate-inner, iterate-iterate   a map applied many times
+--   iterate-add, iterate-inner, iterate-iterate, iterate-double   a map applied many times
 --   half-and-bit                              a number by its half and its last digit
 --   polyAt-step                               by the last digit: the law by which `polyAt` is used
 --   polyAt-sum, polyAt-linear, polyAt-map, polyAt-horner, polyAt-comm
@@ -8,8 +8,8 @@
 --   polyAt-product                            a product of polynomials in a map is one after the other
 -- Assumes nothing.
 use mathlib.Core.Path.{_≡_, refl, sym, ap, ap₂, _∙_}
-use Prim.Native.Nat.{ℕ, zero, suc, _+_, _*_, _/_, _%_, _≤_, _<_}
-use native.Mathlib.Nat.{zero-lt-suc, zero-mul, one-mul, suc-mul, mul-div-cancel, mul-mod-left, div-add-mod', le-refl, zero-add, suc-add, add-comm, not-suc-le-zero, mod-eq-of-lt, div-eq-of-lt}
+use Prim.Native.Nat.{ℕ, zero, suc, _+_, _*_, _/_, _%_, _^_, _≤_, _<_}
+use native.Mathlib.Nat.{zero-lt-suc, zero-mul, one-mul, mul-one, mul-assoc, suc-mul, pow-suc, mul-div-cancel, mul-mod-left, div-add-mod', le-refl, zero-add, suc-add, add-comm, not-suc-le-zero, mod-eq-of-lt, div-eq-of-lt}
 use native.Mathlib.Decide.{le-ind}
 use lib.Arith.{bin-ind, half-le}
 use lib.Bits.{xor-shifted}
@@ -44,6 +44,11 @@ unfolding iterate
 iterate-iterate T i zero v = ap (λ n. iterate T n v) (sym (zero-mul i))
 iterate-iterate T i (suc k) v =
     ap (iterate T i) (iterate-iterate T i k v) ∙ sym (iterate-add T i (k * i) v) ∙ ap (λ n. iterate T n v) (add-comm i (k * i) ∙ sym (suc-mul k i))
+
+pub iterate-double : (n b : ℕ) → iterate (λ v. v * 2) n b ≡ b * 2 ^ n
+unfolding iterate
+iterate-double zero b = sym (mul-one b)
+iterate-double (suc n) b = ap (λ v. v * 2) (iterate-double n b) ∙ mul-assoc b (2 ^ n) 2 ∙ ap (λ v. b * v) (sym (pow-suc 2 n))
 
 pub half-and-bit : (p : ℕ) → p / 2 * 2 ⊕ p % 2 ≡ p
 unfolding _⊕_

@@ -16,7 +16,7 @@ use Rattle.bch.specs.Polynomial.{_⊕_, timesX, iterate}
 use Rattle.bch.specs.Field.{fieldPoly, power, valueAt}
 use Rattle.bch.specs.Code.{generator}
 use Rattle.bch.specs.Powers.{powerMod, xorSum}
-use Rattle.bch.specs.Locator.{syndromes}
+use Rattle.bch.specs.Locator.{syndromes, powerSyndromes}
 use Rattle.bch.proofs.Polynomial.{iterate-iterate, polyAt-sum}
 use Rattle.bch.proofs.Modulus.{iterate-timesX-linear, iterate-timesX-below, polyAt-within}
 use Rattle.bch.proofs.Field.{two-below}
@@ -79,14 +79,14 @@ module _ (m : ℕ) (low : 4 ≤ m) (high : m ≤ 10) where
   unfolding syndromes
   syndromes-high p = omega (arith, value-small 1 p)
 
-  syndromes-power : (k : ℕ) → syndromes m (2 ^ k) ≡ power m k + 65536 * power m (3 * k)
+  syndromes-power : (k : ℕ) → syndromes m (2 ^ k) ≡ powerSyndromes m k
   unfolding syndromes
   syndromes-power k = ap₂ (λ (a b : ℕ). a + 65536 * b) (value-power m 1 k ∙ ap (power m) (one-mul k)) (value-power m 3 k)
 
-  pub syndromes-bits : (r x : ℕ) → x < 2 ^ r → syndromes m x ≡ xorSum r (λ k. (x / 2 ^ k % 2) * (power m k + 65536 * power m (3 * k)))
+  pub syndromes-bits : (r x : ℕ) → x < 2 ^ r → syndromes m x ≡ xorSum r (λ k. (x / 2 ^ k % 2) * powerSyndromes m k)
   syndromes-bits r x h =
       linear-bits r (syndromes m) syndromes-sum x h
-      ∙ xorSum-same r (λ k. (x / 2 ^ k % 2) * syndromes m (2 ^ k)) (λ k. (x / 2 ^ k % 2) * (power m k + 65536 * power m (3 * k)))
+      ∙ xorSum-same r (λ k. (x / 2 ^ k % 2) * syndromes m (2 ^ k)) (λ k. (x / 2 ^ k % 2) * powerSyndromes m k)
       (λ k l. ap (λ n. x / 2 ^ k % 2 * n) (syndromes-power k))
 
 -- ---- powers of x modulo the generator

@@ -9,7 +9,7 @@
 use mathlib.Core.Path.{_≡_, refl, sym, ap, ap₂, _∙_, subst, subst⁻¹}
 use mathlib.Core.List.{List, [], _∷_, _++_}
 use Prim.Native.Nat.{ℕ, zero, suc, _+_, _*_, _/_, _%_, _^_, _≤_, _<_}
-use native.Mathlib.Nat.{mul-one, mul-assoc, suc-inj, suc-ne-zero, le-refl, le-trans, mod-lt, mod-one, mod-eq-of-lt, pow-suc, pow-succ', zero-lt-suc, lt-of-lt-of-le}
+use native.Mathlib.Nat.{suc-inj, suc-ne-zero, le-refl, le-trans, mod-lt, mod-one, mod-eq-of-lt, pow-suc, pow-succ', zero-lt-suc, lt-of-lt-of-le}
 use native.Mathlib.Omega.{arith}
 use lib.Arith.{digits-lt}
 use lib.Pow.{pow-pos, pow-mono, mod-pow-add, high, low}
@@ -19,7 +19,7 @@ use Rattle.bch.specs.Polynomial.{Bits, _⊕_, timesX, iterate, horner, r
 use Rattle.bch.specs.Code.{parity}
 use Rattle.bch.proofs.Store.{zeros-at}
 use Rattle.bch.proofs.Sum.{mod2-bit, ⊕-self, ⊕-zero-right, ⊕-below, ⊕-equal, ⊕-double, ⊕-shift, ⊕-mod}
-use Rattle.bch.proofs.Polynomial.{linear-zero}
+use Rattle.bch.proofs.Polynomial.{linear-zero, iterate-double}
 use Rattle.bch.proofs.Modulus.{timesX-linear, timesX-small}
 use Rattle.bch.proofs.Word.{wordPoly, horner-shift, horner-cons, sumWord, remainder-sum, remainder-below}
 
@@ -68,14 +68,9 @@ unfolding bitsOf
 bitsOf-length zero p = refl
 bitsOf-length (suc n) p = ap suc (bitsOf-length n p)
 
-doubled : (n b : ℕ) → iterate (λ v. v * 2) n b ≡ b * 2 ^ n
-unfolding iterate
-doubled zero b = sym (mul-one b)
-doubled (suc n) b = ap (λ v. v * 2) (doubled n b) ∙ mul-assoc b (2 ^ n) 2 ∙ ap (λ v. b * v) (sym (pow-suc 2 n))
-
 wordPoly-cons : (b : ℕ) (w : List ℕ) → wordPoly (b ∷ w) ≡ b * 2 ^ length w ⊕ wordPoly w
 unfolding wordPoly
-wordPoly-cons b w = horner-cons (λ v. v * 2) ⊕-double b w ∙ ap (λ n. n ⊕ horner (λ v. v * 2) 0 w) (doubled (length w) b)
+wordPoly-cons b w = horner-cons (λ v. v * 2) ⊕-double b w ∙ ap (λ n. n ⊕ horner (λ v. v * 2) 0 w) (iterate-double (length w) b)
 
 plus : (b k x : ℕ) → x < 2 ^ k → b * 2 ^ k ⊕ x ≡ b * 2 ^ k + x
 unfolding _⊕_

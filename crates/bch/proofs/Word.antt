@@ -10,12 +10,12 @@
 use mathlib.Core.Path.{_≡_, refl, sym, ap, ap₂, _∙_}
 use mathlib.Core.List.{List, [], _∷_}
 use Prim.Native.Nat.{ℕ, zero, suc, _*_, _/_, _%_, _^_, _<_}
-use native.Mathlib.Nat.{mul-one, mul-zero, suc-inj, suc-ne-zero, le-refl, le-trans, pow-suc}
+use native.Mathlib.Nat.{one-mul, mul-one, mul-zero, suc-inj, suc-ne-zero, le-refl, le-trans}
 use lib.Pow.{pow-pos, pow-mono}
 use lib.ListN.{length}
 use Rattle.bch.specs.Polynomial.{Bits, _⊕_, _⊗_, timesX, iterate, polyAt, horner, remainder}
 use Rattle.bch.proofs.Sum.{⊕·simp, mod2-bit, ⊕-assoc, ⊕-comm, ⊕-self, ⊕-zero-right, ⊕-swap, ⊕-below, ⊕-double}
-use Rattle.bch.proofs.Polynomial.{linear-zero, linear-bit, iterate-inner, polyAt-bit, polyAt-double, polyAt-sum, polyAt-linear, polyAt-map, polyAt-product, polyAt-zero, product-double, product-sum-l, product-bit, product-zero}
+use Rattle.bch.proofs.Polynomial.{linear-zero, linear-bit, iterate-inner, iterate-double, polyAt-bit, polyAt-double, polyAt-sum, polyAt-linear, polyAt-map, polyAt-product, polyAt-zero, product-double, product-sum-l, product-bit, product-zero}
 use Rattle.bch.proofs.Modulus.{timesX-linear, timesX-below, polyAt-modulus}
 
 unfoldable pub sumWord : List ℕ → List ℕ → List ℕ
@@ -97,9 +97,7 @@ module _ (T : ℕ → ℕ) (lin : (a b : ℕ) → T (a ⊕ b) ≡ T a ⊕ T b) w
   power-root g r z = stands-power (timesX g r) (root-stands g r z)
 
   pub power-value : (e : ℕ) → polyAt T (2 ^ e) 1 ≡ iterate T e 1
-  unfolding iterate
-  power-value zero = polyAt-bit T 1 1 (le-refl 2)
-  power-value (suc e) = ap (λ n. polyAt T n 1) (pow-suc 2 e) ∙ double-stands (2 ^ e) ∙ ap T (power-value e)
+  power-value e = ap (λ n. polyAt T n 1) (sym (iterate-double e 1 ∙ one-mul (2 ^ e))) ∙ stands-power (λ v. v * 2) double-stands e
 
 -- ---- division
 unfoldable pub wordPoly : List ℕ → ℕ
