@@ -14,13 +14,13 @@ use Prim.Native.Nat.{ℕ, _-_, _*_, _/_, _^_, _≤_, _<_}
 use native.Mathlib.Nat.{mul-pos, le-trans, zero-lt-suc}
 use lib.ListN.{length}
 use borrow.Author.Tests.{eqb-true, eq-eqb}
-use Rattle.bch.specs.Polynomial.{Bits, _⊗_, remainder}
+use Rattle.bch.specs.Polynomial.{Bits, _⊗_, wordPoly, remainder}
 use Rattle.bch.specs.Field.{fieldPoly, valueAt}
 use Rattle.bch.specs.Code.{generator, isCodeword, parity, distance}
 use Rattle.bch.proofs.Primitive.{primitive}
 use Rattle.bch.proofs.Minimal.{Fits}
 use Rattle.bch.proofs.Generator.{generator-degree, generator-roots}
-use Rattle.bch.proofs.Word.{wordPoly, divides, multiple}
+use Rattle.bch.proofs.Word.{divides, multiple}
 use Rattle.bch.proofs.Bound.{near-equal, near-one}
 use Rattle.bch.proofs.Systematic.{parity-makes, parity-alone}
 

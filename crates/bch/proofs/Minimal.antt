@@ -31,39 +31,39 @@ keeps K lin m h p l =
     ∙ xorSum-same m (λ k. (p / 2 ^ k % 2) * K (2 ^ k)) (λ k. (p / 2 ^ k % 2) * 2 ^ k) (λ k i. ap (λ n. p / 2 ^ k % 2 * n) (h k i))
     ∙ sym (linear-bits m (λ v. v) (λ a b. refl) p l)
 
--- ---- a polynomial c of degree m that is 0 at T, and no polynomial of a lower degree is, is the least
--- T undone: v as a polynomial in the product with q modulo c
+-- ---- a polynomial c of degree m that is 0 at X, and no polynomial of a lower degree is, is the least
+-- X undone: v as a polynomial in the product with q modulo c
 undo : (c q m v : ℕ) → ℕ
 undo c q m v = polyAt (polyAt (timesX c m) q) v 1
 
-module _ (T′ : ℕ → ℕ) (m c q : ℕ) (pos : 0 < m) (deg : c / 2 ^ m ≡ 1) (zero-at : polyAt T′ c 1 ≡ 0)
-    (undone : (k : ℕ) → k < m → undo c q m (polyAt T′ (2 ^ k) 1) ≡ 2 ^ k) where
-  undo-all : (p : ℕ) → p < 2 ^ m → undo c q m (polyAt T′ p 1) ≡ p
+module _ (X : ℕ → ℕ) (m c q : ℕ) (pos : 0 < m) (deg : c / 2 ^ m ≡ 1) (zero-at : polyAt X c 1 ≡ 0)
+    (undone : (k : ℕ) → k < m → undo c q m (polyAt X (2 ^ k) 1) ≡ 2 ^ k) where
+  undo-all : (p : ℕ) → p < 2 ^ m → undo c q m (polyAt X p 1) ≡ p
   unfolding undo
   undo-all =
-      keeps (λ p. undo c q m (polyAt T′ p 1))
-      (λ a b. ap (undo c q m) (polyAt-sum T′ a b 1) ∙ polyAt-sum (polyAt (timesX c m) q) (polyAt T′ a 1) (polyAt T′ b 1) 1)
+      keeps (λ p. undo c q m (polyAt X p 1))
+      (λ a b. ap (undo c q m) (polyAt-sum X a b 1) ∙ polyAt-sum (polyAt (timesX c m) q) (polyAt X a 1) (polyAt X b 1) 1)
       m undone
 
-  no-root : (p : ℕ) → p < 2 ^ m → polyAt T′ p 1 ≡ 0 → p ≡ 0
+  no-root : (p : ℕ) → p < 2 ^ m → polyAt X p 1 ≡ 0 → p ≡ 0
   unfolding undo
   no-root p h e = sym (undo-all p h) ∙ ap (undo c q m) e ∙ polyAt-zero (polyAt (timesX c m) q) 1
 
-  only-root : (p : ℕ) → p / 2 ^ m ≡ 1 → polyAt T′ p 1 ≡ 0 → p ≡ c
+  only-root : (p : ℕ) → p / 2 ^ m ≡ 1 → polyAt X p 1 ≡ 0 → p ≡ c
   only-root p h e =
       ⊕-equal
       (no-root (p ⊕ c)
       (below-of-quotient m (p ⊕ c) (⊕-shift p c m ∙ ap₂ _⊕_ h deg ∙ ⊕-self 1))
-      (polyAt-sum T′ p c 1 ∙ ap₂ _⊕_ e zero-at ∙ ⊕-self 0))
+      (polyAt-sum X p c 1 ∙ ap₂ _⊕_ e zero-at ∙ ⊕-self 0))
 
-  minimal-is : leastFrom (λ p. eqb (polyAt T′ p 1) 0) (2 ^ (m + 1)) 2 ≡ c
+  minimal-is : leastFrom (λ p. eqb (polyAt X p 1) 0) (2 ^ (m + 1)) 2 ≡ c
   minimal-is =
-      least-is (λ p. eqb (polyAt T′ p 1) 0) (2 ^ (m + 1)) 2 c
+      least-is (λ p. eqb (polyAt X p 1) 0) (2 ^ (m + 1)) 2 c
       (le-trans (pow-mono pos) (degree-low c m deg)) (omega (arith, degree-high c m deg, pow-add 2 m 1))
       (subst⁻¹ (λ n. T (eqb n 0)) zero-at tt)
-      (λ p lo hi t. go p lo hi (eqb→eq (polyAt T′ p 1) 0 t) (decLt p (2 ^ m)))
+      (λ p lo hi t. go p lo hi (eqb→eq (polyAt X p 1) 0 t) (decLt p (2 ^ m)))
     where
-      go : (p : ℕ) → 2 ≤ p → p < c → polyAt T′ p 1 ≡ 0 → Dec (p < 2 ^ m) → ⊥
+      go : (p : ℕ) → 2 ≤ p → p < c → polyAt X p 1 ≡ 0 → Dec (p < 2 ^ m) → ⊥
       go p lo hi e (yes l) = omega (arith, no-root p l e)
       go p lo hi e (no l) =
           let d : p / 2 ^ m ≡ 1 = div-eq-of-lt-le (2 ^ m) (omega arith) (omega (arith, degree-high c m deg)) in
@@ -106,7 +106,7 @@ minimal m t lo hi ht fits =
     let c : ℕ = tableAt minimals m t in
     let q : ℕ = tableAt undoing m t in
     let i : ℕ = 2 * t + 1 in
-    let T′ : ℕ → ℕ = iterate (timesX (fieldPoly m) m) i in
+    let X : ℕ → ℕ = iterate (timesX (fieldPoly m) m) i in
     let row = all-from (λ m. allFrom (minimalTest m) 0 3) 4 7 tested m lo (omega arith) in
     let t₁ : T (minimalTest m t) = all-from (minimalTest m) 0 3 row t zero-le (omega arith) in
     let t₂ = or-r (leb (2 ^ m) (2 * (m * suc t) + 2)) _ t₁ (λ l. omega (arith, leb→le (2 ^ m) (2 * (m * suc t) + 2) l)) in
@@ -114,7 +114,7 @@ minimal m t lo hi ht fits =
     let deg : c / 2 ^ m ≡ 1 = eqb→eq (c / 2 ^ m) 1 (and-l (eqb (c / 2 ^ m) 1) _ t₂) in
     let van : valueAt m i c ≡ 0 = eqb→eq (valueAt m i c) 0 (and-l (eqb (valueAt m i c) 0) _ t₃) in
     let is : minimalPoly m i ≡ c =
-    minimal-is T′ m c q (omega arith) deg van
+    minimal-is X m c q (omega arith) deg van
     (λ k l. eqb→eq (undo c q m (valueAt m i (2 ^ k))) (2 ^ k)
     (all-from (λ k. eqb (undo c q m (valueAt m i (2 ^ k))) (2 ^ k)) 0 m (and-r (eqb (valueAt m i c) 0) _ t₃) k zero-le (omega arith)))
     in

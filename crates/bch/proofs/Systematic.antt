@@ -15,13 +15,13 @@ use lib.Arith.{digits-lt}
 use lib.Pow.{pow-pos, pow-mono, mod-pow-add, high, low}
 use lib.Bits.{xor-shifted}
 use lib.ListN.{length, replicate, length-replicate, length-append}
-use Rattle.bch.specs.Polynomial.{Bits, _⊕_, timesX, iterate, horner, remainder, bitsOf}
+use Rattle.bch.specs.Polynomial.{Bits, _⊕_, timesX, iterate, horner, wordPoly, remainder, bitsOf}
 use Rattle.bch.specs.Code.{parity}
 use Rattle.bch.proofs.Store.{zeros-at}
 use Rattle.bch.proofs.Sum.{mod2-bit, ⊕-self, ⊕-zero-right, ⊕-below, ⊕-equal, ⊕-double, ⊕-shift, ⊕-mod}
 use Rattle.bch.proofs.Polynomial.{linear-zero, iterate-double}
 use Rattle.bch.proofs.Modulus.{timesX-linear, timesX-small}
-use Rattle.bch.proofs.Word.{wordPoly, horner-shift, horner-cons, sumWord, remainder-sum, remainder-below}
+use Rattle.bch.proofs.Word.{horner-shift, horner-cons, sumWord, remainder-sum, remainder-below}
 
 horner-append : (T : ℕ → ℕ) (u v : List ℕ) (s : ℕ) → horner T s (u ++ v) ≡ horner T (horner T s u) v
 unfolding horner

@@ -1,10 +1,9 @@
 -- Words under Horner's rule.
 --   sumWord          the sum of two words, position by position
---   wordPoly         the word as a polynomial
 --   horner-shift, horner-cons, remainder-sum
 --   remainder-root   where g is 0, the remainder by g has the word's value
 --   power-root, power-value   the values of the powers of x, modulo g and not
---   divides, multiple   g divides a word exactly when its remainder is 0
+--   multiple, divides   g divides a word exactly when its remainder is 0
 --   remainder-below  the remainder is below 2^r
 -- Assumes nothing.
 use mathlib.Core.Path.{_≡_, refl, sym, ap, ap₂, _∙_}
@@ -13,7 +12,7 @@ use Prim.Native.Nat.{ℕ, zero, suc, _*_, _/_, _%_, _^_, _<_}
 use native.Mathlib.Nat.{one-mul, mul-one, mul-zero, suc-inj, suc-ne-zero, le-refl, le-trans}
 use lib.Pow.{pow-pos, pow-mono}
 use lib.ListN.{length}
-use Rattle.bch.specs.Polynomial.{Bits, _⊕_, _⊗_, timesX, iterate, polyAt, horner, remainder}
+use Rattle.bch.specs.Polynomial.{Bits, _⊕_, _⊗_, timesX, iterate, polyAt, horner, wordPoly, remainder}
 use Rattle.bch.proofs.Sum.{⊕·simp, mod2-bit, ⊕-assoc, ⊕-comm, ⊕-self, ⊕-zero-right, ⊕-swap, ⊕-below, ⊕-double}
 use Rattle.bch.proofs.Polynomial.{linear-zero, linear-bit, iterate-inner, iterate-double, polyAt-bit, polyAt-double, polyAt-sum, polyAt-linear, polyAt-map, polyAt-product, polyAt-zero, product-double, product-sum-l, product-bit, product-zero}
 use Rattle.bch.proofs.Modulus.{timesX-linear, timesX-below, polyAt-modulus}
@@ -100,9 +99,6 @@ module _ (T : ℕ → ℕ) (lin : (a b : ℕ) → T (a ⊕ b) ≡ T a ⊕ T b) w
   power-value e = ap (λ n. polyAt T n 1) (sym (iterate-double e 1 ∙ one-mul (2 ^ e))) ∙ stands-power (λ v. v * 2) double-stands e
 
 -- ---- division
-unfoldable pub wordPoly : List ℕ → ℕ
-wordPoly w = horner (λ v. v * 2) 0 w
-
 module _ (g r : ℕ) where
   divide-step : (q s b : ℕ)
       → (q ⊗ g ⊕ s) * 2 ⊕ b ≡ (q * 2 ⊕ s * 2 / 2 ^ r % 2) ⊗ g ⊕ (timesX g r s ⊕ b)
