@@ -33,10 +33,8 @@ pub generator-degree : (m t : ℕ) → 4 ≤ m → m ≤ 10 → t ≤ 3 → Fits
 unfolding generator
 generator-degree m zero lo hi ht fits = ap (λ n. 1 / 2 ^ n) (mul-zero m)
 generator-degree m (suc t) lo hi ht fits =
-    let M = minimal m t lo hi ht fits in
     ap (λ n. (generator m t ⊗ minimalPoly m (2 * t + 1)) / 2 ^ n) (mul-suc m t)
-    ∙ product-degree (m * t) m (generator m t) (minimalPoly m (2 * t + 1)) (generator-degree m t lo hi (omega arith) (omega arith))
-    (ap (λ n. n / 2 ^ m) (M .is-minimal) ∙ M .degree)
+    ∙ product-degree (m * t) m (generator m t) (minimalPoly m (2 * t + 1)) (generator-degree m t lo hi (omega arith) (omega arith)) (minimal m t lo hi ht fits .degree)
 
 pub generator-roots : (m t : ℕ) → 4 ≤ m → m ≤ 10 → t ≤ 3 → Fits m t → (i : ℕ) → i % 2 ≡ 1 → i < 2 * t → valueAt m i (generator m t) ≡ 0
 unfolding generator valueAt
@@ -62,4 +60,4 @@ generator-roots m (suc t) lo hi ht fits i o l =
     M = minimalPoly m (2 * t + 1)
 
     last : polyAt (iterate (timesX (fieldPoly m) m) (2 * t + 1)) M 1 ≡ 0
-    last = let K = minimal m t lo hi ht fits in ap (valueAt m (2 * t + 1)) (K .is-minimal) ∙ K .vanishes
+    last = minimal m t lo hi ht fits .vanishes

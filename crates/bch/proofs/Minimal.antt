@@ -97,8 +97,8 @@ tested = tt
 
 pub record Minimal (m i c : ℕ) : Type 0 where
   pub is-minimal : minimalPoly m i ≡ c
-  pub degree : c / 2 ^ m ≡ 1
-  pub vanishes : valueAt m i c ≡ 0
+  pub degree : minimalPoly m i / 2 ^ m ≡ 1
+  pub vanishes : valueAt m i (minimalPoly m i) ≡ 0
 
 pub minimal : (m t : ℕ) → 4 ≤ m → m ≤ 10 → t < 3 → Fits m (suc t) → Minimal m (2 * t + 1) (tableAt minimals m t)
 unfolding minimalTest minimalPoly valueAt
@@ -118,4 +118,4 @@ minimal m t lo hi ht fits =
     (λ k l. eqb→eq (undo c q m (valueAt m i (2 ^ k))) (2 ^ k)
     (all-from (λ k. eqb (undo c q m (valueAt m i (2 ^ k))) (2 ^ k)) 0 m (and-r (eqb (valueAt m i c) 0) _ t₃) k zero-le (omega arith)))
     in
-    record { is-minimal = is; degree = deg; vanishes = van }
+    record { is-minimal = is; degree = ap (λ n. n / 2 ^ m) is ∙ deg; vanishes = ap (valueAt m i) is ∙ van }
