@@ -19,6 +19,7 @@ use Rattle.bch.proofs.Primitive.{field-laws, every-power}
 use Rattle.bch.proofs.Algebra.{sum-mul, mul-zero, zero-mul, mul-left-comm, cancel}
 use Rattle.bch.proofs.Locator.{power-below, power-not-zero, power-add, power-square, power-cube, power-fifth, quotient, solution-positive, pair-sum}
 
+-- of three, the sum of two and each one, from sums of two and the sum of all
 third : (x y z : ℕ) → x ⊕ y ≡ y ⊕ z ⊕ (x ⊕ z)
 third x y z = simp ⊕·simp
 

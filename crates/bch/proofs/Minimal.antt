@@ -7,7 +7,7 @@
 use mathlib.Core.Path.{_≡_, refl, sym, ap, ap₂, _∙_, subst⁻¹}
 use mathlib.Core.Bool.{Bool, _&&_, _||_}
 use mathlib.Core.List.{List, [], _∷_}
-use Prim.Native.Nat.{ℕ, suc, _+_, _-_, _*_, _/_, _%_, _^_, _≤_, _<_, zero-le}
+use Prim.Native.Nat.{ℕ, suc, _+_, _-_, _*_, _/_, _^_, _≤_, _<_, zero-le}
 use native.Mathlib.Nat.{le-trans, div-eq-of-lt-le}
 use native.Mathlib.Decide.{decLt}
 use native.Mathlib.Omega.{arith}
@@ -22,14 +22,11 @@ use Rattle.bch.proofs.Tests.{or-r, allFrom, all-from, least-is}
 use Rattle.bch.proofs.Sum.{⊕-self, ⊕-equal, ⊕-shift}
 use Rattle.bch.proofs.Polynomial.{polyAt-zero, polyAt-sum}
 use Rattle.bch.proofs.Modulus.{below-of-quotient, degree-high, degree-low}
-use Rattle.bch.proofs.PowerSum.{xorSum-same, linear-bits}
+use Rattle.bch.proofs.PowerSum.{linear-bits}
 
 -- a linear map that keeps the powers of 2 keeps every number
 keeps : (K : ℕ → ℕ) → ((a b : ℕ) → K (a ⊕ b) ≡ K a ⊕ K b) → (m : ℕ) → ((k : ℕ) → k < m → K (2 ^ k) ≡ 2 ^ k) → (p : ℕ) → p < 2 ^ m → K p ≡ p
-keeps K lin m h p l =
-    linear-bits m K lin p l
-    ∙ xorSum-same m (λ k. (p / 2 ^ k % 2) * K (2 ^ k)) (λ k. (p / 2 ^ k % 2) * 2 ^ k) (λ k i. ap (λ n. p / 2 ^ k % 2 * n) (h k i))
-    ∙ sym (linear-bits m (λ v. v) (λ a b. refl) p l)
+keeps K lin m h p l = linear-bits m K lin (λ k. 2 ^ k) h p l ∙ sym (linear-bits m (λ v. v) (λ a b. refl) (λ k. 2 ^ k) (λ k l. refl) p l)
 
 -- ---- a polynomial c of degree m that is 0 at X, and no polynomial of a lower degree is, is the least
 -- X undone: v as a polynomial in the product with q modulo c

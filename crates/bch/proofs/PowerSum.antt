@@ -1,6 +1,6 @@
 -- The remainder of a word as a sum of powers of x, one for each of its ones.
 --   xorSum-same, xorSum-zero, xorSum-front, xorSum-append   sums of many
---   linear-bits        a linear map of a number is the sum of those of its bits
+--   linear-bits        a linear map of a number is the sum of its values at the powers of 2 that the number has
 --   powerMod-below     a power is below 2^r
 --   remainder-powers   the remainder of a word
 --   shifted-powers     that of a word with r zeros behind it
@@ -9,7 +9,7 @@
 use mathlib.Core.Path.{_≡_, refl, sym, ap, ap₂, _∙_}
 use mathlib.Core.List.{List, [], _∷_, _++_}
 use Prim.Native.Nat.{ℕ, zero, suc, _+_, _-_, _*_, _/_, _%_, _^_, _<_}
-use native.Mathlib.Nat.{zero-mul, mul-one, add-zero, add-suc, div-one, le-refl, not-suc-le-zero, le-of-suc-le-suc, suc-sub-suc, sub-zero, div-div-eq-div-mul, pow-suc, pow-succ'}
+use native.Mathlib.Nat.{zero-mul, mul-one, add-zero, add-suc, div-one, le-refl, zero-lt-suc, not-suc-le-zero, le-of-suc-le-suc, suc-sub-suc, sub-zero, div-div-eq-div-mul, pow-suc, pow-succ'}
 use native.Mathlib.Omega.{arith}
 use lib.Arith.{lt-one}
 use lib.Pow.{pow-mono}
@@ -48,18 +48,19 @@ xorSum-append m (suc n) f =
     ap (λ (z : ℕ). xorSum z f) (add-suc m n) ∙ ap (λ (z : ℕ). z ⊕ f (m + n)) (xorSum-append m n f)
     ∙ ⊕-assoc (xorSum m f) (xorSum n (λ k. f (m + k))) (f (m + n))
 
-pub linear-bits : (r : ℕ) (L : ℕ → ℕ) → ((a b : ℕ) → L (a ⊕ b) ≡ L a ⊕ L b) → (x : ℕ) → x < 2 ^ r
-    → L x ≡ xorSum r (λ k. (x / 2 ^ k % 2) * L (2 ^ k))
+pub linear-bits : (r : ℕ) (L : ℕ → ℕ) → ((a b : ℕ) → L (a ⊕ b) ≡ L a ⊕ L b) → (F : ℕ → ℕ) → ((k : ℕ) → k < r → L (2 ^ k) ≡ F k)
+    → (x : ℕ) → x < 2 ^ r → L x ≡ xorSum r (λ k. (x / 2 ^ k % 2) * F k)
 unfolding xorSum
-linear-bits zero L lin x h = ap L (lt-one h) ∙ linear-zero L lin
-linear-bits (suc r) L lin x h =
-    let f : ℕ → ℕ = λ k. (x / 2 ^ k % 2) * L (2 ^ k) in
+linear-bits zero L lin F is x h = ap L (lt-one h) ∙ linear-zero L lin
+linear-bits (suc r) L lin F is x h =
+    let f : ℕ → ℕ = λ k. (x / 2 ^ k % 2) * F k in
     ap L (sym (half-and-bit x)) ∙ lin (x / 2 * 2) (x % 2)
     ∙ ap₂ _⊕_
-    (linear-bits r (λ v. L (v * 2)) (λ a b. ap L (⊕-double a b) ∙ lin (a * 2) (b * 2)) (x / 2) (omega arith)
-    ∙ xorSum-same r (λ k. (x / 2 / 2 ^ k % 2) * L (2 ^ k * 2)) (λ k. f (suc k))
-    (λ k l. ap₂ (λ (a b : ℕ). a % 2 * L b) (div-div-eq-div-mul x 2 (2 ^ k) ∙ ap (λ n. x / n) (sym (pow-succ' 2 k))) (sym (pow-suc 2 k))))
-    (ap L (sym (mul-one (x % 2))) ∙ linear-bit L lin (x % 2) 1 (mod2-bit x) ∙ ap (λ n. n % 2 * L 1) (sym (div-one x)))
+    (linear-bits r (λ v. L (v * 2)) (λ a b. ap L (⊕-double a b) ∙ lin (a * 2) (b * 2))
+    (λ k. F (suc k)) (λ k l. ap L (sym (pow-suc 2 k)) ∙ is (suc k) (omega arith)) (x / 2) (omega arith)
+    ∙ xorSum-same r (λ k. (x / 2 / 2 ^ k % 2) * F (suc k)) (λ k. f (suc k))
+    (λ k l. ap (λ (n : ℕ). n % 2 * F (suc k)) (div-div-eq-div-mul x 2 (2 ^ k) ∙ ap (λ n. x / n) (sym (pow-succ' 2 k)))))
+    (ap L (sym (mul-one (x % 2))) ∙ linear-bit L lin (x % 2) 1 (mod2-bit x) ∙ ap₂ (λ (n v : ℕ). n % 2 * v) (sym (div-one x)) (is 0 (zero-lt-suc r)))
     ∙ ⊕-comm (xorSum r (λ k. f (suc k))) (f 0) ∙ sym (xorSum-front r f)
 
 -- ---- remainders

@@ -23,7 +23,7 @@ use Rattle.bch.proofs.Field.{two-below}
 use Rattle.bch.proofs.Primitive.{primitive}
 use Rattle.bch.proofs.Generator.{generator-roots}
 use Rattle.bch.proofs.Word.{power-root, power-value}
-use Rattle.bch.proofs.PowerSum.{xorSum-same, linear-bits}
+use Rattle.bch.proofs.PowerSum.{linear-bits}
 use Rattle.bch.proofs.Bch.{Code}
 
 value-sum : (m i a b : ℕ) → valueAt m i (a ⊕ b) ≡ valueAt m i a ⊕ valueAt m i b
@@ -40,10 +40,7 @@ unfolding valueAt
 value-power m i e = power-value (iterate (timesX (fieldPoly m) m) i) (iterate-timesX-linear (fieldPoly m) m i) e ∙ power-power m i e
 
 pub value-bits : (m i r x : ℕ) → x < 2 ^ r → valueAt m i x ≡ xorSum r (λ k. (x / 2 ^ k % 2) * power m (i * k))
-value-bits m i r x h =
-    linear-bits r (valueAt m i) (value-sum m i) x h
-    ∙ xorSum-same r (λ k. (x / 2 ^ k % 2) * valueAt m i (2 ^ k)) (λ k. (x / 2 ^ k % 2) * power m (i * k))
-    (λ k l. ap (λ n. x / 2 ^ k % 2 * n) (value-power m i k))
+value-bits m i r = linear-bits r (valueAt m i) (value-sum m i) (λ k. power m (i * k)) (λ k l. value-power m i k)
 
 value-root : (m i g r : ℕ) → valueAt m i g ≡ 0 → (e : ℕ) → valueAt m i (powerMod g r e) ≡ power m (i * e)
 unfolding valueAt powerMod
@@ -84,10 +81,7 @@ module _ (m : ℕ) (low : 4 ≤ m) (high : m ≤ 10) where
   syndromes-power k = ap₂ (λ (a b : ℕ). a + 65536 * b) (value-power m 1 k ∙ ap (power m) (one-mul k)) (value-power m 3 k)
 
   pub syndromes-bits : (r x : ℕ) → x < 2 ^ r → syndromes m x ≡ xorSum r (λ k. (x / 2 ^ k % 2) * powerSyndromes m k)
-  syndromes-bits r x h =
-      linear-bits r (syndromes m) syndromes-sum x h
-      ∙ xorSum-same r (λ k. (x / 2 ^ k % 2) * syndromes m (2 ^ k)) (λ k. (x / 2 ^ k % 2) * powerSyndromes m k)
-      (λ k l. ap (λ n. x / 2 ^ k % 2 * n) (syndromes-power k))
+  syndromes-bits r = linear-bits r (syndromes m) syndromes-sum (powerSyndromes m) (λ k l. syndromes-power k)
 
 -- ---- powers of x modulo the generator
 module _ (m t : ℕ) (C : Code m t) where
