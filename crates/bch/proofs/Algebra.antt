@@ -1,5 +1,5 @@
 -- Laws of a field of characteristic 2.
---   sum-mul, mul-zero, mul-left-comm
+--   sum-mul, mul-zero, zero-mul, mul-left-comm
 --   square-sum   the square of a sum
 --   cubes        the sum of two cubes
 --   cancel       a factor other than 0 can be taken away
@@ -21,6 +21,9 @@ module _ (m : ℕ) (_·_ : ℕ → ℕ → ℕ) (F : Field m _·_) where
 
   pub mul-zero : (a : ℕ) → a · 0 ≡ 0
   mul-zero a = linear-zero (λ v. a · v) (F .mul-sum a)
+
+  pub zero-mul : (a : ℕ) → 0 · a ≡ 0
+  zero-mul a = F .mul-comm 0 a ∙ mul-zero a
 
   pub mul-left-comm : (a b c : ℕ) → a · (b · c) ≡ b · (a · c)
   mul-left-comm a b c = sym (F .mul-assoc a b c) ∙ ap (λ v. v · c) (F .mul-comm a b) ∙ F .mul-assoc b a c

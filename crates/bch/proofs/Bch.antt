@@ -1,6 +1,6 @@
 -- The codes of the designs, with m from 4 to 10 and t from 1 to 3 as variables. What a user of the BCH layer needs:
 --   Code m t                    m and t of a design that rules 1 and 2 of the table let through
---   generator-degree            its generator has degree m t (Minimal)
+--   degree                      its generator has degree m t
 --   codeword-multiple, multiple-codeword   "remainder 0" is "the generator divides it", both ways
 --   parity-codeword, parity-only   information with its parity is a codeword, and no other end makes one
 --   parity-sum                  parity is linear
@@ -14,12 +14,13 @@ use Prim.Native.Nat.{ℕ, _-_, _*_, _/_, _^_, _≤_, _<_}
 use native.Mathlib.Nat.{mul-pos, le-trans, zero-lt-suc}
 use lib.ListN.{length}
 use borrow.Author.Tests.{eqb-true, eq-eqb}
-use Rattle.bch.specs.Polynomial.{Bits, _⊗_, remainder}
+use Rattle.bch.specs.Polynomial.{Bits, _⊗_, wordPoly, remainder}
 use Rattle.bch.specs.Field.{fieldPoly, valueAt}
 use Rattle.bch.specs.Code.{generator, isCodeword, parity, distance}
 use Rattle.bch.proofs.Primitive.{primitive}
-use Rattle.bch.proofs.Minimal.{Fits, generator-degree, generator-roots}
-use Rattle.bch.proofs.Word.{wordPoly, divides, multiple}
+use Rattle.bch.proofs.Minimal.{Fits}
+use Rattle.bch.proofs.Generator.{generator-degree, generator-roots}
+use Rattle.bch.proofs.Word.{divides, multiple}
 use Rattle.bch.proofs.Bound.{near-equal, near-one}
 use Rattle.bch.proofs.Systematic.{parity-makes, parity-alone}
 
@@ -51,7 +52,7 @@ module _ (m t : ℕ) (C : Code m t) where
   degree = generator-degree m t (C .m-low) (C .m-high) (C .t-high) (C .fits)
 
   pub codeword-multiple : (w : List ℕ) → isCodeword (generator m t) (m * t) w ≡ true → (q : ℕ) × (wordPoly w ≡ q ⊗ generator m t)
-  codeword-multiple w c = multiple g (m * t) degree-positive degree w (codeword-zero g (m * t) w c)
+  codeword-multiple w c = multiple g (m * t) w (codeword-zero g (m * t) w c)
 
   pub multiple-codeword : (w : List ℕ) → Bits w → (q : ℕ) → wordPoly w ≡ q ⊗ generator m t → isCodeword (generator m t) (m * t) w ≡ true
   multiple-codeword w hw q e = zero-codeword g (m * t) w (divides g (m * t) degree-positive degree w hw q e)

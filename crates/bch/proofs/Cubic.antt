@@ -8,18 +8,23 @@
 -- Assumes nothing.
 use mathlib.Core.Path.{_≡_, sym, ap, ap₂, _∙_, subst⁻¹}
 use mathlib.Core.Logic.{_≢_, _⊎_, inl, inr, ⊎-map}
-use Prim.Native.Nat.{ℕ, zero, suc, _+_, _-_, _*_, _^_, _≤_, _<_}
-use native.Mathlib.Nat.{zero-lt-suc}
+use Prim.Native.Nat.{ℕ, _+_, _-_, _*_, _^_, _≤_, _<_}
 use native.Mathlib.Decide.{ℕ-discrete}
-use native.Mathlib.Omega.{arith}
-use Rattle.bch.specs.Polynomial.{_⊕_, iterate}
+use Rattle.bch.specs.Polynomial.{_⊕_}
 use Rattle.bch.specs.Field.{fieldPoly, power}
 use Rattle.bch.specs.Locator.{Solution, TripleOf, PowerIs}
 use Rattle.bch.proofs.Sum.{⊕·simp, ⊕-self, ⊕-equal, ⊕-below}
 use Rattle.bch.proofs.Field.{Field, mul}
 use Rattle.bch.proofs.Primitive.{field-laws, every-power}
-use Rattle.bch.proofs.Algebra.{sum-mul, mul-zero, mul-left-comm, cancel}
-use Rattle.bch.proofs.Locator.{power-below, power-not-zero, power-add, power-square, power-cube, quotient, pair-sum}
+use Rattle.bch.proofs.Algebra.{sum-mul, mul-zero, zero-mul, mul-left-comm, cancel}
+use Rattle.bch.proofs.Locator.{power-below, power-not-zero, power-add, power-square, power-cube, power-fifth, quotient, solution-positive, pair-sum}
+
+-- of three, the sum of two and each one, from sums of two and the sum of all
+third : (x y z : ℕ) → x ⊕ y ≡ y ⊕ z ⊕ (x ⊕ z)
+third x y z = simp ⊕·simp
+
+others : (x y z : ℕ) → (y ⊕ z ⊕ (x ⊕ (y ⊕ z)) ≡ x) × (x ⊕ z ⊕ (x ⊕ (y ⊕ z)) ≡ y) × (y ⊕ z ⊕ (x ⊕ z) ⊕ (x ⊕ (y ⊕ z)) ≡ z)
+others x y z = (simp ⊕·simp, simp ⊕·simp, simp ⊕·simp)
 
 module _ (m : ℕ) (_·_ : ℕ → ℕ → ℕ) (F : Field m _·_) where
   infixl 70 _·_
@@ -39,7 +44,7 @@ module _ (m : ℕ) (_·_ : ℕ → ℕ → ℕ) (F : Field m _·_) where
   scaled c z = simp (F .mul-sum, F .mul-assoc, mul-left-comm m _·_ F, ⊕·simp)
 
   root-one : (a b : ℕ) → a · (a · a) ⊕ (a · a ⊕ (a · b ⊕ b · b)) · a ⊕ a · (b · (a ⊕ b)) ≡ 0
-  root-one a b = sym (cubic a a b) ∙ ap (λ n. n · ((a ⊕ b) · (a ⊕ (a ⊕ b)))) (⊕-self a) ∙ F .mul-comm 0 _ ∙ mul-zero m _·_ F _
+  root-one a b = sym (cubic a a b) ∙ ap (λ n. n · ((a ⊕ b) · (a ⊕ (a ⊕ b)))) (⊕-self a) ∙ zero-mul m _·_ F _
 
   -- a product of three is 0 only where one of them is
   zero-of-three : (a b c : ℕ) → a < 2 ^ m → b < 2 ^ m → c < 2 ^ m → a · (b · c) ≡ 0 → (a ≡ 0) ⊎ ((b ≡ 0) ⊎ (c ≡ 0))
@@ -65,32 +70,12 @@ module _ (m : ℕ) (low : 4 ≤ m) (high : m ≤ 10) where
   F : Field m (mul (fieldPoly m) m)
   F = field-laws m low high
 
-  power-fifth : (e : ℕ) → power m (5 * e) ≡ power m e · (power m e · power m e · (power m e · power m e))
-  power-fifth e =
-      let q : 5 * e ≡ e + (2 * e + 2 * e) = omega arith in
-      ap (power m) q ∙ power-add m low high e (2 * e + 2 * e)
-      ∙ ap (λ n. power m e · n) (power-add m low high (2 * e) (2 * e) ∙ ap₂ (λ (a b : ℕ). a · b) (power-square m low high e) (power-square m low high e))
-
-  times-zero : (a : ℕ) → 0 · a ≡ 0
-  times-zero a = F .mul-comm 0 a ∙ mul-zero m _·_ F a
-
   by-power : (k s p : ℕ) (f : ℕ → ℕ) → s < 2 ^ m → PowerIs m k s p → f 0 ≡ 0 → ((e : ℕ) → power m (k * e) ≡ f (power m e)) → p ≡ f s
   by-power k s p f below P f-zero f-power = go (ℕ-discrete s 0)
     where
       go : Dec (s ≡ 0) → p ≡ f s
       go (yes z) = P .0 z ∙ sym (ap f z ∙ f-zero)
       go (no d) = let (e, e-below, e-is) = every-power m low high s below d in P .1 e e-below (sym e-is) ∙ f-power e ∙ ap f e-is
-
-  third : (x y z : ℕ) → x ⊕ y ≡ y ⊕ z ⊕ (x ⊕ z)
-  third x y z = simp ⊕·simp
-
-  others : (x y z : ℕ) → (y ⊕ z ⊕ (x ⊕ (y ⊕ z)) ≡ x) × (x ⊕ z ⊕ (x ⊕ (y ⊕ z)) ≡ y) × (y ⊕ z ⊕ (x ⊕ z) ⊕ (x ⊕ (y ⊕ z)) ≡ z)
-  others x y z = (simp ⊕·simp, simp ⊕·simp, simp ⊕·simp)
-
-  positive : (g : ℕ) → power m (2 * g) ⊕ 1 ≢ 0 → 0 < g
-  unfolding power iterate
-  positive zero nz = absurd (nz (⊕-self 1))
-  positive (suc g) nz = zero-lt-suc g
 
   -- three powers of the root, and the cube and the fifth power of their sum
   module _ {s c f i j k : ℕ} (T : TripleOf m s c f i j k) where
@@ -120,15 +105,15 @@ module _ (m : ℕ) (low : 4 ≤ m) (high : m ≤ 10) where
 
     defect : {p : ℕ} → PowerIs m 3 s p → p ⊕ c ≡ a · (b · (a ⊕ b))
     defect {p} P =
-        ap₂ _⊕_ (by-power 3 s p (λ n. n · (n · n)) s-below P (times-zero (0 · 0)) (power-cube m low high) ∙ ap (λ n. n · (n · n)) (T .sum))
+        ap₂ _⊕_ (by-power 3 s p (λ n. n · (n · n)) s-below P (zero-mul m _·_ F (0 · 0)) (power-cube m low high) ∙ ap (λ n. n · (n · n)) (T .sum))
         (T .cubes ∙ ap₂ _⊕_ (power-cube m low high i) (ap₂ _⊕_ (power-cube m low high j) (power-cube m low high k)))
         ∙ three-cubes m _·_ F x y z
 
     fifth-defect : {q : ℕ} → PowerIs m 5 s q → q ⊕ f ≡ a · (b · (a ⊕ b)) · (a · a ⊕ (a · b ⊕ b · b))
     fifth-defect {q} Q =
         ap₂ _⊕_
-        (by-power 5 s q (λ n. n · (n · n · (n · n))) s-below Q (times-zero (0 · 0 · (0 · 0))) power-fifth ∙ ap (λ n. n · (n · n · (n · n))) (T .sum))
-        (T .fifths ∙ ap₂ _⊕_ (power-fifth i) (ap₂ _⊕_ (power-fifth j) (power-fifth k)))
+        (by-power 5 s q (λ n. n · (n · n · (n · n))) s-below Q (zero-mul m _·_ F (0 · 0 · (0 · 0))) (power-fifth m low high) ∙ ap (λ n. n · (n · n · (n · n))) (T .sum))
+        (T .fifths ∙ ap₂ _⊕_ (power-fifth m low high i) (ap₂ _⊕_ (power-fifth m low high j) (power-fifth m low high k)))
         ∙ three-fifths m _·_ F x y z
 
     pub cubic-defect : {p : ℕ} → PowerIs m 3 s p → p ⊕ c ≢ 0
@@ -172,7 +157,7 @@ module _ (m : ℕ) (low : 4 ≤ m) (high : m ≤ 10) where
           F .mul-sum (power m g) (power m (2 * g)) 1
           ∙ ap₂ _⊕_ (ap (λ n. power m g · n) (power-square m low high g)) (F .mul-comm (power m g) 1 ∙ F .mul-one (power m g) (power-below m low high g))
 
-      divided : (g : ℕ) → w · power m g ≡ a → (0 < g) × Solution m 2 v g
+      divided : (g : ℕ) → w · power m g ≡ a → Solution m 2 v g
       divided g here =
           let r : ℕ = power m g in
           let r-below : r < 2 ^ m = power-below m low high g in
@@ -185,14 +170,14 @@ module _ (m : ℕ) (low : 4 ≤ m) (high : m ≤ 10) where
           let nz : power m (2 * g) ⊕ 1 ≢ 0 = λ z. power-not-zero m low high v (sym solves ∙ ap (λ n. r · n) z ∙ mul-zero m _·_ F r) in
           let (t, t-below, t-is) =
           every-power m low high (power m (2 * g) ⊕ 1) (⊕-below m (power m (2 * g)) 1 (power-below m low high (2 * g)) (F .one-below)) nz in
-          (positive g nz, (t, t-is, power-add m low high g t ∙ ap (λ n. r · n) t-is ∙ solves))
+          (t, t-is, power-add m low high g t ∙ ap (λ n. r · n) t-is ∙ solves)
 
       pub cubic-solution : (g : ℕ) × (0 < g) × (g < 2 ^ m - 1) × Solution m 2 v g
       cubic-solution =
           let (e, e-below, e-is) = every-power m low high a a-below (pair-sum m low high j k (T .j-below) (T .k-below) (T .apart-jk)) in
           let (g, g-below, g-is) = quotient m low high e h in
-          let (g-above, solves) = divided g (F .mul-comm w (power m g) ∙ sym (power-add m low high g h) ∙ g-is ∙ e-is) in
-          (g, g-above, g-below, solves)
+          let solved = divided g (F .mul-comm w (power m g) ∙ sym (power-add m low high g h) ∙ g-is ∙ e-is) in
+          (g, solution-positive m low high 2 v g solved, g-below, solved)
 
       pub cubic-root : (g : ℕ) → Solution m 2 v g → (power m (h + g) ⊕ s ≡ x) ⊎ ((power m (h + g) ⊕ s ≡ y) ⊎ (power m (h + g) ⊕ s ≡ z))
       cubic-root g (t, t-is, solves) =

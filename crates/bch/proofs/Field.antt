@@ -3,20 +3,23 @@
 --   Primitive f d          a polynomial of degree d by which the powers of x run through 2^d - 1 values
 --   mul f d a b            the product modulo f
 --   field                  the laws hold
---   power-injective, power-nonzero, power-all   the powers of x are the numbers but 0, each once
+--   power-below, power-injective, power-nonzero, power-all   the powers of x are the numbers but 0, each once
+--   cycle                  after 2^d - 1 of them they come back
+--   iterate-mul            times x^j is a product
 -- Assumes nothing.
 use mathlib.Core.Path.{_≡_, refl, sym, ap, _∙_, subst⁻¹}
 use mathlib.Core.Logic.{_≢_}
-use mathlib.Core.Bool.{Bool, true, false, not, _&&_}
+use mathlib.Core.Bool.{Bool, not, _&&_}
 use Prim.Native.Nat.{ℕ, zero, suc, pred, _+_, _-_, _/_, _^_, _≤_, _<_}
 use native.Mathlib.Nat.{one-mul, le-refl, add-sub-of-le, not-suc-le-zero, mul-one, sub-add-cancel}
 use native.Mathlib.Decide.{ℕ-discrete, decLt}
 use native.Mathlib.Omega.{arith}
 use lib.Pow.{pow-pos, pow-mono}
 use lib.Dec.{T, eqb, eqb→eq, T-not}
+use lib.Ieee.Fits.{and-l, and-r}
 use Rattle.bch.specs.Polynomial.{_⊕_, timesX, iterate, polyAt}
-use Rattle.bch.proofs.Polynomial.{linear-zero, iterate-linear, iterate-add, polyAt-bit, polyAt-sum, polyAt-linear, polyAt-map, polyAt-comm}
-use Rattle.bch.proofs.Modulus.{timesX-linear, timesX-below, polyAt-one, polyAt-below}
+use Rattle.bch.proofs.Polynomial.{linear-zero, iterate-add, iterate-inner, polyAt-bit, polyAt-sum, polyAt-linear, polyAt-map, polyAt-comm}
+use Rattle.bch.proofs.Modulus.{timesX-linear, iterate-timesX-linear, iterate-timesX-below, polyAt-one, polyAt-below}
 use Rattle.bch.proofs.Pigeonhole.{pigeonhole}
 
 -- a field of the numbers below 2^m, with the sum `_⊕_`. The product of numbers past that bound is that of their remainders
@@ -31,27 +34,10 @@ module _ (m : ℕ) (_·_ : ℕ → ℕ → ℕ) where
     pub mul-one : (a : ℕ) → a < 2 ^ m → 1 · a ≡ a
     pub domain : (a b : ℕ) → a < 2 ^ m → b < 2 ^ m → a ≢ 0 → a · b ≡ 0 → b ≡ 0
 
-pub iterate-inner : (T : ℕ → ℕ) (j v : ℕ) → iterate T j (T v) ≡ T (iterate T j v)
-unfolding iterate
-iterate-inner T zero v = refl
-iterate-inner T (suc j) v = ap T (iterate-inner T j v)
-
-pub iterate-one : (T : ℕ → ℕ) (v : ℕ) → iterate T 1 v ≡ T v
-unfolding iterate
-iterate-one T v = refl
-
 -- the powers of x come back to 1 after n steps, and not before
 unfoldable pub comesBack : (ℕ → ℕ) → ℕ → ℕ → Bool
 comesBack T zero v = eqb v 1
 comesBack T (suc n) v = not (eqb v 1) && comesBack T n (T v)
-
-pub and-l : (a b : Bool) → T (a && b) → T a
-and-l true b t = tt
-and-l false b t = t
-
-pub and-r : (a b : Bool) → T (a && b) → T b
-and-r true b t = t
-and-r false b t = absurd t
 
 back : (X : ℕ → ℕ) (n v : ℕ) → T (comesBack X n v) → iterate X n v ≡ 1
 unfolding comesBack iterate
@@ -75,34 +61,29 @@ unfoldable pub mul : (f d a b : ℕ) → ℕ
 mul f d a b = polyAt (timesX f d) a (polyAt (timesX f d) b 1)
 
 module _ (f d : ℕ) (P : Primitive f d) where
-  pub timesX-lin : (a b : ℕ) → timesX f d (a ⊕ b) ≡ timesX f d a ⊕ timesX f d b
-  timesX-lin = timesX-linear f d
-
   pub two-below : 2 ≤ 2 ^ d
   two-below = pow-mono (P .positive)
 
-  pub value-of-one : (p : ℕ) → p < 2 ^ d → polyAt (timesX f d) p 1 ≡ p
+  value-of-one : (p : ℕ) → p < 2 ^ d → polyAt (timesX f d) p 1 ≡ p
   value-of-one = polyAt-one f d (P .degree)
 
-  pub reduced : (p : ℕ) → polyAt (timesX f d) p 1 < 2 ^ d
+  reduced : (p : ℕ) → polyAt (timesX f d) p 1 < 2 ^ d
   reduced p = polyAt-below f d (P .degree) p 1 two-below
 
-  pub iterate-below : (j v : ℕ) → v < 2 ^ d → iterate (timesX f d) j v < 2 ^ d
-  unfolding iterate
-  iterate-below zero v h = h
-  iterate-below (suc j) v h = timesX-below f d (P .degree) (iterate (timesX f d) j v) (iterate-below j v h)
+  pub power-below : (j : ℕ) → iterate (timesX f d) j 1 < 2 ^ d
+  power-below j = iterate-timesX-below f d (P .degree) j 1 two-below
 
-  pub iterate-polyAt : (j p v : ℕ) → iterate (timesX f d) j (polyAt (timesX f d) p v) ≡ polyAt (timesX f d) p (iterate (timesX f d) j v)
+  iterate-polyAt : (j p v : ℕ) → iterate (timesX f d) j (polyAt (timesX f d) p v) ≡ polyAt (timesX f d) p (iterate (timesX f d) j v)
   unfolding iterate
   iterate-polyAt zero p v = refl
-  iterate-polyAt (suc j) p v = ap (timesX f d) (iterate-polyAt j p v) ∙ polyAt-map (timesX f d) timesX-lin p (iterate (timesX f d) j v)
+  iterate-polyAt (suc j) p v = ap (timesX f d) (iterate-polyAt j p v) ∙ polyAt-map (timesX f d) (timesX-linear f d) p (iterate (timesX f d) j v)
 
   -- 2^d - 1 steps lead back
-  order-is : (2 ^ d - 1) ≡ (2 ^ d - 2) + 1
-  order-is = omega (arith, two-below)
-
   power-order : iterate (timesX f d) (2 ^ d - 1) 1 ≡ 1
-  power-order = ap (λ (n : ℕ). iterate (timesX f d) n 1) order-is ∙ iterate-add (timesX f d) (2 ^ d - 2) 1 1 ∙ ap (iterate (timesX f d) (2 ^ d - 2)) (iterate-one (timesX f d) 1) ∙ back (timesX f d) (2 ^ d - 2) (timesX f d 1) (P .returns)
+  unfolding iterate
+  power-order =
+      let n : 2 ^ d - 1 ≡ 2 ^ d - 2 + 1 = omega (arith, two-below) in
+      ap (λ (n : ℕ). iterate (timesX f d) n 1) n ∙ iterate-add (timesX f d) (2 ^ d - 2) 1 1 ∙ back (timesX f d) (2 ^ d - 2) (timesX f d 1) (P .returns)
 
   power-first : (k : ℕ) → 0 < k → k < (2 ^ d - 1) → iterate (timesX f d) k 1 ≢ 1
   unfolding iterate
@@ -113,21 +94,24 @@ module _ (f d : ℕ) (P : Primitive f d) where
   cycle v h = ap (iterate (timesX f d) (2 ^ d - 1)) (sym (value-of-one v h)) ∙ iterate-polyAt (2 ^ d - 1) v 1 ∙ ap (polyAt (timesX f d) v) power-order ∙ value-of-one v h
 
   -- a power of x can be taken away
-  pub iterate-injective : (j u v : ℕ) → j ≤ (2 ^ d - 1) → u < 2 ^ d → v < 2 ^ d → iterate (timesX f d) j u ≡ iterate (timesX f d) j v → u ≡ v
+  iterate-injective : (j u v : ℕ) → j ≤ (2 ^ d - 1) → u < 2 ^ d → v < 2 ^ d → iterate (timesX f d) j u ≡ iterate (timesX f d) j v → u ≡ v
   iterate-injective j u v h hu hv e =
       sym (undo u hu) ∙ ap (iterate (timesX f d) ((2 ^ d - 1) - j)) e ∙ undo v hv
     where
       undo : (w : ℕ) → w < 2 ^ d → iterate (timesX f d) ((2 ^ d - 1) - j) (iterate (timesX f d) j w) ≡ w
       undo w hw = sym (iterate-add (timesX f d) ((2 ^ d - 1) - j) j w) ∙ ap (λ (n : ℕ). iterate (timesX f d) n w) (sub-add-cancel h) ∙ cycle w hw
 
-  pub power-nonzero : (j : ℕ) → j ≤ (2 ^ d - 1) → iterate (timesX f d) j 1 ≢ 0
-  power-nonzero j h e =
-      let z : _≡_ {A = ℕ} 1 0 = iterate-injective j 1 0 h two-below (pow-pos d) (e ∙ sym (linear-zero (iterate (timesX f d) j) (iterate-linear (timesX f d) timesX-lin j))) in omega arith
+  pub power-nonzero : (j : ℕ) → iterate (timesX f d) j 1 ≢ 0
+  unfolding iterate
+  power-nonzero zero e = omega (arith, e)
+  power-nonzero (suc j) e =
+      power-nonzero j
+      (iterate-injective 1 (iterate (timesX f d) j 1) 0 (omega (arith, two-below)) (power-below j) (pow-pos d) (e ∙ sym (linear-zero (timesX f d) (timesX-linear f d))))
 
   power-apart : (i j : ℕ) → i < j → j < (2 ^ d - 1) → iterate (timesX f d) i 1 ≢ iterate (timesX f d) j 1
   power-apart i j h l e =
       power-first (j - i) (omega arith) (omega arith)
-      (sym (iterate-injective i 1 (iterate (timesX f d) (j - i) 1) (omega arith) two-below (iterate-below (j - i) 1 two-below)
+      (sym (iterate-injective i 1 (iterate (timesX f d) (j - i) 1) (omega arith) two-below (power-below (j - i))
       (e ∙ ap (λ (n : ℕ). iterate (timesX f d) n 1) (sym (add-sub-of-le {n = j} {m = i} (omega arith))) ∙ iterate-add (timesX f d) i (j - i) 1)))
 
   pub power-injective : (i j : ℕ) → i < (2 ^ d - 1) → j < (2 ^ d - 1) → iterate (timesX f d) i 1 ≡ iterate (timesX f d) j 1 → i ≡ j
@@ -143,33 +127,33 @@ module _ (f d : ℕ) (P : Primitive f d) where
   power-all a h nz =
       let (j, l, e) =
       pigeonhole (2 ^ d - 1) (λ j. pred (iterate (timesX f d) j 1))
-      (λ i k. omega (arith, iterate-below i 1 two-below, power-nonzero i (omega arith)))
-      (λ i k hi hk e. power-injective i k hi hk (omega (arith, e, power-nonzero i (omega arith), power-nonzero k (omega arith))))
+      (λ i k. omega (arith, power-below i, power-nonzero i))
+      (λ i k hi hk e. power-injective i k hi hk (omega (arith, e, power-nonzero i, power-nonzero k)))
       (pred a) (omega arith)
-      in (j, l, omega (arith, e, power-nonzero j (omega arith)))
+      in (j, l, omega (arith, e, power-nonzero j))
 
   -- times x^j is a product
   pub iterate-mul : (j v : ℕ) → v < 2 ^ d → iterate (timesX f d) j v ≡ mul f d (iterate (timesX f d) j 1) v
   unfolding mul
   iterate-mul j v h =
       ap (iterate (timesX f d) j) (sym (value-of-one v h)) ∙ iterate-polyAt j v 1
-      ∙ ap (polyAt (timesX f d) v) (sym (value-of-one (iterate (timesX f d) j 1) (iterate-below j 1 two-below))) ∙ polyAt-comm (timesX f d) timesX-lin v (iterate (timesX f d) j 1) 1
+      ∙ ap (polyAt (timesX f d) v) (sym (value-of-one (iterate (timesX f d) j 1) (power-below j))) ∙ polyAt-comm (timesX f d) (timesX-linear f d) v (iterate (timesX f d) j 1) 1
 
   pub field : Field d (mul f d)
   unfolding mul
   field = record {
     one-below = two-below;
     mul-below = λ a b. polyAt-below f d (P .degree) a (polyAt (timesX f d) b 1) (reduced b);
-    mul-comm = λ a b. polyAt-comm (timesX f d) timesX-lin a b 1;
+    mul-comm = λ a b. polyAt-comm (timesX f d) (timesX-linear f d) a b 1;
     mul-assoc = λ a b c.
-        polyAt-comm (timesX f d) timesX-lin (mul f d a b) c 1
+        polyAt-comm (timesX f d) (timesX-linear f d) (mul f d a b) c 1
         ∙ ap (polyAt (timesX f d) c) (value-of-one (mul f d a b) (polyAt-below f d (P .degree) a (polyAt (timesX f d) b 1) (reduced b)))
-        ∙ polyAt-comm (timesX f d) timesX-lin c a (polyAt (timesX f d) b 1) ∙ ap (polyAt (timesX f d) a) (polyAt-comm (timesX f d) timesX-lin c b 1)
+        ∙ polyAt-comm (timesX f d) (timesX-linear f d) c a (polyAt (timesX f d) b 1) ∙ ap (polyAt (timesX f d) a) (polyAt-comm (timesX f d) (timesX-linear f d) c b 1)
         ∙ ap (polyAt (timesX f d) a) (sym (value-of-one (mul f d b c) (polyAt-below f d (P .degree) b (polyAt (timesX f d) c 1) (reduced c))));
-    mul-sum = λ a b c. ap (polyAt (timesX f d) a) (polyAt-sum (timesX f d) b c 1) ∙ polyAt-linear (timesX f d) timesX-lin a (polyAt (timesX f d) b 1) (polyAt (timesX f d) c 1);
+    mul-sum = λ a b c. ap (polyAt (timesX f d) a) (polyAt-sum (timesX f d) b c 1) ∙ polyAt-linear (timesX f d) (timesX-linear f d) a (polyAt (timesX f d) b 1) (polyAt (timesX f d) c 1);
     mul-one = λ a h. polyAt-bit (timesX f d) 1 (polyAt (timesX f d) a 1) (le-refl 2) ∙ one-mul (polyAt (timesX f d) a 1) ∙ value-of-one a h;
     domain = λ a b ha hb nz e.
         let (j, l, q) = power-all a ha nz in
         iterate-injective j b 0 (omega arith) hb (pow-pos d)
-        (iterate-mul j b hb ∙ ap (λ (n : ℕ). mul f d n b) q ∙ e ∙ sym (linear-zero (iterate (timesX f d) j) (iterate-linear (timesX f d) timesX-lin j)));
+        (iterate-mul j b hb ∙ ap (λ (n : ℕ). mul f d n b) q ∙ e ∙ sym (linear-zero (iterate (timesX f d) j) (iterate-timesX-linear f d j)));
   }

@@ -1,43 +1,42 @@
--- Two errors from the sum of their powers of the root and the sum of the cubes, for m from 4 to 10.
+-- The powers of the root, tables over them, and two errors from the sum of their powers and the sum of the cubes, for m from 4 to 10.
 --   power-below, power-cycle, power-one-only, power-not-zero   the powers of the root
 --   power-rounds, power-mod   an exponent reduced by the number of powers
---   power-add, power-square, power-cube   products of powers
+--   power-add, power-square, power-cube, power-fifth   products of powers
 --   quotient       a power over a power
+--   not-one        a power that is not 1, and its square, plus 1 are not 0
 --   log-power      what a table of logarithms says of an element
---   quarter-powers, quarter-logs, quarter-halves, quarter-cubics   the tables of a field as they are lent on, by quarters
---   not-one        a square of a power that is not 1 is not 1
---   solution-only  power e solves the equation for one v
+--   solution-only, solution-positive   power e solves the equation for one v, and 1 for none
 --   pair-sum       two powers differ
 --   pair-defect    the sum of the cubes is not the cube of the sum
 --   pair-halving   the equation z² + z = power v, from which the two are found, has a solution
 --   pair-root      and each solution leads to one of the two
+--   quarter-powers, quarter-logs, quarter-halves, quarter-cubics   the tables of a field as they are lent on, by quarters
 -- Assumes nothing.
 use mathlib.Core.Path.{_≡_, refl, sym, ap, ap₂, _∙_, subst⁻¹}
 use mathlib.Core.Logic.{_≢_, _⊎_, ⊎-map}
 use mathlib.Core.List.{List}
 use Prim.Native.Nat.{ℕ, zero, suc, _+_, _-_, _*_, _/_, _%_, _^_, _≤_, _<_}
-use native.Mathlib.Nat.{add-comm, zero-add, zero-mul, one-mul, suc-mul, div-add-mod', zero-lt-suc}
+use native.Mathlib.Nat.{add-comm, zero-add, zero-mul, mul-zero, one-mul, suc-mul, div-add-mod', zero-lt-suc}
 use native.Mathlib.Decide.{ℕ-discrete}
 use native.Mathlib.Omega.{arith}
-use lib.Pow.{pow-pos}
 use lib.ListN.{length, getD, take, drop}
 use Rattle.bch.specs.Polynomial.{_⊕_, timesX, iterate}
 use Rattle.bch.specs.Field.{fieldPoly, power, powerTable}
 use Rattle.bch.specs.Locator.{LogTable, Solution, HalfTable, CubicTable, FieldTables}
 use Rattle.bch.proofs.Sum.{⊕·simp, ⊕-self, ⊕-self-left, ⊕-equal, ⊕-below}
-use Rattle.bch.proofs.Polynomial.{linear-zero, iterate-add}
-use Rattle.bch.proofs.Field.{Field, mul, timesX-lin, two-below, iterate-below, cycle, iterate-injective, power-injective, iterate-mul}
+use Rattle.bch.proofs.Polynomial.{iterate-add}
+use Rattle.bch.proofs.Field.{Field, mul, power-below as x-power-below, cycle, power-nonzero, power-injective, iterate-mul}
 use Rattle.bch.proofs.Primitive.{primitive, field-laws, every-power}
 use Rattle.bch.proofs.Algebra.{sum-mul, square-sum, cubes, cancel, two-roots}
 
 module _ (m : ℕ) (low : 4 ≤ m) (high : m ≤ 10) where
   -- ---- the powers of the root
-  two : 2 ≤ 2 ^ m
-  two = two-below (fieldPoly m) m (primitive m low high)
+  F : Field m (mul (fieldPoly m) m)
+  F = field-laws m low high
 
   pub power-below : (j : ℕ) → power m j < 2 ^ m
   unfolding power
-  power-below j = iterate-below (fieldPoly m) m (primitive m low high) j 1 two
+  power-below = x-power-below (fieldPoly m) m (primitive m low high)
 
   pub power-cycle : (j : ℕ) → power m (j + (2 ^ m - 1)) ≡ power m j
   unfolding power
@@ -59,21 +58,13 @@ module _ (m : ℕ) (low : 4 ≤ m) (high : m ≤ 10) where
   power-one-only = power-injective (fieldPoly m) m (primitive m low high)
 
   pub power-not-zero : (j : ℕ) → power m j ≢ 0
-  unfolding power iterate
-  power-not-zero zero e = omega (arith, e)
-  power-not-zero (suc j) e =
-      let T : ℕ → ℕ = timesX (fieldPoly m) m in
-      power-not-zero j
-      (iterate-injective (fieldPoly m) m (primitive m low high) 1 (power m j) 0 (omega (arith, two)) (power-below j) (pow-pos m)
-      (e ∙ sym (linear-zero T (timesX-lin (fieldPoly m) m (primitive m low high)))))
+  unfolding power
+  power-not-zero = power-nonzero (fieldPoly m) m (primitive m low high)
 
   -- the product of the field
   infixl 70 _·_
   abbrev _·_ : ℕ → ℕ → ℕ
   a · b = mul (fieldPoly m) m a b
-
-  F : Field m (mul (fieldPoly m) m)
-  F = field-laws m low high
 
   pub power-add : (i j : ℕ) → power m (i + j) ≡ mul (fieldPoly m) m (power m i) (power m j)
   unfolding power
@@ -84,6 +75,13 @@ module _ (m : ℕ) (low : 4 ≤ m) (high : m ≤ 10) where
 
   pub power-cube : (e : ℕ) → power m (3 * e) ≡ mul (fieldPoly m) m (power m e) (mul (fieldPoly m) m (power m e) (power m e))
   power-cube e = ap (power m) (omega arith) ∙ power-add e (e + e) ∙ ap (λ n. power m e · n) (power-add e e)
+
+  pub power-fifth : (e : ℕ)
+      → power m (5 * e) ≡ mul (fieldPoly m) m (power m e) (mul (fieldPoly m) m (mul (fieldPoly m) m (power m e) (power m e)) (mul (fieldPoly m) m (power m e) (power m e)))
+  power-fifth e =
+      let q : 5 * e ≡ e + (2 * e + 2 * e) = omega arith in
+      ap (power m) q ∙ power-add e (2 * e + 2 * e)
+      ∙ ap (λ n. power m e · n) (power-add (2 * e) (2 * e) ∙ ap₂ (λ (a b : ℕ). a · b) (power-square e) (power-square e))
 
   -- equal products of powers with one power are of equal powers
   power-cancel : (x a b : ℕ) → power m (x + a) ≡ power m (x + b) → power m a ≡ power m b
@@ -121,9 +119,9 @@ module _ (m : ℕ) (low : 4 ≤ m) (high : m ≤ 10) where
       go (yes q) = one (ap (λ n. power m n ⊕ 1) (sym (ap (λ k. k * e) q ∙ one-mul e)) ∙ z)
       go (no d) =
           let q : k ≡ 2 = omega arith in
-          let h : p ⊕ 1 < 2 ^ m = ⊕-below m p 1 (power-below e) two in
+          let h : p ⊕ 1 < 2 ^ m = ⊕-below m p 1 (power-below e) (F .one-below) in
           one (F .domain (p ⊕ 1) (p ⊕ 1) h h one
-          (square-sum m _·_ F p 1 ∙ ap₂ _⊕_ (sym (ap (λ k. power m (k * e)) q ∙ power-square e)) (F .mul-one 1 two) ∙ z))
+          (square-sum m _·_ F p 1 ∙ ap₂ _⊕_ (sym (ap (λ k. power m (k * e)) q ∙ power-square e)) (F .mul-one 1 (F .one-below)) ∙ z))
 
   pub log-power : (logs : List ℕ) → LogTable m logs → (a : ℕ) → a < 2 ^ m → a ≢ 0 → power m (getD logs a 0) ≡ a
   log-power logs L a below nz =
@@ -134,6 +132,11 @@ module _ (m : ℕ) (low : 4 ≤ m) (high : m ≤ 10) where
   solution-only k v w e v-below w-below (f, f-is, v-is) (g, g-is, w-is) =
       power-one-only v w v-below w-below
       (sym v-is ∙ power-add e f ∙ ap (λ n. power m e · n) (f-is ∙ sym g-is) ∙ sym (power-add e g) ∙ w-is)
+
+  pub solution-positive : (k v e : ℕ) → Solution m k v e → 0 < e
+  unfolding power iterate
+  solution-positive k v zero (f, f-is, v-is) = absurd (power-not-zero f (f-is ∙ ap (λ n. power m n ⊕ 1) (mul-zero k) ∙ ⊕-self 1))
+  solution-positive k v (suc e) s = zero-lt-suc e
 
   -- ---- a pair of powers and their sum
   -- (z + 1) s is z s + s
@@ -164,7 +167,7 @@ module _ (m : ℕ) (low : 4 ≤ m) (high : m ≤ 10) where
       let (h, h-below, h-is) = quotient e x in
       let (g, g-below, g-is) = quotient f x in
       let plus-one : power m g ≡ power m h ⊕ 1 =
-      cancel m _·_ F (power m g) (power m h ⊕ 1) (power m x) (power-below g) (⊕-below m (power m h) 1 (power-below h) two) (power-below x) (power-not-zero x)
+      cancel m _·_ F (power m g) (power m h ⊕ 1) (power m x) (power-below g) (⊕-below m (power m h) 1 (power-below h) (F .one-below)) (power-below x) (power-not-zero x)
       (F .mul-comm (power m x) (power m g) ∙ sym (power-add g x) ∙ g-is ∙ sym (⊕-self-left (power m e) (power m f)) ∙ ap₂ _⊕_ (sym h-is) (sym sum)
       ∙ sym (F .mul-comm (power m x) (power m h ⊕ 1) ∙ plus-one-times x h))
       in
@@ -174,14 +177,8 @@ module _ (m : ℕ) (low : 4 ≤ m) (high : m ≤ 10) where
       ∙ ap (λ n. power m x · n) (power-add (h + x) (g + x) ∙ ap₂ (λ (a b : ℕ). a · b) h-is g-is ∙ sym (power-add e f))
       ∙ sym (power-add x (e + f)) ∙ sym (product e f x sum) ∙ sym cube ∙ ap (power m) (add-comm v (3 * x)))
       in
-      (h, positive h h-is, h-below, (g, plus-one ∙ ap (λ n. power m n ⊕ 1) (sym (one-mul h)), solves))
-    where
-      -- power e is not the sum, since power f is not 0
-      positive : (h : ℕ) → power m (h + x) ≡ power m e → 0 < h
-      positive zero is =
-          absurd (power-not-zero f (sym (⊕-self-left (power m e) (power m f))
-          ∙ ap (λ n. power m e ⊕ n) (sym sum ∙ ap (power m) (omega arith) ∙ is) ∙ ⊕-self (power m e)))
-      positive (suc h) is = zero-lt-suc h
+      let solved : Solution m 1 v h = (g, plus-one ∙ ap (λ n. power m n ⊕ 1) (sym (one-mul h)), solves) in
+      (h, solution-positive 1 v h solved, h-below, solved)
 
   pub pair-root : (e f x v h : ℕ) → e < 2 ^ m - 1 → f < 2 ^ m - 1 → e ≢ f → power m x ≡ power m e ⊕ power m f
       → power m (v + 3 * x) ≡ power m (3 * e) ⊕ power m (3 * f) ⊕ power m (3 * x) → Solution m 1 v h

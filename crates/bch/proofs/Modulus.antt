@@ -1,8 +1,11 @@
 -- x times a number modulo a polynomial f of degree d, written f / 2 ^ d ≡ 1.
+--   below-of-quotient             a number with no digit from d on
+--   polyAt-within                 a map that stays below 2^d, and so its polynomials
 --   timesX-linear, timesX-small, timesX-below
---   polyAt-within              a map that stays below 2^d, and so its polynomials
---   polyAt-one, polyAt-below   a number below 2^d is what it says as a polynomial in x
---   polyAt-modulus             f is 0 modulo itself
+--   iterate-timesX-linear, iterate-timesX-below   the same of x^j times a number
+--   polyAt-one, polyAt-below      a number below 2^d is what it says as a polynomial in x
+--   degree-high, degree-low       the bounds of f
+--   polyAt-modulus                f is 0 modulo itself
 -- Assumes nothing.
 use mathlib.Core.Path.{_≡_, sym, ap, ap₂, _∙_, subst⁻¹}
 use Prim.Native.Nat.{ℕ, zero, suc, _*_, _/_, _%_, _^_, _≤_, _<_}
@@ -10,15 +13,24 @@ use native.Mathlib.Nat.{zero-mul, one-mul, div-add-mod', not-suc-le-zero, mod-eq
 use native.Mathlib.Omega.{arith}
 use lib.Arith.{bin-ind}
 use lib.Pow.{pow-pos}
-use Rattle.bch.specs.Polynomial.{_⊕_, timesX, polyAt}
-use Rattle.bch.proofs.Sum.{mod2-bit, bit-ind, ⊕-assoc, ⊕-comm, ⊕-left-comm, ⊕-self, ⊕-zero-right, ⊕-scale, ⊕-double, ⊕-shift, ⊕-below}
-use Rattle.bch.proofs.Polynomial.{half-and-bit, polyAt-zero, polyAt-step, polyAt-horner}
+use Rattle.bch.specs.Polynomial.{_⊕_, timesX, iterate, polyAt}
+use Rattle.bch.proofs.Sum.{mod2-bit, bit-ind, bit-below, ⊕-assoc, ⊕-comm, ⊕-left-comm, ⊕-self, ⊕-zero-right, ⊕-scale, ⊕-double, ⊕-shift, ⊕-below}
+use Rattle.bch.proofs.Polynomial.{iterate-linear, half-and-bit, polyAt-zero, polyAt-step, polyAt-horner}
 
 pow-even : (d : ℕ) → 0 < d → (h : ℕ) × (2 ^ d ≡ h * 2)
 pow-even zero pos = absurd (not-suc-le-zero pos)
 pow-even (suc e) pos = (2 ^ e, pow-suc 2 e)
 
--- of a polynomial that has degree d
+pub below-of-quotient : (d n : ℕ) → n / 2 ^ d ≡ 0 → n < 2 ^ d
+below-of-quotient d n e = let h : n / 2 ^ d < 1 = omega arith in rw one-mul at (div-lt-iff-lt-mul (pow-pos d) .0 h)
+
+pub polyAt-within : (d : ℕ) (T : ℕ → ℕ) → ((v : ℕ) → v < 2 ^ d → T v < 2 ^ d) → (p v : ℕ) → v < 2 ^ d → polyAt T p v < 2 ^ d
+polyAt-within d T within =
+    bin-ind (λ (p : ℕ). (v : ℕ) → v < 2 ^ d → polyAt T p v < 2 ^ d) (λ v h. subst⁻¹ (λ (n : ℕ). n < 2 ^ d) (polyAt-zero T v) (pow-pos d))
+    (λ p ih v h.
+    subst⁻¹ (λ (n : ℕ). n < 2 ^ d) (polyAt-step T p v)
+    (⊕-below d ((p % 2) * v) (polyAt T (p / 2) (T v)) (bit-below d (p % 2) v (mod2-bit p) h) (ih (T v) (within v h))))
+
 module _ (f d : ℕ) where
   pub timesX-linear : (a b : ℕ) → timesX f d (a ⊕ b) ≡ timesX f d a ⊕ timesX f d b
   unfolding timesX
@@ -28,24 +40,13 @@ module _ (f d : ℕ) where
       ∙ ⊕-scale (a * 2 / 2 ^ d) (b * 2 / 2 ^ d) f)
       ∙ simp (⊕-assoc, ⊕-left-comm)
 
+  pub iterate-timesX-linear : (j a b : ℕ) → iterate (timesX f d) j (a ⊕ b) ≡ iterate (timesX f d) j a ⊕ iterate (timesX f d) j b
+  iterate-timesX-linear = iterate-linear (timesX f d) timesX-linear
+
   -- nothing to take away
   pub timesX-small : (v : ℕ) → v * 2 < 2 ^ d → timesX f d v ≡ v * 2
   unfolding timesX
   timesX-small v h = simp (div-eq-of-lt h, zero-mul, ⊕-zero-right)
-
-  pub below-of-quotient : (n : ℕ) → n / 2 ^ d ≡ 0 → n < 2 ^ d
-  below-of-quotient n e = let h : n / 2 ^ d < 1 = omega arith in rw one-mul at (div-lt-iff-lt-mul (pow-pos d) .0 h)
-
-  bit-below : (x v : ℕ) → x < 2 → v < 2 ^ d → x * v < 2 ^ d
-  bit-below x v hx h = bit-ind (λ (x : ℕ). x * v < 2 ^ d) (rw zero-mul (pow-pos d)) (rw one-mul h) x hx
-
-  -- a map that stays below 2^d, and so its polynomials
-  pub polyAt-within : (T : ℕ → ℕ) → ((v : ℕ) → v < 2 ^ d → T v < 2 ^ d) → (p v : ℕ) → v < 2 ^ d → polyAt T p v < 2 ^ d
-  polyAt-within T within =
-      bin-ind (λ (p : ℕ). (v : ℕ) → v < 2 ^ d → polyAt T p v < 2 ^ d) (λ v h. subst⁻¹ (λ (n : ℕ). n < 2 ^ d) (polyAt-zero T v) (pow-pos d))
-      (λ p ih v h.
-      subst⁻¹ (λ (n : ℕ). n < 2 ^ d) (polyAt-step T p v)
-      (⊕-below d ((p % 2) * v) (polyAt T (p / 2) (T v)) (bit-below (p % 2) v (mod2-bit p) h) (ih (T v) (within v h))))
 
   module _ (deg : f / 2 ^ d ≡ 1) where
     bit-div : (x : ℕ) → x < 2 → x * f / 2 ^ d ≡ x
@@ -54,12 +55,16 @@ module _ (f d : ℕ) where
     pub timesX-below : (v : ℕ) → v < 2 ^ d → timesX f d v < 2 ^ d
     unfolding timesX
     timesX-below v h =
-        below-of-quotient (timesX f d v)
+        below-of-quotient d (timesX f d v)
         (⊕-shift (v * 2) ((v * 2 / 2 ^ d % 2) * f) d
         ∙ ap₂ _⊕_ (sym (mod-eq-of-lt (div-lt-iff-lt-mul (pow-pos d) .1 (omega arith)))) (bit-div (v * 2 / 2 ^ d % 2) (mod2-bit (v * 2 / 2 ^ d)))
         ∙ ⊕-self (v * 2 / 2 ^ d % 2))
 
-    -- each number below 2^d is what it says as a polynomial in x
+    pub iterate-timesX-below : (j v : ℕ) → v < 2 ^ d → iterate (timesX f d) j v < 2 ^ d
+    unfolding iterate
+    iterate-timesX-below zero v h = h
+    iterate-timesX-below (suc j) v h = timesX-below (iterate (timesX f d) j v) (iterate-timesX-below j v h)
+
     pub polyAt-one : (p : ℕ) → p < 2 ^ d → polyAt (timesX f d) p 1 ≡ p
     polyAt-one =
         bin-ind (λ (p : ℕ). p < 2 ^ d → polyAt (timesX f d) p 1 ≡ p) (λ h. polyAt-zero (timesX f d) 1)
@@ -69,7 +74,7 @@ module _ (f d : ℕ) where
         ∙ half-and-bit p)
 
     pub polyAt-below : (p v : ℕ) → v < 2 ^ d → polyAt (timesX f d) p v < 2 ^ d
-    polyAt-below = polyAt-within (timesX f d) timesX-below
+    polyAt-below = polyAt-within d (timesX f d) timesX-below
 
     pub degree-high : f < 2 * 2 ^ d
     degree-high = let h : f / 2 ^ d < 2 = omega arith in div-lt-iff-lt-mul (pow-pos d) .0 h
@@ -77,7 +82,6 @@ module _ (f d : ℕ) where
     pub degree-low : 2 ^ d ≤ f
     degree-low = let h : 1 ≤ f / 2 ^ d = omega arith in rw one-mul at (le-div-iff-mul-le (pow-pos d) .0 h)
 
-    -- a polynomial is 0 modulo itself
     pub polyAt-modulus : 0 < d → polyAt (timesX f d) f 1 ≡ 0
     unfolding timesX
     polyAt-modulus pos =

@@ -1,12 +1,15 @@
 -- A number as a polynomial in a map, and products of polynomials.
 --   linear-zero, linear-bit, iterate-linear   linear maps
+--   iterate-add, iterate-inner, iterate-iterate, iterate-double   a map applied many times
+--   half-and-bit                              a number by its half and its last digit
 --   polyAt-step                               by the last digit: the law by which `polyAt` is used
 --   polyAt-sum, polyAt-linear, polyAt-map, polyAt-horner, polyAt-comm
+--   product-double, product-sum-l, product-bit, product-horner
 --   polyAt-product                            a product of polynomials in a map is one after the other
 -- Assumes nothing.
 use mathlib.Core.Path.{_≡_, refl, sym, ap, ap₂, _∙_}
-use Prim.Native.Nat.{ℕ, zero, suc, _+_, _*_, _/_, _%_, _≤_, _<_}
-use native.Mathlib.Nat.{zero-lt-suc, zero-mul, one-mul, mul-div-cancel, mul-mod-left, div-add-mod', le-refl, zero-add, suc-add, not-suc-le-zero, mod-eq-of-lt, div-eq-of-lt}
+use Prim.Native.Nat.{ℕ, zero, suc, _+_, _*_, _/_, _%_, _^_, _≤_, _<_}
+use native.Mathlib.Nat.{zero-lt-suc, zero-mul, one-mul, mul-one, mul-assoc, suc-mul, pow-suc, mul-div-cancel, mul-mod-left, div-add-mod', le-refl, zero-add, suc-add, add-comm, not-suc-le-zero, mod-eq-of-lt, div-eq-of-lt}
 use native.Mathlib.Decide.{le-ind}
 use lib.Arith.{bin-ind, half-le}
 use lib.Bits.{xor-shifted}
@@ -31,7 +34,22 @@ unfolding iterate
 iterate-add T zero j v = ap (λ (n : ℕ). iterate T n v) (zero-add j)
 iterate-add T (suc i) j v = ap (λ (n : ℕ). iterate T n v) (suc-add i j) ∙ ap T (iterate-add T i j v)
 
--- a number by its half and its last digit
+pub iterate-inner : (T : ℕ → ℕ) (j v : ℕ) → iterate T j (T v) ≡ T (iterate T j v)
+unfolding iterate
+iterate-inner T zero v = refl
+iterate-inner T (suc j) v = ap T (iterate-inner T j v)
+
+pub iterate-iterate : (T : ℕ → ℕ) (i k v : ℕ) → iterate (iterate T i) k v ≡ iterate T (k * i) v
+unfolding iterate
+iterate-iterate T i zero v = ap (λ n. iterate T n v) (sym (zero-mul i))
+iterate-iterate T i (suc k) v =
+    ap (iterate T i) (iterate-iterate T i k v) ∙ sym (iterate-add T i (k * i) v) ∙ ap (λ n. iterate T n v) (add-comm i (k * i) ∙ sym (suc-mul k i))
+
+pub iterate-double : (n b : ℕ) → iterate (λ v. v * 2) n b ≡ b * 2 ^ n
+unfolding iterate
+iterate-double zero b = sym (mul-one b)
+iterate-double (suc n) b = ap (λ v. v * 2) (iterate-double n b) ∙ mul-assoc b (2 ^ n) 2 ∙ ap (λ v. b * v) (sym (pow-suc 2 n))
+
 pub half-and-bit : (p : ℕ) → p / 2 * 2 ⊕ p % 2 ≡ p
 unfolding _⊕_
 half-and-bit p = xor-shifted (p / 2) 1 (p % 2) (mod2-bit p) ∙ div-add-mod' p 2
@@ -103,7 +121,7 @@ pub product-zero : (q : ℕ) → 0 ⊗ q ≡ 0
 unfolding _⊗_
 product-zero q = polyAt-zero (λ v. v * 2) q
 
-pub product-step : (p q : ℕ) → p ⊗ q ≡ (p % 2) * q ⊕ p / 2 ⊗ (q * 2)
+product-step : (p q : ℕ) → p ⊗ q ≡ (p % 2) * q ⊕ p / 2 ⊗ (q * 2)
 unfolding _⊗_
 product-step p q = polyAt-step (λ v. v * 2) p q
 
@@ -119,6 +137,10 @@ product-sum-l p p′ q = polyAt-sum (λ v. v * 2) p p′ q
 pub product-bit : (b q : ℕ) → b < 2 → b ⊗ q ≡ b * q
 unfolding _⊗_
 product-bit = polyAt-bit (λ v. v * 2)
+
+pub product-horner : (p q : ℕ) → p ⊗ q ≡ (p / 2 ⊗ q) * 2 ⊕ (p % 2) * q
+unfolding _⊗_
+product-horner = polyAt-horner (λ v. v * 2) ⊕-double
 
 -- a product of polynomials in a map is one after the other
 module _ (T : ℕ → ℕ) (lin : (a b : ℕ) → T (a ⊕ b) ≡ T a ⊕ T b) where

@@ -1,5 +1,6 @@
 -- The remainder of a word as a sum of powers of x, one for each of its ones.
---   xorSum-same, xorSum-zero, xorSum-front, xorSum-append, xorSum-below   sums of many
+--   xorSum-same, xorSum-zero, xorSum-front, xorSum-append   sums of many
+--   linear-bits        a linear map of a number is the sum of its values at the powers of 2 that the number has
 --   powerMod-below     a power is below 2^r
 --   remainder-powers   the remainder of a word
 --   shifted-powers     that of a word with r zeros behind it
@@ -8,22 +9,22 @@
 use mathlib.Core.Path.{_≡_, refl, sym, ap, ap₂, _∙_}
 use mathlib.Core.List.{List, [], _∷_, _++_}
 use Prim.Native.Nat.{ℕ, zero, suc, _+_, _-_, _*_, _/_, _%_, _^_, _<_}
-use native.Mathlib.Nat.{zero-mul, mul-one, add-zero, add-suc, le-refl, le-trans, not-suc-le-zero, le-of-suc-le-suc, suc-sub-suc, sub-zero}
+use native.Mathlib.Nat.{zero-mul, mul-one, add-zero, add-suc, div-one, le-refl, zero-lt-suc, not-suc-le-zero, le-of-suc-le-suc, suc-sub-suc, sub-zero, div-div-eq-div-mul, pow-suc, pow-succ'}
 use native.Mathlib.Omega.{arith}
-use lib.Pow.{pow-pos, pow-mono}
+use lib.Arith.{lt-one}
+use lib.Pow.{pow-mono}
 use lib.ListN.{length, getD, replicate, length-append, length-replicate, getD-replicate, List·getD-append}
 use lib.Seq.{getD-append-add}
 use Rattle.bch.specs.Polynomial.{Bits, _⊕_, timesX, iterate, horner, remainder, bitsOf}
 use Rattle.bch.specs.Code.{parity}
 use Rattle.bch.specs.Powers.{powerMod, xorSum}
-use Rattle.bch.proofs.Sum.{⊕-assoc, ⊕-comm, ⊕-self, ⊕-zero-right, ⊕-below}
-use Rattle.bch.proofs.Polynomial.{linear-bit, iterate-linear}
-use Rattle.bch.proofs.Modulus.{timesX-linear, timesX-below}
+use Rattle.bch.proofs.Sum.{mod2-bit, ⊕-assoc, ⊕-comm, ⊕-self, ⊕-zero-right, ⊕-double}
+use Rattle.bch.proofs.Polynomial.{linear-zero, linear-bit, half-and-bit}
+use Rattle.bch.proofs.Modulus.{timesX-linear, iterate-timesX-linear, iterate-timesX-below}
 use Rattle.bch.proofs.Word.{horner-cons}
 use Rattle.bch.proofs.Systematic.{append-bits, zeros-bits}
 
 -- ---- sums of many
-
 pub xorSum-same : (n : ℕ) (f g : ℕ → ℕ) → ((k : ℕ) → k < n → f k ≡ g k) → xorSum n f ≡ xorSum n g
 unfolding xorSum
 xorSum-same zero f g h = refl
@@ -47,27 +48,34 @@ xorSum-append m (suc n) f =
     ap (λ (z : ℕ). xorSum z f) (add-suc m n) ∙ ap (λ (z : ℕ). z ⊕ f (m + n)) (xorSum-append m n f)
     ∙ ⊕-assoc (xorSum m f) (xorSum n (λ k. f (m + k))) (f (m + n))
 
-pub xorSum-below : (r n : ℕ) (f : ℕ → ℕ) → ((k : ℕ) → k < n → f k < 2 ^ r) → xorSum n f < 2 ^ r
+pub linear-bits : (r : ℕ) (L : ℕ → ℕ) → ((a b : ℕ) → L (a ⊕ b) ≡ L a ⊕ L b) → (F : ℕ → ℕ) → ((k : ℕ) → k < r → L (2 ^ k) ≡ F k)
+    → (x : ℕ) → x < 2 ^ r → L x ≡ xorSum r (λ k. (x / 2 ^ k % 2) * F k)
 unfolding xorSum
-xorSum-below r zero f h = pow-pos r
-xorSum-below r (suc n) f h = ⊕-below r (xorSum n f) (f n) (xorSum-below r n f (λ k l. h k (omega arith))) (h n (le-refl (suc n)))
+linear-bits zero L lin F is x h = ap L (lt-one h) ∙ linear-zero L lin
+linear-bits (suc r) L lin F is x h =
+    let f : ℕ → ℕ = λ k. (x / 2 ^ k % 2) * F k in
+    ap L (sym (half-and-bit x)) ∙ lin (x / 2 * 2) (x % 2)
+    ∙ ap₂ _⊕_
+    (linear-bits r (λ v. L (v * 2)) (λ a b. ap L (⊕-double a b) ∙ lin (a * 2) (b * 2))
+    (λ k. F (suc k)) (λ k l. ap L (sym (pow-suc 2 k)) ∙ is (suc k) (omega arith)) (x / 2) (omega arith)
+    ∙ xorSum-same r (λ k. (x / 2 / 2 ^ k % 2) * F (suc k)) (λ k. f (suc k))
+    (λ k l. ap (λ (n : ℕ). n % 2 * F (suc k)) (div-div-eq-div-mul x 2 (2 ^ k) ∙ ap (λ n. x / n) (sym (pow-succ' 2 k)))))
+    (ap L (sym (mul-one (x % 2))) ∙ linear-bit L lin (x % 2) 1 (mod2-bit x) ∙ ap₂ (λ (n v : ℕ). n % 2 * v) (sym (div-one x)) (is 0 (zero-lt-suc r)))
+    ∙ ⊕-comm (xorSum r (λ k. f (suc k))) (f 0) ∙ sym (xorSum-front r f)
 
 -- ---- remainders
-
 pub powerMod-below : (g r : ℕ) → 0 < r → g / 2 ^ r ≡ 1 → (e : ℕ) → powerMod g r e < 2 ^ r
-unfolding powerMod iterate
-powerMod-below g r pos deg zero = le-trans (le-refl 2) (pow-mono pos)
-powerMod-below g r pos deg (suc e) = timesX-below g r deg (powerMod g r e) (powerMod-below g r pos deg e)
+unfolding powerMod
+powerMod-below g r pos deg e = iterate-timesX-below g r deg e 1 (pow-mono pos)
 
 pub remainder-powers : (g r : ℕ) (w : List ℕ) → Bits w → remainder g r w ≡ xorSum (length w) (λ j. getD w j 0 * powerMod g r (length w - suc j))
 unfolding remainder powerMod horner xorSum
 remainder-powers g r [] h = refl
 remainder-powers g r (b ∷ w) h =
     let T : ℕ → ℕ = timesX g r in
-    let lin : (a c : ℕ) → T (a ⊕ c) ≡ T a ⊕ T c = timesX-linear g r in
-    horner-cons T lin b w
+    horner-cons T (timesX-linear g r) b w
     ∙ ap₂ _⊕_
-    (ap (iterate T (length w)) (sym (mul-one b)) ∙ linear-bit (iterate T (length w)) (iterate-linear T lin (length w)) b 1 (h 0)
+    (ap (iterate T (length w)) (sym (mul-one b)) ∙ linear-bit (iterate T (length w)) (iterate-timesX-linear g r (length w)) b 1 (h 0)
     ∙ ap (λ (e : ℕ). b * iterate T e 1) (sym (suc-sub-suc (length w) 0 ∙ sub-zero (length w))))
     (remainder-powers g r w (λ k. h (suc k))
     ∙ xorSum-same (length w) (λ j. getD w j 0 * iterate T (length w - suc j) 1) (λ j. getD w j 0 * iterate T (suc (length w) - suc (suc j)) 1)

@@ -1,9 +1,11 @@
 -- A table of powers: the list that the rule makes, and its entries.
 --   powerTable-length   n entries
 --   powerTable-at       entry k is power k of the root
+--   powers-length, powers-at   the same of a list that is the table of a field
 -- Assumes nothing.
 use mathlib.Core.Path.{_≡_, refl, sym, ap, _∙_}
-use Prim.Native.Nat.{ℕ, zero, suc, _+_, _<_}
+use mathlib.Core.List.{List}
+use Prim.Native.Nat.{ℕ, zero, suc, _+_, _-_, _^_, _<_}
 use native.Mathlib.Nat.{add-zero, zero-add, add-suc, suc-add, le-of-suc-le-suc, not-suc-le-zero}
 use lib.ListN.{length, getD}
 use Rattle.bch.specs.Polynomial.{timesX, iterate}
@@ -27,3 +29,9 @@ powerTable-at m n k h = powersFrom-at m 0 n k h ∙ ap (power m) (zero-add k)
 pub powerTable-length : (m n : ℕ) → length (powerTable m n) ≡ n
 unfolding powerTable
 powerTable-length m n = powersFrom-length m 1 n
+
+pub powers-length : (m : ℕ) (powers : List ℕ) → powers ≡ powerTable m (2 ^ m - 1) → length powers ≡ 2 ^ m - 1
+powers-length m powers is = ap length is ∙ powerTable-length m (2 ^ m - 1)
+
+pub powers-at : (m : ℕ) (powers : List ℕ) → powers ≡ powerTable m (2 ^ m - 1) → (k : ℕ) → k < 2 ^ m - 1 → getD powers k 0 ≡ power m k
+powers-at m powers is k below = ap (λ l. getD l k 0) is ∙ powerTable-at m (2 ^ m - 1) k below

@@ -1,14 +1,20 @@
 -- A list of numbers that is written entry by entry, or by parts.
---   set-each      what holds of each entry after a store
+--   zeros-at                    each entry of a list of zeros, past its end too
+--   set-each                    what holds of each entry after a store
 --   part-written, part-before   a part that was written, and one before it
 -- Assumes nothing.
-use mathlib.Core.Path.{_≡_, sym, ap, _∙_, subst⁻¹}
+use mathlib.Core.Path.{_≡_, refl, sym, ap, _∙_, subst⁻¹}
 use mathlib.Core.List.{List, _++_}
-use Prim.Native.Nat.{ℕ, _+_, _≤_, _<_}
+use Prim.Native.Nat.{ℕ, zero, suc, _+_, _≤_, _<_}
 use native.Mathlib.Decide.{ℕ-discrete}
 use native.Mathlib.Omega.{arith}
-use lib.ListN.{length, getD, set, take, drop, length-drop, take-append-drop}
+use lib.ListN.{length, getD, set, take, drop, replicate, length-drop, take-append-drop}
 use lib.Seq.{getD-set-same, getD-set-other, length-take-le, take-at, drop-at, take-append-le, drop-append-le}
+
+pub zeros-at : (n k : ℕ) → _≡_ {A = ℕ} (getD (replicate n 0) k 0) 0
+zeros-at zero k = refl
+zeros-at (suc n) zero = refl
+zeros-at (suc n) (suc k) = zeros-at n k
 
 pub set-each : (P : ℕ → ℕ → Type 0) (l : List ℕ) (n v : ℕ) → n < length l → P n v → ((k : ℕ) → (k ≡ n → ⊥) → P k (getD l k 0))
     → (k : ℕ) → P k (getD (set l n v) k 0)

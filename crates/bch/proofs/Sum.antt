@@ -1,5 +1,5 @@
 -- The laws of the sum of polynomials: a commutative group in which each element is its own inverse.
---   bit-ind                                 a fact on 0 and 1 is a fact on every bit
+--   bit-ind, mod2-bit, bit-below            a fact on 0 and 1 is a fact on every bit; a remainder by 2; a bit times a number
 --   ⊕-comm, ⊕-assoc, ⊕-self, ⊕-equal ..    the group; `⊕·simp` normalises sums
 --   ⊕-half, ⊕-odd, ⊕-step                  by the half and the last digit
 --   ⊕-below, ⊕-shift, ⊕-mod                 bounds, and digits from k on and below k
@@ -10,10 +10,10 @@ use Prim.Native.Nat.{ℕ, zero, suc, _+_, _*_, _/_, _%_, _^_, _<_}
 use native.Mathlib.Nat.{mod-lt, zero-lt-suc, zero-mul, one-mul, mul-div-cancel, mul-mod-left, le-refl, add-zero}
 use native.Mathlib.Omega.{arith}
 use lib.Arith.{bin-ind, digits-mod}
+use lib.Pow.{pow-pos}
 use lib.Bits.{differ, xor-step, xor-comm, xor-self, xor-zero-r, xor-lt, xor-shr, xor-mod}
 use Rattle.bch.specs.Polynomial.{_⊕_}
 
--- a fact on 0 and 1 is a fact on every bit
 pub bit-ind : (P : ℕ → Type 0) → P 0 → P 1 → (x : ℕ) → x < 2 → P x
 bit-ind P p0 p1 zero h = p0
 bit-ind P p0 p1 (suc zero) h = p1
@@ -21,6 +21,9 @@ bit-ind P p0 p1 (suc (suc x)) h = absurd (omega arith)
 
 pub mod2-bit : (n : ℕ) → n % 2 < 2
 mod2-bit n = mod-lt n (zero-lt-suc 1)
+
+pub bit-below : (k x v : ℕ) → x < 2 → v < 2 ^ k → x * v < 2 ^ k
+bit-below k x v hx h = bit-ind (λ (x : ℕ). x * v < 2 ^ k) (rw zero-mul (pow-pos k)) (rw one-mul h) x hx
 
 differ-lt : (x y : ℕ) → x < 2 → y < 2 → differ x y < 2
 differ-lt x y hx hy =
@@ -52,11 +55,11 @@ pub ⊕-half : (a b : ℕ) → (a ⊕ b) / 2 ≡ a / 2 ⊕ b / 2
 unfolding _⊕_
 ⊕-half a b = xor-shr a b 1
 
-pub ⊕-step : (a b : ℕ) → a ⊕ b ≡ (a / 2 ⊕ b / 2) * 2 + differ (a % 2) (b % 2)
+⊕-step : (a b : ℕ) → a ⊕ b ≡ (a / 2 ⊕ b / 2) * 2 + differ (a % 2) (b % 2)
 unfolding _⊕_
 ⊕-step = xor-step
 
-pub ⊕-odd : (a b : ℕ) → (a ⊕ b) % 2 ≡ differ (a % 2) (b % 2)
+⊕-odd : (a b : ℕ) → (a ⊕ b) % 2 ≡ differ (a % 2) (b % 2)
 ⊕-odd a b =
     ap (λ (n : ℕ). n % 2) (⊕-step a b) ∙ digits-mod (a / 2 ⊕ b / 2) (differ-lt (a % 2) (b % 2) (mod2-bit a) (mod2-bit b))
 
@@ -106,7 +109,7 @@ pub ⊕-double : (a b : ℕ) → (a ⊕ b) * 2 ≡ a * 2 ⊕ b * 2
     ∙ ap₂ (λ (x y : ℕ). x * 2 + y) (ap₂ _⊕_ (mul-div-cancel a (zero-lt-suc 1)) (mul-div-cancel b (zero-lt-suc 1))) (ap₂ differ (mul-mod-left a 2) (mul-mod-left b 2))
     ∙ add-zero ((a ⊕ b) * 2))
 
-pub differ-scale : (x y v : ℕ) → x < 2 → y < 2 → differ x y * v ≡ x * v ⊕ y * v
+differ-scale : (x y v : ℕ) → x < 2 → y < 2 → differ x y * v ≡ x * v ⊕ y * v
 differ-scale x y v hx hy =
     bit-ind (λ (x : ℕ). differ x y * v ≡ x * v ⊕ y * v) (simp (zero-mul, ⊕·simp))
     (bit-ind (λ (y : ℕ). differ 1 y * v ≡ 1 * v ⊕ y * v) (simp (zero-mul, ⊕·simp)) (simp (zero-mul, ⊕·simp)) y hy) x hx

@@ -1,5 +1,4 @@
 -- The values of a polynomial at the root and at its cube, in one number.
---   linear-bits      a linear map of a number is the sum of those of its bits
 --   value-below      values are field elements
 --   syndromes-sum    the values of a sum
 --   syndromes-low, syndromes-high   the two values taken apart
@@ -8,43 +7,25 @@
 --   first-value, third-value, fifth-value   the values of a power of x modulo the generator
 -- Assumes nothing.
 use mathlib.Core.Path.{_≡_, refl, sym, ap, ap₂, _∙_}
-use Prim.Native.Nat.{ℕ, zero, suc, _+_, _*_, _/_, _%_, _^_, _≤_, _<_}
-use native.Mathlib.Nat.{mul-comm, one-mul, mul-one, div-one, le-trans, div-div-eq-div-mul, pow-suc, pow-succ'}
+use Prim.Native.Nat.{ℕ, _+_, _*_, _/_, _%_, _^_, _≤_, _<_}
+use native.Mathlib.Nat.{mul-comm, one-mul, le-trans}
 use native.Mathlib.Omega.{arith}
-use lib.Arith.{lt-one}
 use lib.Pow.{pow-mono}
 use lib.Bits.{xor-block}
 use Rattle.bch.specs.Polynomial.{_⊕_, timesX, iterate}
 use Rattle.bch.specs.Field.{fieldPoly, power, valueAt}
 use Rattle.bch.specs.Code.{generator}
 use Rattle.bch.specs.Powers.{powerMod, xorSum}
-use Rattle.bch.specs.Locator.{syndromes}
-use Rattle.bch.proofs.Sum.{mod2-bit, ⊕-comm, ⊕-double}
-use Rattle.bch.proofs.Polynomial.{linear-zero, linear-bit, iterate-linear, half-and-bit, polyAt-sum}
-use Rattle.bch.proofs.Modulus.{timesX-linear, polyAt-within}
-use Rattle.bch.proofs.Field.{two-below, iterate-below}
+use Rattle.bch.specs.Locator.{syndromes, powerSyndromes}
+use Rattle.bch.proofs.Polynomial.{iterate-iterate, polyAt-sum}
+use Rattle.bch.proofs.Modulus.{iterate-timesX-linear, iterate-timesX-below, polyAt-within}
+use Rattle.bch.proofs.Field.{two-below}
 use Rattle.bch.proofs.Primitive.{primitive}
-use Rattle.bch.proofs.Minimal.{generator-roots}
+use Rattle.bch.proofs.Generator.{generator-roots}
 use Rattle.bch.proofs.Word.{power-root, power-value}
-use Rattle.bch.proofs.Bound.{times-times}
-use Rattle.bch.proofs.PowerSum.{xorSum-same, xorSum-front}
+use Rattle.bch.proofs.PowerSum.{linear-bits}
 use Rattle.bch.proofs.Bch.{Code}
 
-pub linear-bits : (r : ℕ) (L : ℕ → ℕ) → ((a b : ℕ) → L (a ⊕ b) ≡ L a ⊕ L b) → (x : ℕ) → x < 2 ^ r
-    → L x ≡ xorSum r (λ k. (x / 2 ^ k % 2) * L (2 ^ k))
-unfolding xorSum
-linear-bits zero L lin x h = ap L (lt-one h) ∙ linear-zero L lin
-linear-bits (suc r) L lin x h =
-    let f : ℕ → ℕ = λ k. (x / 2 ^ k % 2) * L (2 ^ k) in
-    ap L (sym (half-and-bit x)) ∙ lin (x / 2 * 2) (x % 2)
-    ∙ ap₂ _⊕_
-    (linear-bits r (λ v. L (v * 2)) (λ a b. ap L (⊕-double a b) ∙ lin (a * 2) (b * 2)) (x / 2) (omega arith)
-    ∙ xorSum-same r (λ k. (x / 2 / 2 ^ k % 2) * L (2 ^ k * 2)) (λ k. f (suc k))
-    (λ k l. ap₂ (λ (a b : ℕ). a % 2 * L b) (div-div-eq-div-mul x 2 (2 ^ k) ∙ ap (λ n. x / n) (sym (pow-succ' 2 k))) (sym (pow-suc 2 k))))
-    (ap L (sym (mul-one (x % 2))) ∙ linear-bit L lin (x % 2) 1 (mod2-bit x) ∙ ap (λ n. n % 2 * L 1) (sym (div-one x)))
-    ∙ ⊕-comm (xorSum r (λ k. f (suc k))) (f 0) ∙ sym (xorSum-front r f)
-
--- ---- values
 value-sum : (m i a b : ℕ) → valueAt m i (a ⊕ b) ≡ valueAt m i a ⊕ valueAt m i b
 unfolding valueAt
 value-sum m i a b = polyAt-sum (iterate (timesX (fieldPoly m) m) i) a b 1
@@ -52,30 +33,24 @@ value-sum m i a b = polyAt-sum (iterate (timesX (fieldPoly m) m) i) a b 1
 -- the powers of a power of the root
 power-power : (m i e : ℕ) → iterate (iterate (timesX (fieldPoly m) m) i) e 1 ≡ power m (i * e)
 unfolding power
-power-power m i e = times-times (timesX (fieldPoly m) m) i e 1 ∙ ap (power m) (mul-comm e i)
-
-map-linear : (m i a b : ℕ) → iterate (timesX (fieldPoly m) m) i (a ⊕ b) ≡ iterate (timesX (fieldPoly m) m) i a ⊕ iterate (timesX (fieldPoly m) m) i b
-map-linear m i = iterate-linear (timesX (fieldPoly m) m) (timesX-linear (fieldPoly m) m) i
+power-power m i e = iterate-iterate (timesX (fieldPoly m) m) i e 1 ∙ ap (power m) (mul-comm e i)
 
 value-power : (m i e : ℕ) → valueAt m i (2 ^ e) ≡ power m (i * e)
 unfolding valueAt
-value-power m i e = power-value (iterate (timesX (fieldPoly m) m) i) (map-linear m i) e ∙ power-power m i e
+value-power m i e = power-value (iterate (timesX (fieldPoly m) m) i) (iterate-timesX-linear (fieldPoly m) m i) e ∙ power-power m i e
 
 pub value-bits : (m i r x : ℕ) → x < 2 ^ r → valueAt m i x ≡ xorSum r (λ k. (x / 2 ^ k % 2) * power m (i * k))
-value-bits m i r x h =
-    linear-bits r (valueAt m i) (value-sum m i) x h
-    ∙ xorSum-same r (λ k. (x / 2 ^ k % 2) * valueAt m i (2 ^ k)) (λ k. (x / 2 ^ k % 2) * power m (i * k))
-    (λ k l. ap (λ n. x / 2 ^ k % 2 * n) (value-power m i k))
+value-bits m i r = linear-bits r (valueAt m i) (value-sum m i) (λ k. power m (i * k)) (λ k l. value-power m i k)
 
 value-root : (m i g r : ℕ) → valueAt m i g ≡ 0 → (e : ℕ) → valueAt m i (powerMod g r e) ≡ power m (i * e)
 unfolding valueAt powerMod
-value-root m i g r z e = power-root (iterate (timesX (fieldPoly m) m) i) (map-linear m i) g r z e ∙ power-power m i e
+value-root m i g r z e = power-root (iterate (timesX (fieldPoly m) m) i) (iterate-timesX-linear (fieldPoly m) m i) g r z e ∙ power-power m i e
 
 module _ (m : ℕ) (low : 4 ≤ m) (high : m ≤ 10) where
   pub value-below : (i p : ℕ) → valueAt m i p < 2 ^ m
   unfolding valueAt
   value-below i p =
-      polyAt-within (fieldPoly m) m (iterate (timesX (fieldPoly m) m) i) (iterate-below (fieldPoly m) m (primitive m low high) i) p 1
+      polyAt-within m (iterate (timesX (fieldPoly m) m) i) (iterate-timesX-below (fieldPoly m) m (primitive m low high .degree) i) p 1
       (two-below (fieldPoly m) m (primitive m low high))
 
   value-small : (i p : ℕ) → valueAt m i p < 65536
@@ -101,15 +76,12 @@ module _ (m : ℕ) (low : 4 ≤ m) (high : m ≤ 10) where
   unfolding syndromes
   syndromes-high p = omega (arith, value-small 1 p)
 
-  syndromes-power : (k : ℕ) → syndromes m (2 ^ k) ≡ power m k + 65536 * power m (3 * k)
+  syndromes-power : (k : ℕ) → syndromes m (2 ^ k) ≡ powerSyndromes m k
   unfolding syndromes
   syndromes-power k = ap₂ (λ (a b : ℕ). a + 65536 * b) (value-power m 1 k ∙ ap (power m) (one-mul k)) (value-power m 3 k)
 
-  pub syndromes-bits : (r x : ℕ) → x < 2 ^ r → syndromes m x ≡ xorSum r (λ k. (x / 2 ^ k % 2) * (power m k + 65536 * power m (3 * k)))
-  syndromes-bits r x h =
-      linear-bits r (syndromes m) syndromes-sum x h
-      ∙ xorSum-same r (λ k. (x / 2 ^ k % 2) * syndromes m (2 ^ k)) (λ k. (x / 2 ^ k % 2) * (power m k + 65536 * power m (3 * k)))
-      (λ k l. ap (λ n. x / 2 ^ k % 2 * n) (syndromes-power k))
+  pub syndromes-bits : (r x : ℕ) → x < 2 ^ r → syndromes m x ≡ xorSum r (λ k. (x / 2 ^ k % 2) * powerSyndromes m k)
+  syndromes-bits r = linear-bits r (syndromes m) syndromes-sum (powerSyndromes m) (λ k l. syndromes-power k)
 
 -- ---- powers of x modulo the generator
 module _ (m t : ℕ) (C : Code m t) where

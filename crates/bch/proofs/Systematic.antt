@@ -6,22 +6,24 @@
 --   parity-makes, parity-alone       it makes the remainder 0, and nothing else does
 --   parity-sum                       parity is linear
 -- Assumes nothing.
-use mathlib.Core.Path.{_≡_, refl, sym, ap, ap₂, _∙_, subst}
+use mathlib.Core.Path.{_≡_, refl, sym, ap, ap₂, _∙_, subst, subst⁻¹}
 use mathlib.Core.List.{List, [], _∷_, _++_}
 use Prim.Native.Nat.{ℕ, zero, suc, _+_, _*_, _/_, _%_, _^_, _≤_, _<_}
-use native.Mathlib.Nat.{mul-one, mul-assoc, suc-inj, suc-ne-zero, le-refl, le-trans, mod-lt, mod-one, mod-eq-of-lt, pow-suc, zero-lt-suc, mul-le-mul-right, lt-of-lt-of-le}
+use native.Mathlib.Nat.{suc-inj, suc-ne-zero, le-refl, le-trans, mod-lt, mod-one, mod-eq-of-lt, pow-suc, pow-succ', zero-lt-suc, lt-of-lt-of-le}
 use native.Mathlib.Omega.{arith}
+use lib.Arith.{digits-lt}
 use lib.Pow.{pow-pos, pow-mono, mod-pow-add, high, low}
 use lib.Bits.{xor-shifted}
 use lib.ListN.{length, replicate, length-replicate, length-append}
-use Rattle.bch.specs.Polynomial.{Bits, _⊕_, timesX, iterate, horner, remainder, bitsOf}
-use Rattle.bch.proofs.Sum.{mod2-bit, ⊕-self, ⊕-zero-right, ⊕-below, ⊕-equal, ⊕-double, ⊕-shift, ⊕-mod}
-use Rattle.bch.proofs.Polynomial.{linear-zero}
-use Rattle.bch.proofs.Modulus.{timesX-linear, timesX-small}
+use Rattle.bch.specs.Polynomial.{Bits, _⊕_, timesX, iterate, horner, wordPoly, remainder, bitsOf}
 use Rattle.bch.specs.Code.{parity}
-use Rattle.bch.proofs.Word.{wordPoly, horner-shift, horner-cons, sumWord, remainder-sum, remainder-below}
+use Rattle.bch.proofs.Store.{zeros-at}
+use Rattle.bch.proofs.Sum.{mod2-bit, ⊕-self, ⊕-zero-right, ⊕-below, ⊕-equal, ⊕-double, ⊕-shift, ⊕-mod}
+use Rattle.bch.proofs.Polynomial.{linear-zero, iterate-double}
+use Rattle.bch.proofs.Modulus.{timesX-linear, timesX-small}
+use Rattle.bch.proofs.Word.{horner-shift, horner-cons, sumWord, remainder-sum, remainder-below}
 
-pub horner-append : (T : ℕ → ℕ) (u v : List ℕ) (s : ℕ) → horner T s (u ++ v) ≡ horner T (horner T s u) v
+horner-append : (T : ℕ → ℕ) (u v : List ℕ) (s : ℕ) → horner T s (u ++ v) ≡ horner T (horner T s u) v
 unfolding horner
 horner-append T [] v s = refl
 horner-append T (b ∷ u) v s = horner-append T u v (T s ⊕ b)
@@ -42,7 +44,7 @@ module _ (g r : ℕ) where
       ∙ short-from w (λ k. hw (suc k)) (suc k) (s * 2 ⊕ b) (⊕-below (suc k) (s * 2) b dbl (le-trans (hw 0) (pow-mono (zero-lt-suc k)))) (omega arith)
 
   -- the end of a word adds to what the word would leave with zeros there
-  pub remainder-end : (u p : List ℕ) → Bits p → length p ≡ r → remainder g r (u ++ p) ≡ remainder g r (u ++ replicate r 0) ⊕ wordPoly p
+  remainder-end : (u p : List ℕ) → Bits p → length p ≡ r → remainder g r (u ++ p) ≡ remainder g r (u ++ replicate r 0) ⊕ wordPoly p
   unfolding remainder wordPoly
   remainder-end u p hp e =
       let T : ℕ → ℕ = timesX g r in
@@ -55,31 +57,26 @@ module _ (g r : ℕ) where
       (sym (horner-append T u zs 0 ∙ end zs ∙ ap (λ n. iterate T (length zs) s ⊕ n) (horner-zeros T (linear-zero T (timesX-linear g r)) r) ∙ ⊕-zero-right (iterate T (length zs) s)))
 
 -- ---- numbers and their bits
-pub bitsOf-bits : (n p : ℕ) → Bits (bitsOf n p)
+bitsOf-bits : (n p : ℕ) → Bits (bitsOf n p)
 unfolding bitsOf
 bitsOf-bits zero p k = zero-lt-suc 1
 bitsOf-bits (suc n) p zero = mod2-bit (p / 2 ^ n)
 bitsOf-bits (suc n) p (suc k) = bitsOf-bits n p k
 
-pub bitsOf-length : (n p : ℕ) → length (bitsOf n p) ≡ n
+bitsOf-length : (n p : ℕ) → length (bitsOf n p) ≡ n
 unfolding bitsOf
 bitsOf-length zero p = refl
 bitsOf-length (suc n) p = ap suc (bitsOf-length n p)
 
-doubled : (n b : ℕ) → iterate (λ v. v * 2) n b ≡ b * 2 ^ n
-unfolding iterate
-doubled zero b = sym (mul-one b)
-doubled (suc n) b = ap (λ v. v * 2) (doubled n b) ∙ mul-assoc b (2 ^ n) 2 ∙ ap (λ v. b * v) (sym (pow-suc 2 n))
-
-pub wordPoly-cons : (b : ℕ) (w : List ℕ) → wordPoly (b ∷ w) ≡ b * 2 ^ length w ⊕ wordPoly w
+wordPoly-cons : (b : ℕ) (w : List ℕ) → wordPoly (b ∷ w) ≡ b * 2 ^ length w ⊕ wordPoly w
 unfolding wordPoly
-wordPoly-cons b w = horner-cons (λ v. v * 2) ⊕-double b w ∙ ap (λ n. n ⊕ horner (λ v. v * 2) 0 w) (doubled (length w) b)
+wordPoly-cons b w = horner-cons (λ v. v * 2) ⊕-double b w ∙ ap (λ n. n ⊕ horner (λ v. v * 2) 0 w) (iterate-double (length w) b)
 
 plus : (b k x : ℕ) → x < 2 ^ k → b * 2 ^ k ⊕ x ≡ b * 2 ^ k + x
 unfolding _⊕_
 plus = xor-shifted
 
-pub wordPoly-bitsOf : (n p : ℕ) → wordPoly (bitsOf n p) ≡ p % 2 ^ n
+wordPoly-bitsOf : (n p : ℕ) → wordPoly (bitsOf n p) ≡ p % 2 ^ n
 unfolding bitsOf wordPoly horner
 wordPoly-bitsOf zero p = sym (mod-one p)
 wordPoly-bitsOf (suc n) p =
@@ -88,17 +85,14 @@ wordPoly-bitsOf (suc n) p =
     ∙ plus (p / 2 ^ n % 2) n (p % 2 ^ n) (mod-lt p (pow-pos n))
     ∙ sym (mod-pow-add p 1 n) ∙ ap (λ k. p % 2 ^ k) (omega arith)
 
-mutual-below : (b k x : ℕ) → b < 2 → x < 2 ^ k → b * 2 ^ k + x < 2 ^ suc k
-mutual-below b k x hb hx = let h : b ≤ 1 = omega arith in omega (arith, pow-suc 2 k, mul-le-mul-right (2 ^ k) h)
-
-pub wordPoly-below : (w : List ℕ) → Bits w → wordPoly w < 2 ^ length w
+wordPoly-below : (w : List ℕ) → Bits w → wordPoly w < 2 ^ length w
 unfolding wordPoly horner
 wordPoly-below [] h = le-refl 1
 wordPoly-below (b ∷ w) h =
-    rw (wordPoly-cons b w, plus b (length w) (wordPoly w) (wordPoly-below w (λ k. h (suc k)))) (mutual-below b (length w) (wordPoly w) (h 0) (wordPoly-below w (λ k. h (suc k))))
+    let l : wordPoly w < 2 ^ length w = wordPoly-below w (λ k. h (suc k)) in
+    rw (wordPoly-cons b w, plus b (length w) (wordPoly w) l, pow-succ') (digits-lt (h 0) l)
 
--- words of one length are as their numbers
-pub wordPoly-injective : (v w : List ℕ) → Bits v → Bits w → length v ≡ length w → wordPoly v ≡ wordPoly w → v ≡ w
+wordPoly-injective : (v w : List ℕ) → Bits v → Bits w → length v ≡ length w → wordPoly v ≡ wordPoly w → v ≡ w
 wordPoly-injective [] [] hv hw e q = refl
 wordPoly-injective [] (b ∷ w) hv hw e q = absurd (suc-ne-zero (length w) (sym e))
 wordPoly-injective (a ∷ v) [] hv hw e q = absurd (suc-ne-zero (length v) e)
@@ -113,9 +107,7 @@ wordPoly-injective (a ∷ v) (b ∷ w) hv hw e q =
 
 -- ---- the end that makes a codeword
 pub zeros-bits : (n : ℕ) → Bits (replicate n 0)
-zeros-bits zero k = zero-lt-suc 1
-zeros-bits (suc n) zero = zero-lt-suc 1
-zeros-bits (suc n) (suc k) = zeros-bits n k
+zeros-bits n k = subst⁻¹ (λ (b : ℕ). b < 2) (zeros-at n k) (zero-lt-suc 1)
 
 pub append-bits : (u v : List ℕ) → Bits u → Bits v → Bits (u ++ v)
 append-bits [] v hu hv k = hv k
@@ -150,7 +142,7 @@ module _ (g r : ℕ) (pos : 0 < r) (deg : g / 2 ^ r ≡ 1) (u : List ℕ) (hu : 
       (sym (⊕-equal (sym (remainder-end g r u p hp e) ∙ z)) ∙ sym (wordPoly-bitsOf r R ∙ mod-eq-of-lt R-below))
 
 -- ---- the ends of sums are sums of the ends
-pub bitsOf-sum : (n p q : ℕ) → bitsOf n (p ⊕ q) ≡ sumWord (bitsOf n p) (bitsOf n q)
+bitsOf-sum : (n p q : ℕ) → bitsOf n (p ⊕ q) ≡ sumWord (bitsOf n p) (bitsOf n q)
 unfolding bitsOf sumWord
 bitsOf-sum zero p q = refl
 bitsOf-sum (suc n) p q = ap₂ _∷_ (ap (λ k. k % 2) (⊕-shift p q n) ∙ low-bit (p / 2 ^ n) (q / 2 ^ n)) (bitsOf-sum n p q)
@@ -165,12 +157,11 @@ sumWord-append [] (b ∷ v) p q e = absurd (suc-ne-zero (length v) (sym e))
 sumWord-append (a ∷ u) [] p q e = absurd (suc-ne-zero (length u) e)
 sumWord-append (a ∷ u) (b ∷ v) p q e = ap (λ l. (a ⊕ b) ∷ l) (sumWord-append u v p q (suc-inj e))
 
-pub sumWord-zeros : (n : ℕ) → sumWord (replicate n 0) (replicate n 0) ≡ replicate n 0
+sumWord-zeros : (n : ℕ) → sumWord (replicate n 0) (replicate n 0) ≡ replicate n 0
 unfolding sumWord
 sumWord-zeros zero = refl
 sumWord-zeros (suc n) = ap₂ _∷_ (⊕-self 0) (sumWord-zeros n)
 
--- parity is linear
 pub parity-sum : (g r : ℕ) (u v : List ℕ) → length u ≡ length v → parity g r (sumWord u v) ≡ sumWord (parity g r u) (parity g r v)
 unfolding parity
 parity-sum g r u v e =

@@ -15,7 +15,6 @@ use Rattle.bch.proofs.Sum.{⊕-self, ⊕-zero-right, ⊕-equal, ⊕-bel
 use Rattle.bch.proofs.Field.{Field}
 use Rattle.bch.proofs.Algebra.{sum-mul, mul-zero, mul-left-comm}
 
--- each entry of a list has a property
 abbrev pub All : (ℕ → Type 0) → List ℕ → Type 0
 All P [] = Unit {0}
 All P (x ∷ xs) = P x × All P xs
@@ -24,11 +23,10 @@ abbrev pub Distinct : List ℕ → Type 0
 Distinct [] = Unit {0}
 Distinct (x ∷ xs) = All (λ y. y ≢ x) xs × Distinct xs
 
-pub all-zip : (P Q R : ℕ → Type 0) → ((x : ℕ) → P x → Q x → R x) → (xs : List ℕ) → All P xs → All Q xs → All R xs
+all-zip : (P Q R : ℕ → Type 0) → ((x : ℕ) → P x → Q x → R x) → (xs : List ℕ) → All P xs → All Q xs → All R xs
 all-zip P Q R f [] h k = tt
 all-zip P Q R f (x ∷ xs) h k = (f x (h .0) (k .0), all-zip P Q R f xs (h .1) (k .1))
 
--- the sum of c x times power i of x, over the list
 unfoldable pub powerSum : (ℕ → ℕ → ℕ) → (ℕ → ℕ) → ℕ → List ℕ → ℕ
 powerSum mul c i [] = 0
 powerSum mul c i (x ∷ xs) = iterate (mul x) i (c x) ⊕ powerSum mul c i xs

@@ -1,25 +1,22 @@
 -- Words under Horner's rule.
 --   sumWord          the sum of two words, position by position
---   wordPoly         the word as a polynomial
 --   horner-shift, horner-cons, remainder-sum
 --   remainder-root   where g is 0, the remainder by g has the word's value
 --   power-root, power-value   the values of the powers of x, modulo g and not
---   divides, multiple   g divides a word exactly when its remainder is 0
+--   multiple, divides   g divides a word exactly when its remainder is 0
 --   remainder-below  the remainder is below 2^r
 -- Assumes nothing.
 use mathlib.Core.Path.{_≡_, refl, sym, ap, ap₂, _∙_}
 use mathlib.Core.List.{List, [], _∷_}
 use Prim.Native.Nat.{ℕ, zero, suc, _*_, _/_, _%_, _^_, _<_}
-use native.Mathlib.Nat.{mul-one, mul-zero, suc-inj, suc-ne-zero, le-refl, le-trans, pow-suc}
+use native.Mathlib.Nat.{one-mul, mul-one, mul-zero, suc-inj, suc-ne-zero, le-refl, le-trans}
 use lib.Pow.{pow-pos, pow-mono}
 use lib.ListN.{length}
-use Rattle.bch.specs.Polynomial.{Bits, _⊕_, _⊗_, timesX, iterate, polyAt, horner, remainder}
+use Rattle.bch.specs.Polynomial.{Bits, _⊕_, _⊗_, timesX, iterate, polyAt, horner, wordPoly, remainder}
 use Rattle.bch.proofs.Sum.{⊕·simp, mod2-bit, ⊕-assoc, ⊕-comm, ⊕-self, ⊕-zero-right, ⊕-swap, ⊕-below, ⊕-double}
-use Rattle.bch.proofs.Polynomial.{linear-zero, linear-bit, polyAt-bit, polyAt-double, polyAt-sum, polyAt-linear, polyAt-map, polyAt-product, polyAt-zero, product-double, product-sum-l, product-bit, product-zero}
+use Rattle.bch.proofs.Polynomial.{linear-zero, linear-bit, iterate-inner, iterate-double, polyAt-bit, polyAt-double, polyAt-sum, polyAt-linear, polyAt-map, polyAt-product, polyAt-zero, product-double, product-sum-l, product-bit, product-zero}
 use Rattle.bch.proofs.Modulus.{timesX-linear, timesX-below, polyAt-modulus}
-use Rattle.bch.proofs.Field.{iterate-inner}
 
--- the sum of two words, place by place
 unfoldable pub sumWord : List ℕ → List ℕ → List ℕ
 sumWord [] w = []
 sumWord (a ∷ v) [] = []
@@ -39,7 +36,7 @@ sumWord-bits (a ∷ v) (b ∷ w) hv hw zero = ⊕-below 1 a b (hv 0) (hw 0)
 sumWord-bits (a ∷ v) (b ∷ w) hv hw (suc k) = sumWord-bits v w (λ j. hv (suc j)) (λ j. hw (suc j)) k
 
 module _ (T : ℕ → ℕ) (lin : (a b : ℕ) → T (a ⊕ b) ≡ T a ⊕ T b) where
-  pub horner-sum : (v w : List ℕ) (s u : ℕ) → length v ≡ length w → horner T (s ⊕ u) (sumWord v w) ≡ horner T s v ⊕ horner T u w
+  horner-sum : (v w : List ℕ) (s u : ℕ) → length v ≡ length w → horner T (s ⊕ u) (sumWord v w) ≡ horner T s v ⊕ horner T u w
   unfolding horner sumWord
   horner-sum [] [] s u h = refl
   horner-sum [] (b ∷ w) s u h = absurd (suc-ne-zero (length w) (sym h))
@@ -99,15 +96,9 @@ module _ (T : ℕ → ℕ) (lin : (a b : ℕ) → T (a ⊕ b) ≡ T a ⊕ T b) w
   power-root g r z = stands-power (timesX g r) (root-stands g r z)
 
   pub power-value : (e : ℕ) → polyAt T (2 ^ e) 1 ≡ iterate T e 1
-  unfolding iterate
-  power-value zero = polyAt-bit T 1 1 (le-refl 2)
-  power-value (suc e) = ap (λ n. polyAt T n 1) (pow-suc 2 e) ∙ double-stands (2 ^ e) ∙ ap T (power-value e)
+  power-value e = ap (λ n. polyAt T n 1) (sym (iterate-double e 1 ∙ one-mul (2 ^ e))) ∙ stands-power (λ v. v * 2) double-stands e
 
 -- ---- division
--- the word as a polynomial
-unfoldable pub wordPoly : List ℕ → ℕ
-wordPoly w = horner (λ v. v * 2) 0 w
-
 module _ (g r : ℕ) where
   divide-step : (q s b : ℕ)
       → (q ⊗ g ⊕ s) * 2 ⊕ b ≡ (q * 2 ⊕ s * 2 / 2 ^ r % 2) ⊗ g ⊕ (timesX g r s ⊕ b)
@@ -125,23 +116,22 @@ module _ (g r : ℕ) where
       (p, ap (λ n. horner (λ v. v * 2) n w) (divide-step q s b) ∙ e)
 
   -- every word is a multiple of g and its remainder
-  pub divide : (w : List ℕ) → (p : ℕ) × (wordPoly w ≡ p ⊗ g ⊕ remainder g r w)
+  divide : (w : List ℕ) → (p : ℕ) × (wordPoly w ≡ p ⊗ g ⊕ remainder g r w)
   unfolding wordPoly remainder
   divide w =
       let (p, e) = divide-from w 0 0 in
       (p, ap (λ n. horner (λ v. v * 2) n w) (sym (⊕-zero-right (0 ⊗ g) ∙ product-zero g)) ∙ e)
 
+  pub multiple : (w : List ℕ) → remainder g r w ≡ 0 → (p : ℕ) × (wordPoly w ≡ p ⊗ g)
+  multiple w h = let (p, e) = divide w in (p, e ∙ ap (λ n. p ⊗ g ⊕ n) h ∙ ⊕-zero-right (p ⊗ g))
+
   module _ (pos : 0 < r) (deg : g / 2 ^ r ≡ 1) where
-    -- g divides a word exactly when the remainder is 0
     pub divides : (w : List ℕ) → Bits w → (p : ℕ) → wordPoly w ≡ p ⊗ g → remainder g r w ≡ 0
     unfolding wordPoly remainder
     divides w hw p e =
         let T : ℕ → ℕ = timesX g r in
         sym (value T (timesX-linear g r) (λ v. v * 2) (double-stands T (timesX-linear g r)) w hw)
         ∙ ap (λ n. polyAt T n 1) e ∙ polyAt-product T (timesX-linear g r) p g 1 ∙ ap (polyAt T p) (polyAt-modulus g r deg pos) ∙ linear-zero (polyAt T p) (polyAt-linear T (timesX-linear g r) p)
-
-    pub multiple : (w : List ℕ) → remainder g r w ≡ 0 → (p : ℕ) × (wordPoly w ≡ p ⊗ g)
-    multiple w h = let (p, e) = divide w in (p, e ∙ ap (λ n. p ⊗ g ⊕ n) h ∙ ⊕-zero-right (p ⊗ g))
 
     below-from : (w : List ℕ) → Bits w → (s : ℕ) → s < 2 ^ r → horner (timesX g r) s w < 2 ^ r
     unfolding horner

@@ -1,14 +1,15 @@
 -- Tables over a field from which the positions of a word's errors are found.
---   LogTable        the exponent of each element but 0
---   Solution        power e of the root solves z^(k+1) + z = power v
---   SolutionTable   such an e for each v that has one, 0 for the others
---   HalfTable       those of z² + z
---   CubicTable      those of z³ + z
---   FieldTables     the powers of the root and these tables in one list, each in a quarter of it
---   TripleOf        three powers of the root with given sums of the powers, the cubes and the fifth powers
---   PowerIs         power k of an element
---   syndromes       the values of a polynomial at the root and at its cube, in one number
---   SyndromeTable   those values of the powers of x that the positions of a word carry
+--   LogTable         the exponent of each element but 0
+--   Solution         power e of the root solves z^(k+1) + z = power v
+--   SolutionTable    such an e for each v that has one, 0 for the others
+--   HalfTable        those of z² + z
+--   CubicTable       those of z³ + z
+--   FieldTables      the powers of the root and these tables in one list, each in a quarter of it
+--   TripleOf         three powers of the root with given sums of the powers, the cubes and the fifth powers
+--   PowerIs          power k of an element
+--   syndromes        the values of a polynomial at the root and at its cube, in one number
+--   powerSyndromes   those of a power of x
+--   SyndromeTable    those of the powers of x that the positions of a word carry
 -- Assumes nothing.
 use mathlib.Core.Path.{_≡_}
 use mathlib.Core.Logic.{_≢_}
@@ -67,7 +68,10 @@ PowerIs m k s p = (s ≡ 0 → p ≡ 0) × ((e : ℕ) → e < 2 ^ m - 1 → s �
 unfoldable pub syndromes : ℕ → ℕ → ℕ
 syndromes m p = valueAt m 1 p + 65536 * valueAt m 3 p
 
+-- x^e has at the root the value power e, and at its cube power 3 e
+abbrev pub powerSyndromes : ℕ → ℕ → ℕ
+powerSyndromes m e = power m e + 65536 * power m (3 * e)
+
 -- "Position j of an n-bit word carries x^(n-1-j)"
 abbrev pub SyndromeTable : ℕ → List ℕ → Type 0
-SyndromeTable m table =
-    (j : ℕ) → j < length table → getD table j 0 ≡ power m (length table - 1 - j) + 65536 * power m (3 * (length table - 1 - j))
+SyndromeTable m table = (j : ℕ) → j < length table → getD table j 0 ≡ powerSyndromes m (length table - 1 - j)

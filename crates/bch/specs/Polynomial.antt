@@ -6,6 +6,7 @@
 --   p ⊗ q             the product
 --   Bits w            every entry of w is 0 or 1
 --   horner T s w      the bits of w taken into s by Horner's rule with the map T
+--   wordPoly w        a word as a polynomial
 --   remainder g r w   the remainder of a word by a polynomial g of degree r
 --   bitsOf n p        the n low bits of a number, the highest first
 -- Assumes nothing.
@@ -48,6 +49,9 @@ Bits w = (k : ℕ) → getD w k 0 < 2
 unfoldable pub horner : (ℕ → ℕ) → ℕ → List ℕ → ℕ
 horner T s [] = s
 horner T s (b ∷ w) = horner T (T s ⊕ b) w
+
+unfoldable pub wordPoly : List ℕ → ℕ
+wordPoly w = horner (λ v. v * 2) 0 w
 
 unfoldable pub remainder : ℕ → ℕ → List ℕ → ℕ
 remainder g r w = horner (timesX g r) 0 w

@@ -2,52 +2,34 @@
 //   fill_field(m, field)              the powers, the logarithms, the solutions of z^2 + z and those of z^3 + z, each in a quarter of `field`
 //   fill_syndromes(m, field, table)   the powers of the root and of its cube that the positions of a word carry
 //
-// The crates `powers` and `logarithms` make each table; here they are put side by side.
+// The crates `powers` and `logarithms` make each table; here they are put side by side. The powers and the logarithms are made apart and copied:
+// the other two are made from them while `field` is written.
 ghost use mathlib.Core.Path.{_≡_};
 ghost use Prim.Native.Nat.{_-_, _*_, _^_, _≤_, _<_};
 ghost use lib.ListN.{length};
 ghost use Rattle.bch.specs.Field.{powerTable};
-ghost use Rattle.bch.specs.Locator.{LogTable, HalfTable, CubicTable, FieldTables, SyndromeTable};
+ghost use Rattle.bch.specs.Locator.{LogTable, FieldTables, SyndromeTable};
 
-// Copies the tables into the quarters of `field`.
-fn copy_parts(
-    m: usize,
-    powers: &[u16],
-    logs: &[u16],
-    halves: &[u16],
-    cubics: &[u16],
-    field: &mut [u16],
-)
-    requires { ⌜ (4 ≤ m) × (m ≤ 10) × (now powers ≡ powerTable m (2 ^ m - 1)) × LogTable m (now logs) × HalfTable m (now halves)
-        × CubicTable m (now cubics) × (length (now field) ≡ 4 * 2 ^ m) ⌝ }
+// Fills the quarters of `field` from the powers and the logarithms of field m. The work grows with 2^m.
+fn fill_quarters(m: usize, powers: &[u16], logs: &[u16], field: &mut [u16])
+    requires { ⌜ (4 ≤ m) × (m ≤ 10) × (now powers ≡ powerTable m (2 ^ m - 1)) × LogTable m (now logs) × (length (now field) ≡ 4 * 2 ^ m) ⌝ }
     ensures { λ r. ⌜ FieldTables m (now (field .exit)) ⌝ }
 {
     let q = logs.len();
     powers::copy_table(powers, &mut field[0..q - 1]);
     powers::copy_table(logs, &mut field[q..2 * q]);
-    powers::copy_table(halves, &mut field[2 * q..3 * q - 1]);
-    powers::copy_table(cubics, &mut field[3 * q..4 * q - 1]);
+    logarithms::fill_solutions(m, 1, powers, logs, &mut field[2 * q..3 * q - 1]);
+    logarithms::fill_solutions(m, 2, powers, logs, &mut field[3 * q..4 * q - 1]);
 }
 
-// Makes the tables of field m in the buffers `powers`, `logs`, `halves` and `cubics`, and copies them into the quarters of `field`. The work
-// grows with 2^m.
-fn fill_by_parts(
-    m: usize,
-    powers: &mut [u16],
-    logs: &mut [u16],
-    halves: &mut [u16],
-    cubics: &mut [u16],
-    field: &mut [u16],
-)
-    requires { ⌜ (4 ≤ m) × (m ≤ 10) × (length (now powers) ≡ 2 ^ m - 1) × (length (now logs) ≡ 2 ^ m) × (length (now halves) ≡ 2 ^ m - 1)
-        × (length (now cubics) ≡ 2 ^ m - 1) × (length (now field) ≡ 4 * 2 ^ m) ⌝ }
+// Makes the powers and the logarithms of field m in the buffers `powers` and `logs`, and fills `field` from them. The work grows with 2^m.
+fn fill_by_parts(m: usize, powers: &mut [u16], logs: &mut [u16], field: &mut [u16])
+    requires { ⌜ (4 ≤ m) × (m ≤ 10) × (length (now powers) ≡ 2 ^ m - 1) × (length (now logs) ≡ 2 ^ m) × (length (now field) ≡ 4 * 2 ^ m) ⌝ }
     ensures { λ r. ⌜ FieldTables m (now (field .exit)) ⌝ }
 {
     powers::fill_powers(m, powers);
     logarithms::fill_logs(m, powers, logs);
-    logarithms::fill_solutions(m, 1, powers, logs, halves);
-    logarithms::fill_solutions(m, 2, powers, logs, cubics);
-    copy_parts(m, powers, logs, halves, cubics, field);
+    fill_quarters(m, powers, logs, field);
 }
 
 // Fills `field` with the tables of field m: the powers of the root, the logarithms and the solutions of z^2 + z and of z^3 + z, each from
@@ -59,16 +41,7 @@ pub fn fill_field(m: usize, field: &mut [u16])
     let q = field.len() / 4;
     let mut powers = [0u16; 1024];
     let mut logs = [0u16; 1024];
-    let mut halves = [0u16; 1024];
-    let mut cubics = [0u16; 1024];
-    fill_by_parts(
-        m,
-        &mut powers[0..q - 1],
-        &mut logs[0..q],
-        &mut halves[0..q - 1],
-        &mut cubics[0..q - 1],
-        field,
-    );
+    fill_by_parts(m, &mut powers[0..q - 1], &mut logs[0..q], field);
 }
 
 // Fills `table`, which has an entry for each position of a word, with the powers of the root and of its cube that the positions carry,

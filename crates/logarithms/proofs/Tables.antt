@@ -1,55 +1,34 @@
 -- Tables over a field that are filled entry by entry, for m from 4 to 10.
---   sizes                       the bounds of 2^m
---   powers-length, powers-at    a table of powers
---   Logged                      a table of logarithms that has those of the first n powers, with a law for each step
---   Solved                      a table of solutions that has those with exponents below n, with a law for each step
---   solution-made               what the solution of exponent e solves
---   cube-exponent               three times an exponent, reduced after each sum
+--   sizes           the bounds of 2^m
+--   Logged          a table of logarithms that has those of the first n powers, with a law for each step
+--   Solved          a table of solutions that has those with exponents below n, with a law for each step
+--   solution-made   what the solution of exponent e solves
+--   cube-exponent   three times an exponent, reduced after each sum
 -- Assumes nothing.
 use mathlib.Core.Path.{_≡_, refl, sym, ap, ap₂, _∙_, subst⁻¹}
 use mathlib.Core.Logic.{_≢_}
 use mathlib.Core.List.{List}
-use Prim.Native.Nat.{ℕ, zero, suc, _+_, _-_, _*_, _%_, _^_, _≤_, _<_}
+use Prim.Native.Nat.{ℕ, _+_, _-_, _*_, _%_, _^_, _≤_, _<_}
 use native.Mathlib.Nat.{mod-add-mod}
 use native.Mathlib.Omega.{arith}
 use lib.Pow.{pow-mono}
 use lib.Bits.{bitXor}
 use lib.ListN.{length, getD, set, replicate, length-set, length-replicate}
 use Rattle.bch.specs.Polynomial.{_⊕_}
-use Rattle.bch.specs.Field.{power, powerTable}
+use Rattle.bch.specs.Field.{power}
 use Rattle.bch.specs.Locator.{LogTable, Solution, SolutionTable}
 use Rattle.bch.proofs.Sum.{⊕-below}
-use Rattle.bch.proofs.Powers.{powerTable-at, powerTable-length}
-use Rattle.bch.proofs.Store.{set-each}
+use Rattle.bch.proofs.Store.{zeros-at, set-each}
 use Rattle.bch.proofs.Locator.{power-below, power-mod, power-one-only, not-one, log-power, solution-only}
 
 pub sizes : (m : ℕ) → 4 ≤ m → m ≤ 10 → (16 ≤ 2 ^ m) × (2 ^ m ≤ 1024)
 sizes m low high = (pow-mono {i = 4} {j = m} low, pow-mono {i = m} {j = 10} high)
-
--- ---- a table of powers
-pub powers-length : (m : ℕ) (powers : List ℕ) → powers ≡ powerTable m (2 ^ m - 1) → length powers ≡ 2 ^ m - 1
-powers-length m powers is = ap length is ∙ powerTable-length m (2 ^ m - 1)
-
-pub powers-at : (m : ℕ) (powers : List ℕ) → powers ≡ powerTable m (2 ^ m - 1) → (k : ℕ) → k < 2 ^ m - 1 → getD powers k 0 ≡ power m k
-powers-at m powers is k below = ap (λ l. getD l k 0) is ∙ powerTable-at m (2 ^ m - 1) k below
-
-zeros-at : (n x : ℕ) → _≡_ {A = ℕ} (getD (replicate n 0) x 0) 0
-zeros-at zero x = refl
-zeros-at (suc n) zero = refl
-zeros-at (suc n) (suc x) = zeros-at n x
 
 -- ---- logarithms
 pub record Logged (m n : ℕ) (logs : List ℕ) : Type 0 where
   pub long : length logs ≡ 2 ^ m
   pub below : (x : ℕ) → getD logs x 0 < 2 ^ m - 1
   pub log : (j : ℕ) → j < n → getD logs (power m j) 0 ≡ j
-
--- ---- solutions of z^(k+1) + z = power v
-pub record Solved (m k n : ℕ) (table : List ℕ) : Type 0 where
-  pub long : length table ≡ 2 ^ m - 1
-  pub below : (v : ℕ) → getD table v 0 < 2 ^ m - 1
-  pub sound : (v : ℕ) → getD table v 0 ≢ 0 → Solution m k v (getD table v 0)
-  pub complete : (v e : ℕ) → v < 2 ^ m - 1 → 0 < e → e < n → Solution m k v e → getD table v 0 ≢ 0
 
 module _ (m : ℕ) (low : 4 ≤ m) (high : m ≤ 10) where
   zero-below : (n x : ℕ) → getD (replicate n 0) x 0 < 2 ^ m - 1
@@ -82,6 +61,14 @@ module _ (m : ℕ) (low : 4 ≤ m) (high : m ≤ 10) where
   pub logged-all : (n : ℕ) (logs : List ℕ) → n ≡ 2 ^ m - 1 → Logged m n logs → LogTable m logs
   logged-all n logs is L = record { long = L .long; below = L .below; log = λ j h. L .log j (omega arith) }
 
+-- ---- solutions of z^(k+1) + z = power v
+pub record Solved (m k n : ℕ) (table : List ℕ) : Type 0 where
+  pub long : length table ≡ 2 ^ m - 1
+  pub below : (v : ℕ) → getD table v 0 < 2 ^ m - 1
+  pub sound : (v : ℕ) → getD table v 0 ≢ 0 → Solution m k v (getD table v 0)
+  pub complete : (v e : ℕ) → v < 2 ^ m - 1 → 0 < e → e < n → Solution m k v e → getD table v 0 ≢ 0
+
+module _ (m : ℕ) (low : 4 ≤ m) (high : m ≤ 10) where
   -- z^k + 1 is power f, where f is its logarithm
   pub solution-made : (k : ℕ) (logs : List ℕ) → LogTable m logs → (e d x n v : ℕ) → 1 ≤ k → k ≤ 2 → 0 < e → e < 2 ^ m - 1 → d ≡ (k * e) % n → x ≡ power m d
       → n ≡ 2 ^ m - 1 → v ≡ (e + getD logs (bitXor x 1) 0) % n → Solution m k v e
@@ -100,7 +87,7 @@ module _ (m : ℕ) (low : 4 ≤ m) (high : m ≤ 10) where
     pub solved-none : (n : ℕ) → n ≡ 2 ^ m - 1 → Solved m k 1 (replicate n 0)
     solved-none n is = record {
       long = length-replicate n 0 ∙ is;
-      below = zero-below n;
+      below = zero-below m low high n;
       sound = λ v d. absurd (d (zeros-at n v));
       complete = λ v e h pos l. absurd (omega arith);
     }

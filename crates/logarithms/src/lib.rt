@@ -5,10 +5,10 @@
 //
 // Each is filled in one pass over the powers.
 ghost use mathlib.Core.Path.{_≡_};
-ghost use Prim.Native.Nat.{_+_, _-_, _*_, _%_, _^_, _≤_, _<_};
+ghost use Prim.Native.Nat.{_-_, _*_, _%_, _^_, _≤_, _<_};
 ghost use lib.ListN.{length, replicate};
 ghost use Rattle.bch.specs.Field.{power, powerTable};
-ghost use Rattle.bch.specs.Locator.{LogTable, Solution, SolutionTable, SyndromeTable};
+ghost use Rattle.bch.specs.Locator.{LogTable, Solution, SolutionTable, powerSyndromes, SyndromeTable};
 
 // Power e of the root of field m, from the table of powers.
 fn power_at(m: usize, powers: &[u16], e: usize) -> usize
@@ -74,7 +74,7 @@ pub fn fill_solutions(m: usize, k: usize, powers: &[u16], logs: &[u16], table: &
 // Power e of the root, and power e of its cube as the high half.
 fn syndromes_of(m: usize, powers: &[u16], e: usize) -> u32
     requires { ⌜ (4 ≤ m) × (m ≤ 10) × (now powers ≡ powerTable m (2 ^ m - 1)) × (e < 2 ^ m - 1) ⌝ }
-    ensures { λ r. ⌜ r ≡ power m e + 65536 * power m (3 * e) ⌝ }
+    ensures { λ r. ⌜ r ≡ powerSyndromes m e ⌝ }
 {
     let order = powers.len();
     let twice = reduced(2 * e, order);

@@ -1,7 +1,7 @@
 -- The generators, as products of the minimal polynomials that are proved to be minimal.
 --   productAt         the product of the first t minimal polynomials of field m, as numbers
 --   generator-is      it is the generator, for all m and t of a design
---   entriesFrom       a list by a rule on its places
+--   entriesFrom, entriesFrom-at   a list by a rule on its positions, and its entries
 --   generators        the products for t = 1, 2, 3, of m = 4, then 5, .., 10: the list that the constant table is compared with
 --   generator-at      the entry for m and t is the generator
 --   generator-below   it is below 2^31
@@ -16,7 +16,8 @@ use lib.ListN.{getD}
 use Rattle.bch.specs.Polynomial.{_⊗_}
 use Rattle.bch.specs.Code.{generator}
 use Rattle.bch.proofs.Modulus.{degree-high}
-use Rattle.bch.proofs.Minimal.{Fits, tableAt, minimals, minimal, generator-degree}
+use Rattle.bch.proofs.Minimal.{Fits, tableAt, minimals, minimal}
+use Rattle.bch.proofs.Generator.{generator-degree}
 
 unfoldable pub productAt : ℕ → ℕ → ℕ
 productAt m zero = 1
@@ -33,11 +34,11 @@ unfoldable pub entriesFrom : (ℕ → ℕ) → ℕ → ℕ → List ℕ
 entriesFrom f zero k = []
 entriesFrom f (suc n) k = f k ∷ entriesFrom f n (suc k)
 
-entry : (f : ℕ → ℕ) (n k i : ℕ) → i < n → getD (entriesFrom f n k) i 0 ≡ f (k + i)
+entriesFrom-at : (f : ℕ → ℕ) (n k i : ℕ) → i < n → getD (entriesFrom f n k) i 0 ≡ f (k + i)
 unfolding entriesFrom
-entry f zero k i h = absurd (not-suc-le-zero h)
-entry f (suc n) k zero h = ap f (sym (add-zero k))
-entry f (suc n) k (suc i) h = entry f n (suc k) i (le-of-suc-le-suc h) ∙ ap f (suc-add k i ∙ sym (add-suc k i))
+entriesFrom-at f zero k i h = absurd (not-suc-le-zero h)
+entriesFrom-at f (suc n) k zero h = ap f (sym (add-zero k))
+entriesFrom-at f (suc n) k (suc i) h = entriesFrom-at f n (suc k) i (le-of-suc-le-suc h) ∙ ap f (suc-add k i ∙ sym (add-suc k i))
 
 unfoldable pub generators : List ℕ
 generators = entriesFrom (λ k. productAt (4 + k / 3) (1 + k % 3)) 21 0
@@ -48,7 +49,7 @@ generator-at m t lo hi low ht fits =
     let k : ℕ = 3 * (m - 4) + (t - 1) in
     let row : 4 + (0 + k) / 3 ≡ m = omega arith in
     let place : 1 + (0 + k) % 3 ≡ t = omega arith in
-    entry (λ k. productAt (4 + k / 3) (1 + k % 3)) 21 0 k (omega arith) ∙ ap₂ productAt row place ∙ sym (generator-is m t lo hi ht fits)
+    entriesFrom-at (λ k. productAt (4 + k / 3) (1 + k % 3)) 21 0 k (omega arith) ∙ ap₂ productAt row place ∙ sym (generator-is m t lo hi ht fits)
 
 pub generator-below : (m t : ℕ) → 4 ≤ m → m ≤ 10 → t ≤ 3 → Fits m t → generator m t < 2 ^ 31
 generator-below m t lo hi ht fits =

@@ -1,4 +1,3 @@
 pub mod Generators
 pub mod Tables
 pub mod Rows
-pub mod Bounds

@@ -1,21 +1,23 @@
 -- Powers of x, sums of a table's entries, and tables that are written entry by entry. Laws that code meets speak of `bitXor`, which is ⊕.
---   timesX-over         x times v, where the degree has come to d
---   powerMod-none       x^0 is 1
---   powerMod-next       x^(e + 1) is x times x^e
---   xorSum-more         one term more
---   Added               the entries before n have f added, the others are as they were
---   added-more          one entry more
+--   timesX-over     x times v, where the degree has come to d
+--   powerMod-none   x^0 is 1
+--   powerMod-next   x^(e + 1) is x times x^e
+--   spread-bit      a bit spread over 32 masks a number to itself or to 0
+--   xorSum-more     one term more
+--   Added           the entries before n have f added, the others are as they were
+--   added-more      one entry more
 -- Assumes nothing.
 use mathlib.Core.Path.{_≡_, sym, ap, ap₂, _∙_}
 use mathlib.Core.List.{List}
 use Prim.Native.Nat.{ℕ, suc, _+_, _*_, _/_, _%_, _^_, _≤_, _<_}
-use native.Mathlib.Nat.{one-mul, div-eq-of-lt-le}
+use native.Mathlib.Nat.{zero-mul, one-mul, mod-eq-of-lt, div-eq-of-lt-le}
 use native.Mathlib.Numerals.{add-one}
 use native.Mathlib.Omega.{arith}
-use lib.Bits.{bitXor}
+use lib.Bits.{bitXor, bitAnd, and-comm, and-mask}
 use lib.ListN.{length, getD, set}
 use Rattle.bch.specs.Polynomial.{_⊕_, timesX, iterate}
 use Rattle.bch.specs.Powers.{powerMod, xorSum}
+use Rattle.bch.proofs.Sum.{bit-ind}
 use Rattle.bch.proofs.Store.{set-each}
 
 -- ---- powers
@@ -34,6 +36,11 @@ unfolding powerMod iterate
 powerMod-next g r e k v h l = ap (timesX g r) h ∙ ap (powerMod g r) (sym l)
 
 -- ---- sums
+pub spread-bit : (b v : ℕ) → b < 2 → v < 2 ^ 32 → bitAnd (b * 4294967295) v ≡ b * v
+spread-bit b v h l =
+    bit-ind (λ (b : ℕ). bitAnd (b * 4294967295) v ≡ b * v) (sym (zero-mul v))
+    (and-comm 4294967295 v ∙ and-mask v 32 ∙ mod-eq-of-lt l ∙ sym (one-mul v)) b h
+
 pub xorSum-more : (n s : ℕ) (f : ℕ → ℕ) → s ≡ xorSum n f → bitXor s (f n) ≡ xorSum (n + 1) f
 unfolding xorSum _⊕_
 xorSum-more n s f e = ap (λ (k : ℕ). bitXor k (f n)) e ∙ ap (λ (k : ℕ). xorSum k f) (sym (add-one n))

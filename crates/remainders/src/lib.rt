@@ -10,7 +10,7 @@
 // exclusive ors, with no division, and parts of a word that stand in several buffers are added one after the other. The words that run
 // across the rows of a block are added row by row, in the order in which the block stands in memory.
 //
-// The hot loops have no jump at a bit: `dot` and `add_bits` mask the entry with the bit spread over 32.
+// The hot loops have no jump at a bit (`masked`).
 ghost use mathlib.Core.Path.{_≡_};
 ghost use Prim.Native.Nat.{ℕ, _+_, _*_, _/_, _^_, _≤_, _<_};
 ghost use lib.ListN.{length, getD, replicate};
@@ -75,6 +75,14 @@ pub fn fill_positions(g: u32, r: usize, top: u32, table: &mut [u32])
     }
 }
 
+// The bit b times x, with no jump: the bit spread over 32 is the mask.
+fn masked(b: u8, x: u32) -> u32
+    requires { ⌜ b < 2 ⌝ }
+    ensures { λ a. ⌜ a ≡ b * x ⌝ }
+{
+    (b as u32) * 4294967295 & x
+}
+
 // The sum of the entries of `part` at the ones of `bits`, both lent to read. One step for each bit.
 pub fn dot(bits: &[u8], part: &[u32]) -> u32
     requires { ⌜ (length (now bits) ≡ length (now part)) × Bits (now bits) ⌝ }
@@ -82,7 +90,7 @@ pub fn dot(bits: &[u8], part: &[u32]) -> u32
 {
     let mut acc: u32 = 0;
     for j in 0..bits.len() {
-        acc = acc ^ (bits[j] as u32) * 4294967295 & part[j];
+        acc = acc ^ masked(bits[j], part[j]);
     }
     acc
 }
@@ -94,7 +102,7 @@ fn add_bits(acc: &mut [u32], bits: &[u8], x: u32)
         × ((a : ℕ) → a < length (now (acc .entry)) → getD (now (acc .exit)) a 0 ≡ getD (now (acc .entry)) a 0 ⊕ getD (now (bits .entry)) a 0 * x) ⌝ }
 {
     for a in 0..acc.len() {
-        acc[a] = acc[a] ^ (bits[a] as u32) * 4294967295 & x;
+        acc[a] = acc[a] ^ masked(bits[a], x);
     }
 }
 

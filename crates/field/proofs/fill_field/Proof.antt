@@ -33,38 +33,6 @@ part-logs-end c =
     let s = c .before .before in
     omega (arith, s .pre .2, sizes (s .args .m) (s .pre .0) (s .pre .1))
 
-sub-fill-by-parts-4 : tie.Need-sub-fill-by-parts-4
-sub-fill-by-parts-4 c =
-    let s = c .before .before .before in
-    omega (arith, s .pre .2, sizes (s .args .m) (s .pre .0) (s .pre .1))
-
-sub-fill-by-parts-5 : tie.Need-sub-fill-by-parts-5
-sub-fill-by-parts-5 c = search needs
-
-part-halves-start : tie.Need-part-halves-start
-part-halves-start c = search needs
-
-part-halves-end : tie.Need-part-halves-end
-part-halves-end c =
-    let s = c .before .before .before in
-    omega (arith, s .pre .2, sizes (s .args .m) (s .pre .0) (s .pre .1))
-
-sub-fill-by-parts-6 : tie.Need-sub-fill-by-parts-6
-sub-fill-by-parts-6 c =
-    let s = c .before .before .before .before in
-    omega (arith, s .pre .2, sizes (s .args .m) (s .pre .0) (s .pre .1))
-
-sub-fill-by-parts-7 : tie.Need-sub-fill-by-parts-7
-sub-fill-by-parts-7 c = search needs
-
-part-cubics-start : tie.Need-part-cubics-start
-part-cubics-start c = search needs
-
-part-cubics-end : tie.Need-part-cubics-end
-part-cubics-end c =
-    let s = c .before .before .before .before in
-    omega (arith, s .pre .2, sizes (s .args .m) (s .pre .0) (s .pre .1))
-
 fill-by-parts-requires : tie.Need-fill-by-parts-requires
 fill-by-parts-requires c κs = search needs
 
@@ -85,14 +53,6 @@ fill-field-spec =
     sub-fill-by-parts-3
     part-logs-start
     part-logs-end
-    sub-fill-by-parts-4
-    sub-fill-by-parts-5
-    part-halves-start
-    part-halves-end
-    sub-fill-by-parts-6
-    sub-fill-by-parts-7
-    part-cubics-start
-    part-cubics-end
     fill-by-parts-requires
     same-length
     returns)

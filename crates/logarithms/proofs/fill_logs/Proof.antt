@@ -4,7 +4,8 @@ use mathlib.Core.Path.{_≡_, subst⁻¹}
 use Prim.Native.Nat.{_-_, _^_, _≤_}
 use native.Mathlib.Omega.{arith}
 use lib.ListN.{length}
-use Rattle.logarithms.proofs.Tables.{sizes, powers-length, Logged, logged-none, logged-more, logged-all}
+use Rattle.bch.proofs.Powers.{powers-length}
+use Rattle.logarithms.proofs.Tables.{sizes, Logged, logged-none, logged-more, logged-all}
 use Rattle.logarithms.proofs.fill_logs.Statement.{statement}
 use Rattle.logarithms.proofs.fill_logs.Tie as tie
 

@@ -4,7 +4,8 @@ use mathlib.Core.Path.{_≡_, subst⁻¹}
 use Prim.Native.Nat.{_-_, _^_, _≤_}
 use native.Mathlib.Omega.{arith}
 use lib.ListN.{length}
-use Rattle.logarithms.proofs.Tables.{sizes, powers-length, Solved, solved-none, solved-more, solved-all}
+use Rattle.bch.proofs.Powers.{powers-length}
+use Rattle.logarithms.proofs.Tables.{sizes, Solved, solved-none, solved-more, solved-all}
 use Rattle.logarithms.proofs.fill_solutions.Statement.{statement}
 use Rattle.logarithms.proofs.fill_solutions.Tie as tie
 

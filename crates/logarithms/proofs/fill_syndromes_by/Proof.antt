@@ -1,10 +1,10 @@
 -- The loop's invariant: the first `j` entries are those of their positions. The measure is the number of entries left.
 -- Assumes nothing.
 use mathlib.Core.Path.{_≡_, sym, ap, _∙_}
-use Prim.Native.Nat.{ℕ, _+_, _-_, _*_, _≤_, _<_}
+use Prim.Native.Nat.{ℕ, _+_, _-_, _≤_, _<_}
 use native.Mathlib.Omega.{arith}
 use lib.ListN.{length, getD, length-set}
-use Rattle.bch.specs.Field.{power}
+use Rattle.bch.specs.Locator.{powerSyndromes}
 use Rattle.bch.proofs.Store.{set-each}
 use Rattle.logarithms.proofs.Tables.{sizes}
 use Rattle.logarithms.proofs.fill_syndromes_by.Statement.{statement}
@@ -13,7 +13,7 @@ use Rattle.logarithms.proofs.fill_syndromes_by.Tie as tie
 abbrev Inv-loop : tie.InvT-loop
 Inv-loop m powers table₀ n j₀ table j =
     (j ≤ length table₀) × (length table ≡ length table₀) × (length table₀ ≤ 1023)
-    × ((k : ℕ) → k < j → getD table k 0 ≡ power m (length table₀ - 1 - k) + 65536 * power m (3 * (length table₀ - 1 - k)))
+    × ((k : ℕ) → k < j → getD table k 0 ≡ powerSyndromes m (length table₀ - 1 - k))
 
 abbrev μ-loop : tie.MeasureT-loop
 μ-loop m powers table₀ n j₀ table j = length table₀ - j
@@ -53,7 +53,7 @@ loop-again c =
       omega arith,
       simp length-set (omega arith),
       omega arith,
-      set-each (λ k y. k < l .j + 1 → y ≡ power (a .m) (n - 1 - k) + 65536 * power (a .m) (3 * (n - 1 - k))) (l .table) (l .j) (c .syndromes-of .result)
+      set-each (λ k y. k < l .j + 1 → y ≡ powerSyndromes (a .m) (n - 1 - k)) (l .table) (l .j) (c .syndromes-of .result)
           (omega arith) (λ h. c .syndromes-of .ensures) (λ k d h. l .inv .3 k (omega arith)),
     )
 
@@ -66,7 +66,7 @@ returns c =
     let l = c .before .loop in (
       λ j h.
           l .inv .3 j (omega arith)
-          ∙ ap (λ (n : ℕ). power (a .m) (n - 1 - j) + 65536 * power (a .m) (3 * (n - 1 - j))) (sym (l .inv .1)),
+          ∙ ap (λ (n : ℕ). powerSyndromes (a .m) (n - 1 - j)) (sym (l .inv .1)),
       l .inv .1,
     )
 

@@ -2,7 +2,8 @@
 -- Assumes nothing.
 use native.Mathlib.Omega.{arith}
 use Rattle.bch.proofs.Locator.{power-below}
-use Rattle.logarithms.proofs.Tables.{sizes, powers-length, powers-at}
+use Rattle.bch.proofs.Powers.{powers-length, powers-at}
+use Rattle.logarithms.proofs.Tables.{sizes}
 use Rattle.logarithms.proofs.power_at.Statement.{statement}
 use Rattle.logarithms.proofs.power_at.Tie as tie
 

@@ -4,7 +4,8 @@ use native.Mathlib.Nat.{mul-le-mul, le-refl}
 use native.Mathlib.Omega.{arith}
 use lib.Bits.{bitXor, xor-lt}
 use lib.ListN.{length}
-use Rattle.logarithms.proofs.Tables.{sizes, powers-length, solution-made}
+use Rattle.bch.proofs.Powers.{powers-length}
+use Rattle.logarithms.proofs.Tables.{sizes, solution-made}
 use Rattle.logarithms.proofs.solved_by.Statement.{statement}
 use Rattle.logarithms.proofs.solved_by.Tie as tie
 

@@ -5,7 +5,8 @@ use Prim.Native.Nat.{ℕ, _+_, _*_}
 use native.Mathlib.Omega.{arith}
 use borrow.Author.Needs.{needs}
 use lib.ListN.{length}
-use Rattle.logarithms.proofs.Tables.{sizes, powers-length, cube-exponent}
+use Rattle.bch.proofs.Powers.{powers-length}
+use Rattle.logarithms.proofs.Tables.{sizes, cube-exponent}
 use Rattle.logarithms.proofs.syndromes_of.Statement.{statement}
 use Rattle.logarithms.proofs.syndromes_of.Tie as tie
 

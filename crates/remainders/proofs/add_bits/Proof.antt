@@ -5,7 +5,6 @@ use Prim.Native.Nat.{_-_, _*_, _≤_}
 use native.Mathlib.Omega.{arith}
 use lib.ListN.{length, getD, length-set}
 use Rattle.remainders.proofs.Tables.{Added, added-more}
-use Rattle.remainders.proofs.Bounds.{spread-bit}
 use Rattle.remainders.proofs.add_bits.Statement.{statement}
 use Rattle.remainders.proofs.add_bits.Tie as tie
 
@@ -25,17 +24,14 @@ mul-acc c = omega arith
 slice-read-acc : tie.Need-slice-read-acc Inv-loop μ-loop
 slice-read-acc c = omega arith
 
-shared-slice-read-acc : tie.Need-shared-slice-read-acc Inv-loop μ-loop
-shared-slice-read-acc c = omega arith
+shared-slice-read-masked : tie.Need-shared-slice-read-masked Inv-loop μ-loop
+shared-slice-read-masked c = omega arith
 
-cast-acc : tie.Need-cast-acc Inv-loop μ-loop
-cast-acc c = omega (arith, c .before .before .before .before .pre .1 (c .before .before .before .loop .a))
+masked-requires : tie.Need-masked-requires Inv-loop μ-loop
+masked-requires c κs = c .before .before .before .before .before .before .pre .1 (c .before .before .before .loop .a)
 
 mul-acc-2 : tie.Need-mul-acc-2 Inv-loop μ-loop
-mul-acc-2 c = omega (arith, c .before .before .before .before .pre .1 (c .before .before .before .loop .a))
-
-mul-acc-3 : tie.Need-mul-acc-3 Inv-loop μ-loop
-mul-acc-3 c = omega (arith, c .before .before .before .before .pre .1 (c .before .before .before .loop .a))
+mul-acc-2 c = omega arith
 
 slice-write-acc : tie.Need-slice-write-acc Inv-loop μ-loop
 slice-write-acc c = omega arith
@@ -48,14 +44,12 @@ loop-less c = omega arith
 
 loop-again : tie.Need-loop-again Inv-loop μ-loop
 loop-again c =
-    let a = c .before .before .before .before .args in
-    let l = c .before .before .before .loop in
-    let b = getD (a .bits .now) (l .a) 0 in (
+    let a = c .before .before .before .before .before .before .before .args in
+    let l = c .before .before .before .before .loop in (
       omega arith,
       omega arith,
       simp length-set (omega arith),
-      added-more (a .acc .now) (l .acc) (λ k. getD (a .bits .now) k 0 * a .x) (l .a) _ (omega arith) (l .inv .3)
-          (spread-bit b (a .x) (c .before .before .before .before .pre .1 (l .a)) (omega arith)),
+      added-more (a .acc .now) (l .acc) (λ k. getD (a .bits .now) k 0 * a .x) (l .a) _ (omega arith) (l .inv .3) (c .masked .ensures),
     )
 
 same-length : tie.Need-same-length Inv-loop μ-loop
@@ -73,10 +67,9 @@ add-bits-spec =
     loop-holds
     mul-acc
     slice-read-acc
-    shared-slice-read-acc
-    cast-acc
+    shared-slice-read-masked
+    masked-requires
     mul-acc-2
-    mul-acc-3
     slice-write-acc
     add-a
     loop-less

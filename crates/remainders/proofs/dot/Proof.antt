@@ -7,7 +7,6 @@ use lib.Bits.{bitXor}
 use lib.ListN.{length, getD}
 use Rattle.bch.specs.Powers.{xorSum}
 use Rattle.remainders.proofs.Tables.{xorSum-more}
-use Rattle.remainders.proofs.Bounds.{spread-bit}
 use Rattle.remainders.proofs.dot.Statement.{statement}
 use Rattle.remainders.proofs.dot.Tie as tie
 
@@ -16,27 +15,23 @@ Inv-loop bits part acc₀ j₀ j-end acc j =
     (j-end ≡ length bits) × (j ≤ length bits) × (acc ≡ xorSum j (λ k. getD bits k 0 * getD part k 0))
 
 abbrev μ-loop : tie.MeasureT-loop
-μ-loop bits part acc₀ j₀ j-end acc j =
-    length bits - j
+μ-loop bits part acc₀ j₀ j-end acc j = length bits - j
 
 loop-holds : tie.Need-loop-holds Inv-loop μ-loop
 unfolding xorSum
 loop-holds c = (omega arith, omega arith, refl)
 
-shared-slice-read-acc : tie.Need-shared-slice-read-acc Inv-loop μ-loop
-shared-slice-read-acc c = omega arith
+shared-slice-read-masked : tie.Need-shared-slice-read-masked Inv-loop μ-loop
+shared-slice-read-masked c = omega arith
 
-cast-acc : tie.Need-cast-acc Inv-loop μ-loop
-cast-acc c = omega (arith, c .before .before .before .pre .1 (c .before .before .loop .j))
+mul-masked : tie.Need-mul-masked Inv-loop μ-loop
+mul-masked c = omega arith
 
-mul-acc : tie.Need-mul-acc Inv-loop μ-loop
-mul-acc c = omega (arith, c .before .before .before .pre .1 (c .before .before .loop .j))
+shared-slice-read-masked-2 : tie.Need-shared-slice-read-masked-2 Inv-loop μ-loop
+shared-slice-read-masked-2 c = omega arith
 
-mul-acc-2 : tie.Need-mul-acc-2 Inv-loop μ-loop
-mul-acc-2 c = omega (arith, c .before .before .before .pre .1 (c .before .before .loop .j))
-
-shared-slice-read-acc-2 : tie.Need-shared-slice-read-acc-2 Inv-loop μ-loop
-shared-slice-read-acc-2 c = omega arith
+masked-requires : tie.Need-masked-requires Inv-loop μ-loop
+masked-requires c κs = c .before .before .before .before .before .before .pre .1 (c .before .before .before .loop .j)
 
 add-j : tie.Need-add-j Inv-loop μ-loop
 add-j c = omega arith
@@ -46,17 +41,16 @@ loop-less c = omega arith
 
 loop-again : tie.Need-loop-again Inv-loop μ-loop
 loop-again c =
-    let a = c .before .before .before .before .args in
-    let l = c .before .before .before .loop in (
+    let a = c .before .before .before .before .before .before .before .args in
+    let l = c .before .before .before .before .loop in (
       omega arith,
       omega arith,
-      ap (bitXor (l .acc)) (spread-bit (getD (a .bits .now) (l .j) 0) (getD (a .part .now) (l .j) 0) (c .before .before .before .before .pre .1 (l .j)) (c .shared-slice-known2 .given _ .fits))
-          ∙ xorSum-more (l .j) (l .acc) (λ k. getD (a .bits .now) k 0 * getD (a .part .now) k 0) (l .inv .2),
+      ap (bitXor (l .acc)) (c .masked .ensures) ∙ xorSum-more (l .j) (l .acc) (λ k. getD (a .bits .now) k 0 * getD (a .part .now) k 0) (l .inv .2),
     )
 
 returns : tie.Need-returns Inv-loop μ-loop
 returns c =
-    let a = c .before .before .args in
+    let a = c .before .before .before .before .args in
     let l = c .before .loop in
     let e : l .j ≡ length (a .bits .now) = omega arith in
     l .inv .2 ∙ ap (λ (n : ℕ). xorSum n (λ k. getD (a .bits .now) k 0 * getD (a .part .now) k 0)) e
@@ -68,11 +62,10 @@ dot-spec =
     Inv-loop
     μ-loop
     loop-holds
-    shared-slice-read-acc
-    cast-acc
-    mul-acc
-    mul-acc-2
-    shared-slice-read-acc-2
+    shared-slice-read-masked
+    mul-masked
+    shared-slice-read-masked-2
+    masked-requires
     add-j
     loop-less
     loop-again
