@@ -1,18 +1,21 @@
 -- Laws of numbers stored into a lent slice.
---   told-other   a slice of another length is left as it was
---   told-all     the stores into a slice of as many entries
---   told-alike   equal answers are told alike
+--   told-other    a slice of another length is left as it was
+--   told-all      the stores into a slice of as many entries
+--   told-alike    equal answers are told alike
+--   judged-told   a verdict's rule and place, with whatever else is told
 -- Assumes nothing.
 use mathlib.Core.Path.{_≡_, sym, ap, _∙_}
 use mathlib.Core.Bool.{Bool, cond}
 use mathlib.Core.Logic.{_≢_}
-use mathlib.Core.List.{List, _++_, append-nil}
+use mathlib.Core.List.{List, _∷_, _++_, append-nil}
 use Prim.Native.Nat.{ℕ, _+_}
 use native.Mathlib.Omega.{arith}
 use lib.ListN.{length, drop}
 use lib.Seq.{sets, sets-eq, drop-length}
 use borrow.Author.Tests.{eq-eqb, ne-eqb}
-use Rattle.answers.specs.Number.{told}
+use Rattle.staircase.specs.Rules.{Verdict}
+use Rattle.answers.specs.declared.Judged.{Judged}
+use Rattle.answers.specs.Number.{number, placeOf, judgedOf, told}
 
 pub told-other : (new old : List ℕ) → length old ≢ length new → old ≡ told new old
 unfolding told
@@ -28,3 +31,7 @@ told-all new old after e h =
 pub told-alike : {A : Type 0} (rule : A → ℕ) (answer : A → List ℕ) (l : List ℕ) {x y : A} {n : ℕ} {k : List ℕ} → x ≡ y
     → (n ≡ rule x) × (k ≡ told (answer x) l) → (n ≡ rule y) × (k ≡ told (answer y) l)
 told-alike {A} rule answer l e (hn, hk) = (hn ∙ ap rule e, hk ∙ ap (λ (z : A). told (answer z) l) e)
+
+pub judged-told : (rest l : List ℕ) (v : Verdict) {j : Judged} {n : ℕ} {k : List ℕ} → j ≡ judgedOf v → (n ≡ j .rule) × (k ≡ told (j .place ∷ rest) l)
+    → (n ≡ number v) × (k ≡ told (placeOf v ∷ rest) l)
+judged-told rest l v e h = told-alike (λ (x : Judged). x .rule) (λ (x : Judged). x .place ∷ rest) l e h
