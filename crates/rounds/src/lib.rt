@@ -57,6 +57,17 @@ pub fn fill_tables(d: Design, positions: &mut [u32], syndromes: &mut [u32], fiel
     locator::fill_sums(m, d.r(), bits, syndromes);
 }
 
+// The rounds that a number of rounds stands for.
+pub fn rounds_allowed(rounds: u64) -> usize
+    requires { ⌜ rounds ≤ 64 ⌝ }
+    ensures { λ a. ⌜ (a ≡ roundsAllowed rounds) × (a ≤ 64) ⌝ }
+{
+    if rounds == 0 {
+        return DEFAULT_ROUNDS;
+    }
+    rounds as usize
+}
+
 // The remainders of all row words of a group, or of all its column words.
 fn line_remainders(
     d: Design,
@@ -73,9 +84,8 @@ fn line_remainders(
 )
     requires { ⌜ Received d blocks (now own) (now parity) (now info) (now red) × (i < groups blocks) × WordTable d (now table)
         × (length (now work) ≡ orderOf d) × (length (now sums) ≡ d .size) ⌝ }
-    ensures { λ u. ⌜ (now (sums .exit) ≡ wordRemainders (paramsOf d) (listsOf d (now (own .entry)) (now (parity .entry))) blocks
-        (frameOf (now (info .entry)) (now (red .entry))) i column)
-        × (length (now (work .exit)) ≡ length (now (work .entry))) ⌝ }
+    ensures { λ u. ⌜ now (sums .exit) ≡ wordRemainders (paramsOf d) (listsOf d (now (own .entry)) (now (parity .entry))) blocks
+        (frameOf (now (info .entry)) (now (red .entry))) i column ⌝ }
 {
     if column {
         words::column_remainders(d, blocks, i, own, parity, info, red, table, sums);
@@ -107,8 +117,7 @@ fn correct_lines(
         (frameOf (now (info .entry)) (now (red .entry))))
         × (a .wrong ≡ nonzeros (wordRemainders (paramsOf d) (listsOf d (now (own .entry)) (now (parity .entry))) blocks
         (frameOf (now (info .entry)) (now (red .entry))) i column))
-        × (a .flips ≤ 1500) × (a .wrong ≤ 500) × FrameFits d blocks (now (info .exit)) (now (red .exit))
-        × (length (now (work .exit)) ≡ length (now (work .entry))) × (length (now (sums .exit)) ≡ length (now (sums .entry))) ⌝ }
+        × (a .flips ≤ 1500) × (a .wrong ≤ 500) × FrameFits d blocks (now (info .exit)) (now (red .exit)) ⌝ }
 {
     line_remainders(
         d,
@@ -166,8 +175,7 @@ fn correct_group(
         (frameOf (now (info .entry)) (now (red .entry))))
         × (a .flips ≡ 0 → a .wrong ≡ outsideAmong (paramsOf d) (frameOf (now (info .entry)) (now (red .entry)))
         (groupWords (paramsOf d) (listsOf d (now (own .entry)) (now (parity .entry))) blocks i))
-        × (a .flips ≤ 3000) × (a .wrong ≤ 1000) × FrameFits d blocks (now (info .exit)) (now (red .exit))
-        × (length (now (work .exit)) ≡ length (now (work .entry))) × (length (now (sums .exit)) ≡ length (now (sums .entry))) ⌝ }
+        × (a .flips ≤ 3000) × (a .wrong ≤ 1000) × FrameFits d blocks (now (info .exit)) (now (red .exit)) ⌝ }
 {
     let rows = correct_lines(
         d,
@@ -226,8 +234,7 @@ fn correct_once(
         (frameOf (now (info .entry)) (now (red .entry))))
         × (a .flips ≡ 0 → a .wrong
         ≡ outside (paramsOf d) (listsOf d (now (own .entry)) (now (parity .entry))) blocks (frameOf (now (info .exit)) (now (red .exit))))
-        × (a .flips ≤ 6144000) × FrameFits d blocks (now (info .exit)) (now (red .exit))
-        × (length (now (work .exit)) ≡ length (now (work .entry))) × (length (now (sums .exit)) ≡ length (now (sums .entry))) ⌝ }
+        × (a .flips ≤ 6144000) × FrameFits d blocks (now (info .exit)) (now (red .exit)) ⌝ }
 {
     let count = design::group_count(blocks as u64) as usize;
     let mut flips = 0;
@@ -311,17 +318,6 @@ pub fn run_rounds(
         idle: false,
         wrong: 0,
     }
-}
-
-// The rounds that a number of rounds stands for.
-pub fn rounds_allowed(rounds: u64) -> usize
-    requires { ⌜ rounds ≤ 64 ⌝ }
-    ensures { λ a. ⌜ (a ≡ roundsAllowed rounds) × (a ≤ 64) ⌝ }
-{
-    if rounds == 0 {
-        return DEFAULT_ROUNDS;
-    }
-    rounds as usize
 }
 
 // The words of a frame that are outside the code after its rounds. An idle last round has counted them.

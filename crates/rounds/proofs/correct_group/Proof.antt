@@ -5,36 +5,34 @@ use mathlib.Core.Path.{_≡_, _∙_}
 use Rattle.staircase.specs.Frame.{frameOf}
 use Rattle.design.specs.Sizes.{paramsOf, listsOf}
 use Rattle.rounds.proofs.Groups.{group-round, group-wrong}
-use borrow.Author.Needs.{needs}
 use Rattle.rounds.proofs.correct_group.Statement.{statement}
 use Rattle.rounds.proofs.correct_group.Tie as tie
 
 correct-lines-requires : tie.Need-correct-lines-requires
-correct-lines-requires c κs = search needs
+correct-lines-requires c κs = let p = c .before .before .before .before .before .before .before .before .before .before .before .before .before .pre in (p .0, p .1, p .2, p .3)
 
 correct-lines-requires-2 : tie.Need-correct-lines-requires-2
 correct-lines-requires-2 c κs =
     let p = c .before .before .before .before .before .before .before .before .before .before .before .before .before .before .before .before .before .before .before .before .before .before .before .before .before .before .pre in
-    let e = c .before .before .before .before .before .before .before .before .before .before .before .before .correct-lines .ensures in
-    (p .0, e .4, e .5 ∙ p .2, e .6 ∙ p .3)
+    (p .0, c .before .before .before .before .before .before .before .before .before .before .before .before .correct-lines .ensures .4, c .before .before .before .before .before .before .before .work .given ∙ p .2, c .before .before .before .before .before .sums .given ∙ p .3)
 
 add-t31 : tie.Need-add-t31
-add-t31 c = search needs
+add-t31 c = omega (arith, c .before .before .before .before .before .before .before .before .before .before .before .before .before .before .before .before .before .before .before .before .before .before .before .correct-lines .ensures .2, c .before .before .before .before .before .before .before .before .before .before .correct-lines2 .ensures .2)
 
 add-t32 : tie.Need-add-t32
-add-t32 c = search needs
+add-t32 c = omega (arith, c .before .before .before .before .before .before .before .before .before .before .before .before .before .before .before .before .before .before .before .before .before .before .before .before .before .correct-lines .ensures .3, c .before .before .before .before .before .before .before .before .before .before .before .before .correct-lines2 .ensures .3)
 
 same-length : tie.Need-same-length
-same-length c = search needs
+same-length c = c .before .before .before .before .before .before .before .before .before .before .before .info2 .given ∙ c .before .before .before .before .before .before .before .before .before .before .before .before .before .before .before .before .before .before .before .before .before .before .before .before .info .given
 
 same-length-2 : tie.Need-same-length-2
-same-length-2 c = search needs
+same-length-2 c = c .before .before .before .before .before .before .before .before .before .red2 .given ∙ c .before .before .before .before .before .before .before .before .before .before .before .before .before .before .before .before .before .before .before .before .before .before .red .given
 
 same-length-3 : tie.Need-same-length-3
-same-length-3 c = search needs
+same-length-3 c = c .before .before .before .before .before .before .before .work2 .given ∙ c .before .before .before .before .before .before .before .before .before .before .before .before .before .before .before .before .before .before .before .before .work .given
 
 same-length-4 : tie.Need-same-length-4
-same-length-4 c = search needs
+same-length-4 c = c .before .before .before .before .before .sums2 .given ∙ c .before .before .before .before .before .before .before .before .before .before .before .before .before .before .before .before .before .before .sums .given
 
 returns : tie.Need-returns
 returns c =
@@ -50,8 +48,6 @@ returns c =
       omega (arith, x .2, y .2),
       omega (arith, x .3, y .3),
       y .4,
-      y .5 ∙ x .5,
-      y .6 ∙ x .6,
     )
 
 pub correct-group-spec : {M : Type 1} → statement M

@@ -1,7 +1,7 @@
 -- The remainders are taken of the frame as it is, then the words are corrected.
 -- Assumes nothing.
 use native.Mathlib.Omega.{arith}
-use mathlib.Core.Path.{sym, ap, _∙_}
+use mathlib.Core.Path.{ap, _∙_}
 use Rattle.staircase.specs.Frame.{frameOf}
 use Rattle.staircase.specs.Decoder.{Progress}
 use Rattle.design.specs.Sizes.{paramsOf, listsOf}
@@ -20,19 +20,19 @@ count-nonzero-requires : tie.Need-count-nonzero-requires
 count-nonzero-requires c κs = search needs
 
 correct-words-requires : tie.Need-correct-words-requires
-correct-words-requires c κs = search needs
+correct-words-requires c κs = let p = c .before .before .before .before .before .before .before .before .before .before .before .before .before .before .before .before .before .before .before .before .before .before .before .pre in (p .0, p .1, c .before .before .before .before .before .before .before .before .before .line-remainders .ensures)
 
 same-length : tie.Need-same-length
-same-length c = search needs
+same-length c = c .before .before .before .info .given
 
 same-length-2 : tie.Need-same-length-2
-same-length-2 c = search needs
+same-length-2 c = c .before .red .given
 
 same-length-3 : tie.Need-same-length-3
-same-length-3 c = search needs
+same-length-3 c = c .before .before .before .before .before .before .before .before .before .before .before .before .before .work .given
 
 same-length-4 : tie.Need-same-length-4
-same-length-4 c = search needs
+same-length-4 c = c .before .before .before .before .before .before .before .before .before .before .before .sums .given
 
 returns : tie.Need-returns
 returns c =
@@ -44,14 +44,12 @@ returns c =
     let e = c .before .before .before .before .before .before .before .before .before .before .before .before .before .before .line-remainders .ensures in
     let n = c .before .before .before .before .before .before .before .before .count-nonzero .ensures in
     let r = c .before .before .before .before .correct-words .ensures in
-    let long = remainder-at s l (a .blocks) f (a .i) (a .column) _ (e .0) .0 in (
+    let long = remainder-at s l (a .blocks) f (a .i) (a .column) _ e .0 in (
       r,
-      n .0 ∙ ap nonzeros (e .0),
+      n .0 ∙ ap nonzeros e,
       omega (arith, line-few s l (a .blocks) (a .i) (a .column) f _ (p .0 .allowed .t-high) r, p .0 .allowed .M-high),
       omega (arith, n .1, long, p .0 .allowed .M-high),
       kept-fits (lineWords s l (a .blocks) (a .i) (a .column)) (p .1) (ap (λ (y : Progress). y .frame) r),
-      e .1,
-      long ∙ sym (p .3),
     )
 
 pub correct-lines-spec : {M : Type 1} → statement M

@@ -2,7 +2,7 @@
 -- left.
 -- Assumes nothing.
 use native.Mathlib.Omega.{arith}
-use mathlib.Core.Path.{_≡_, ap, _∙_}
+use mathlib.Core.Path.{_≡_, sym, ap, _∙_}
 use Prim.Native.Nat.{ℕ, _+_, _*_, _-_, _≤_, _<_}
 use lib.ListN.{length}
 use Rattle.staircase.specs.Lists.{concat}
@@ -63,8 +63,8 @@ loop-again c =
     let f = frameOf (a .info .now) (a .red .now) in
     let x : Progress = record { frame = frameOf (l .info) (l .red); flips = l .flips } in (
       omega arith,
-      g .5 ∙ l .inv .1,
-      g .6 ∙ l .inv .2,
+      c .before .before .before .before .before .work .given ∙ l .inv .1,
+      c .before .before .before .sums .given ∙ l .inv .2,
       g .4,
       omega (arith, g .2, l .inv .4),
       omega (arith, g .3, l .inv .5),
@@ -75,16 +75,16 @@ loop-again c =
     )
 
 same-length : tie.Need-same-length Inv-loop μ-loop
-same-length c = omega (arith, c .before .loop .inv .3 .infoLength, c .before .before .before .before .before .before .before .before .before .before .before .before .pre .1 .infoLength)
+same-length c = c .before .loop .inv .3 .infoLength ∙ sym (c .before .before .before .before .before .before .before .before .before .before .before .before .pre .1 .infoLength)
 
 same-length-2 : tie.Need-same-length-2 Inv-loop μ-loop
-same-length-2 c = omega (arith, c .before .loop .inv .3 .redLength, c .before .before .before .before .before .before .before .before .before .before .before .before .pre .1 .redLength)
+same-length-2 c = c .before .loop .inv .3 .redLength ∙ sym (c .before .before .before .before .before .before .before .before .before .before .before .before .pre .1 .redLength)
 
 same-length-3 : tie.Need-same-length-3 Inv-loop μ-loop
-same-length-3 c = omega arith
+same-length-3 c = c .before .loop .inv .1 ∙ sym (c .before .before .before .before .before .before .before .before .before .before .before .before .pre .2)
 
 same-length-4 : tie.Need-same-length-4 Inv-loop μ-loop
-same-length-4 c = omega arith
+same-length-4 c = c .before .loop .inv .2 ∙ sym (c .before .before .before .before .before .before .before .before .before .before .before .before .pre .3)
 
 returns : tie.Need-returns Inv-loop μ-loop
 unfolding words
@@ -99,8 +99,6 @@ returns c =
       λ z. words-wrong s k (a .blocks) (l .i) f (record { frame = frameOf (l .info) (l .red); flips = l .flips }) _ e (l .inv .6) z (l .inv .7 z),
       omega (arith, l .inv .4, c .before .before .before .before .before .before .before .before .before .before .before .before .pre .0 .few-blocks),
       l .inv .3,
-      omega arith,
-      omega arith,
     )
 
 pub correct-once-spec : {M : Type 1} → statement M

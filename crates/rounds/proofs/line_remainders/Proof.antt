@@ -17,7 +17,7 @@ returns : tie.Need-returns
 returns c =
     let a = c .before .before .before .before .before .before .before .before .before .before .before .before .args in
     let l = listsOf (a .d) (a .own .now) (a .parity .now) in
-    (line-columns (paramsOf (a .d)) l (a .blocks) (frameOf (a .info .now) (a .red .now)) (a .i) (a .column) _ (c .before .before .before .before .if1 .taken) (c .before .before .column-remainders .ensures), search needs)
+    line-columns (paramsOf (a .d)) l (a .blocks) (frameOf (a .info .now) (a .red .now)) (a .i) (a .column) _ (c .before .before .before .before .if1 .taken) (c .before .before .column-remainders .ensures)
 
 row-remainders-requires : tie.Need-row-remainders-requires
 row-remainders-requires c κs = search needs
@@ -32,8 +32,7 @@ returns-2 : tie.Need-returns-2
 returns-2 c =
     let a = c .before .before .before .before .before .before .before .before .before .before .before .before .before .before .before .args in
     let l = listsOf (a .d) (a .own .now) (a .parity .now) in
-    let e = c .before .before .before .before .row-remainders .ensures in
-    (line-rows (paramsOf (a .d)) l (a .blocks) (frameOf (a .info .now) (a .red .now)) (a .i) (a .column) _ (c .before .before .before .before .before .before .before .if1 .left) (e .0), e .1)
+    line-rows (paramsOf (a .d)) l (a .blocks) (frameOf (a .info .now) (a .red .now)) (a .i) (a .column) _ (c .before .before .before .before .before .before .before .if1 .left) (c .before .before .before .before .row-remainders .ensures .0)
 
 pub line-remainders-spec : {M : Type 1} → statement M
 line-remainders-spec =

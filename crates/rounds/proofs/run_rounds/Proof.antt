@@ -38,16 +38,16 @@ add-t25 : tie.Need-add-t25 Inv-loop μ-loop
 add-t25 c = omega (arith, c .before .before .before .before .before .before .before .before .before .before .before .before .before .before .before .before .before .before .before .before .before .before .before .before .before .before .before .pre .4)
 
 same-length : tie.Need-same-length Inv-loop μ-loop
-same-length c = omega (arith, c .before .before .before .before .before .before .before .before .before .before .before .correct-once .ensures .3 .infoLength, c .before .before .before .before .before .before .before .before .before .before .before .before .before .before .before .before .before .before .before .before .before .before .before .before .before .before .before .pre .1 .infoLength)
+same-length c = c .before .before .before .before .before .before .before .before .before .before .before .correct-once .ensures .3 .infoLength ∙ sym (c .before .before .before .before .before .before .before .before .before .before .before .before .before .before .before .before .before .before .before .before .before .before .before .before .before .before .before .pre .1 .infoLength)
 
 same-length-2 : tie.Need-same-length-2 Inv-loop μ-loop
-same-length-2 c = omega (arith, c .before .before .before .before .before .before .before .before .before .before .before .correct-once .ensures .3 .redLength, c .before .before .before .before .before .before .before .before .before .before .before .before .before .before .before .before .before .before .before .before .before .before .before .before .before .before .before .pre .1 .redLength)
+same-length-2 c = c .before .before .before .before .before .before .before .before .before .before .before .correct-once .ensures .3 .redLength ∙ sym (c .before .before .before .before .before .before .before .before .before .before .before .before .before .before .before .before .before .before .before .before .before .before .before .before .before .before .before .pre .1 .redLength)
 
 same-length-3 : tie.Need-same-length-3 Inv-loop μ-loop
-same-length-3 c = omega (arith, c .before .before .before .before .before .before .before .before .before .before .before .correct-once .ensures .4, c .before .before .before .before .before .before .before .before .before .before .before .before .before .before .before .before .before .loop .inv .1, c .before .before .before .before .before .before .before .before .before .before .before .before .before .before .before .before .before .before .before .before .before .before .before .before .before .before .before .pre .2)
+same-length-3 c = c .before .before .before .before .before .before .work .given ∙ c .before .before .before .before .before .before .before .before .before .before .before .before .before .before .before .before .before .loop .inv .1 ∙ sym (c .before .before .before .before .before .before .before .before .before .before .before .before .before .before .before .before .before .before .before .before .before .before .before .before .before .before .before .pre .2)
 
 same-length-4 : tie.Need-same-length-4 Inv-loop μ-loop
-same-length-4 c = omega (arith, c .before .before .before .before .before .before .before .before .before .before .before .correct-once .ensures .5, c .before .before .before .before .before .before .before .before .before .before .before .before .before .before .before .before .before .loop .inv .2, c .before .before .before .before .before .before .before .before .before .before .before .before .before .before .before .before .before .before .before .before .before .before .before .before .before .before .before .pre .3)
+same-length-4 c = c .before .before .before .before .sums .given ∙ c .before .before .before .before .before .before .before .before .before .before .before .before .before .before .before .before .before .loop .inv .2 ∙ sym (c .before .before .before .before .before .before .before .before .before .before .before .before .before .before .before .before .before .before .before .before .before .before .before .before .before .before .before .pre .3)
 
 returns : tie.Need-returns Inv-loop μ-loop
 returns c =
@@ -59,7 +59,7 @@ returns c =
     let f = frameOf (a .info .now) (a .red .now) in (
       rounds-idle s ws (runRounds s ws (a .limit) f) (a .limit) (l .k) (l .flips) (frameOf (l .info) (l .red)) (l .inv .5) (omega arith) _ (r .0) (c .if1 .taken),
       λ e. r .1 (c .if1 .taken),
-      omega (arith, r .4, l .inv .1, c .before .before .before .before .before .before .before .before .before .before .before .before .before .before .before .before .before .before .before .before .before .before .before .before .before .before .before .pre .2),
+      c .before .before .before .before .before .before .work .given ∙ l .inv .1 ∙ sym (c .before .before .before .before .before .before .before .before .before .before .before .before .before .before .before .before .before .before .before .before .before .before .before .before .before .before .before .pre .2),
     )
 
 add-k : tie.Need-add-k Inv-loop μ-loop
@@ -77,24 +77,24 @@ loop-again c =
     let ws = words s (listsOf (a .d) (a .own .now) (a .parity .now)) (a .blocks) in
     let f = frameOf (a .info .now) (a .red .now) in (
       omega arith,
-      r .4 ∙ l .inv .1,
-      r .5 ∙ l .inv .2,
+      c .before .before .before .before .before .before .work .given ∙ l .inv .1,
+      c .before .before .before .before .sums .given ∙ l .inv .2,
       r .3,
       omega (arith, r .2, l .inv .4),
       rounds-more s ws (runRounds s ws (a .limit) f) (a .limit) (l .k) (l .flips) (frameOf (l .info) (l .red)) (l .inv .5) (omega arith) _ (r .0) (c .if1 .left),
     )
 
 same-length-5 : tie.Need-same-length-5 Inv-loop μ-loop
-same-length-5 c = omega (arith, c .before .loop .inv .3 .infoLength, c .before .before .before .before .before .before .before .before .before .before .before .pre .1 .infoLength)
+same-length-5 c = c .before .loop .inv .3 .infoLength ∙ sym (c .before .before .before .before .before .before .before .before .before .before .before .pre .1 .infoLength)
 
 same-length-6 : tie.Need-same-length-6 Inv-loop μ-loop
-same-length-6 c = omega (arith, c .before .loop .inv .3 .redLength, c .before .before .before .before .before .before .before .before .before .before .before .pre .1 .redLength)
+same-length-6 c = c .before .loop .inv .3 .redLength ∙ sym (c .before .before .before .before .before .before .before .before .before .before .before .pre .1 .redLength)
 
 same-length-7 : tie.Need-same-length-7 Inv-loop μ-loop
-same-length-7 c = omega (arith, c .before .loop .inv .1, c .before .before .before .before .before .before .before .before .before .before .before .pre .2)
+same-length-7 c = c .before .loop .inv .1 ∙ sym (c .before .before .before .before .before .before .before .before .before .before .before .pre .2)
 
 same-length-8 : tie.Need-same-length-8 Inv-loop μ-loop
-same-length-8 c = omega (arith, c .before .loop .inv .2, c .before .before .before .before .before .before .before .before .before .before .before .pre .3)
+same-length-8 c = c .before .loop .inv .2 ∙ sym (c .before .before .before .before .before .before .before .before .before .before .before .pre .3)
 
 returns-2 : tie.Need-returns-2 Inv-loop μ-loop
 returns-2 c =
@@ -104,7 +104,7 @@ returns-2 c =
     let ws = words s (listsOf (a .d) (a .own .now) (a .parity .now)) (a .blocks) in
     let f = frameOf (a .info .now) (a .red .now) in
     let e : l .k ≡ a .limit = omega arith in
-    (rounds-end s ws (runRounds s ws (a .limit) f) (a .limit) (l .k) (l .flips) (frameOf (l .info) (l .red)) (l .inv .5) e, (λ q. absurd (true≢false (sym q))), omega (arith, l .inv .1, c .before .before .before .before .before .before .before .before .before .before .before .pre .2))
+    (rounds-end s ws (runRounds s ws (a .limit) f) (a .limit) (l .k) (l .flips) (frameOf (l .info) (l .red)) (l .inv .5) e, (λ q. absurd (true≢false (sym q))), l .inv .1 ∙ sym (c .before .before .before .before .before .before .before .before .before .before .before .pre .2))
 
 pub run-rounds-spec : {M : Type 1} → statement M
 run-rounds-spec =
