@@ -1,3 +1,3 @@
 pub mod Room
-pub mod Whole
+pub mod Rounds
 pub mod Verdict
