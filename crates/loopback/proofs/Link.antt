@@ -3,7 +3,7 @@
 --   filled-next                             the byte that a filling loop comes to
 --   looped-refused, looped-decoded          the answer at a refused encoder, and after the decoder
 --   decoding-done, decoding-refused         the decoder's answer as the loopback's
---   working-fits                            the decoder's working bytes are among the encoder's
+--   own-length, working-fits                the decoder's working bytes, as many as a list has entries, are among the encoder's
 -- Assumes nothing.
 use mathlib.Core.Path.{_≡_, refl, sym, ap, ap₂, _∙_, subst}
 use mathlib.Core.Bool.{Bool, true, false, cond}
@@ -108,39 +108,41 @@ module _ (m t M L k : ℕ) (own parity w infoErrors redErrors info red : List �
       ∙ ap₂ (λ (y : List ℕ) (z : ℕ). afterDecoding (decodeCall m t M L k own parity (turned infoErrors info) (turned redErrors y) z)) e q
       ∙ sym (ap (λ (z : Verdict). unlessAccepted z (record { outcome = notEncoded z; frame = frameOf info made }) past) v)
 
-  verdict-of : (v : Verdict) (old new : List ℕ) → (encodedBy v old new) .verdict ≡ v
-  verdict-of accepted old new = refl
-  verdict-of (refused n p) old new = refl
+-- ---- what the encoder's rules leave
 
-  module _ (v : (encodeCall m t M L own parity w info red work) .verdict ≡ accepted) where
-    abbrev s : Params
-    s = params m t M
+verdict-of : (v : Verdict) (old new : List ℕ) → (encodedBy v old new) .verdict ≡ v
+verdict-of accepted old new = refl
+verdict-of (refused n p) old new = refl
 
-    abbrev rest : Verdict
-    rest = kitRules s (interleavers s own parity) w then bitRule 0 info
+module _ (m t M L : ℕ) (own parity w info red : List ℕ) (work : ℕ) (v : (encodeCall m t M L own parity w info red work) .verdict ≡ accepted) where
+  abbrev s : Params
+  s = params m t M
 
-    all : encodeVerdict m t M L own parity w info red work ≡ accepted
-    unfolding encodeCall
-    all = sym (verdict-of (encodeVerdict m t M L own parity w info red work) red _) ∙ v
+  abbrev rest : Verdict
+  rest = kitRules s (interleavers s own parity) w then bitRule 0 info
 
-    design : designRules m t M ≡ accepted
-    unfolding encodeVerdict
-    design = then-first (designRules m t M) _ all
+  all : encodeVerdict m t M L own parity w info red work ≡ accepted
+  unfolding encodeCall
+  all = sym (verdict-of (encodeVerdict m t M L own parity w info red work) red _) ∙ v
 
-    lengths : (kitLengths s own parity w then frameLengths s L info red then lengthRule 6 work (kitWork s) then rest) ≡ accepted
-    unfolding encodeVerdict
-    lengths = then-rest (countRule L) _ (then-rest (designRules m t M) _ all)
+  design : designRules m t M ≡ accepted
+  unfolding encodeVerdict
+  design = then-first (designRules m t M) _ all
 
-    pub own-length : length own ≡ 2 * order (params m t M)
-    own-length = lengths-fit s own parity w (then-first (kitLengths s own parity w) _ lengths) .selfLength
+  lengths : (kitLengths s own parity w then frameLengths s L info red then lengthRule 6 work (kitWork s) then rest) ≡ accepted
+  unfolding encodeVerdict
+  lengths = then-rest (countRule L) _ (then-rest (designRules m t M) _ all)
 
-    pub working-fits : order (params m t M) ≤ work
-    unfolding kitWork
-    working-fits =
-        let e : work ≡ order s * rowBytes (order s) =
-        length-equal 6 work (kitWork s)
-        (then-first (lengthRule 6 work (kitWork s)) rest (then-rest (frameLengths s L info red) _ (then-rest (kitLengths s own parity w) _ lengths))) in
-        let ok = proper-of m t M design in
-        let p = small-product 1 1 M (m * t) (ok .mpos) (ok .rpos) in
-        let one : 1 ≤ rowBytes (order s) = omega (arith, p) in
-        omega (arith, e, small-product (order s) 1 (order s) (rowBytes (order s)) (omega arith) one)
+  pub own-length : length own ≡ 2 * order (params m t M)
+  own-length = lengths-fit s own parity w (then-first (kitLengths s own parity w) _ lengths) .selfLength
+
+  pub working-fits : order (params m t M) ≤ work
+  unfolding kitWork
+  working-fits =
+      let e : work ≡ order s * rowBytes (order s) =
+      length-equal 6 work (kitWork s)
+      (then-first (lengthRule 6 work (kitWork s)) rest (then-rest (frameLengths s L info red) _ (then-rest (kitLengths s own parity w) _ lengths))) in
+      let ok = proper-of m t M design in
+      let p = small-product 1 1 M (m * t) (ok .mpos) (ok .rpos) in
+      let one : 1 ≤ rowBytes (order s) = omega (arith, p) in
+      omega (arith, e, small-product (order s) 1 (order s) (rowBytes (order s)) (omega arith) one)
