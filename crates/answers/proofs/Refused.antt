@@ -1,26 +1,26 @@
 -- A refusal's verdict is its number and its place.
+--   refusal-whole    by the two definitions
+--   refusal-judged   as the code has them
 -- Assumes nothing.
-use mathlib.Core.Path.{_≡_, refl, _∙_}
-use Prim.Native.Nat.{ℕ}
-use Rattle.staircase.specs.Rules.Verdict.{refused}
+use mathlib.Core.Path.{_≡_, refl}
+use mathlib.Core.Logic.{_≢_}
+use Rattle.staircase.specs.Rules.{Verdict}
+use Rattle.staircase.specs.Rules.Verdict.{accepted, refused}
 use Rattle.design.specs.declared.Refusal.{Refusal}
-use Rattle.design.specs.declared.Refusal.the-variants.{Size, Long, Large, Count, Rounds, Length, List, Spare, Inverse, Bit}
-use Rattle.design.specs.Answers.{refusalVerdict}
+use Rattle.design.specs.declared.Check.the-variants as check
+use Rattle.design.specs.Answers.{refusalVerdict, verdictOf}
+use Rattle.design.proofs.Answers.{check-refused}
 use Rattle.answers.specs.Number.{number, placeOf, judgedOf}
 use Rattle.answers.specs.declared.Judged.{Judged}
 
+verdict-whole : (v : Verdict) → v ≢ accepted → v ≡ refused (number v) (placeOf v)
+unfolding number placeOf
+verdict-whole accepted h = absurd (h refl)
+verdict-whole (refused n p) h = refl
+
 pub refusal-whole : (r : Refusal) → refusalVerdict r ≡ refused (number (refusalVerdict r)) (placeOf (refusalVerdict r))
-unfolding refusalVerdict number placeOf
-refusal-whole (Size p) = refl
-refusal-whole (Long p) = refl
-refusal-whole (Large p) = refl
-refusal-whole (Count p) = refl
-refusal-whole (Rounds p) = refl
-refusal-whole (Length p) = refl
-refusal-whole (List p) = refl
-refusal-whole (Spare p) = refl
-refusal-whole (Inverse p) = refl
-refusal-whole (Bit p) = refl
+unfolding verdictOf
+refusal-whole r = verdict-whole (refusalVerdict r) (check-refused {x = check.Refused r} {r = r} refl)
 
 pub refusal-judged : (r : Refusal) (j : Judged) → j ≡ judgedOf (refusalVerdict r) → refusalVerdict r ≡ refused (j .rule) (j .place)
 refusal-judged r j e = rw e (refusal-whole r)

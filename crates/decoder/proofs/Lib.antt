@@ -1,2 +1,3 @@
-pub mod Whole
+pub mod Room
+pub mod Rounds
 pub mod Verdict

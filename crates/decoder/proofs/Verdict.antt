@@ -1,6 +1,5 @@
 -- The decoder's answer: a refusal, or the corrected frame.
---   limits             what rules 4 and 5 leave
---   frame-received, frame-working   what all rules leave
+--   few-rounds, frame-received, frame-working   what the rules leave once they accept
 --   decode-design, decode-frame, decode-done   the answer at a refused design, at a refused frame, and after the rounds
 -- Assumes nothing.
 use mathlib.Core.Path.{_≡_, refl, sym, ap, _∙_}

@@ -51,7 +51,7 @@ fn correct_in(
         ≡ correctedFrame (paramsOf d) (listsOf d (now (own .entry)) (now (parity .entry))) blocks rounds (frameOf (now (info .entry)) (now (red .entry))) ⌝ }
 {
     let limit = rounds::rounds_allowed(rounds);
-    rounds::fill_tables(d, &mut positions[..], &mut syndromes[..], &mut field[..]);
+    rounds::fill_tables(d, positions, syndromes, field);
     let made = rounds::run_rounds(
         d,
         blocks,
@@ -61,9 +61,9 @@ fn correct_in(
         &positions[..],
         &syndromes[..],
         &field[..],
-        &mut info[..],
-        &mut red[..],
-        &mut work[..],
+        info,
+        red,
+        work,
         sums,
     );
     let outside = rounds::outside_after(
@@ -84,6 +84,32 @@ fn correct_in(
     }
 }
 
+// Working entries for the positions of a word, for their values and those of four bits, for a field, and for the remainders of the row words of a
+// group. Only their lengths are told: the most that a design needs, or more.
+fn position_entries() -> [u32; 1024]
+    ensures { λ a. ⌜ 1024 ≡ length a ⌝ }
+{
+    [0; 1024]
+}
+
+fn syndrome_entries() -> [u32; 1152]
+    ensures { λ a. ⌜ 1152 ≡ length a ⌝ }
+{
+    [0; 1152]
+}
+
+fn field_entries() -> [u16; 4096]
+    ensures { λ a. ⌜ 4096 ≡ length a ⌝ }
+{
+    [0; 4096]
+}
+
+fn sum_entries() -> [u32; 512]
+    ensures { λ a. ⌜ 512 ≡ length a ⌝ }
+{
+    [0; 512]
+}
+
 // Corrects a received frame whose arguments have passed all rules, and counts.
 fn correct_frame(
     d: Design,
@@ -101,11 +127,11 @@ fn correct_frame(
 {
     let bits = d.n();
     let size = d.size as usize;
-    let quarter = 1 << (d.m as usize);
-    let mut positions = [0u32; 1024];
-    let mut syndromes = [0u32; 1152];
-    let mut field = [0u16; 4096];
-    let mut sums = [0u32; 512];
+    let powers = 1 << (d.m as usize);
+    let mut positions = position_entries();
+    let mut syndromes = syndrome_entries();
+    let mut field = field_entries();
+    let mut sums = sum_entries();
     correct_in(
         d,
         blocks,
@@ -115,10 +141,10 @@ fn correct_frame(
         info,
         red,
         work,
-        &mut positions[0..bits],
-        &mut syndromes[0..bits + 128],
-        &mut field[0..4 * quarter],
-        &mut sums[0..size],
+        &mut positions[..bits],
+        &mut syndromes[..bits + 128],
+        &mut field[..4 * powers],
+        &mut sums[..size],
     )
 }
 
@@ -184,16 +210,7 @@ pub fn decode(
     let Designed::Made(d) = designed else {
         return refused_frame(design::design_check(designed));
     };
-    let frame = check_frame(
-        d,
-        blocks,
-        rounds,
-        own,
-        parity,
-        &info[..],
-        &red[..],
-        &mut work[..],
-    );
+    let frame = check_frame(d, blocks, rounds, own, parity, &info[..], &red[..], work);
     let Check::Passed = frame else {
         return refused_frame(frame);
     };

@@ -1,7 +1,5 @@
 -- Laws of what the calls tell.
 --   design-made, design-refused       a design's answer
---   place-told                        the kit checker and the encoder
---   words-told                        the word checker
 --   corrected-told, result-told       the decoder and the loopback
 --   show-told                         showing
 --   part-block, part-group            what is shown
@@ -20,7 +18,7 @@ use borrow.Author.Tests.{lt-leb, le-leb, eq-eqb, ne-eqb}
 use Rattle.staircase.specs.Design.{params}
 use Rattle.staircase.specs.Frame.{Frame}
 use Rattle.staircase.specs.Rules.{Verdict, Part, designRules}
-use Rattle.staircase.specs.Calls.{Counted, Corrected, Shown}
+use Rattle.staircase.specs.Calls.{Corrected, Shown}
 use Rattle.staircase.specs.Rules.Verdict.{accepted}
 use Rattle.staircase.specs.Rules.Part.{block, group}
 use Rattle.design.specs.declared.Design.{Design}
@@ -37,7 +35,8 @@ use Rattle.loopback.specs.Link.{Result, resultOf}
 use Rattle.answers.specs.declared.Judged.{Judged}
 use Rattle.answers.specs.Number.{number, placeOf, judgedOf, told}
 use Rattle.answers.proofs.Refused.{refusal-whole}
-use Rattle.host.specs.Answers.{designAnswer, wordsAnswer, correctedAnswer, outcomeNumber, outcomeAnswer, showAnswer, shownPart, pasted}
+use Rattle.answers.proofs.Stores.{told-alike, judged-told}
+use Rattle.host.specs.Answers.{designAnswer, correctedAnswer, outcomeNumber, outcomeAnswer, showAnswer, shownPart, pasted}
 
 -- ---- designs
 
@@ -64,16 +63,6 @@ design-refused a r m t M e v =
 
 -- ---- from what a call answers to what a host is told
 
-pub place-told : (l : List ℕ) {j : Judged} (u v : Verdict) {a : ℕ} {k : List ℕ} → j ≡ judgedOf u → u ≡ v → (a ≡ j .rule) × (k ≡ told (j .place ∷ []) l)
-    → (a ≡ number v) × (k ≡ told (placeOf v ∷ []) l)
-place-told l u v e h (ha, hk) =
-    let q = e ∙ ap judgedOf h in
-    (ha ∙ ap (λ (x : Judged). x .rule) q, hk ∙ ap (λ (x : Judged). told (x .place ∷ []) l) q)
-
-pub words-told : (l : List ℕ) {x y : Counted} {a : ℕ} {k : List ℕ} → x ≡ y → (a ≡ number (x .verdict)) × (k ≡ told (wordsAnswer x) l)
-    → (a ≡ number (y .verdict)) × (k ≡ told (wordsAnswer y) l)
-words-told l e (ha, hk) = (ha ∙ ap (λ (z : Counted). number (z .verdict)) e, hk ∙ ap (λ (z : Counted). told (wordsAnswer z) l) e)
-
 -- the frame of the decoder's result is the one that the call leaves
 corrected-left : (d : Decoding) (f : Frame) → correctedOf d f .frame ≡ f
 unfolding correctedOf
@@ -83,11 +72,9 @@ corrected-left (decoding.Refused r) f = refl
 pub corrected-told : (l : List ℕ) (d : Decoding) {f : Frame} {y : Corrected} {a : ℕ} {k : List ℕ} → correctedOf d f ≡ y
     → (a ≡ number (correctedOf d f .verdict)) × (k ≡ told (correctedAnswer (correctedOf d f)) l)
     → (a ≡ number (y .verdict)) × (f ≡ y .frame) × (k ≡ told (correctedAnswer y) l)
-corrected-told l d {f = f} e (ha, hk) = (
-  ha ∙ ap (λ (z : Corrected). number (z .verdict)) e,
-  sym (corrected-left d f) ∙ ap (λ (z : Corrected). z .frame) e,
-  hk ∙ ap (λ (z : Corrected). told (correctedAnswer z) l) e,
-)
+corrected-told l d {f = f} e h =
+    let t = told-alike (λ (z : Corrected). number (z .verdict)) correctedAnswer l e h in
+    (t .0, sym (corrected-left d f) ∙ ap (λ (z : Corrected). z .frame) e, t .1)
 
 -- that of the loopback's result likewise
 result-left : (a : Looped) (f : Frame) → resultOf a f .frame ≡ f
@@ -99,24 +86,19 @@ result-left (looped.Done c) f = refl
 pub result-told : (l : List ℕ) (d : Looped) {f : Frame} {y : Result} {a : ℕ} {k : List ℕ} → resultOf d f ≡ y
     → (a ≡ outcomeNumber (resultOf d f .outcome)) × (k ≡ told (outcomeAnswer (resultOf d f .outcome)) l)
     → (a ≡ outcomeNumber (y .outcome)) × (f ≡ y .frame) × (k ≡ told (outcomeAnswer (y .outcome)) l)
-result-told l d {f = f} e (ha, hk) = (
-  ha ∙ ap (λ (z : Result). outcomeNumber (z .outcome)) e,
-  sym (result-left d f) ∙ ap (λ (z : Result). z .frame) e,
-  hk ∙ ap (λ (z : Result). told (outcomeAnswer (z .outcome)) l) e,
-)
+result-told l d {f = f} e h =
+    let t = told-alike (λ (z : Result). outcomeNumber (z .outcome)) (λ (z : Result). outcomeAnswer (z .outcome)) l e h in
+    (t .0, sym (result-left d f) ∙ ap (λ (z : Result). z .frame) e, t .1)
 
 -- ---- showing
 
 pub show-told : (shown : Part → Shown) (out l : List ℕ) {p q : Part} {j : Judged} {v : Verdict} {s left k : List ℕ} {a : ℕ} → p ≡ q → v ≡ shown p .verdict
     → s ≡ shown p .bits → left ≡ pasted s out → j ≡ judgedOf v → (a ≡ j .rule) × (k ≡ told (j .place ∷ length s ∷ []) l)
     → (a ≡ number (shown q .verdict)) × (left ≡ pasted (shown q .bits) out) × (k ≡ told (showAnswer (shown q)) l)
-show-told shown out l {q = q} {s = s} e hv hs hp hj (ha, hk) =
-    let g = hj ∙ ap judgedOf (hv ∙ ap (λ (x : Part). shown x .verdict) e) in
-    let b = hs ∙ ap (λ (x : Part). shown x .bits) e in (
-      ha ∙ ap (λ (x : Judged). x .rule) g,
-      hp ∙ ap (λ (x : List ℕ). pasted x out) b,
-      hk ∙ ap (λ (x : Judged). told (x .place ∷ length s ∷ []) l) g ∙ ap (λ (x : List ℕ). told (placeOf (shown q .verdict) ∷ length x ∷ []) l) b,
-    )
+show-told shown out l {q = q} {s = s} e hv hs hp hj h =
+    let t = judged-told (length s ∷ []) l (shown q .verdict) (hj ∙ ap judgedOf (hv ∙ ap (λ (x : Part). shown x .verdict) e)) h in
+    let b = hs ∙ ap (λ (x : Part). shown x .bits) e in
+    (t .0, hp ∙ ap (λ (x : List ℕ). pasted x out) b, t .1 ∙ ap (λ (x : List ℕ). told (placeOf (shown q .verdict) ∷ length x ∷ []) l) b)
 
 pub part-block : (kind n : ℕ) → kind ≡ 0 → block n ≡ shownPart kind n
 unfolding shownPart

@@ -35,12 +35,12 @@ wordsAnswer c = placeOf (c .verdict) ∷ c .outside ∷ []
 abbrev pub correctedAnswer : Corrected → List ℕ
 correctedAnswer c = placeOf (c .verdict) ∷ c .counts .rounds ∷ c .counts .flips ∷ c .counts .outside ∷ []
 
--- 1 the encoder, 2 the decoder, 0 neither
 unfoldable pub outcomeNumber : Outcome → ℕ
 outcomeNumber (notEncoded v) = number v
 outcomeNumber (notDecoded v) = number v
 outcomeNumber (done c) = 0
 
+-- after the place 1 for the encoder, 2 for the decoder, 0 for neither
 unfoldable pub outcomeAnswer : Outcome → List ℕ
 outcomeAnswer (notEncoded v) = placeOf v ∷ 1 ∷ 0 ∷ 0 ∷ 0 ∷ []
 outcomeAnswer (notDecoded v) = placeOf v ∷ 2 ∷ 0 ∷ 0 ∷ 0 ∷ []

@@ -7,71 +7,19 @@
 ghost use mathlib.Core.Path.{_≡_};
 ghost use mathlib.Core.List.{[], _∷_};
 ghost use lib.ListN.{length};
-ghost use Rattle.staircase.specs.Frame.{Frame, frameOf};
+ghost use Rattle.staircase.specs.Frame.{frameOf};
 ghost use Rattle.staircase.specs.Calls.{encodeCall, wordsCall, decodeCall, showCall};
-ghost use Rattle.words.specs.Checks.{countedOf};
-ghost use Rattle.decoder.specs.Answers.{correctedOf};
-ghost use Rattle.loopback.specs.Link.{loopbackCall, resultOf};
+ghost use Rattle.loopback.specs.Link.{loopbackCall};
 ghost use Rattle.show.specs.Answers.{partOf};
 ghost use Rattle.answers.specs.Number.{number, placeOf, told};
 ghost use Rattle.host.specs.Answers.{wordsAnswer, correctedAnswer, outcomeNumber, outcomeAnswer, showAnswer, shownPart, pasted};
-use answers::Judged;
+use crate::tells::tell_check;
+use crate::tells::tell_decoding;
+use crate::tells::tell_looped;
+use crate::tells::tell_words;
 use answers::of_check;
-use answers::of_refusal;
-use answers::tell_five;
-use answers::tell_four;
-use answers::tell_place;
 use answers::tell_two;
-use decoder::Decoding;
-use loopback::Looped;
 use show::Part;
-use words::WordCount;
-
-// Tells the word checker's answer.
-fn tell_words(a: WordCount, answer: &mut [u64]) -> u64
-    ensures { λ n. ⌜ (n ≡ number (countedOf a .verdict)) × (now (answer .exit) ≡ told (wordsAnswer (countedOf a)) (now (answer .entry))) ⌝ }
-{
-    match a {
-        WordCount::Counted(n) => tell_two(Judged { rule: 0, place: 0 }, n, answer),
-        WordCount::Refused(r) => tell_two(of_refusal(r), 0, answer),
-    }
-}
-
-// Tells the decoder's answer.
-fn tell_decoding(a: Decoding, answer: &mut [u64]) -> u64
-    ensures { λ n. ⌜ ((f : Frame) → (n ≡ number (correctedOf a f .verdict))
-        × (now (answer .exit) ≡ told (correctedAnswer (correctedOf a f)) (now (answer .entry)))) ⌝ }
-{
-    match a {
-        Decoding::Decoded(c) => tell_four(
-            Judged { rule: 0, place: 0 },
-            c.rounds,
-            c.flips,
-            c.outside,
-            answer,
-        ),
-        Decoding::Refused(r) => tell_four(of_refusal(r), 0, 0, 0, answer),
-    }
-}
-
-// Tells the loopback's answer.
-fn tell_looped(a: Looped, answer: &mut [u64]) -> u64
-    ensures { λ n. ⌜ ((f : Frame) → (n ≡ outcomeNumber (resultOf a f .outcome))
-        × (now (answer .exit) ≡ told (outcomeAnswer (resultOf a f .outcome)) (now (answer .entry)))) ⌝ }
-{
-    match a {
-        Looped::NotEncoded(r) => tell_five(of_refusal(r), 1, 0, 0, 0, answer),
-        Looped::NotDecoded(r) => tell_five(of_refusal(r), 2, 0, 0, 0, answer),
-        Looped::Done(counts) => tell_five(
-            Judged { rule: 0, place: 0 },
-            0,
-            counts.rounds,
-            counts.flips,
-            counts.outside,
-            answer,
-        ),
-    }
-}
 
 // Block `which` where `kind` is 0, else group `which`.
 fn part_of(kind: u64, which: u64) -> Part
@@ -116,7 +64,7 @@ pub extern "C" fn bauchleton_encode(
         ⌜ (a ≡ number (e .verdict)) × (now (red .exit) ≡ e .red) × (now (answer .exit) ≡ told (placeOf (e .verdict) ∷ []) (now (answer .entry))) ⌝ }
 {
     let c = encoder::encode(m, t, size, blocks, own, parity, inverse, info, red, work);
-    tell_place(of_check(c), answer)
+    tell_check(c, answer)
 }
 
 // Counts the words of a frame that are outside the code. `answer` has two entries: the place and the count.

@@ -9,11 +9,10 @@ ghost use Rattle.staircase.specs.Rules.{designRules};
 ghost use Rattle.staircase.specs.Calls.{kitVerdict};
 ghost use Rattle.answers.specs.Number.{number, placeOf, told};
 ghost use Rattle.host.specs.Answers.{designAnswer};
+use crate::tells::tell_check;
 use answers::Judged;
-use answers::of_check;
 use answers::of_refusal;
 use answers::tell_four;
-use answers::tell_place;
 use design::Design;
 use design::Designed;
 
@@ -52,5 +51,5 @@ pub extern "C" fn bauchleton_check_kit(
         ⌜ (a ≡ number v) × (now (answer .exit) ≡ told (placeOf v ∷ []) (now (answer .entry))) ⌝ }
 {
     let c = kit::check_kit(m, t, size, own, parity, inverse, work);
-    tell_place(of_check(c), answer)
+    tell_check(c, answer)
 }

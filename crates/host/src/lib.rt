@@ -1,12 +1,14 @@
 // The calls for a host in C. A slice is a pointer and a length there, and no two slices of a call may overlap.
 //   kits     bauchleton_design, bauchleton_check_kit
 //   calls    bauchleton_encode, bauchleton_check_words, bauchleton_decode, bauchleton_loopback, bauchleton_show
+//   tells    what an answer tells a host
 //
 // Each call answers 0, or the number of the rule of document 01's table that refuses. It is lent a slice `answer` of a fixed length, which is left as
 // it was where its length is another. Entry 0 is the refusal's place, 0 where nothing is refused; the others are what the call tells, 0 where it is
 // refused.
 mod calls;
 mod kits;
+mod tells;
 
 pub use calls::bauchleton_check_words;
 pub use calls::bauchleton_decode;

@@ -1,19 +1,19 @@
 -- The two calls of the loopback, one after the other.
 --   turned-length, turned-bits              a buffer with some bits turned
---   front-length                            a part lent from the front
 --   filled-next                             the byte that a filling loop comes to
 --   looped-refused, looped-decoded          the answer at a refused encoder, and after the decoder
 --   decoding-done, decoding-refused         the decoder's answer as the loopback's
---   working-fits                            the decoder's working bytes are among the encoder's
+--   own-length, working-fits                the decoder's working bytes, as many as a list has entries, are among the encoder's
 -- Assumes nothing.
 use mathlib.Core.Path.{_≡_, refl, sym, ap, ap₂, _∙_, subst}
 use mathlib.Core.Bool.{Bool, true, false, cond}
+use mathlib.Core.Logic.{_≢_}
 use mathlib.Core.List.{List, _++_}
 use Prim.Native.Nat.{ℕ, _+_, _-_, _*_, _≤_, _<_}
 use native.Mathlib.Decide.{decLt}
 use native.Mathlib.Omega.{arith}
 use lib.Dec.{eqb}
-use lib.ListN.{length, getD, take, drop, List·getD-eq-default}
+use lib.ListN.{length, getD, drop, List·getD-eq-default}
 use lib.Seq.{getD-append-add, getD-drop}
 use Rattle.bch.specs.Polynomial.{Bits}
 use Rattle.staircase.specs.Lists.{tabulate}
@@ -23,16 +23,16 @@ use Rattle.staircase.specs.Frame.{Frame, frameOf}
 use Rattle.staircase.specs.Rules.{Verdict, _then_, designRules, countRule, lengthRule, kitLengths, frameLengths, kitWork, wordWork, interleavers, kitRules, bitRule}
 use Rattle.staircase.specs.Rules.Verdict.{accepted, refused}
 use Rattle.staircase.specs.Calls.{encodedBy, encodeVerdict, encodeCall, decodeCall}
-use Rattle.staircase.proofs.Fill.{filled}
-use Rattle.staircase.proofs.Bounds.{small-product}
-use Rattle.staircase.proofs.Tables.{tabulate-length, tabulate-at}
-use Rattle.staircase.proofs.Rules.{then-first, then-rest, design-limits, length-equal, lengths-fit}
-use Rattle.staircase.proofs.BchCode.{proper-of}
-use Rattle.blocks.proofs.Sums.{part-length}
+use Rattle.staircase.proofs.Fill.{filled, small-product}
+use Rattle.staircase.proofs.System.{tabulate-length, tabulate-at}
+use Rattle.staircase.proofs.Rules.{then-first, then-rest}
+use Rattle.staircase.proofs.Demand3.{proper-of}
 use Rattle.design.specs.declared.Refusal.{Refusal}
-use Rattle.design.specs.declared.Refusal.the-variants.{Size, Long, Large, Count, Rounds, Length, Spare, Inverse, Bit}
-use Rattle.design.specs.declared.Refusal.the-variants as refusal
-use Rattle.design.specs.Answers.{refusalVerdict}
+use Rattle.design.specs.declared.Check.the-variants as check
+use Rattle.design.specs.Answers.{refusalVerdict, verdictOf}
+use Rattle.design.proofs.Answers.{check-refused}
+use Rattle.design.proofs.Accepted.{length-equal}
+use Rattle.lengths.proofs.Fit.{lengths-fit}
 use Rattle.decoder.specs.declared.Counts.{Counts}
 use Rattle.decoder.specs.declared.Decoding.the-variants as decoding
 use Rattle.decoder.specs.Answers.{correctedOf}
@@ -66,24 +66,15 @@ filled-next f l i =
     ap (λ (z : ℕ). getD (tabulate i f ++ drop i l) z 0) e ∙ getD-append-add (tabulate i f) (drop i l) 0 0 ∙ getD-drop i l 0 0
     ∙ ap (λ (z : ℕ). getD l z 0) (let q : i + 0 ≡ i = omega arith in q)
 
--- a lent part from the front
-pub front-length : (u : List ℕ) (n k : ℕ) → n ≤ length u → n ≡ k → length (take (n - 0) (drop 0 u)) ≡ k
-front-length u n k h e = part-length u 0 n n (omega arith) h ∙ e
-
 -- ---- refusals
 
-refused-first : (r : Refusal) (a b : Result) → unlessAccepted (refusalVerdict r) a b ≡ a
-unfolding refusalVerdict
-refused-first (Size p) a b = refl
-refused-first (Long p) a b = refl
-refused-first (Large p) a b = refl
-refused-first (Count p) a b = refl
-refused-first (Rounds p) a b = refl
-refused-first (Length p) a b = refl
-refused-first (refusal.List p) a b = refl
-refused-first (Spare p) a b = refl
-refused-first (Inverse p) a b = refl
-refused-first (Bit p) a b = refl
+refused-first : (v : Verdict) (a b : Result) → v ≢ accepted → unlessAccepted v a b ≡ a
+refused-first accepted a b h = absurd (h refl)
+refused-first (refused n p) a b h = refl
+
+refusal-first : (r : Refusal) (a b : Result) → unlessAccepted (refusalVerdict r) a b ≡ a
+unfolding verdictOf
+refusal-first r a b = refused-first (refusalVerdict r) a b (check-refused {x = check.Refused r} {r = r} refl)
 
 pub decoding-done : (c : Counts) (f : Frame) → resultOf (looped.Done c) f ≡ afterDecoding (correctedOf (decoding.Decoded c) f)
 unfolding resultOf afterDecoding correctedOf
@@ -91,7 +82,7 @@ decoding-done c f = refl
 
 pub decoding-refused : (r : Refusal) (f : Frame) → resultOf (looped.NotDecoded r) f ≡ afterDecoding (correctedOf (decoding.Refused r) f)
 unfolding resultOf afterDecoding correctedOf
-decoding-refused r f = sym (refused-first r _ _)
+decoding-refused r f = sym (refusal-first r _ _)
 
 module _ (m t M L k : ℕ) (own parity w infoErrors redErrors info red : List ℕ) (work : ℕ) where
   pub looped-refused : (r : Refusal) (after : List ℕ) → refusalVerdict r ≡ (encodeCall m t M L own parity w info red work) .verdict
@@ -102,7 +93,7 @@ module _ (m t M L k : ℕ) (own parity w infoErrors redErrors info red : List �
       let past : Result = afterDecoding (decodeCall m t M L k own parity (turned infoErrors info)
       (turned redErrors ((encodeCall m t M L own parity w info red work) .red)) (wordWork (params m t M))) in
       ap (λ (z : List ℕ). record { outcome = notEncoded (refusalVerdict r); frame = frameOf info z }) e
-      ∙ sym (refused-first r (record { outcome = notEncoded (refusalVerdict r); frame = frameOf info ((encodeCall m t M L own parity w info red work) .red) }) past)
+      ∙ sym (refusal-first r (record { outcome = notEncoded (refusalVerdict r); frame = frameOf info ((encodeCall m t M L own parity w info red work) .red) }) past)
       ∙ ap (λ (z : Verdict). unlessAccepted z (record { outcome = notEncoded z; frame = frameOf info ((encodeCall m t M L own parity w info red work) .red) }) past) v
 
   pub looped-decoded : (x : Result) (after : List ℕ) (n : ℕ) → (encodeCall m t M L own parity w info red work) .verdict ≡ accepted
@@ -117,39 +108,41 @@ module _ (m t M L k : ℕ) (own parity w infoErrors redErrors info red : List �
       ∙ ap₂ (λ (y : List ℕ) (z : ℕ). afterDecoding (decodeCall m t M L k own parity (turned infoErrors info) (turned redErrors y) z)) e q
       ∙ sym (ap (λ (z : Verdict). unlessAccepted z (record { outcome = notEncoded z; frame = frameOf info made }) past) v)
 
-  verdict-of : (v : Verdict) (old new : List ℕ) → (encodedBy v old new) .verdict ≡ v
-  verdict-of accepted old new = refl
-  verdict-of (refused n p) old new = refl
+-- ---- what the encoder's rules leave
 
-  module _ (v : (encodeCall m t M L own parity w info red work) .verdict ≡ accepted) where
-    abbrev s : Params
-    s = params m t M
+verdict-of : (v : Verdict) (old new : List ℕ) → (encodedBy v old new) .verdict ≡ v
+verdict-of accepted old new = refl
+verdict-of (refused n p) old new = refl
 
-    abbrev rest : Verdict
-    rest = kitRules s (interleavers s own parity) w then bitRule 0 info
+module _ (m t M L : ℕ) (own parity w info red : List ℕ) (work : ℕ) (v : (encodeCall m t M L own parity w info red work) .verdict ≡ accepted) where
+  abbrev s : Params
+  s = params m t M
 
-    all : encodeVerdict m t M L own parity w info red work ≡ accepted
-    unfolding encodeCall
-    all = sym (verdict-of (encodeVerdict m t M L own parity w info red work) red _) ∙ v
+  abbrev rest : Verdict
+  rest = kitRules s (interleavers s own parity) w then bitRule 0 info
 
-    design : designRules m t M ≡ accepted
-    unfolding encodeVerdict
-    design = then-first (designRules m t M) _ all
+  all : encodeVerdict m t M L own parity w info red work ≡ accepted
+  unfolding encodeCall
+  all = sym (verdict-of (encodeVerdict m t M L own parity w info red work) red _) ∙ v
 
-    lengths : (kitLengths s own parity w then frameLengths s L info red then lengthRule 6 work (kitWork s) then rest) ≡ accepted
-    unfolding encodeVerdict
-    lengths = then-rest (countRule L) _ (then-rest (designRules m t M) _ all)
+  design : designRules m t M ≡ accepted
+  unfolding encodeVerdict
+  design = then-first (designRules m t M) _ all
 
-    pub own-length : length own ≡ 2 * order (params m t M)
-    own-length = lengths-fit s own parity w (then-first (kitLengths s own parity w) _ lengths) .selfLength
+  lengths : (kitLengths s own parity w then frameLengths s L info red then lengthRule 6 work (kitWork s) then rest) ≡ accepted
+  unfolding encodeVerdict
+  lengths = then-rest (countRule L) _ (then-rest (designRules m t M) _ all)
 
-    pub working-fits : order (params m t M) ≤ work
-    unfolding kitWork
-    working-fits =
-        let e : work ≡ order s * rowBytes (order s) =
-        length-equal 6 work (kitWork s)
-        (then-first (lengthRule 6 work (kitWork s)) rest (then-rest (frameLengths s L info red) _ (then-rest (kitLengths s own parity w) _ lengths))) in
-        let ok = proper-of (design-limits m t M design) in
-        let p = small-product 1 1 M (m * t) (ok .mpos) (ok .rpos) in
-        let one : 1 ≤ rowBytes (order s) = omega (arith, p) in
-        omega (arith, e, small-product (order s) 1 (order s) (rowBytes (order s)) (omega arith) one)
+  pub own-length : length own ≡ 2 * order (params m t M)
+  own-length = lengths-fit s own parity w (then-first (kitLengths s own parity w) _ lengths) .selfLength
+
+  pub working-fits : order (params m t M) ≤ work
+  unfolding kitWork
+  working-fits =
+      let e : work ≡ order s * rowBytes (order s) =
+      length-equal 6 work (kitWork s)
+      (then-first (lengthRule 6 work (kitWork s)) rest (then-rest (frameLengths s L info red) _ (then-rest (kitLengths s own parity w) _ lengths))) in
+      let ok = proper-of m t M design in
+      let p = small-product 1 1 M (m * t) (ok .mpos) (ok .rpos) in
+      let one : 1 ≤ rowBytes (order s) = omega (arith, p) in
+      omega (arith, e, small-product (order s) 1 (order s) (rowBytes (order s)) (omega arith) one)

@@ -1,6 +1,8 @@
 -- The loopback: a frame is encoded, the link turns bits of it, and what it delivers is decoded.
 --   turned           a buffer with the bits turned that a pattern names
 --   Outcome, Result  which call was refused, or the decoder's counts; and the frame that is left
+--   unlessAccepted   a result by a verdict
+--   afterDecoding    the decoder's result as the loopback's
 --   loopbackCall     what the loopback answers and leaves, by the two calls
 --   resultOf         what the code's answer says
 -- Assumes nothing.

@@ -95,7 +95,7 @@ fn decode_front(
         parity,
         info,
         red,
-        &mut work[0..n],
+        &mut work[..n],
     )
 }
 
@@ -130,14 +130,14 @@ pub fn loopback(
         parity,
         inverse,
         &info[..],
-        &mut red[..],
-        &mut work[..],
+        red,
+        work,
     );
     if let Check::Refused(r) = encoded {
         return Looped::NotEncoded(r);
     }
-    turn_bits(info_errors, &mut info[..]);
-    turn_bits(red_errors, &mut red[..]);
+    turn_bits(info_errors, info);
+    turn_bits(red_errors, red);
     let n = own.len() / 2;
     let decoded = decode_front(m, t, size, blocks, rounds, own, parity, info, red, work, n);
     decoding_looped(decoded)

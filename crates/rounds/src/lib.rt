@@ -10,19 +10,23 @@
 // has counted those outside the code, too.
 ghost use mathlib.Core.Path.{_≡_};
 ghost use mathlib.Core.Bool.{true};
-ghost use Prim.Native.Nat.{_+_, _*_, _^_, _≤_};
+ghost use Prim.Native.Nat.{_+_, _*_, _^_, _≤_, _<_};
 ghost use lib.ListN.{length};
 ghost use Rattle.staircase.specs.Design.{wordLength};
-ghost use Rattle.staircase.specs.Frame.{Frame, frameOf, outsideAmong, words, outside};
+ghost use Rattle.staircase.specs.Frame.{Frame, frameOf, groups, outsideAmong, words, outside};
 ghost use Rattle.staircase.specs.Decoder.{Progress, Decoded, round, runRounds, roundsAllowed};
 ghost use Rattle.design.specs.Answers.{Allowed};
 ghost use Rattle.design.specs.Sizes.{paramsOf, orderOf, listsOf};
 ghost use Rattle.locator.specs.Located.{Tables};
-ghost use Rattle.words.specs.Words.{WordTable, groupWords};
+ghost use Rattle.words.specs.Words.{WordTable, nonzeros, groupWords};
 ghost use Rattle.rules.specs.Received.{FrameFits, Received};
-ghost use Rattle.correct.specs.Ready.{GroupReady};
+ghost use Rattle.correct.specs.Sites.{lineWords};
+ghost use Rattle.correct.specs.Ready.{GroupReady, wordRemainders};
 ghost use Rattle.rounds.specs.Ready.{Ready};
 use design::Design;
+
+// "0 stands for 7"
+const DEFAULT_ROUNDS: usize = 7;
 
 // What a pass over some words has done: bits flipped, and words that were outside the code when their remainders were taken.
 struct Pass {
@@ -47,10 +51,106 @@ pub fn fill_tables(d: Design, positions: &mut [u32], syndromes: &mut [u32], fiel
 {
     let m = d.m as usize;
     let bits = positions.len();
-    positions::fill_table(d, &mut positions[..]);
-    field::fill_field(m, &mut field[..]);
+    positions::fill_table(d, positions);
+    field::fill_field(m, field);
     field::fill_syndromes(m, &field[..], &mut syndromes[0..bits]);
-    locator::fill_sums(m, d.r(), bits, &mut syndromes[..]);
+    locator::fill_sums(m, d.r(), bits, syndromes);
+}
+
+// The rounds that a number of rounds stands for.
+pub fn rounds_allowed(rounds: u64) -> usize
+    requires { ⌜ rounds ≤ 64 ⌝ }
+    ensures { λ a. ⌜ (a ≡ roundsAllowed rounds) × (a ≤ 64) ⌝ }
+{
+    if rounds == 0 {
+        return DEFAULT_ROUNDS;
+    }
+    rounds as usize
+}
+
+// The remainders of all row words of a group, or of all its column words.
+fn line_remainders(
+    d: Design,
+    blocks: usize,
+    i: usize,
+    column: bool,
+    own: &[u8],
+    parity: &[u8],
+    info: &[u8],
+    red: &[u8],
+    table: &[u32],
+    work: &mut [u8],
+    sums: &mut [u32],
+)
+    requires { ⌜ Received d blocks (now own) (now parity) (now info) (now red) × (i < groups blocks) × WordTable d (now table)
+        × (length (now work) ≡ orderOf d) × (length (now sums) ≡ d .size) ⌝ }
+    ensures { λ u. ⌜ now (sums .exit) ≡ wordRemainders (paramsOf d) (listsOf d (now (own .entry)) (now (parity .entry))) blocks
+        (frameOf (now (info .entry)) (now (red .entry))) i column ⌝ }
+{
+    if column {
+        words::column_remainders(d, blocks, i, own, parity, info, red, table, sums);
+        return;
+    }
+    words::row_remainders(d, blocks, i, own, parity, info, red, table, work, sums);
+}
+
+// Corrects all row words of a group, or all its column words, and counts those that were outside the code.
+fn correct_lines(
+    d: Design,
+    blocks: usize,
+    i: usize,
+    column: bool,
+    own: &[u8],
+    parity: &[u8],
+    positions: &[u32],
+    syndromes: &[u32],
+    field: &[u16],
+    info: &mut [u8],
+    red: &mut [u8],
+    work: &mut [u8],
+    sums: &mut [u32],
+) -> Pass
+    requires { ⌜ GroupReady d blocks i (now own) (now parity) (now positions) (now syndromes) (now field)
+        × FrameFits d blocks (now info) (now red) × (length (now work) ≡ orderOf d) × (length (now sums) ≡ d .size) ⌝ }
+    ensures { λ a. ⌜ (record { frame = frameOf (now (info .exit)) (now (red .exit)); flips = a .flips }
+        ≡ round (paramsOf d) (lineWords (paramsOf d) (listsOf d (now (own .entry)) (now (parity .entry))) blocks i column)
+        (frameOf (now (info .entry)) (now (red .entry))))
+        × (a .wrong ≡ nonzeros (wordRemainders (paramsOf d) (listsOf d (now (own .entry)) (now (parity .entry))) blocks
+        (frameOf (now (info .entry)) (now (red .entry))) i column))
+        × (a .flips ≤ 1500) × (a .wrong ≤ 500) × FrameFits d blocks (now (info .exit)) (now (red .exit)) ⌝ }
+{
+    line_remainders(
+        d,
+        blocks,
+        i,
+        column,
+        own,
+        parity,
+        &info[..],
+        &red[..],
+        positions,
+        work,
+        sums,
+    );
+    let wrong = words::count_nonzero(&sums[..]);
+    let flips = correct::correct_words(
+        d,
+        blocks,
+        i,
+        column,
+        &sums[..],
+        own,
+        parity,
+        positions,
+        syndromes,
+        field,
+        info,
+        red,
+    );
+    Pass {
+        flips: flips,
+        wrong: wrong,
+    }
 }
 
 // Corrects the words of a group, the row words and then the column words. Where it flips nothing, it has counted the words outside the code.
@@ -74,65 +174,42 @@ fn correct_group(
         ≡ round (paramsOf d) (groupWords (paramsOf d) (listsOf d (now (own .entry)) (now (parity .entry))) blocks i)
         (frameOf (now (info .entry)) (now (red .entry))))
         × (a .flips ≡ 0 → a .wrong ≡ outsideAmong (paramsOf d) (frameOf (now (info .entry)) (now (red .entry)))
-        (groupWords (paramsOf d) (listsOf d (now (own .entry)) (now (parity .entry))) blocks i)) × (a .wrong ≤ 1000)
-        × (length (now (work .exit)) ≡ length (now (work .entry))) × (length (now (sums .exit)) ≡ length (now (sums .entry))) ⌝ }
+        (groupWords (paramsOf d) (listsOf d (now (own .entry)) (now (parity .entry))) blocks i))
+        × (a .flips ≤ 3000) × (a .wrong ≤ 1000) × FrameFits d blocks (now (info .exit)) (now (red .exit)) ⌝ }
 {
-    words::row_remainders(
-        d,
-        blocks,
-        i,
-        own,
-        parity,
-        &info[..],
-        &red[..],
-        positions,
-        &mut work[..],
-        &mut sums[..],
-    );
-    let wrong_rows = words::count_nonzero(&sums[..]);
-    let rows = correct::correct_words(
+    let rows = correct_lines(
         d,
         blocks,
         i,
         false,
-        &sums[..],
         own,
         parity,
         positions,
         syndromes,
         field,
-        &mut info[..],
-        &mut red[..],
+        info,
+        red,
+        work,
+        sums,
     );
-    words::column_remainders(
-        d,
-        blocks,
-        i,
-        own,
-        parity,
-        &info[..],
-        &red[..],
-        positions,
-        &mut sums[..],
-    );
-    let wrong_columns = words::count_nonzero(&sums[..]);
-    let columns = correct::correct_words(
+    let columns = correct_lines(
         d,
         blocks,
         i,
         true,
-        &sums[..],
         own,
         parity,
         positions,
         syndromes,
         field,
-        &mut info[..],
-        &mut red[..],
+        info,
+        red,
+        work,
+        sums,
     );
     Pass {
-        flips: rows + columns,
-        wrong: wrong_rows + wrong_columns,
+        flips: rows.flips + columns.flips,
+        wrong: rows.wrong + columns.wrong,
     }
 }
 
@@ -157,9 +234,9 @@ fn correct_once(
         (frameOf (now (info .entry)) (now (red .entry))))
         × (a .flips ≡ 0 → a .wrong
         ≡ outside (paramsOf d) (listsOf d (now (own .entry)) (now (parity .entry))) blocks (frameOf (now (info .exit)) (now (red .exit))))
-        × (length (now (work .exit)) ≡ length (now (work .entry))) × (length (now (sums .exit)) ≡ length (now (sums .entry))) ⌝ }
+        × (a .flips ≤ 6144000) × FrameFits d blocks (now (info .exit)) (now (red .exit)) ⌝ }
 {
-    let count = (blocks + 1) / 2;
+    let count = design::group_count(blocks as u64) as usize;
     let mut flips = 0;
     let mut wrong: u64 = 0;
     for i in 0..count {
@@ -172,10 +249,10 @@ fn correct_once(
             positions,
             syndromes,
             field,
-            &mut info[..],
-            &mut red[..],
-            &mut work[..],
-            &mut sums[..],
+            info,
+            red,
+            work,
+            sums,
         );
         flips += more.flips;
         wrong += more.wrong;
@@ -220,10 +297,10 @@ pub fn run_rounds(
             positions,
             syndromes,
             field,
-            &mut info[..],
-            &mut red[..],
-            &mut work[..],
-            &mut sums[..],
+            info,
+            red,
+            work,
+            sums,
         );
         flips += more.flips;
         if more.flips == 0 {
@@ -241,17 +318,6 @@ pub fn run_rounds(
         idle: false,
         wrong: 0,
     }
-}
-
-// The rounds that a number of rounds stands for.
-pub fn rounds_allowed(rounds: u64) -> usize
-    requires { ⌜ rounds ≤ 64 ⌝ }
-    ensures { λ a. ⌜ (a ≡ roundsAllowed rounds) × (a ≤ 64) ⌝ }
-{
-    if rounds == 0 {
-        return 7;
-    }
-    rounds as usize
 }
 
 // The words of a frame that are outside the code after its rounds. An idle last round has counted them.

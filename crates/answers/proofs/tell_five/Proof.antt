@@ -4,7 +4,7 @@ use borrow.Author.Needs.{needs}
 use mathlib.Core.Path.{refl}
 use native.Mathlib.Omega.{arith}
 use lib.ListN.{length-set}
-use Rattle.answers.proofs.Stores.{told-other, told-five}
+use Rattle.answers.proofs.Stores.{told-other, told-all}
 use Rattle.answers.proofs.tell_five.Statement.{statement}
 use Rattle.answers.proofs.tell_five.Tie as tie
 
@@ -30,7 +30,7 @@ same-length : tie.Need-same-length
 same-length c = search needs
 
 returns-2 : tie.Need-returns-2
-returns-2 c = (refl, told-five _ _ _ _ _ _ (c .if1 .left))
+returns-2 c = (refl, told-all _ _ _ (c .if1 .left) refl)
 
 pub tell-five-spec : {M : Type 1} → statement M
 tell-five-spec =

@@ -2,7 +2,7 @@
 -- Assumes nothing.
 use borrow.Author.Needs.{needs}
 use mathlib.Core.Path.{refl}
-use Rattle.answers.proofs.Stores.{told-other, told-four}
+use Rattle.answers.proofs.Stores.{told-other, told-all}
 use Rattle.answers.proofs.tell_four.Statement.{statement}
 use Rattle.answers.proofs.tell_four.Tie as tie
 
@@ -25,7 +25,7 @@ same-length : tie.Need-same-length
 same-length c = search needs
 
 returns-2 : tie.Need-returns-2
-returns-2 c = (refl, told-four _ _ _ _ _ (c .if1 .left))
+returns-2 c = (refl, told-all _ _ _ (c .if1 .left) refl)
 
 pub tell-four-spec : {M : Type 1} → statement M
 tell-four-spec =

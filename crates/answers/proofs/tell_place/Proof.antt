@@ -2,7 +2,7 @@
 -- Assumes nothing.
 use borrow.Author.Needs.{needs}
 use mathlib.Core.Path.{refl}
-use Rattle.answers.proofs.Stores.{told-other, told-place}
+use Rattle.answers.proofs.Stores.{told-other, told-all}
 use Rattle.answers.proofs.tell_place.Statement.{statement}
 use Rattle.answers.proofs.tell_place.Tie as tie
 
@@ -16,7 +16,7 @@ same-length : tie.Need-same-length
 same-length c = search needs
 
 returns-2 : tie.Need-returns-2
-returns-2 c = (refl, told-place _ _ (c .if1 .left))
+returns-2 c = (refl, told-all _ _ _ (c .if1 .left) refl)
 
 pub tell-place-spec : {M : Type 1} → statement M
 tell-place-spec = tie.close (tie.spec returns slice-write-answer same-length returns-2)

@@ -2,7 +2,7 @@
 -- Assumes nothing.
 use borrow.Author.Needs.{needs}
 use mathlib.Core.Path.{refl}
-use Rattle.answers.proofs.Stores.{told-other, told-two}
+use Rattle.answers.proofs.Stores.{told-other, told-all}
 use Rattle.answers.proofs.tell_two.Statement.{statement}
 use Rattle.answers.proofs.tell_two.Tie as tie
 
@@ -19,7 +19,7 @@ same-length : tie.Need-same-length
 same-length c = search needs
 
 returns-2 : tie.Need-returns-2
-returns-2 c = (refl, told-two _ _ _ (c .if1 .left))
+returns-2 c = (refl, told-all _ _ _ (c .if1 .left) refl)
 
 pub tell-two-spec : {M : Type 1} → statement M
 tell-two-spec =

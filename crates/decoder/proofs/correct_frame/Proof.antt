@@ -1,12 +1,9 @@
--- The local tables are as long as a design needs.
+-- The working entries are as long as a design needs.
 -- Assumes nothing.
 use native.Mathlib.Omega.{arith}
-use mathlib.Core.Path.{ap, _∙_}
-use Prim.Native.Nat.{ℕ, _+_, _*_, _%_, _^_}
-use lib.Pow.{pow-mono}
-use Rattle.blocks.proofs.Sums.{part-length}
-use Rattle.design.proofs.Sizes.{shl-one}
-use Rattle.design.proofs.Allowed.{bits-small}
+use mathlib.Core.Path.{sym, ap, _∙_}
+use Prim.Native.Nat.{ℕ, _+_}
+use Rattle.decoder.proofs.Room.{lent, positions-room, syndromes-room, field-is, field-room, sums-room}
 use borrow.Author.Needs.{needs}
 use Rattle.decoder.proofs.correct_frame.Statement.{statement}
 use Rattle.decoder.proofs.correct_frame.Tie as tie
@@ -17,69 +14,65 @@ n-requires c κs = search needs
 cast-size : tie.Need-cast-size
 cast-size c = search needs
 
-cast-quarter : tie.Need-cast-quarter
-cast-quarter c = search needs
+cast-powers : tie.Need-cast-powers
+cast-powers c = search needs
 
-shl-quarter : tie.Need-shl-quarter
-shl-quarter c = search needs
+shl-powers : tie.Need-shl-powers
+shl-powers c = search needs
 
-sub-correct-in : tie.Need-sub-correct-in
-sub-correct-in c = search needs
+position-entries-requires : tie.Need-position-entries-requires
+position-entries-requires c κs = search needs
 
-part-positions-start : tie.Need-part-positions-start
-part-positions-start c = search needs
+syndrome-entries-requires : tie.Need-syndrome-entries-requires
+syndrome-entries-requires c κs = search needs
 
-part-positions-end : tie.Need-part-positions-end
-part-positions-end c = omega (arith, bits-small (c .before .before .before .before .before .before .before .before .before .before .before .args .d) (c .before .before .before .before .before .before .before .before .before .before .before .pre .0 .allowed), c .before .before .before .before .before .n .ensures)
+field-entries-requires : tie.Need-field-entries-requires
+field-entries-requires c κs = search needs
 
-add-correct-in : tie.Need-add-correct-in
-add-correct-in c = search needs
+sum-entries-requires : tie.Need-sum-entries-requires
+sum-entries-requires c κs = search needs
 
-sub-correct-in-2 : tie.Need-sub-correct-in-2
-sub-correct-in-2 c = search needs
+array-borrow-prefix-positions : tie.Need-array-borrow-prefix-positions
+array-borrow-prefix-positions c = lent _ 1024 (c .before .before .before .before .before .before .position-entries .result) (c .before .before .before .before .before .before .position-entries .ensures) (positions-room _ (c .before .before .before .before .before .before .before .before .before .before .before .before .before .before .before .pre .0 .allowed) _ (c .before .before .before .before .before .before .before .before .before .n .ensures .0)) .0
 
-part-syndromes-start : tie.Need-part-syndromes-start
-part-syndromes-start c = search needs
+slice-aggregate-correct-in : tie.Need-slice-aggregate-correct-in
+slice-aggregate-correct-in c = sym (lent _ 1024 (c .before .before .before .before .before .before .before .position-entries .result) (c .before .before .before .before .before .before .before .position-entries .ensures) (positions-room _ (c .before .before .before .before .before .before .before .before .before .before .before .before .before .before .before .before .pre .0 .allowed) _ (c .before .before .before .before .before .before .before .before .before .before .n .ensures .0)) .1)
 
-part-syndromes-end : tie.Need-part-syndromes-end
-part-syndromes-end c = omega (arith, bits-small (c .before .before .before .before .before .before .before .before .before .before .before .before .args .d) (c .before .before .before .before .before .before .before .before .before .before .before .before .pre .0 .allowed), c .before .before .before .before .before .before .n .ensures)
+add-syndromes : tie.Need-add-syndromes
+add-syndromes c = search needs
 
-mul-correct-in : tie.Need-mul-correct-in
-mul-correct-in c = let h = c .before .before .before .before .before .before .before .before .before .before .before .before .before .pre .0 .allowed .m-high in omega (arith, shl-one (c .before .before .before .before .before .before .before .before .before .before .before .before .before .args .d .m) h, pow-mono {i = c .before .before .before .before .before .before .before .before .before .before .before .before .before .args .d .m} {j = 10} h)
+array-borrow-prefix-syndromes : tie.Need-array-borrow-prefix-syndromes
+array-borrow-prefix-syndromes c = lent _ 1152 (c .before .before .before .before .before .before .syndrome-entries .result) (c .before .before .before .before .before .before .syndrome-entries .ensures) (syndromes-room _ (c .before .before .before .before .before .before .before .before .before .before .before .before .before .before .before .before .pre .0 .allowed) _ (c .before .before .before .before .before .before .before .before .before .before .n .ensures .0)) .0
 
-sub-correct-in-3 : tie.Need-sub-correct-in-3
-sub-correct-in-3 c = search needs
+slice-aggregate-correct-in-2 : tie.Need-slice-aggregate-correct-in-2
+slice-aggregate-correct-in-2 c = sym (lent _ 1152 (c .before .before .before .before .before .before .before .syndrome-entries .result) (c .before .before .before .before .before .before .before .syndrome-entries .ensures) (syndromes-room _ (c .before .before .before .before .before .before .before .before .before .before .before .before .before .before .before .before .before .pre .0 .allowed) _ (c .before .before .before .before .before .before .before .before .before .before .before .n .ensures .0)) .1)
 
-part-field-start : tie.Need-part-field-start
-part-field-start c = search needs
+mul-field : tie.Need-mul-field
+mul-field c = omega (arith, field-room _ (c .before .before .before .before .before .before .before .before .before .before .before .before .before .before .before .before .before .pre .0 .allowed))
 
-part-field-end : tie.Need-part-field-end
-part-field-end c = let h = c .before .before .before .before .before .before .before .before .before .before .before .before .before .pre .0 .allowed .m-high in omega (arith, shl-one (c .before .before .before .before .before .before .before .before .before .before .before .before .before .args .d .m) h, pow-mono {i = c .before .before .before .before .before .before .before .before .before .before .before .before .before .args .d .m} {j = 10} h)
+array-borrow-prefix-field : tie.Need-array-borrow-prefix-field
+array-borrow-prefix-field c = lent _ 4096 (c .before .before .before .before .before .before .field-entries .result) (c .before .before .before .before .before .before .field-entries .ensures) (field-room _ (c .before .before .before .before .before .before .before .before .before .before .before .before .before .before .before .before .before .pre .0 .allowed)) .0
 
-sub-correct-in-4 : tie.Need-sub-correct-in-4
-sub-correct-in-4 c = search needs
+slice-aggregate-correct-in-3 : tie.Need-slice-aggregate-correct-in-3
+slice-aggregate-correct-in-3 c = sym (lent _ 4096 (c .before .before .before .before .before .before .before .field-entries .result) (c .before .before .before .before .before .before .before .field-entries .ensures) (field-room _ (c .before .before .before .before .before .before .before .before .before .before .before .before .before .before .before .before .before .before .pre .0 .allowed)) .1)
 
-part-sums-start : tie.Need-part-sums-start
-part-sums-start c = search needs
+array-borrow-prefix-sums : tie.Need-array-borrow-prefix-sums
+array-borrow-prefix-sums c = lent _ 512 (c .before .before .before .before .before .before .sum-entries .result) (c .before .before .before .before .before .before .sum-entries .ensures) (sums-room _ (c .before .before .before .before .before .before .before .before .before .before .before .before .before .before .before .before .before .before .pre .0 .allowed)) .0
 
-part-sums-end : tie.Need-part-sums-end
-part-sums-end c = search needs
+slice-aggregate-correct-in-4 : tie.Need-slice-aggregate-correct-in-4
+slice-aggregate-correct-in-4 c = sym (lent _ 512 (c .before .before .before .before .before .before .before .sum-entries .result) (c .before .before .before .before .before .before .before .sum-entries .ensures) (sums-room _ (c .before .before .before .before .before .before .before .before .before .before .before .before .before .before .before .before .before .before .before .pre .0 .allowed)) .1)
 
 correct-in-requires : tie.Need-correct-in-requires
 correct-in-requires c κs =
-    let p = c .before .before .before .before .before .before .before .before .before .before .before .before .before .before .before .pre in
-    let a = c .before .before .before .before .before .before .before .before .before .before .before .before .before .before .before .args in
-    let h = p .0 .allowed .m-high in
-    let n = c .before .before .before .before .before .before .before .before .before .n .result in
-    let q = 4 * ((1 * 2 ^ a .d .m) % 2 ^ 64) in
-    let small = bits-small (a .d) (p .0 .allowed) in (
+    let p = c .before .before .before .before .before .before .before .before .before .before .before .before .before .before .before .before .before .before .before .pre in
+    let n = c .before .before .before .before .before .before .before .before .before .before .before .before .before .n .ensures .0 in (
       p .0,
       p .1,
       p .2,
-      part-length _ 0 n n (omega arith) (omega (arith, small, c .before .before .before .before .before .before .before .before .before .n .ensures)) ∙ c .before .before .before .before .before .before .before .before .before .n .ensures .0,
-      part-length _ 0 (n + 128) (n + 128) (omega arith) (omega (arith, small, c .before .before .before .before .before .before .before .before .before .n .ensures)) ∙ ap (λ (z : ℕ). z + 128) (c .before .before .before .before .before .before .before .before .before .n .ensures .0),
-      part-length _ 0 q q (omega arith) (omega (arith, shl-one (a .d .m) h, pow-mono {i = a .d .m} {j = 10} h)) ∙ ap (λ (z : ℕ). 4 * z) (shl-one (a .d .m) h),
-      part-length _ 0 (a .d .size) (a .d .size) (omega arith) (omega (arith, p .0 .allowed .M-high)),
+      lent _ 1024 (c .before .before .before .before .before .before .before .before .before .before .position-entries .result) (c .before .before .before .before .before .before .before .before .before .before .position-entries .ensures) (positions-room _ (p .0 .allowed) _ n) .1 ∙ n,
+      lent _ 1152 (c .before .before .before .before .before .before .before .before .before .syndrome-entries .result) (c .before .before .before .before .before .before .before .before .before .syndrome-entries .ensures) (syndromes-room _ (p .0 .allowed) _ n) .1 ∙ ap (λ (z : ℕ). z + 128) n,
+      lent _ 4096 (c .before .before .before .before .before .before .before .before .field-entries .result) (c .before .before .before .before .before .before .before .before .field-entries .ensures) (field-room _ (p .0 .allowed)) .1 ∙ field-is _ (p .0 .allowed),
+      lent _ 512 (c .before .before .before .before .before .before .before .sum-entries .result) (c .before .before .before .before .before .before .before .sum-entries .ensures) (sums-room _ (p .0 .allowed)) .1,
     )
 
 same-length : tie.Need-same-length
@@ -100,22 +93,22 @@ correct-frame-spec =
     (tie.spec
     n-requires
     cast-size
-    cast-quarter
-    shl-quarter
-    sub-correct-in
-    part-positions-start
-    part-positions-end
-    add-correct-in
-    sub-correct-in-2
-    part-syndromes-start
-    part-syndromes-end
-    mul-correct-in
-    sub-correct-in-3
-    part-field-start
-    part-field-end
-    sub-correct-in-4
-    part-sums-start
-    part-sums-end
+    cast-powers
+    shl-powers
+    position-entries-requires
+    syndrome-entries-requires
+    field-entries-requires
+    sum-entries-requires
+    array-borrow-prefix-positions
+    slice-aggregate-correct-in
+    add-syndromes
+    array-borrow-prefix-syndromes
+    slice-aggregate-correct-in-2
+    mul-field
+    array-borrow-prefix-field
+    slice-aggregate-correct-in-3
+    array-borrow-prefix-sums
+    slice-aggregate-correct-in-4
     correct-in-requires
     same-length
     same-length-2

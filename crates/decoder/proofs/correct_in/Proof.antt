@@ -4,7 +4,7 @@ use native.Mathlib.Omega.{arith}
 use mathlib.Core.Path.{refl, _∙_}
 use Rattle.staircase.specs.Frame.{frameOf, words}
 use Rattle.design.specs.Sizes.{paramsOf, listsOf}
-use Rattle.decoder.proofs.Whole.{ready-of, rounds-fit, corrected-is}
+use Rattle.decoder.proofs.Rounds.{ready-of, rounds-fit, corrected-is}
 use borrow.Author.Needs.{needs}
 use Rattle.decoder.proofs.correct_in.Statement.{statement}
 use Rattle.decoder.proofs.correct_in.Tie as tie
@@ -32,28 +32,25 @@ outside-after-requires c κs =
     (record { allowed = p .0 .allowed; some-blocks = p .0 .some-blocks; few-blocks = p .0 .few-blocks; lists = p .0 .lists; frame = F }, record { long = t .1 ∙ p .3; powers = t .0 .position }, c .before .before .before .before .before .before .before .before .before .before .before .before .run-rounds .ensures .2 ∙ p .1, c .before .before .before .before .before .before .before .before .before .before .before .before .run-rounds .ensures .1)
 
 same-length : tie.Need-same-length
-same-length c = search needs
+same-length c = c .before .before .before .before .before .before .before .before .before .before .before .before .before .before .info .given
 
 same-length-2 : tie.Need-same-length-2
-same-length-2 c = search needs
+same-length-2 c = c .before .before .before .before .before .before .before .before .before .before .before .before .red .given
 
 same-length-3 : tie.Need-same-length-3
-same-length-3 c = search needs
+same-length-3 c = c .before .work2 .given ∙ c .before .before .before .before .before .before .before .before .before .before .work .given
 
 same-length-4 : tie.Need-same-length-4
-same-length-4 c = omega (arith, c .before .before .before .before .before .before .before .before .before .before .before .before .before .before .before .before .before .before .before .before .before .before .before .before .before .before .before .before .before .fill-tables .ensures .1)
+same-length-4 c = c .before .before .before .before .before .before .before .before .before .before .before .before .before .before .before .before .before .before .before .before .before .before .before .before .before .before .before .before .positions .given
 
 same-length-5 : tie.Need-same-length-5
-same-length-5 c =
-    let p = c .before .before .before .before .before .before .before .before .before .before .before .before .before .before .before .before .before .before .before .before .before .before .before .before .before .before .before .before .before .before .before .before .before .before .before .before .before .before .before .before .before .before .before .pre in
-    let t = c .before .before .before .before .before .before .before .before .before .before .before .before .before .before .before .before .before .before .before .before .before .before .before .before .before .before .before .before .before .fill-tables .ensures in
-    omega (arith, t .0 .as-long, t .1, p .3, p .4)
+same-length-5 c = c .before .before .before .before .before .before .before .before .before .before .before .before .before .before .before .before .before .before .before .before .before .before .before .before .before .before .syndromes .given
 
 same-length-6 : tie.Need-same-length-6
-same-length-6 c = omega (arith, c .before .before .before .before .before .before .before .before .before .before .before .before .before .before .before .before .before .before .before .before .before .before .before .before .before .before .before .before .before .fill-tables .ensures .0 .tables .long, c .before .before .before .before .before .before .before .before .before .before .before .before .before .before .before .before .before .before .before .before .before .before .before .before .before .before .before .before .before .before .before .before .before .before .before .before .before .before .before .before .before .before .before .pre .5)
+same-length-6 c = c .before .before .before .before .before .before .before .before .before .before .before .before .before .before .before .before .before .before .before .before .before .before .before .before .field .given
 
 same-length-7 : tie.Need-same-length-7
-same-length-7 c = search needs
+same-length-7 c = c .before .before .before .before .before .before .before .before .sums .given
 
 returns : tie.Need-returns
 returns c =

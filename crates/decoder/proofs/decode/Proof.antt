@@ -3,8 +3,7 @@
 use native.Mathlib.Omega.{arith}
 use mathlib.Core.Path.{sym, _∙_}
 use lib.ListN.{length}
-use Rattle.design.proofs.Answers.{check-passed}
-use Rattle.design.proofs.Answers.{made-allowed}
+use Rattle.design.proofs.Answers.{check-passed, made-allowed}
 use Rattle.decoder.proofs.Verdict.{few-rounds, frame-received, frame-working, decode-design, decode-frame, decode-done}
 use borrow.Author.Needs.{needs}
 use Rattle.decoder.proofs.decode.Statement.{statement}

@@ -50,7 +50,7 @@ decode-front-requires : tie.Need-decode-front-requires
 decode-front-requires c κs =
     let a = c .before .before .before .before .before .before .before .before .before .before .before .before .before .before .before .before .before .before .before .before .before .before .before .before .before .before .before .before .before .args in
     let v = sym (c .before .before .before .before .before .before .before .before .before .before .before .before .before .before .before .before .before .encode .ensures .0) ∙ check-passed (c .before .before .before .before .before .before .before .before .before .before .before .enum-told .given .1) in
-    omega (arith, own-length (a .m) (a .t) (a .size) (a .blocks) (a .rounds) (a .own .now) (a .parity .now) (a .inverse .now) (a .info-errors .now) (a .red-errors .now) (a .info .now) (a .red .now) (length (a .work .now)) v, working-fits (a .m) (a .t) (a .size) (a .blocks) (a .rounds) (a .own .now) (a .parity .now) (a .inverse .now) (a .info-errors .now) (a .red-errors .now) (a .info .now) (a .red .now) (length (a .work .now)) v)
+    omega (arith, own-length (a .m) (a .t) (a .size) (a .blocks) (a .own .now) (a .parity .now) (a .inverse .now) (a .info .now) (a .red .now) (length (a .work .now)) v, working-fits (a .m) (a .t) (a .size) (a .blocks) (a .own .now) (a .parity .now) (a .inverse .now) (a .info .now) (a .red .now) (length (a .work .now)) v)
 
 decoding-looped-requires : tie.Need-decoding-looped-requires
 decoding-looped-requires c κs = search needs
@@ -70,7 +70,7 @@ returns-2 c =
     let a = c .before .before .before .before .before .before .before .before .before .before .before .before .before .before .before .before .before .before .before .before .before .before .before .before .before .before .before .before .before .before .before .before .before .before .before .before .before .args in
     let v = sym (c .before .before .before .before .before .before .before .before .before .before .before .before .before .before .before .before .before .before .before .before .before .before .before .before .before .encode .ensures .0) ∙ check-passed (c .before .before .before .before .before .before .before .before .before .before .before .before .before .before .before .before .before .before .before .enum-told .given .1) in
     let n = length (a .own .now) / 2 in
-    let q : n ≡ order (params (a .m) (a .t) (a .size)) = omega (arith, own-length (a .m) (a .t) (a .size) (a .blocks) (a .rounds) (a .own .now) (a .parity .now) (a .inverse .now) (a .info-errors .now) (a .red-errors .now) (a .info .now) (a .red .now) (length (a .work .now)) v) in
+    let q : n ≡ order (params (a .m) (a .t) (a .size)) = omega (arith, own-length (a .m) (a .t) (a .size) (a .blocks) (a .own .now) (a .parity .now) (a .inverse .now) (a .info .now) (a .red .now) (length (a .work .now)) v) in
     looped-decoded (a .m) (a .t) (a .size) (a .blocks) (a .rounds) (a .own .now) (a .parity .now) (a .inverse .now) (a .info-errors .now) (a .red-errors .now) (a .info .now) (a .red .now) (length (a .work .now)) _ _ n v (c .before .before .before .before .before .before .before .before .before .before .before .before .before .before .before .before .before .before .before .before .before .before .before .before .before .encode .ensures .1)
     (c .decoding-looped .ensures _ ∙ ap afterDecoding (c .before .before .before .before .before .before .before .decode-front .ensures ∙ ap₂ (λ (i r : List ℕ). decodeCall (a .m) (a .t) (a .size) (a .blocks) (a .rounds) (a .own .now) (a .parity .now) i r n) (c .before .before .before .before .before .before .before .before .before .before .before .before .before .before .before .before .before .turn-bits .ensures) (c .before .before .before .before .before .before .before .before .before .before .before .before .before .turn-bits2 .ensures))) q
 

@@ -2,121 +2,103 @@
 -- left.
 -- Assumes nothing.
 use native.Mathlib.Omega.{arith}
-use mathlib.Core.Path.{_≡_, ap, _∙_}
+use mathlib.Core.Path.{_≡_, sym, ap, _∙_}
 use Prim.Native.Nat.{ℕ, _+_, _*_, _-_, _≤_, _<_}
 use lib.ListN.{length}
 use Rattle.staircase.specs.Lists.{concat}
 use Rattle.staircase.specs.Frame.{frameOf, groups, words, outsideAmong}
 use Rattle.staircase.specs.Decoder.{Progress, round}
 use Rattle.design.specs.Sizes.{paramsOf, orderOf, listsOf}
+use Rattle.rules.specs.Received.{FrameFits}
 use Rattle.words.specs.Words.{groupWords}
 use Rattle.words.proofs.Count.{none-yet}
-use Rattle.correct.proofs.Passes.{kept-fits}
-use Rattle.rounds.proofs.Groups.{round-none, round-next, round-few, round-wrong, words-wrong}
+use Rattle.rounds.proofs.Groups.{round-none, round-next, round-wrong, words-wrong}
 use Rattle.rounds.proofs.correct_once.Statement.{statement}
 use Rattle.rounds.proofs.correct_once.Tie as tie
 
 abbrev Inv-loop : tie.InvT-loop
 Inv-loop d blocks own parity positions syndromes field info₀ red₀ work₀ sums₀ count flips₀ wrong₀ i₀ info red work sums flips wrong i =
-    (i ≤ groups blocks) × (length work ≡ orderOf d) × (length sums ≡ d .size) × (record { frame = frameOf info red; flips = flips } ≡ round (paramsOf d) (concat i (groupWords (paramsOf d) (listsOf d own parity) blocks)) (frameOf info₀ red₀)) × (wrong ≤ i * 1000) × (flips ≡ 0 → wrong ≡ outsideAmong (paramsOf d) (frameOf info₀ red₀) (concat i (groupWords (paramsOf d) (listsOf d own parity) blocks)))
+    (i ≤ groups blocks) × (length work ≡ orderOf d) × (length sums ≡ d .size) × FrameFits d blocks info red × (flips ≤ i * 3000) × (wrong ≤ i * 1000) × (record { frame = frameOf info red; flips = flips } ≡ round (paramsOf d) (concat i (groupWords (paramsOf d) (listsOf d own parity) blocks)) (frameOf info₀ red₀)) × (flips ≡ 0 → wrong ≡ outsideAmong (paramsOf d) (frameOf info₀ red₀) (concat i (groupWords (paramsOf d) (listsOf d own parity) blocks)))
 
 abbrev μ-loop : tie.MeasureT-loop
 μ-loop d blocks own parity positions syndromes field info₀ red₀ work₀ sums₀ count flips₀ wrong₀ i₀ info red work sums flips wrong i =
     groups blocks - i
 
-add-count : tie.Need-add-count Inv-loop μ-loop
-add-count c =
-    omega (arith, c .before .before .before .before .before .before .before .before .before .pre .0 .few-blocks)
+group-count-requires : tie.Need-group-count-requires Inv-loop μ-loop
+group-count-requires c κs = c .before .before .before .before .before .before .before .before .before .pre .0 .few-blocks
 
 loop-holds : tie.Need-loop-holds Inv-loop μ-loop
 loop-holds c =
-    let a = c .before .before .before .before .before .before .before .before .before .args in
+    let a = c .before .before .before .before .before .before .before .before .before .before .args in
+    let p = c .before .before .before .before .before .before .before .before .before .before .pre in
     let f = frameOf (a .info .now) (a .red .now) in
     let l = listsOf (a .d) (a .own .now) (a .parity .now) in
-    (omega arith, c .before .before .before .before .before .before .before .before .before .pre .2, c .before .before .before .before .before .before .before .before .before .pre .3, round-none (paramsOf (a .d)) (groupWords (paramsOf (a .d)) l (a .blocks)) f, omega arith, λ e. none-yet (paramsOf (a .d)) f l (a .blocks))
+    (omega arith, p .2, p .3, p .1, omega arith, omega arith, round-none (paramsOf (a .d)) (groupWords (paramsOf (a .d)) l (a .blocks)) f, λ e. none-yet (paramsOf (a .d)) f l (a .blocks))
 
 correct-group-requires : tie.Need-correct-group-requires Inv-loop μ-loop
 correct-group-requires c κs =
-    let a = c .before .before .before .before .before .before .before .before .before .before .before .before .before .before .before .args in
     let l = c .before .before .before .before .before .loop in
-    let W = groupWords (paramsOf (a .d)) (listsOf (a .d) (a .own .now) (a .parity .now)) (a .blocks) in
-    let h : l .i < groups (a .blocks) = omega arith in
-    (c .before .before .before .before .before .before .before .before .before .before .before .before .before .before .before .pre .0 .group (l .i) h, kept-fits (concat (l .i) W) (c .before .before .before .before .before .before .before .before .before .before .before .before .before .before .before .pre .1) (ap (λ (y : Progress). y .frame) (l .inv .3)), l .inv .1, l .inv .2)
+    let h : l .i < groups (c .before .before .before .before .before .before .before .before .before .before .before .before .before .before .before .before .args .blocks) = omega arith in
+    (c .before .before .before .before .before .before .before .before .before .before .before .before .before .before .before .before .pre .0 .group (l .i) h, l .inv .3, l .inv .1, l .inv .2)
 
 add-flips : tie.Need-add-flips Inv-loop μ-loop
-add-flips c =
-    let a = c .before .before .before .before .before .before .before .before .before .before .before .before .before .before .before .before .before .before .before .before .before .before .before .before .before .args in
-    let l = c .before .before .before .before .before .before .before .before .before .before .before .before .before .before .before .loop in
-    let s = paramsOf (a .d) in
-    let k = listsOf (a .d) (a .own .now) (a .parity .now) in
-    let f = frameOf (a .info .now) (a .red .now) in
-    let h : l .i < groups (a .blocks) = omega arith in
-    let g = c .before .before .before .before .before .before .before .before .before .before .before .before .before .before .before .before .before .before .before .before .before .before .before .before .before .pre .0 .group (l .i) h in
-    let e = round-next s (groupWords s k (a .blocks)) f (l .i) (record { frame = frameOf (l .info) (l .red); flips = l .flips }) _ (l .inv .3) (c .before .before .before .before .before .before .before .before .before .correct-group .ensures .0) in
-    omega (arith, round-few s k (a .blocks) (l .i + 1) f _ (g .allowed .t-high) (g .allowed .M-high) (omega (arith, c .before .before .before .before .before .before .before .before .before .before .before .before .before .before .before .before .before .before .before .before .before .before .before .before .before .pre .0 .few-blocks)) e)
+add-flips c = omega (arith, c .before .before .before .before .before .before .before .before .before .correct-group .ensures .2, c .before .before .before .before .before .before .before .before .before .before .before .before .before .before .before .loop .inv .4, c .before .before .before .before .before .before .before .before .before .before .before .before .before .before .before .before .before .before .before .before .before .before .before .before .before .before .pre .0 .few-blocks)
 
 add-wrong : tie.Need-add-wrong Inv-loop μ-loop
-add-wrong c =
-    omega (arith, c .before .before .before .before .before .before .before .before .before .before .correct-group .ensures .2, c .before .before .before .before .before .before .before .before .before .before .before .before .before .before .before .before .loop .inv .4, c .before .before .before .before .before .before .before .before .before .before .before .before .before .before .before .before .before .before .before .before .before .before .before .before .before .before .pre .0 .few-blocks)
+add-wrong c = omega (arith, c .before .before .before .before .before .before .before .before .before .before .correct-group .ensures .3, c .before .before .before .before .before .before .before .before .before .before .before .before .before .before .before .before .loop .inv .5, c .before .before .before .before .before .before .before .before .before .before .before .before .before .before .before .before .before .before .before .before .before .before .before .before .before .before .before .pre .0 .few-blocks)
 
 add-i : tie.Need-add-i Inv-loop μ-loop
-add-i c =
-    omega (arith, c .before .before .before .before .before .before .before .before .before .before .before .before .before .before .before .before .before .before .before .before .before .before .before .before .before .before .pre .0 .few-blocks)
+add-i c = omega (arith, c .before .before .before .before .before .before .before .before .before .before .before .before .before .before .before .before .before .before .before .before .before .before .before .before .before .before .before .pre .0 .few-blocks)
 
 loop-less : tie.Need-loop-less Inv-loop μ-loop
 loop-less c = omega arith
 
 loop-again : tie.Need-loop-again Inv-loop μ-loop
 loop-again c =
-    let a = c .before .before .before .before .before .before .before .before .before .before .before .before .before .before .before .before .before .before .before .before .before .before .before .before .before .before .args in
+    let a = c .before .before .before .before .before .before .before .before .before .before .before .before .before .before .before .before .before .before .before .before .before .before .before .before .before .before .before .args in
     let l = c .before .before .before .before .before .before .before .before .before .before .before .before .before .before .before .before .loop in
+    let g = c .before .before .before .before .before .before .before .before .before .before .correct-group .ensures in
     let s = paramsOf (a .d) in
     let k = listsOf (a .d) (a .own .now) (a .parity .now) in
     let f = frameOf (a .info .now) (a .red .now) in
     let x : Progress = record { frame = frameOf (l .info) (l .red); flips = l .flips } in (
       omega arith,
-      c .before .before .before .before .before .before .before .before .before .before .correct-group .ensures .3 ∙ l .inv .1,
-      c .before .before .before .before .before .before .before .before .before .before .correct-group .ensures .4 ∙ l .inv .2,
-      round-next s (groupWords s k (a .blocks)) f (l .i) x _ (l .inv .3) (c .before .before .before .before .before .before .before .before .before .before .correct-group .ensures .0),
-      omega (arith, c .before .before .before .before .before .before .before .before .before .before .correct-group .ensures .2, l .inv .4),
+      c .before .before .before .before .before .work .given ∙ l .inv .1,
+      c .before .before .before .sums .given ∙ l .inv .2,
+      g .4,
+      omega (arith, g .2, l .inv .4),
+      omega (arith, g .3, l .inv .5),
+      round-next s (groupWords s k (a .blocks)) f (l .i) x _ (l .inv .6) (g .0),
       λ e. let z : l .flips ≡ 0 = omega (arith, e) in
           let n : c .before .before .before .before .before .before .before .before .before .before .correct-group .result .flips ≡ 0 = omega (arith, e) in
-          round-wrong s k (a .blocks) (l .i) f x _ _ (l .inv .3) z (l .inv .5 z) (c .before .before .before .before .before .before .before .before .before .before .correct-group .ensures .1 n),
+          round-wrong s k (a .blocks) (l .i) f x _ _ (l .inv .6) z (l .inv .7 z) (g .1 n),
     )
 
 same-length : tie.Need-same-length Inv-loop μ-loop
-same-length c =
-    let a = c .before .before .before .before .before .before .before .before .before .before .before .args in
-    let l = c .before .loop in
-    let g = kept-fits (concat (l .i) (groupWords (paramsOf (a .d)) (listsOf (a .d) (a .own .now) (a .parity .now)) (a .blocks))) (c .before .before .before .before .before .before .before .before .before .before .before .pre .1) (ap (λ (y : Progress). y .frame) (l .inv .3)) in
-    omega (arith, g .infoLength, c .before .before .before .before .before .before .before .before .before .before .before .pre .1 .infoLength)
+same-length c = c .before .loop .inv .3 .infoLength ∙ sym (c .before .before .before .before .before .before .before .before .before .before .before .before .pre .1 .infoLength)
 
 same-length-2 : tie.Need-same-length-2 Inv-loop μ-loop
-same-length-2 c =
-    let a = c .before .before .before .before .before .before .before .before .before .before .before .args in
-    let l = c .before .loop in
-    let g = kept-fits (concat (l .i) (groupWords (paramsOf (a .d)) (listsOf (a .d) (a .own .now) (a .parity .now)) (a .blocks))) (c .before .before .before .before .before .before .before .before .before .before .before .pre .1) (ap (λ (y : Progress). y .frame) (l .inv .3)) in
-    omega (arith, g .redLength, c .before .before .before .before .before .before .before .before .before .before .before .pre .1 .redLength)
+same-length-2 c = c .before .loop .inv .3 .redLength ∙ sym (c .before .before .before .before .before .before .before .before .before .before .before .before .pre .1 .redLength)
 
 same-length-3 : tie.Need-same-length-3 Inv-loop μ-loop
-same-length-3 c = omega arith
+same-length-3 c = c .before .loop .inv .1 ∙ sym (c .before .before .before .before .before .before .before .before .before .before .before .before .pre .2)
 
 same-length-4 : tie.Need-same-length-4 Inv-loop μ-loop
-same-length-4 c = omega arith
+same-length-4 c = c .before .loop .inv .2 ∙ sym (c .before .before .before .before .before .before .before .before .before .before .before .before .pre .3)
 
 returns : tie.Need-returns Inv-loop μ-loop
 unfolding words
 returns c =
-    let a = c .before .before .before .before .before .before .before .before .before .before .before .args in
+    let a = c .before .before .before .before .before .before .before .before .before .before .before .before .args in
     let l = c .before .loop in
     let s = paramsOf (a .d) in
     let k = listsOf (a .d) (a .own .now) (a .parity .now) in
     let f = frameOf (a .info .now) (a .red .now) in
     let e : l .i ≡ groups (a .blocks) = omega arith in (
-      l .inv .3 ∙ ap (λ (n : ℕ). round s (concat n (groupWords s k (a .blocks))) f) e,
-      λ z. words-wrong s k (a .blocks) (l .i) f (record { frame = frameOf (l .info) (l .red); flips = l .flips }) _ e (l .inv .3) z (l .inv .5 z),
-      omega arith,
-      omega arith,
+      l .inv .6 ∙ ap (λ (n : ℕ). round s (concat n (groupWords s k (a .blocks))) f) e,
+      λ z. words-wrong s k (a .blocks) (l .i) f (record { frame = frameOf (l .info) (l .red); flips = l .flips }) _ e (l .inv .6) z (l .inv .7 z),
+      omega (arith, l .inv .4, c .before .before .before .before .before .before .before .before .before .before .before .before .pre .0 .few-blocks),
+      l .inv .3,
     )
 
 pub correct-once-spec : {M : Type 1} → statement M
@@ -125,7 +107,7 @@ correct-once-spec =
     (tie.spec
     Inv-loop
     μ-loop
-    add-count
+    group-count-requires
     loop-holds
     correct-group-requires
     add-flips

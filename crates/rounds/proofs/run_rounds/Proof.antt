@@ -1,23 +1,21 @@
 -- The loop's invariant: the rounds before `k` are made, and those that are left end as all do. The measure is the number of rounds left.
 -- Assumes nothing.
 use native.Mathlib.Omega.{arith}
-use mathlib.Core.Path.{_≡_, sym, ap, _∙_}
+use mathlib.Core.Path.{_≡_, sym, _∙_}
 use mathlib.Core.Bool.{true≢false}
 use Prim.Native.Nat.{_*_, _-_, _≤_}
 use lib.ListN.{length}
 use Rattle.staircase.specs.Frame.{frameOf, words}
-use Rattle.staircase.specs.Decoder.{Progress, runRounds}
+use Rattle.staircase.specs.Decoder.{runRounds}
 use Rattle.design.specs.Sizes.{paramsOf, orderOf, listsOf}
 use Rattle.rules.specs.Received.{FrameFits}
-use Rattle.correct.proofs.Passes.{kept-fits}
-use Rattle.rounds.proofs.Groups.{words-few}
 use Rattle.rounds.proofs.Limit.{after, rounds-start, rounds-more, rounds-idle, rounds-end}
 use Rattle.rounds.proofs.run_rounds.Statement.{statement}
 use Rattle.rounds.proofs.run_rounds.Tie as tie
 
 abbrev Inv-loop : tie.InvT-loop
 Inv-loop d blocks limit own parity positions syndromes field info₀ red₀ work₀ sums₀ flips₀ k₀ info red work sums flips k =
-    (k ≤ limit) × (length work ≡ orderOf d) × (length sums ≡ d .size) × FrameFits d blocks info red × (flips ≤ k * 12288000) × (runRounds (paramsOf d) (words (paramsOf d) (listsOf d own parity) blocks) limit (frameOf info₀ red₀) ≡ after k flips (runRounds (paramsOf d) (words (paramsOf d) (listsOf d own parity) blocks) (limit - k) (frameOf info red)))
+    (k ≤ limit) × (length work ≡ orderOf d) × (length sums ≡ d .size) × FrameFits d blocks info red × (flips ≤ k * 6144000) × (runRounds (paramsOf d) (words (paramsOf d) (listsOf d own parity) blocks) limit (frameOf info₀ red₀) ≡ after k flips (runRounds (paramsOf d) (words (paramsOf d) (listsOf d own parity) blocks) (limit - k) (frameOf info red)))
 
 abbrev μ-loop : tie.MeasureT-loop
 μ-loop d blocks limit own parity positions syndromes field info₀ red₀ work₀ sums₀ flips₀ k₀ info red work sums flips k =
@@ -26,59 +24,46 @@ abbrev μ-loop : tie.MeasureT-loop
 loop-holds : tie.Need-loop-holds Inv-loop μ-loop
 loop-holds c =
     let a = c .before .before .before .before .before .before .before .before .before .args in
-    (omega arith, c .before .before .before .before .before .before .before .before .before .pre .2, c .before .before .before .before .before .before .before .before .before .pre .3, c .before .before .before .before .before .before .before .before .before .pre .1, omega arith, rounds-start (paramsOf (a .d)) (words (paramsOf (a .d)) (listsOf (a .d) (a .own .now) (a .parity .now)) (a .blocks)) (a .limit) (frameOf (a .info .now) (a .red .now)))
+    let p = c .before .before .before .before .before .before .before .before .before .pre in
+    let s = paramsOf (a .d) in
+    (omega arith, p .2, p .3, p .1, omega arith, rounds-start s (words s (listsOf (a .d) (a .own .now) (a .parity .now)) (a .blocks)) (a .limit) (frameOf (a .info .now) (a .red .now)))
 
 correct-once-requires : tie.Need-correct-once-requires Inv-loop μ-loop
-correct-once-requires c κs =
-    let l = c .before .before .before .before .before .loop in (c .before .before .before .before .before .before .before .before .before .before .before .before .before .before .before .pre .0, l .inv .3, l .inv .1, l .inv .2)
+correct-once-requires c κs = let l = c .before .before .before .before .before .loop in (c .before .before .before .before .before .before .before .before .before .before .before .before .before .before .before .pre .0, l .inv .3, l .inv .1, l .inv .2)
 
 add-flips : tie.Need-add-flips Inv-loop μ-loop
-add-flips c =
-    let a = c .before .before .before .before .before .before .before .before .before .before .before .before .before .before .before .before .before .before .before .before .before .before .before .before .before .args in
-    let l = c .before .before .before .before .before .before .before .before .before .before .before .before .before .before .before .loop in
-    let s = paramsOf (a .d) in
-    let g = c .before .before .before .before .before .before .before .before .before .before .before .before .before .before .before .before .before .before .before .before .before .before .before .before .before .pre .0 .group 0 (omega (arith, c .before .before .before .before .before .before .before .before .before .before .before .before .before .before .before .before .before .before .before .before .before .before .before .before .before .pre .0 .some-blocks)) in
-    let more = words-few s (listsOf (a .d) (a .own .now) (a .parity .now)) (a .blocks) (frameOf (l .info) (l .red)) _ (g .allowed .t-high) (g .allowed .M-high) (c .before .before .before .before .before .before .before .before .before .before .before .before .before .before .before .before .before .before .before .before .before .before .before .before .before .pre .0 .few-blocks) (c .before .before .before .before .before .before .before .before .before .correct-once .ensures .0) in
-    omega (arith, more, l .inv .4, c .before .before .before .before .before .before .before .before .before .before .before .before .before .before .before .before .before .before .before .before .before .before .before .before .before .pre .4)
+add-flips c = omega (arith, c .before .before .before .before .before .before .before .before .before .correct-once .ensures .2, c .before .before .before .before .before .before .before .before .before .before .before .before .before .before .before .loop .inv .4, c .before .before .before .before .before .before .before .before .before .before .before .before .before .before .before .before .before .before .before .before .before .before .before .before .before .pre .4)
 
 add-t25 : tie.Need-add-t25 Inv-loop μ-loop
-add-t25 c =
-    omega (arith, c .before .before .before .before .before .before .before .before .before .before .before .before .before .before .before .before .before .before .before .before .before .before .before .before .before .before .before .pre .4)
+add-t25 c = omega (arith, c .before .before .before .before .before .before .before .before .before .before .before .before .before .before .before .before .before .before .before .before .before .before .before .before .before .before .before .pre .4)
 
 same-length : tie.Need-same-length Inv-loop μ-loop
-same-length c =
-    let a = c .before .before .before .before .before .before .before .before .before .before .before .before .before .before .before .before .before .before .before .before .before .before .before .before .before .before .before .args in
-    let l = c .before .before .before .before .before .before .before .before .before .before .before .before .before .before .before .before .before .loop in
-    let g = kept-fits (words (paramsOf (a .d)) (listsOf (a .d) (a .own .now) (a .parity .now)) (a .blocks)) (l .inv .3) (ap (λ (y : Progress). y .frame) (c .before .before .before .before .before .before .before .before .before .before .before .correct-once .ensures .0)) in
-    omega (arith, g .infoLength, c .before .before .before .before .before .before .before .before .before .before .before .before .before .before .before .before .before .before .before .before .before .before .before .before .before .before .before .pre .1 .infoLength)
+same-length c = c .before .before .before .before .before .before .before .before .before .before .before .correct-once .ensures .3 .infoLength ∙ sym (c .before .before .before .before .before .before .before .before .before .before .before .before .before .before .before .before .before .before .before .before .before .before .before .before .before .before .before .pre .1 .infoLength)
 
 same-length-2 : tie.Need-same-length-2 Inv-loop μ-loop
-same-length-2 c =
-    let a = c .before .before .before .before .before .before .before .before .before .before .before .before .before .before .before .before .before .before .before .before .before .before .before .before .before .before .before .args in
-    let l = c .before .before .before .before .before .before .before .before .before .before .before .before .before .before .before .before .before .loop in
-    let g = kept-fits (words (paramsOf (a .d)) (listsOf (a .d) (a .own .now) (a .parity .now)) (a .blocks)) (l .inv .3) (ap (λ (y : Progress). y .frame) (c .before .before .before .before .before .before .before .before .before .before .before .correct-once .ensures .0)) in
-    omega (arith, g .redLength, c .before .before .before .before .before .before .before .before .before .before .before .before .before .before .before .before .before .before .before .before .before .before .before .before .before .before .before .pre .1 .redLength)
+same-length-2 c = c .before .before .before .before .before .before .before .before .before .before .before .correct-once .ensures .3 .redLength ∙ sym (c .before .before .before .before .before .before .before .before .before .before .before .before .before .before .before .before .before .before .before .before .before .before .before .before .before .before .before .pre .1 .redLength)
 
 same-length-3 : tie.Need-same-length-3 Inv-loop μ-loop
-same-length-3 c =
-    omega (arith, c .before .before .before .before .before .before .before .before .before .before .before .correct-once .ensures .2, c .before .before .before .before .before .before .before .before .before .before .before .before .before .before .before .before .before .loop .inv .1, c .before .before .before .before .before .before .before .before .before .before .before .before .before .before .before .before .before .before .before .before .before .before .before .before .before .before .before .pre .2)
+same-length-3 c = c .before .before .before .before .before .before .work .given ∙ c .before .before .before .before .before .before .before .before .before .before .before .before .before .before .before .before .before .loop .inv .1 ∙ sym (c .before .before .before .before .before .before .before .before .before .before .before .before .before .before .before .before .before .before .before .before .before .before .before .before .before .before .before .pre .2)
 
 same-length-4 : tie.Need-same-length-4 Inv-loop μ-loop
-same-length-4 c =
-    omega (arith, c .before .before .before .before .before .before .before .before .before .before .before .correct-once .ensures .3, c .before .before .before .before .before .before .before .before .before .before .before .before .before .before .before .before .before .loop .inv .2, c .before .before .before .before .before .before .before .before .before .before .before .before .before .before .before .before .before .before .before .before .before .before .before .before .before .before .before .pre .3)
+same-length-4 c = c .before .before .before .before .sums .given ∙ c .before .before .before .before .before .before .before .before .before .before .before .before .before .before .before .before .before .loop .inv .2 ∙ sym (c .before .before .before .before .before .before .before .before .before .before .before .before .before .before .before .before .before .before .before .before .before .before .before .before .before .before .before .pre .3)
 
 returns : tie.Need-returns Inv-loop μ-loop
 returns c =
     let a = c .before .before .before .before .before .before .before .before .before .before .before .before .before .before .before .before .before .before .before .before .before .before .before .before .before .before .before .args in
     let l = c .before .before .before .before .before .before .before .before .before .before .before .before .before .before .before .before .before .loop in
+    let r = c .before .before .before .before .before .before .before .before .before .before .before .correct-once .ensures in
     let s = paramsOf (a .d) in
     let ws = words s (listsOf (a .d) (a .own .now) (a .parity .now)) (a .blocks) in
-    let f = frameOf (a .info .now) (a .red .now) in
-    (rounds-idle s ws (runRounds s ws (a .limit) f) (a .limit) (l .k) (l .flips) (frameOf (l .info) (l .red)) (l .inv .5) (omega arith) _ (c .before .before .before .before .before .before .before .before .before .before .before .correct-once .ensures .0) (c .if1 .taken), (λ e. c .before .before .before .before .before .before .before .before .before .before .before .correct-once .ensures .1 (c .if1 .taken)), omega (arith, c .before .before .before .before .before .before .before .before .before .before .before .correct-once .ensures .2, l .inv .1, c .before .before .before .before .before .before .before .before .before .before .before .before .before .before .before .before .before .before .before .before .before .before .before .before .before .before .before .pre .2))
+    let f = frameOf (a .info .now) (a .red .now) in (
+      rounds-idle s ws (runRounds s ws (a .limit) f) (a .limit) (l .k) (l .flips) (frameOf (l .info) (l .red)) (l .inv .5) (omega arith) _ (r .0) (c .if1 .taken),
+      λ e. r .1 (c .if1 .taken),
+      c .before .before .before .before .before .before .work .given ∙ l .inv .1 ∙ sym (c .before .before .before .before .before .before .before .before .before .before .before .before .before .before .before .before .before .before .before .before .before .before .before .before .before .before .before .pre .2),
+    )
 
 add-k : tie.Need-add-k Inv-loop μ-loop
-add-k c =
-    omega (arith, c .before .before .before .before .before .before .before .before .before .before .before .before .before .before .before .before .before .before .before .before .before .before .before .before .before .before .before .pre .4)
+add-k c = omega (arith, c .before .before .before .before .before .before .before .before .before .before .before .before .before .before .before .before .before .before .before .before .before .before .before .before .before .before .before .pre .4)
 
 loop-less : tie.Need-loop-less Inv-loop μ-loop
 loop-less c = omega arith
@@ -87,34 +72,29 @@ loop-again : tie.Need-loop-again Inv-loop μ-loop
 loop-again c =
     let a = c .before .before .before .before .before .before .before .before .before .before .before .before .before .before .before .before .before .before .before .before .before .before .before .before .before .before .before .args in
     let l = c .before .before .before .before .before .before .before .before .before .before .before .before .before .before .before .before .before .loop in
+    let r = c .before .before .before .before .before .before .before .before .before .before .before .correct-once .ensures in
     let s = paramsOf (a .d) in
     let ws = words s (listsOf (a .d) (a .own .now) (a .parity .now)) (a .blocks) in
-    let f = frameOf (a .info .now) (a .red .now) in
-    let g = c .before .before .before .before .before .before .before .before .before .before .before .before .before .before .before .before .before .before .before .before .before .before .before .before .before .before .before .pre .0 .group 0 (omega (arith, c .before .before .before .before .before .before .before .before .before .before .before .before .before .before .before .before .before .before .before .before .before .before .before .before .before .before .before .pre .0 .some-blocks)) in
-    let more = words-few s (listsOf (a .d) (a .own .now) (a .parity .now)) (a .blocks) (frameOf (l .info) (l .red)) _ (g .allowed .t-high) (g .allowed .M-high) (c .before .before .before .before .before .before .before .before .before .before .before .before .before .before .before .before .before .before .before .before .before .before .before .before .before .before .before .pre .0 .few-blocks) (c .before .before .before .before .before .before .before .before .before .before .before .correct-once .ensures .0) in (
+    let f = frameOf (a .info .now) (a .red .now) in (
       omega arith,
-      c .before .before .before .before .before .before .before .before .before .before .before .correct-once .ensures .2 ∙ l .inv .1,
-      c .before .before .before .before .before .before .before .before .before .before .before .correct-once .ensures .3 ∙ l .inv .2,
-      kept-fits ws (l .inv .3) (ap (λ (y : Progress). y .frame) (c .before .before .before .before .before .before .before .before .before .before .before .correct-once .ensures .0)),
-      omega (arith, more, l .inv .4),
-      rounds-more s ws (runRounds s ws (a .limit) f) (a .limit) (l .k) (l .flips) (frameOf (l .info) (l .red)) (l .inv .5) (omega arith) _ (c .before .before .before .before .before .before .before .before .before .before .before .correct-once .ensures .0) (c .if1 .left),
+      c .before .before .before .before .before .before .work .given ∙ l .inv .1,
+      c .before .before .before .before .sums .given ∙ l .inv .2,
+      r .3,
+      omega (arith, r .2, l .inv .4),
+      rounds-more s ws (runRounds s ws (a .limit) f) (a .limit) (l .k) (l .flips) (frameOf (l .info) (l .red)) (l .inv .5) (omega arith) _ (r .0) (c .if1 .left),
     )
 
 same-length-5 : tie.Need-same-length-5 Inv-loop μ-loop
-same-length-5 c =
-    omega (arith, c .before .loop .inv .3 .infoLength, c .before .before .before .before .before .before .before .before .before .before .before .pre .1 .infoLength)
+same-length-5 c = c .before .loop .inv .3 .infoLength ∙ sym (c .before .before .before .before .before .before .before .before .before .before .before .pre .1 .infoLength)
 
 same-length-6 : tie.Need-same-length-6 Inv-loop μ-loop
-same-length-6 c =
-    omega (arith, c .before .loop .inv .3 .redLength, c .before .before .before .before .before .before .before .before .before .before .before .pre .1 .redLength)
+same-length-6 c = c .before .loop .inv .3 .redLength ∙ sym (c .before .before .before .before .before .before .before .before .before .before .before .pre .1 .redLength)
 
 same-length-7 : tie.Need-same-length-7 Inv-loop μ-loop
-same-length-7 c =
-    omega (arith, c .before .loop .inv .1, c .before .before .before .before .before .before .before .before .before .before .before .pre .2)
+same-length-7 c = c .before .loop .inv .1 ∙ sym (c .before .before .before .before .before .before .before .before .before .before .before .pre .2)
 
 same-length-8 : tie.Need-same-length-8 Inv-loop μ-loop
-same-length-8 c =
-    omega (arith, c .before .loop .inv .2, c .before .before .before .before .before .before .before .before .before .before .before .pre .3)
+same-length-8 c = c .before .loop .inv .2 ∙ sym (c .before .before .before .before .before .before .before .before .before .before .before .pre .3)
 
 returns-2 : tie.Need-returns-2 Inv-loop μ-loop
 returns-2 c =
@@ -124,7 +104,7 @@ returns-2 c =
     let ws = words s (listsOf (a .d) (a .own .now) (a .parity .now)) (a .blocks) in
     let f = frameOf (a .info .now) (a .red .now) in
     let e : l .k ≡ a .limit = omega arith in
-    (rounds-end s ws (runRounds s ws (a .limit) f) (a .limit) (l .k) (l .flips) (frameOf (l .info) (l .red)) (l .inv .5) e, (λ q. absurd (true≢false (sym q))), omega (arith, l .inv .1, c .before .before .before .before .before .before .before .before .before .before .before .pre .2))
+    (rounds-end s ws (runRounds s ws (a .limit) f) (a .limit) (l .k) (l .flips) (frameOf (l .info) (l .red)) (l .inv .5) e, (λ q. absurd (true≢false (sym q))), l .inv .1 ∙ sym (c .before .before .before .before .before .before .before .before .before .before .before .pre .2))
 
 pub run-rounds-spec : {M : Type 1} → statement M
 run-rounds-spec =

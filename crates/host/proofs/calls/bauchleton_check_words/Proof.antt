@@ -1,7 +1,10 @@
 -- The word checker's answer as the host is told it.
 -- Assumes nothing.
 use borrow.Author.Needs.{needs}
-use Rattle.host.proofs.Answers.{words-told}
+use Rattle.staircase.specs.Calls.{Counted}
+use Rattle.answers.specs.Number.{number}
+use Rattle.answers.proofs.Stores.{told-alike}
+use Rattle.host.specs.Answers.{wordsAnswer}
 use Rattle.host.proofs.calls.bauchleton_check_words.Statement.{statement}
 use Rattle.host.proofs.calls.bauchleton_check_words.Tie as tie
 
@@ -18,7 +21,7 @@ same-length-2 : tie.Need-same-length-2
 same-length-2 c = search needs
 
 returns : tie.Need-returns
-returns c = words-told (c .before .before .before .before .before .before .before .before .before .before .before .before .before .before .args .answer .now) (c .before .before .before .before .before .before .check-words .ensures) (c .before .before .tell-words .ensures)
+returns c = told-alike (λ (z : Counted). number (z .verdict)) wordsAnswer (c .before .before .before .before .before .before .before .before .before .before .before .before .before .before .args .answer .now) (c .before .before .before .before .before .before .check-words .ensures) (c .before .before .tell-words .ensures)
 
 pub bauchleton-check-words-spec : {M : Type 1} → statement M
 bauchleton-check-words-spec =

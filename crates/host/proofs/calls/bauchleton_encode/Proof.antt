@@ -1,18 +1,18 @@
 -- The encoder's verdict as the host is told it, and the redundancy that it leaves.
 -- Assumes nothing.
 use borrow.Author.Needs.{needs}
-use Rattle.host.proofs.Answers.{place-told}
+use mathlib.Core.List.{[], _∷_}
+use Rattle.staircase.specs.Rules.{Verdict}
+use Rattle.answers.specs.Number.{number, placeOf}
+use Rattle.answers.proofs.Stores.{told-alike}
 use Rattle.host.proofs.calls.bauchleton_encode.Statement.{statement}
 use Rattle.host.proofs.calls.bauchleton_encode.Tie as tie
 
 encode-requires : tie.Need-encode-requires
 encode-requires c κs = tt
 
-of-check-requires : tie.Need-of-check-requires
-of-check-requires c κs = tt
-
-tell-place-requires : tie.Need-tell-place-requires
-tell-place-requires c κs = tt
+tell-check-requires : tie.Need-tell-check-requires
+tell-check-requires c κs = tt
 
 same-length : tie.Need-same-length
 same-length c = search needs
@@ -25,16 +25,15 @@ same-length-3 c = search needs
 
 returns : tie.Need-returns
 returns c =
-    let t = place-told (c .before .before .before .before .before .before .before .before .before .before .before .before .before .before .before .before .before .before .before .args .answer .now) _ _ (c .before .before .before .before .of-check .ensures) (c .before .before .before .before .before .before .before .before .before .encode .ensures .0) (c .before .before .tell-place .ensures) in
-    (t .0, c .before .before .before .before .before .before .before .before .before .encode .ensures .1, t .1)
+    let t = told-alike number (λ (v : Verdict). placeOf v ∷ []) (c .before .before .before .before .before .before .before .before .before .before .before .before .before .before .before .before .before .before .args .answer .now) (c .before .before .before .before .before .before .before .before .encode .ensures .0) (c .before .before .tell-check .ensures) in
+    (t .0, c .before .before .before .before .before .before .before .before .encode .ensures .1, t .1)
 
 pub bauchleton-encode-spec : {M : Type 1} → statement M
 bauchleton-encode-spec =
     tie.close
     (tie.spec
     encode-requires
-    of-check-requires
-    tell-place-requires
+    tell-check-requires
     same-length
     same-length-2
     same-length-3

@@ -5,7 +5,7 @@ use mathlib.Core.Path.{ap, _∙_}
 use mathlib.Core.List.{List, [], _∷_}
 use Prim.Native.Nat.{ℕ}
 use Rattle.answers.specs.Number.{told}
-use Rattle.answers.specs.declared.Judged.{Judged}
+use Rattle.answers.proofs.Stores.{judged-told}
 use Rattle.host.proofs.Answers.{design-made, design-refused}
 use Rattle.host.proofs.kits.bauchleton_design.Statement.{statement}
 use Rattle.host.proofs.kits.bauchleton_design.Tie as tie
@@ -54,11 +54,9 @@ same-length-2 c = search needs
 returns-2 : tie.Need-returns-2
 returns-2 c =
     let a = c .before .before .before .before .before .before .before .before .before .before .args in
-    let j = c .before .before .before .before .of-refusal .ensures in
-    let q = design-refused _ (c .before .before .before .before .before .before .r2 .given .0 .0) (a .m) (a .t) (a .size) (c .before .before .before .before .before .before .r2 .given .1) (c .before .before .before .before .before .before .before .before .new .ensures .0) in (
-      c .before .before .tell-four2 .ensures .0 ∙ ap (λ (x : Judged). x .rule) j ∙ q .0,
-      c .before .before .tell-four2 .ensures .1 ∙ ap (λ (x : Judged). told (x .place ∷ 0 ∷ 0 ∷ 0 ∷ []) (a .answer .now)) j ∙ ap (λ (l : List ℕ). told l (a .answer .now)) (q .1),
-    )
+    let t = judged-told (0 ∷ 0 ∷ 0 ∷ []) (a .answer .now) _ (c .before .before .before .before .of-refusal .ensures) (c .before .before .tell-four2 .ensures) in
+    let q = design-refused _ (c .before .before .before .before .before .before .r2 .given .0 .0) (a .m) (a .t) (a .size) (c .before .before .before .before .before .before .r2 .given .1) (c .before .before .before .before .before .before .before .before .new .ensures .0) in
+    (t .0 ∙ q .0, t .1 ∙ ap (λ (l : List ℕ). told l (a .answer .now)) (q .1))
 
 pub bauchleton-design-spec : {M : Type 1} → statement M
 bauchleton-design-spec =

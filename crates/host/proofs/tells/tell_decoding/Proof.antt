@@ -1,16 +1,16 @@
 -- Each case by its definition.
 -- Assumes nothing.
 use borrow.Author.Needs.{needs}
-use mathlib.Core.Path.{sym, ap, _∙_}
+use mathlib.Core.Path.{sym}
 use mathlib.Core.List.{[], _∷_}
 use Rattle.staircase.specs.Frame.{Frame}
 use Rattle.decoder.specs.declared.Decoding.{Decoding}
 use Rattle.decoder.specs.Answers.{correctedOf}
-use Rattle.answers.specs.Number.{number, placeOf, told}
+use Rattle.answers.specs.Number.{number, placeOf}
 use Rattle.host.specs.Answers.{correctedAnswer}
-use Rattle.answers.specs.declared.Judged.{Judged}
-use Rattle.host.proofs.calls.tell_decoding.Statement.{statement}
-use Rattle.host.proofs.calls.tell_decoding.Tie as tie
+use Rattle.answers.proofs.Stores.{told-alike, judged-told}
+use Rattle.host.proofs.tells.tell_decoding.Statement.{statement}
+use Rattle.host.proofs.tells.tell_decoding.Tie as tie
 
 enum-known-a : tie.Need-enum-known-a
 enum-known-a c = search needs
@@ -33,12 +33,8 @@ same-length c = search needs
 returns : tie.Need-returns
 unfolding number placeOf correctedOf
 returns c =
-    let e = c .before .before .before .before .before .a .given .1 in
     let l = c .before .before .before .before .before .before .before .before .args .answer .now in
-    λ (f : Frame). (
-      c .before .before .tell-four .ensures .0 ∙ sym (ap (λ (x : Decoding). number (correctedOf x f .verdict)) e),
-      c .before .before .tell-four .ensures .1 ∙ sym (ap (λ (x : Decoding). told (correctedAnswer (correctedOf x f)) l) e),
-    )
+    λ (f : Frame). told-alike (λ (x : Decoding). number (correctedOf x f .verdict)) (λ (x : Decoding). correctedAnswer (correctedOf x f)) l (sym (c .before .before .before .before .before .a .given .1)) (c .before .before .tell-four .ensures)
 
 same-length-2 : tie.Need-same-length-2
 same-length-2 c = search needs
@@ -46,13 +42,9 @@ same-length-2 c = search needs
 returns-2 : tie.Need-returns-2
 unfolding correctedOf
 returns-2 c =
-    let e = c .before .before .before .before .before .before .a2 .given .1 in
-    let j = c .before .before .before .before .of-refusal .ensures in
     let l = c .before .before .before .before .before .before .before .before .before .args .answer .now in
-    λ (f : Frame). (
-      c .before .before .tell-four2 .ensures .0 ∙ ap (λ (x : Judged). x .rule) j ∙ sym (ap (λ (x : Decoding). number (correctedOf x f .verdict)) e),
-      c .before .before .tell-four2 .ensures .1 ∙ ap (λ (x : Judged). told (x .place ∷ 0 ∷ 0 ∷ 0 ∷ []) l) j ∙ sym (ap (λ (x : Decoding). told (correctedAnswer (correctedOf x f)) l) e),
-    )
+    λ (f : Frame). told-alike (λ (x : Decoding). number (correctedOf x f .verdict)) (λ (x : Decoding). correctedAnswer (correctedOf x f)) l (sym (c .before .before .before .before .before .before .a2 .given .1))
+    (judged-told (0 ∷ 0 ∷ 0 ∷ []) l _ (c .before .before .before .before .of-refusal .ensures) (c .before .before .tell-four2 .ensures))
 
 pub tell-decoding-spec : {M : Type 1} → statement M
 tell-decoding-spec =

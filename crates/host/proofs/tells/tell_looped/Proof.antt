@@ -1,16 +1,15 @@
 -- Each case by its definition.
 -- Assumes nothing.
 use borrow.Author.Needs.{needs}
-use mathlib.Core.Path.{sym, ap, _∙_}
+use mathlib.Core.Path.{sym}
 use mathlib.Core.List.{[], _∷_}
 use Rattle.staircase.specs.Frame.{Frame}
 use Rattle.loopback.specs.declared.Looped.{Looped}
 use Rattle.loopback.specs.Link.{resultOf}
-use Rattle.answers.specs.Number.{told}
 use Rattle.host.specs.Answers.{outcomeNumber, outcomeAnswer}
-use Rattle.answers.specs.declared.Judged.{Judged}
-use Rattle.host.proofs.calls.tell_looped.Statement.{statement}
-use Rattle.host.proofs.calls.tell_looped.Tie as tie
+use Rattle.answers.proofs.Stores.{told-alike, judged-told}
+use Rattle.host.proofs.tells.tell_looped.Statement.{statement}
+use Rattle.host.proofs.tells.tell_looped.Tie as tie
 
 enum-known-a : tie.Need-enum-known-a
 enum-known-a c = search needs
@@ -42,13 +41,9 @@ same-length c = search needs
 returns : tie.Need-returns
 unfolding resultOf outcomeNumber outcomeAnswer
 returns c =
-    let e = c .before .before .before .before .before .before .a .given .1 in
-    let j = c .before .before .before .before .of-refusal .ensures in
     let l = c .before .before .before .before .before .before .before .before .before .args .answer .now in
-    λ (f : Frame). (
-      c .before .before .tell-five .ensures .0 ∙ ap (λ (x : Judged). x .rule) j ∙ sym (ap (λ (x : Looped). outcomeNumber (resultOf x f .outcome)) e),
-      c .before .before .tell-five .ensures .1 ∙ ap (λ (x : Judged). told (x .place ∷ 1 ∷ 0 ∷ 0 ∷ 0 ∷ []) l) j ∙ sym (ap (λ (x : Looped). told (outcomeAnswer (resultOf x f .outcome)) l) e),
-    )
+    λ (f : Frame). told-alike (λ (x : Looped). outcomeNumber (resultOf x f .outcome)) (λ (x : Looped). outcomeAnswer (resultOf x f .outcome)) l (sym (c .before .before .before .before .before .before .a .given .1))
+    (judged-told (1 ∷ 0 ∷ 0 ∷ 0 ∷ []) l _ (c .before .before .before .before .of-refusal .ensures) (c .before .before .tell-five .ensures))
 
 same-length-2 : tie.Need-same-length-2
 same-length-2 c = search needs
@@ -56,13 +51,9 @@ same-length-2 c = search needs
 returns-2 : tie.Need-returns-2
 unfolding resultOf outcomeNumber outcomeAnswer
 returns-2 c =
-    let e = c .before .before .before .before .before .before .a2 .given .1 in
-    let j = c .before .before .before .before .of-refusal2 .ensures in
     let l = c .before .before .before .before .before .before .before .before .before .args .answer .now in
-    λ (f : Frame). (
-      c .before .before .tell-five2 .ensures .0 ∙ ap (λ (x : Judged). x .rule) j ∙ sym (ap (λ (x : Looped). outcomeNumber (resultOf x f .outcome)) e),
-      c .before .before .tell-five2 .ensures .1 ∙ ap (λ (x : Judged). told (x .place ∷ 2 ∷ 0 ∷ 0 ∷ 0 ∷ []) l) j ∙ sym (ap (λ (x : Looped). told (outcomeAnswer (resultOf x f .outcome)) l) e),
-    )
+    λ (f : Frame). told-alike (λ (x : Looped). outcomeNumber (resultOf x f .outcome)) (λ (x : Looped). outcomeAnswer (resultOf x f .outcome)) l (sym (c .before .before .before .before .before .before .a2 .given .1))
+    (judged-told (2 ∷ 0 ∷ 0 ∷ 0 ∷ []) l _ (c .before .before .before .before .of-refusal2 .ensures) (c .before .before .tell-five2 .ensures))
 
 same-length-3 : tie.Need-same-length-3
 same-length-3 c = search needs
@@ -70,12 +61,9 @@ same-length-3 c = search needs
 returns-3 : tie.Need-returns-3
 unfolding resultOf outcomeNumber outcomeAnswer
 returns-3 c =
-    let e = c .before .before .before .before .before .a3 .given .1 in
     let l = c .before .before .before .before .before .before .before .before .args .answer .now in
-    λ (f : Frame). (
-      c .before .before .tell-five3 .ensures .0 ∙ sym (ap (λ (x : Looped). outcomeNumber (resultOf x f .outcome)) e),
-      c .before .before .tell-five3 .ensures .1 ∙ sym (ap (λ (x : Looped). told (outcomeAnswer (resultOf x f .outcome)) l) e),
-    )
+    λ (f : Frame). told-alike (λ (x : Looped). outcomeNumber (resultOf x f .outcome)) (λ (x : Looped). outcomeAnswer (resultOf x f .outcome)) l (sym (c .before .before .before .before .before .a3 .given .1))
+    (c .before .before .tell-five3 .ensures)
 
 pub tell-looped-spec : {M : Type 1} → statement M
 tell-looped-spec =
