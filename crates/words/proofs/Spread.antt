@@ -1,18 +1,36 @@
--- Bytes that a list brings into another order.
---   spread-length, spread-bits   as many as the list has entries, and bits where they were
---   spread-sum                   sums over their columns
+-- Sums over columns of bits, from the slices that code has.
+--   columns-added                a part of the table, at the ones of columns that stand in a slice
+--   spread-length, spread-bits   bytes that a list brings into another order: as many as it has entries, and bits where they were
+--   spread-added                 a part of the table, at the ones of their columns
 -- Assumes nothing.
-use mathlib.Core.Path.{_≡_, ap, _∙_, subst⁻¹}
+use mathlib.Core.Path.{_≡_, refl, ap, _∙_, subst⁻¹}
 use mathlib.Core.List.{List}
-use Prim.Native.Nat.{ℕ, _+_, _*_, _<_}
+use Prim.Native.Nat.{ℕ, _+_, _-_, _*_, _≤_, _<_}
+use native.Mathlib.Nat.{zero-add}
 use native.Mathlib.Omega.{arith}
 use lib.Arith.{digits-lt}
-use lib.ListN.{length, getD}
-use Rattle.bch.specs.Polynomial.{Bits}
+use lib.ListN.{length, getD, take, drop}
+use Rattle.bch.specs.Polynomial.{Bits, _⊕_}
 use Rattle.bch.specs.Powers.{xorSum}
-use Rattle.bch.proofs.PowerSum.{xorSum-same}
 use Rattle.staircase.specs.Lists.{tabulate}
 use Rattle.staircase.proofs.System.{tabulate-length, tabulate-at, tabulate-bits}
+use Rattle.remainders.proofs.Rows.{row-at}
+use Rattle.blocks.proofs.Sums.{Adds, part-sum}
+use Rattle.words.specs.Words.{PartAdded}
+use Rattle.words.proofs.Remainders.{part-same}
+
+pub columns-added : (bits table old new : List ℕ) (at from r : ℕ) → from + r ≤ length table
+    → Adds (take (from + r - from) (drop from table)) (λ w v a j. getD (take (at + r * length old - at) (drop at bits)) (j * w + a) 0) old new
+    → PartAdded table from r (λ w a j. getD bits (at + (j * w + a)) 0) old new
+columns-added bits table old new at from r inside added =
+    let w : ℕ = length old in
+    let block : List ℕ = take (at + r * w - at) (drop at bits) in (
+      added .0,
+      λ a h. added .1 a h
+          ∙ ap (λ (x : ℕ). getD old a 0 ⊕ x)
+          (part-sum table from (from + r) r refl inside (λ v j. getD block (j * w + a) 0)
+          ∙ part-same table from r (λ j. getD block (j * w + a) 0) (λ j. getD bits (at + (j * w + a)) 0) (λ j l. row-at bits at (r * w) (j * w + a) (digits-lt l h))),
+    )
 
 module _ (spread bits : List ℕ) (n : ℕ) (at : ℕ → ℕ) (made : spread ≡ tabulate n (λ p. getD bits (at p) 0)) where
   pub spread-bits : Bits bits → Bits spread
@@ -21,10 +39,14 @@ module _ (spread bits : List ℕ) (n : ℕ) (at : ℕ → ℕ) (made : spread �
   pub spread-length : length spread ≡ n
   spread-length = ap length made ∙ tabulate-length n (λ p. getD bits (at p) 0)
 
-  -- rows of w bytes, one for each entry of a part of the table
-  pub spread-sum : (part : List ℕ) (w a : ℕ) → n ≡ length part * w → a < w
-      → xorSum (length part) (λ j. getD spread (j * w + a) 0 * getD part j 0) ≡ xorSum (length part) (λ j. getD bits (at (j * w + a)) 0 * getD part j 0)
-  spread-sum part w a e h =
-      xorSum-same (length part) (λ j. getD spread (j * w + a) 0 * getD part j 0) (λ j. getD bits (at (j * w + a)) 0 * getD part j 0)
-      (λ j l. ap (λ (b : ℕ). b * getD part j 0)
-      (ap (λ (t : List ℕ). getD t (j * w + a) 0) made ∙ tabulate-at n (λ p. getD bits (at p) 0) 0 (j * w + a) (omega (arith, e, digits-lt l h))))
+  pub spread-added : (table old new : List ℕ) (from r : ℕ) → n ≡ r * length old → PartAdded table from r (λ w a j. getD spread (0 + (j * w + a)) 0) old new
+      → PartAdded table from r (λ w a j. getD bits (at (j * w + a)) 0) old new
+  spread-added table old new from r e added =
+      let w : ℕ = length old in (
+        added .0,
+        λ a h. added .1 a h
+            ∙ ap (λ (x : ℕ). getD old a 0 ⊕ x)
+            (part-same table from r (λ j. getD spread (0 + (j * w + a)) 0) (λ j. getD bits (at (j * w + a)) 0)
+            (λ j l. ap (λ (k : ℕ). getD spread k 0) (zero-add (j * w + a)) ∙ ap (λ (t : List ℕ). getD t (j * w + a) 0) made
+            ∙ tabulate-at n (λ p. getD bits (at p) 0) 0 (j * w + a) (omega (arith, e, digits-lt l h)))),
+      )
