@@ -14,7 +14,6 @@ use Prim.Native.Nat.{ℕ, _+_, _*_, _≤_, _<_}
 use native.Mathlib.Nat.{mul-comm}
 use native.Mathlib.Omega.{arith}
 use lib.ListN.{length, getD}
-use lib.Seq.{ext-getD}
 use Rattle.bch.specs.Polynomial.{Bits, _⊕_, remainder}
 use Rattle.staircase.specs.Lists.{tabulate}
 use Rattle.staircase.specs.Design.{Params, Interleavers}
@@ -22,14 +21,15 @@ use Rattle.staircase.specs.System.{Contents}
 use Rattle.staircase.specs.Frame.{groups, rowSites, columnSites, read, frameOf}
 use Rattle.staircase.specs.Rules.{entries}
 use Rattle.staircase.proofs.Fill.{stretch-end}
-use Rattle.staircase.proofs.System.{Proper, tabulate-length, tabulate-at, tabulate-same}
+use Rattle.staircase.proofs.System.{Proper, tabulate-same}
 use Rattle.design.specs.declared.Design.{Design}
 use Rattle.design.specs.Sizes.{paramsOf, orderOf, listsOf}
 use Rattle.design.proofs.Generator.{proper-of}
-use Rattle.blocks.specs.Blocks.{sent, blockBytes, sentBit, partSum, columnSum, rowSum}
+use Rattle.blocks.specs.Blocks.{sent, blockBytes, sentBit, partSum, columnSum, rowSum, PartAdded}
 use Rattle.blocks.proofs.Blocks.{sent-odd, block-fits, block-is, odd-is}
+use Rattle.blocks.proofs.Sums.{added-twice}
 use Rattle.rules.specs.Received.{Received}
-use Rattle.words.specs.Words.{rowRemainders, columnRemainders, blockRows, blockColumns, WordTable, BlocksLent, Sends, PartAdded}
+use Rattle.words.specs.Words.{rowRemainders, columnRemainders, blockRows, blockColumns, WordTable, BlocksLent, Sends}
 use Rattle.words.proofs.Remainders.{row-is, column-is}
 
 -- ---- the blocks
@@ -51,23 +51,6 @@ module _ (L size : ℕ) (info table : List ℕ) where
     columns-of-blocks even has ee se = rw (eo, ee, se)
 
 -- ---- a group of a frame that was received
-
--- two parts added, one after the other
-added-twice : (table : List ℕ) (from end r n : ℕ) (f : ℕ → ℕ) (u v : ℕ → ℕ → ℕ → ℕ) (one two three : List ℕ) → one ≡ tabulate n f
-    → PartAdded table from r u one two → PartAdded table end r v two three
-    → three ≡ tabulate n (λ a. f a ⊕ partSum table from r (u n a) ⊕ partSum table end r (v n a))
-added-twice table from end r n f u v one two three e first second =
-    let g : ℕ → ℕ = λ a. f a ⊕ partSum table from r (u n a) ⊕ partSum table end r (v n a) in
-    let wide : length one ≡ n = ap length e ∙ tabulate-length n f in
-    let all : length three ≡ n = second .0 ∙ first .0 ∙ wide in
-    ext-getD 0 three (tabulate n g) (all ∙ sym (tabulate-length n g))
-    (λ a m. let la : a < n = omega (arith, all) in
-    second .1 a (omega (arith, first .0, wide))
-    ∙ ap₂ (λ (x k : ℕ). x ⊕ partSum table end r (v k a))
-    (first .1 a (omega (arith, wide))
-    ∙ ap₂ (λ (x k : ℕ). x ⊕ partSum table from r (u k a)) (ap (λ (t : List ℕ). getD t a 0) e ∙ tabulate-at n f 0 a la) wide)
-    (first .0 ∙ wide)
-    ∙ sym (tabulate-at n g 0 a la))
 
 pub order-is : (d : Design) {q w n : ℕ} → q ≡ d .m * d .t → w ≡ d .size → n ≡ orderOf d → n ≡ q * w
 order-is d eq ew en = en ∙ mul-comm (d .size) (d .m * d .t) ∙ ap₂ _*_ (sym eq) (sym ew)
@@ -125,7 +108,7 @@ module _ {d : Design} {L : ℕ} {own parity info red : List ℕ} (R : Received d
         let odd : Contents = λ k. getD (blockBytes L (M * M) info (2 * i + 1)) k 0 in
         let u : ℕ → ℕ → ℕ → ℕ = λ w a j. getD red (i * (2 * n) + getD (entries n own) (j * w + a) 0) 0 in
         let v : ℕ → ℕ → ℕ → ℕ = λ w a j. getD red (i * (2 * n) + n + getD (entries n parity) (j * w + a) 0) 0 in
-        added-twice table (2 * M) (2 * M + r) r M (rowSum table M before odd) u v one two three e first second
+        added-twice table (2 * M) (2 * M + r) r r M (rowSum table M before odd) u v one two three e first second
         ∙ tabulate-same M (λ a. rowSum table M before odd a ⊕ partSum table (2 * M) r (u M a) ⊕ partSum table (2 * M + r) r (v M a))
         (λ a. remainder (s .g) (s .r) (read (frameOf info red) (rowSites s l L i a)))
         (λ a m. row-is s table T l L ok (R .lists .ownPermutes) (R .lists .parityPermutes) info red (R .frame .infoBits) (R .frame .redBits) i a m before odd
@@ -152,7 +135,7 @@ module _ {d : Design} {L : ℕ} {own parity info red : List ℕ} (R : Received d
         let even : Contents = sentBit (sent L (2 * i + 2)) (blockBytes L (M * M) info (2 * i + 2)) in
         let u : ℕ → ℕ → ℕ → ℕ = λ w a j. getD red (i * (2 * n) + (j * w + a)) 0 in
         let v : ℕ → ℕ → ℕ → ℕ = λ w a j. getD red (i * (2 * n) + n + (j * w + a)) 0 in
-        added-twice table (2 * M) (2 * M + r) r M (columnSum table M odd even) u v one two three e first second
+        added-twice table (2 * M) (2 * M + r) r r M (columnSum table M odd even) u v one two three e first second
         ∙ tabulate-same M (λ a. columnSum table M odd even a ⊕ partSum table (2 * M) r (u M a) ⊕ partSum table (2 * M + r) r (v M a))
         (λ a. remainder (s .g) (s .r) (read (frameOf info red) (columnSites s L i a)))
         (λ a m. column-is s table T l L ok (R .lists .ownPermutes) (R .lists .parityPermutes) info red (R .frame .infoBits) (R .frame .redBits) i a m odd even

@@ -1,6 +1,5 @@
 -- The remainder of a word of a group as sums of entries of the table of powers of x, one for each of its four stretches.
 --   word-sum            a word of M, M, r and r bits
---   part-same           a sum over bits that agree
 --   row-is, column-is   a row word and a column word of a frame
 -- Assumes nothing.
 use mathlib.Core.Path.{_≡_, refl, sym, ap, ap₂, _∙_}
@@ -24,6 +23,7 @@ use Rattle.staircase.specs.Demand2.{Permutes}
 use Rattle.staircase.proofs.System.{Proper, Binary, tabulate-length, tabulate-at, tabulate-bits}
 use Rattle.staircase.proofs.Redundancy.{block-binary, read-row, read-column}
 use Rattle.blocks.specs.Blocks.{partSum, columnSum, rowSum, Powers}
+use Rattle.blocks.proofs.Sums.{part-same}
 use Rattle.blocks.proofs.Link.{SameBlock}
 
 -- ---- sums over a word, by any weights of its positions
@@ -48,11 +48,6 @@ weights-behind : (X : ℕ → ℕ) (u : List ℕ) (from n : ℕ) (f : ℕ → �
 weights-behind X u from n f e = weights-tabulate (λ j. X (length u + j)) n f ∙ ap (λ (z : ℕ). xorSum n (λ j. f j * X (z + j))) e
 
 -- ---- a word of a group
-
-pub part-same : (table : List ℕ) (from w : ℕ) (b c : ℕ → ℕ) → ((j : ℕ) → j < w → b j ≡ c j) → partSum table from w b ≡ partSum table from w c
-unfolding partSum
-part-same table from w b c same =
-    xorSum-same w (λ j. b j * getD table (from + j) 0) (λ j. c j * getD table (from + j) 0) (λ j l. ap (λ (x : ℕ). x * getD table (from + j) 0) (same j l))
 
 module _ (s : Params) (table : List ℕ) (P : Powers s table) where
   -- the sum of the table's entries at the ones of the four stretches

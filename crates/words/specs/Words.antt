@@ -6,7 +6,6 @@
 --   WordTable                          the table has the powers of x that the positions of a word carry
 --   BlocksLent                         what is asked of the information and of the table for the blocks
 --   Sends list n                       a list of n entries, each below n
---   PartAdded                          a sum for each word is added: of a part of the table, at the ones of the word's bits
 -- Assumes nothing.
 use mathlib.Core.Path.{_≡_}
 use mathlib.Core.Bool.{cond}
@@ -14,14 +13,14 @@ use mathlib.Core.List.{List, [], _∷_, _++_}
 use Prim.Native.Nat.{ℕ, _+_, _*_, _≤_, _<_}
 use lib.Dec.{eqb}
 use lib.ListN.{length, getD}
-use Rattle.bch.specs.Polynomial.{Bits, _⊕_, remainder}
+use Rattle.bch.specs.Polynomial.{Bits, remainder}
 use Rattle.staircase.specs.Lists.{tabulate}
 use Rattle.staircase.specs.Design.{Params, Interleavers, most-blocks}
 use Rattle.staircase.specs.Frame.{Frame, Site, rowSites, columnSites, read}
 use Rattle.staircase.specs.Rules.{entries}
 use Rattle.design.specs.declared.Design.{Design}
 use Rattle.design.specs.Sizes.{paramsOf}
-use Rattle.blocks.specs.Blocks.{sent, blockBytes, sentBit, partSum, columnSum, rowSum, Powers}
+use Rattle.blocks.specs.Blocks.{sent, blockBytes, sentBit, columnSum, rowSum, Powers}
 
 -- "A codeword is a word that the generator divides": a word is outside the code where its remainder is not 0
 unfoldable pub rowRemainders : Params → Interleavers → ℕ → Frame → ℕ → List ℕ
@@ -62,8 +61,3 @@ pub record BlocksLent (L size : ℕ) (info table : List ℕ) : Type 0 where
 
 abbrev pub Sends : List ℕ → ℕ → Type 0
 Sends list n = (length list ≡ 2 * n) × ((p : ℕ) → p < n → getD (entries n list) p 0 < n)
-
--- `new` is `old` with the r entries of the table from entry `from` on added at the ones of b w a, for each word a of w
-abbrev pub PartAdded : List ℕ → ℕ → ℕ → (ℕ → ℕ → ℕ → ℕ) → List ℕ → List ℕ → Type 0
-PartAdded table from r b old new =
-    (length new ≡ length old) × ((a : ℕ) → a < length old → getD new a 0 ≡ getD old a 0 ⊕ partSum table from r (b (length old) a))

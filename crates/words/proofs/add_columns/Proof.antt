@@ -6,7 +6,7 @@ use Prim.Native.Nat.{ℕ, _+_, _-_, _*_}
 use native.Mathlib.Omega.{arith}
 use lib.ListN.{length}
 use Rattle.remainders.proofs.Rows.{row-length, row-bits}
-use Rattle.words.proofs.Spread.{columns-added}
+use Rattle.words.proofs.Columns.{columns-added}
 use Rattle.words.proofs.add_columns.Statement.{statement}
 use Rattle.words.proofs.add_columns.Tie as tie
 

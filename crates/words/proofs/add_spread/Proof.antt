@@ -5,7 +5,7 @@ use native.Mathlib.Omega.{arith}
 use Prim.Native.Nat.{_+_}
 use lib.ListN.{length, getD}
 use Rattle.staircase.specs.Rules.{entries}
-use Rattle.words.proofs.Spread.{spread-bits, spread-length, spread-added}
+use Rattle.words.proofs.Columns.{spread-bits, spread-length, spread-added}
 use Rattle.words.proofs.add_spread.Statement.{statement}
 use Rattle.words.proofs.add_spread.Tie as tie
 
