@@ -19,10 +19,10 @@ use Rattle.design.specs.declared.Design.{Design}
 use Rattle.design.specs.Sizes.{paramsOf, orderOf, listsOf}
 use Rattle.design.proofs.Generator.{proper-of}
 use Rattle.positions.proofs.Sizes.{r-small}
-use Rattle.frames.specs.Groups.{groupFrom, Ready, FrameFits}
+use Rattle.frames.specs.Groups.{groupFrom, Ready, Encodable}
 use Rattle.frames.proofs.Groups.{groups-are}
 
-module _ (d : Design) (L : ℕ) (parity inverse info red : List ℕ) (h : FrameFits d L parity inverse info red) (r : ℕ) (e : r ≡ d .m * d .t) (table sources : List ℕ)
+module _ (d : Design) (L : ℕ) (parity inverse info red : List ℕ) (h : Encodable d L parity inverse info red) (r : ℕ) (e : r ≡ d .m * d .t) (table sources : List ℕ)
     (long : length table ≡ wordLength (paramsOf d)) (wide : length sources ≡ orderOf d)
     (at : (q : ℕ) → q < orderOf d → getD sources q 0 ≡ preimage (entries (orderOf d) parity) (orderOf d) q) where
   ok : Proper (paramsOf d)
