@@ -45,7 +45,7 @@ constant-entry-requires c κs =
     let k = c .before .before .before .loop .k in
     let q = c .before .before .before .before .before .before .before .before .before .before .parity-bits in
     let e = stack-entry (a .size) (a .r) k (omega arith) (omega arith) in (
-      s .pre .0,
+      omega arith,
       omega (arith, s .pre .3, c .before .before .before .before .before .before .before .before .before .q .given),
       parity-binary (a .rows .now) (q .last .1 .1 .1 .0) (a .size) (a .r) (q .ensures),
       s .pre .2,
