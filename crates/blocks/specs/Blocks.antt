@@ -5,12 +5,14 @@
 --   sentBit, Sent              a bit of a block that may not be sent; what is asked of such a block
 --   partSum                    the sum of a part of the table at the ones of some bits
 --   columnSum, rowSum          the remainder of the blocks of column word a, of row word a
+--   bitPlace, blockSum         the place of a word's bit in a block, and both sums by whether it is a column word
+--   PartAdded                  a sum for each word is added: of a part of the table, at the ones of the word's bits
 --   Powers s table             the table has the powers of x that the positions of a word carry
 -- Assumes nothing.
 use mathlib.Core.Path.{_≡_}
 use mathlib.Core.Bool.{Bool, true, false, cond}
 use mathlib.Core.List.{List, []}
-use Prim.Native.Nat.{ℕ, zero, suc, _+_, _-_, _*_}
+use Prim.Native.Nat.{ℕ, zero, suc, _+_, _-_, _*_, _<_}
 use lib.Dec.{ltb}
 use lib.ListN.{length, getD, take, drop}
 use Rattle.bch.specs.Polynomial.{_⊕_, Bits}
@@ -45,6 +47,19 @@ columnSum table size odd even a = partSum table 0 size (λ j. odd (j * size + a)
 -- row a of the block before and of the odd one
 unfoldable pub rowSum : List ℕ → ℕ → Contents → Contents → ℕ → ℕ
 rowSum table size before odd a = partSum table 0 size (λ j. before (a * size + j)) ⊕ partSum table size size (λ j. odd (a * size + j))
+
+-- bit j of column a of a block of w columns, else of row a
+unfoldable pub bitPlace : Bool → ℕ → ℕ → ℕ → ℕ
+bitPlace column w a j = cond column (j * w + a) (a * w + j)
+
+unfoldable pub blockSum : Bool → List ℕ → ℕ → Contents → Contents → ℕ → ℕ
+blockSum column table size first second a =
+    partSum table 0 size (λ j. first (bitPlace column size a j)) ⊕ partSum table size size (λ j. second (bitPlace column size a j))
+
+-- `new` is `old` with the r entries of the table from entry `from` on added at the ones of b w a, for each word a of w
+abbrev pub PartAdded : List ℕ → ℕ → ℕ → (ℕ → ℕ → ℕ → ℕ) → List ℕ → List ℕ → Type 0
+PartAdded table from r b old new =
+    (length new ≡ length old) × ((a : ℕ) → a < length old → getD new a 0 ≡ getD old a 0 ⊕ partSum table from r (b (length old) a))
 
 pub record Powers (s : Params) (table : List ℕ) : Type 0 where
   pub long : length table ≡ wordLength s

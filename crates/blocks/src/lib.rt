@@ -12,7 +12,7 @@ ghost use lib.ListN.{length, getD};
 ghost use Rattle.bch.specs.Polynomial.{_⊕_, Bits};
 ghost use Rattle.bch.specs.Powers.{xorSum};
 ghost use Rattle.staircase.specs.Lists.{tabulate};
-ghost use Rattle.blocks.specs.Blocks.{sent, blockBytes, sentBit, Sent, columnSum, rowSum};
+ghost use Rattle.blocks.specs.Blocks.{sent, blockBytes, sentBit, Sent, columnSum, rowSum, bitPlace, blockSum, PartAdded};
 
 // Whether block b of a frame of `blocks` blocks is sent.
 pub fn is_sent(blocks: usize, b: usize) -> bool
@@ -52,30 +52,42 @@ fn add_dots(acc: &mut [u32], block: &[u8], part: &[u32])
     }
 }
 
-// Adds to each entry of `acc` the entries of `part` at the ones of its column of a block that may not be sent.
-fn add_sent_rows(acc: &mut [u32], block: &[u8], sent: bool, part: &[u32])
-    requires { ⌜ Sent sent (now block) (length (now part) * length (now acc)) ⌝ }
-    ensures { λ u. ⌜ (length (now (acc .exit)) ≡ length (now (acc .entry)))
-        × ((a : ℕ) → a < length (now (acc .entry)) → getD (now (acc .exit)) a 0 ≡ getD (now (acc .entry)) a 0
-        ⊕ xorSum (length (now (part .entry))) (λ j. sentBit sent (now (block .entry)) (j * length (now (acc .entry)) + a) * getD (now (part .entry)) j 0)) ⌝ }
+// Adds to each of `sums` the entries of the table from entry `from` on, as many as there are sums, at the ones of its column of a block where
+// `column` is true, else of its row. A block that is not sent adds nothing.
+fn add_block(sums: &mut [u32], block: &[u8], sent: bool, column: bool, table: &[u32], from: usize)
+    requires { ⌜ Sent sent (now block) (length (now sums) * length (now sums)) × (from + length (now sums) ≤ length (now table)) ⌝ }
+    ensures { λ u. ⌜ PartAdded (now (table .entry)) from (length (now (sums .entry)))
+        (λ w a j. sentBit sent (now (block .entry)) (bitPlace column w a j)) (now (sums .entry)) (now (sums .exit)) ⌝ }
 {
     if !sent {
         return;
     }
-    remainders::add_rows(acc, block, part);
+    let part = &table[from..from + sums.len()];
+    if column {
+        remainders::add_rows(sums, block, part);
+        return;
+    }
+    add_dots(sums, block, part);
 }
 
-// Adds to each entry of `acc` the entries of `part` at the ones of its row of a block that may not be sent.
-fn add_sent_dots(acc: &mut [u32], block: &[u8], sent: bool, part: &[u32])
-    requires { ⌜ Sent sent (now block) (length (now acc) * length (now part)) ⌝ }
-    ensures { λ u. ⌜ (length (now (acc .exit)) ≡ length (now (acc .entry)))
-        × ((a : ℕ) → a < length (now (acc .entry)) → getD (now (acc .exit)) a 0 ≡ getD (now (acc .entry)) a 0
-        ⊕ xorSum (length (now (part .entry))) (λ j. sentBit sent (now (block .entry)) (a * length (now (part .entry)) + j) * getD (now (part .entry)) j 0)) ⌝ }
+// Makes `sums` the remainders of the two blocks of a group's column words where `column` is true, else of its row words.
+fn block_sums(
+    first: &[u8],
+    has_first: bool,
+    second: &[u8],
+    has_second: bool,
+    column: bool,
+    table: &[u32],
+    sums: &mut [u32],
+)
+    requires { ⌜ Sent «has_first» (now first) (length (now sums) * length (now sums)) × Sent «has_second» (now second) (length (now sums) * length (now sums))
+        × (2 * length (now sums) ≤ length (now table)) ⌝ }
+    ensures { λ u. ⌜ now (sums .exit) ≡ tabulate (length (now (sums .entry)))
+        (blockSum column (now (table .entry)) (length (now (sums .entry))) (sentBit «has_first» (now (first .entry))) (sentBit «has_second» (now (second .entry)))) ⌝ }
 {
-    if !sent {
-        return;
-    }
-    add_dots(acc, block, part);
+    remainders::clear(sums);
+    add_block(sums, first, has_first, column, table, 0);
+    add_block(sums, second, has_second, column, table, sums.len());
 }
 
 // Makes `columns` the remainders of the blocks of a group's column words.
@@ -85,10 +97,7 @@ pub fn column_sums(odd: &[u8], even: &[u8], has_even: bool, table: &[u32], colum
     ensures { λ u. ⌜ now (columns .exit) ≡ tabulate (length (now (columns .entry)))
         (columnSum (now (table .entry)) (length (now (columns .entry))) (λ k. getD (now (odd .entry)) k 0) (sentBit «has_even» (now (even .entry)))) ⌝ }
 {
-    let size = columns.len();
-    remainders::clear(&mut columns[..]);
-    remainders::add_rows(&mut columns[..], odd, &table[0..size]);
-    add_sent_rows(&mut columns[..], even, has_even, &table[size..2 * size]);
+    block_sums(odd, true, even, has_even, true, table, columns);
 }
 
 // Makes `rows` the remainders of the blocks of a group's row words.
@@ -98,8 +107,5 @@ pub fn row_sums(before: &[u8], has_before: bool, odd: &[u8], table: &[u32], rows
     ensures { λ u. ⌜ now (rows .exit) ≡ tabulate (length (now (rows .entry)))
         (rowSum (now (table .entry)) (length (now (rows .entry))) (sentBit «has_before» (now (before .entry))) (λ k. getD (now (odd .entry)) k 0)) ⌝ }
 {
-    let size = rows.len();
-    remainders::clear(&mut rows[..]);
-    add_sent_dots(&mut rows[..], before, has_before, &table[0..size]);
-    add_dots(&mut rows[..], odd, &table[size..2 * size]);
+    block_sums(before, has_before, odd, true, false, table, rows);
 }

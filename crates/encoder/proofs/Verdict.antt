@@ -1,5 +1,5 @@
 -- The encoder's verdict step by step, and what it leaves.
---   frame-fits                                 what the rules say once they accept
+--   encodable                                  what the rules say once they accept
 --   encode-design, encode-frame, encode-made   the call's answer at each of its ends
 -- Assumes nothing.
 use mathlib.Core.Path.{_≡_, refl, sym, ap, _∙_}
@@ -21,7 +21,10 @@ use Rattle.design.specs.declared.Designed.the-variants as designed
 use Rattle.design.specs.Sizes.{paramsOf, listsOf}
 use Rattle.design.specs.Answers.{verdictOf, designVerdict, DesignIs, Allowed}
 use Rattle.design.proofs.Answers.{refused-then, check-refused, check-passed, design-refused, design-made, made-params}
-use Rattle.frames.specs.Groups.{FrameFits}
+use Rattle.design.proofs.Accepted.{count-limits, frame-lengths}
+use Rattle.rules.proofs.Accepted.{lists-permute, bytes-bits}
+use Rattle.lengths.proofs.Fit.{lengths-fit}
+use Rattle.frames.specs.Groups.{Encodable}
 use Rattle.encoder.specs.Checks.{contentRules, lengthRules, frameRules}
 
 module _ (d : Design) (L : ℕ) (own parity w info red : List ℕ) (work : ℕ) (allowed : Allowed d) (e : frameRules (paramsOf d) L own parity w info red work ≡ accepted) where
@@ -56,8 +59,8 @@ module _ (d : Design) (L : ℕ) (own parity w info red : List ℕ) (work : ℕ) 
       then-first (listRule s (interleavers s own parity)) (spareRule s w then inverseRule s (interleavers s own parity) w)
       (then-first (kitRules s (interleavers s own parity) w) (bitRule 0 info) after-working)
 
-  pub frame-fits : FrameFits d L parity w info red
-  frame-fits =
+  pub encodable : Encodable d L parity w info red
+  encodable =
       let k = lengths-fit s own parity w kit-long in
       let f = frame-lengths s L info red (then-first (frameLengths s L info red) (contentRules s own parity w info work) after-kit) in
       record {

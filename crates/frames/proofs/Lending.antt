@@ -35,7 +35,7 @@ module _ (L size r : ℕ) (info table sources inverse : List ℕ) (i : ℕ) (odd
     room = long;
   }
 
-  pub group-from : groupOf table sources inverse size r (sentBit has-before before) (λ k. getD odd k 0) (sentBit has-even even)
-      ≡ groupFrom table sources inverse size r L info i
+  pub group-from : (out : List ℕ) → out ≡ groupOf table sources inverse size r (sentBit has-before before) (λ k. getD odd k 0) (sentBit has-even even)
+      → out ≡ groupFrom table sources inverse size r L info i
   unfolding groupFrom
-  group-from = rw (eo, ee, eb, se, sb)
+  group-from out made = made ∙ rw (eo, ee, eb, se, sb)

@@ -1,7 +1,7 @@
 -- The groups of a frame by what code has at hand: parts of the information, the table of powers of x, and the places that the parity list brings.
 --   groupFrom   the group that i groups precede
 --   Ready       what is asked of the sizes and slices of a frame
---   FrameFits   what the encoder's rules say once all have passed
+--   Encodable   what the encoder's rules leave of a design, its kit and a frame
 -- Assumes nothing.
 use mathlib.Core.Path.{_≡_}
 use mathlib.Core.List.{List}
@@ -37,7 +37,7 @@ pub record Ready (L size r : ℕ) (info table sources inverse : List ℕ) : Type
   pub within : (q : ℕ) → q < size * r → getD sources q 0 < size * r
   pub packed : length inverse ≡ size * r * rowBytes (size * r)
 
-pub record FrameFits (d : Design) (L : ℕ) (parity inverse info red : List ℕ) : Type 0 where
+pub record Encodable (d : Design) (L : ℕ) (parity inverse info red : List ℕ) : Type 0 where
   pub allowed : Allowed d
   pub few-blocks : L ≤ most-blocks
   pub parityLength : length parity ≡ 2 * (d .size * (d .m * d .t))

@@ -11,7 +11,7 @@ ghost use Rattle.staircase.specs.Lists.{concat};
 ghost use Rattle.staircase.specs.Frame.{groups};
 ghost use Rattle.staircase.specs.System.{redundancy};
 ghost use Rattle.design.specs.Sizes.{paramsOf, listsOf};
-ghost use Rattle.frames.specs.Groups.{groupFrom, Ready, FrameFits};
+ghost use Rattle.frames.specs.Groups.{groupFrom, Ready, Encodable};
 use design::Design;
 
 // Makes the redundancy of the group that i groups precede.
@@ -66,7 +66,7 @@ fn make_groups(
         ≡ concat (groups blocks) (groupFrom (now (table .entry)) (now (sources .entry)) (now (inverse .entry)) size r blocks (now (info .entry))) ⌝ }
 {
     let w = 2 * (size * r);
-    let count = (blocks + 1) / 2;
+    let count = design::group_count(blocks as u64) as usize;
     for i in 0..count {
         let from = i * w;
         group_at(
@@ -92,7 +92,7 @@ pub fn make_redundancy(
     info: &[u8],
     red: &mut [u8],
 )
-    requires { ⌜ FrameFits d blocks (now parity) (now inverse) (now info) (now red) ⌝ }
+    requires { ⌜ Encodable d blocks (now parity) (now inverse) (now info) (now red) ⌝ }
     ensures { λ u. ⌜ ((own : List ℕ)
         → now (red .exit) ≡ redundancy (paramsOf d) (listsOf d own (now (parity .entry))) (now (inverse .entry)) blocks (now (info .entry))) ⌝ }
 {

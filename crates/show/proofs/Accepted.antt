@@ -14,8 +14,9 @@ use Rattle.staircase.specs.Rules.{Part, _then_, designRules, countRule, partRul
 use Rattle.staircase.specs.Rules.Verdict.{accepted}
 use Rattle.staircase.specs.Rules.Part.{block, group}
 use Rattle.staircase.specs.Calls.{showVerdict}
-use Rattle.staircase.proofs.Rules.{then-first, then-rest, design-limits, number-in, frame-lengths}
-use Rattle.show.specs.Show.{frameVerdict, HasPart}
+use Rattle.staircase.proofs.Rules.{then-first, then-rest, Limits, design-limits}
+use Rattle.design.proofs.Accepted.{number-in, frame-lengths}
+use Rattle.show.specs.Show.{frameRules, HasPart}
 use Rattle.show.proofs.Stretch.{stretch-of}
 
 module _ (m t M L : ℕ) (part : Part) (info red : List ℕ) (a : showVerdict m t M L part info red ≡ accepted) where
@@ -35,9 +36,9 @@ module _ (m t M L : ℕ) (part : Part) (info red : List ℕ) (a : showVerdict m 
   lengths = frame-lengths (params m t M) L info red lengths-accepted
 
   pub accepted-size : (0 < M * M) × (0 < 2 * order (params m t M))
-  unfolding showVerdict frameVerdict
+  unfolding showVerdict frameRules
   accepted-size =
-      let h : Limits m t M = design-limits m t M (then-first (designRules m t M) (frameVerdict (params m t M) L part info red) a) in
+      let h : Limits m t M = design-limits m t M (then-first (designRules m t M) (frameRules (params m t M) L part info red) a) in
       let low : 0 < m = omega arith in
       let pos : 0 < M * (m * t) = mul-pos (h .M-low) (mul-pos low (h .t-low)) in (mul-pos (h .M-low) (h .M-low), omega arith)
 

@@ -19,9 +19,10 @@ use Rattle.design.specs.declared.Check.the-variants as check
 use Rattle.design.specs.declared.Design.{Design}
 use Rattle.design.specs.declared.Designed.{Designed}
 use Rattle.design.specs.declared.Designed.the-variants as designed
+use Rattle.design.specs.Sizes.{paramsOf}
 use Rattle.design.specs.Answers.{verdictOf, designVerdict, DesignIs}
 use Rattle.design.proofs.Answers.{refused-then, check-refused, check-passed, design-refused, design-made, made-params}
-use Rattle.show.specs.Show.{frameVerdict, HasPart}
+use Rattle.show.specs.Show.{frameRules, HasPart}
 use Rattle.show.proofs.Accepted.{accepted-part}
 
 verdict-by : (v : Verdict) (l : List ℕ) → v ≡ (shownBy v l) .verdict
@@ -36,52 +37,52 @@ all-by : {v : Verdict} (l : List ℕ) → v ≡ accepted → l ≡ (shownBy v l)
 all-by l e = sym (ap (λ (z : Verdict). (shownBy z l) .bits) e)
 
 module _ (m t M L : ℕ) (part : Part) (info red : List ℕ) where
-  call-verdict : (designRules m t M then frameVerdict (params m t M) L part info red) ≡ (showCall m t M L part info red) .verdict
-  unfolding showVerdict showCall frameVerdict
+  call-verdict : (designRules m t M then frameRules (params m t M) L part info red) ≡ (showCall m t M L part info red) .verdict
+  unfolding showVerdict showCall frameRules
   call-verdict = verdict-by (showVerdict m t M L part info red) (stretch (params m t M) part info red)
 
-  none-shown : (designRules m t M then frameVerdict (params m t M) L part info red) ≢ accepted → [] ≡ (showCall m t M L part info red) .bits
-  unfolding showVerdict showCall frameVerdict
+  none-shown : (designRules m t M then frameRules (params m t M) L part info red) ≢ accepted → [] ≡ (showCall m t M L part info red) .bits
+  unfolding showVerdict showCall frameRules
   none-shown h = none-by (showVerdict m t M L part info red) (stretch (params m t M) part info red) h
 
   module _ {a : Designed} (n : designVerdict a ≡ designRules m t M) where
     pub design-refuses : {r : Refusal} → a ≡ designed.Refused r → designVerdict a ≡ (showCall m t M L part info red) .verdict
     design-refuses g =
-        design-refused g ∙ refused-then (frameVerdict (params m t M) L part info red) (sym (design-refused g) ∙ n) refl ∙ call-verdict
+        design-refused g ∙ refused-then (frameRules (params m t M) L part info red) (sym (design-refused g) ∙ n) refl ∙ call-verdict
 
     pub design-empty : {r : Refusal} → a ≡ designed.Refused r → [] ≡ (showCall m t M L part info red) .bits
     design-empty g =
         none-shown
-        (λ h. check-refused refl (sym (design-refused g) ∙ n ∙ then-first (designRules m t M) (frameVerdict (params m t M) L part info red) h))
+        (λ h. check-refused refl (sym (design-refused g) ∙ n ∙ then-first (designRules m t M) (frameRules (params m t M) L part info red) h))
 
     module _ (i : DesignIs a m t M) {d : Design} (g : a ≡ designed.Made d) (x : Check)
-        (f : verdictOf x ≡ frameVerdict (params (d .m) (d .t) (d .size)) L part info red) where
-      same : params (d .m) (d .t) (d .size) ≡ params m t M
+        (f : verdictOf x ≡ frameRules (paramsOf d) L part info red) where
+      same : paramsOf d ≡ params m t M
       same = made-params g m t M i
 
       design-accepted : designRules m t M ≡ accepted
       design-accepted = sym n ∙ design-made g
 
-      frame-is : verdictOf x ≡ frameVerdict (params m t M) L part info red
-      frame-is = f ∙ ap (λ (s : Params). frameVerdict s L part info red) same
+      frame-is : verdictOf x ≡ frameRules (params m t M) L part info red
+      frame-is = f ∙ ap (λ (s : Params). frameRules s L part info red) same
 
       pub frame-decides : verdictOf x ≡ (showCall m t M L part info red) .verdict
       frame-decides =
-          frame-is ∙ sym (ap (λ (z : Verdict). z then frameVerdict (params m t M) L part info red) design-accepted) ∙ call-verdict
+          frame-is ∙ sym (ap (λ (z : Verdict). z then frameRules (params m t M) L part info red) design-accepted) ∙ call-verdict
 
       pub frame-empty : {r : Refusal} → x ≡ check.Refused r → [] ≡ (showCall m t M L part info red) .bits
       frame-empty e =
-          none-shown (λ h. check-refused e (frame-is ∙ then-rest (designRules m t M) (frameVerdict (params m t M) L part info red) h))
+          none-shown (λ h. check-refused e (frame-is ∙ then-rest (designRules m t M) (frameRules (params m t M) L part info red) h))
 
       module _ (p : x ≡ check.Passed) where
         call-accepted : showVerdict m t M L part info red ≡ accepted
-        unfolding showVerdict frameVerdict
+        unfolding showVerdict frameRules
         call-accepted = then-accepted design-accepted (sym frame-is ∙ check-passed p)
 
-        pub passed-part : HasPart (params (d .m) (d .t) (d .size)) part info red
+        pub passed-part : HasPart (paramsOf d) part info red
         passed-part = rw same (accepted-part m t M L part info red call-accepted)
 
-        pub passed-shown : {l : List ℕ} → l ≡ stretch (params (d .m) (d .t) (d .size)) part info red → l ≡ (showCall m t M L part info red) .bits
+        pub passed-shown : {l : List ℕ} → l ≡ stretch (paramsOf d) part info red → l ≡ (showCall m t M L part info red) .bits
         unfolding showCall
         passed-shown e =
             e ∙ ap (λ (s : Params). stretch s part info red) same ∙ all-by (stretch (params m t M) part info red) call-accepted

@@ -1,5 +1,5 @@
 -- What the steps of a call say to each other.
---   frameVerdict         rules 4 and 6, for the frame of an allowed design
+--   frameRules           rules 4 and 6, for the frame of an allowed design
 --   HasStretch n k l     l has stretch k of n bytes, counted from 1
 --   HasPart s p info red the buffer that holds a block or a group has it whole
 -- Assumes nothing.
@@ -11,8 +11,8 @@ use Rattle.staircase.specs.Rules.{Verdict, _then_, Part, countRule, partRule, f
 use Rattle.staircase.specs.Rules.Part.{block, group}
 
 -- "showing 1 to 4 and 6", past the design's rules
-unfoldable pub frameVerdict : Params → ℕ → Part → List ℕ → List ℕ → Verdict
-frameVerdict s L part info red = countRule L then partRule L part then frameLengths s L info red
+unfoldable pub frameRules : Params → ℕ → Part → List ℕ → List ℕ → Verdict
+frameRules s L part info red = countRule L then partRule L part then frameLengths s L info red
 
 pub record HasStretch (n k : ℕ) (l : List ℕ) : Type 0 where
   pub number : 1 ≤ k

@@ -8,12 +8,13 @@
 ghost use mathlib.Core.Path.{_≡_};
 ghost use Prim.Native.Nat.{_-_, _*_, _≤_};
 ghost use lib.ListN.{take, drop};
-ghost use Rattle.staircase.specs.Design.{params, most-blocks};
+ghost use Rattle.staircase.specs.Design.{most-blocks};
 ghost use Rattle.staircase.specs.Rules.{refuse, outOfRange, partRule};
 ghost use Rattle.staircase.specs.Calls.{stretch, showCall};
+ghost use Rattle.design.specs.Sizes.{paramsOf};
 ghost use Rattle.design.specs.Answers.{verdictOf};
 ghost use Rattle.show.specs.Answers.{partOf};
-ghost use Rattle.show.specs.Show.{frameVerdict, HasStretch, HasPart};
+ghost use Rattle.show.specs.Show.{frameRules, HasStretch, HasPart};
 use design::Check;
 use design::Design;
 use design::Designed;
@@ -54,7 +55,7 @@ fn check_part(blocks: u64, part: Part) -> Check
 // Rules 4 and 6, for the frame of an allowed design.
 fn check_frame(d: Design, blocks: u64, part: Part, info: &[u8], red: &[u8]) -> Check
     ensures { λ a. ⌜ verdictOf a
-        ≡ frameVerdict (params (d .m) (d .t) (d .size)) blocks (partOf part) (now (info .entry)) (now (red .entry)) ⌝ }
+        ≡ frameRules (paramsOf d) blocks (partOf part) (now (info .entry)) (now (red .entry)) ⌝ }
 {
     let count = design::check_count(blocks);
     let Check::Passed = count else {
@@ -79,8 +80,8 @@ fn stretch_of(bytes: &[u8], n: usize, number: u64) -> &[u8]
 
 // The block or the group, of the buffer that holds it.
 fn shown_part<'a>(d: Design, part: Part, info: &'a [u8], red: &'a [u8]) -> &'a [u8]
-    requires { ⌜ HasPart (params (d .m) (d .t) (d .size)) (partOf part) (now info) (now red) ⌝ }
-    ensures { λ r. ⌜ now r ≡ stretch (params (d .m) (d .t) (d .size)) (partOf part) (now (info .entry)) (now (red .entry)) ⌝ }
+    requires { ⌜ HasPart (paramsOf d) (partOf part) (now info) (now red) ⌝ }
+    ensures { λ r. ⌜ now r ≡ stretch (paramsOf d) (partOf part) (now (info .entry)) (now (red .entry)) ⌝ }
 {
     let block_size = d.area();
     let group_size = 2 * d.order();
@@ -103,9 +104,9 @@ pub fn check_show(
 ) -> Check
     ensures { λ a. ⌜ verdictOf a ≡ (showCall m t size blocks (partOf part) (now (info .entry)) (now (red .entry))) .verdict ⌝ }
 {
-    let a = Design::new(m, t, size);
-    let Designed::Made(d) = a else {
-        return design::design_check(a);
+    let designed = Design::new(m, t, size);
+    let Designed::Made(d) = designed else {
+        return design::design_check(designed);
     };
     check_frame(d, blocks, part, info, red)
 }
@@ -123,8 +124,8 @@ pub fn show<'a>(
 ) -> &'a [u8]
     ensures { λ r. ⌜ now r ≡ (showCall m t size blocks (partOf part) (now (info .entry)) (now (red .entry))) .bits ⌝ }
 {
-    let a = Design::new(m, t, size);
-    let Designed::Made(d) = a else {
+    let designed = Design::new(m, t, size);
+    let Designed::Made(d) = designed else {
         return &info[0..0];
     };
     let frame = check_frame(d, blocks, part, info, red);

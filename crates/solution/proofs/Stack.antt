@@ -1,11 +1,11 @@
 -- The stack, and the constant of the system, entry by entry.
---   Place              the row and the column of a place
---   StackEntry         the row and the column of an entry of the stack, and its place
+--   Place, place       the row and the column of a place of a matrix, and its place in the transposed one
+--   stack-entry        those of an entry of the stack
 --   stack-place        the entry of its place
 --   place-stack        the place of the entry of a place
 --   digit-row          a row of P by the digits of the words' remainders
---   source-bit         the bit of Q that the parity list brings to an entry of the constant
---   constantBit-sum    the entry from its two bits
+--   parity-binary      the bits of Q
+--   constantBit-sum    an entry of the constant from its two bits
 -- Assumes nothing.
 use mathlib.Core.Path.{_≡_, sym, ap, ap₂, _∙_, subst⁻¹}
 use mathlib.Core.List.{List}
@@ -13,41 +13,36 @@ use Prim.Native.Nat.{ℕ, _+_, _-_, _*_, _/_, _%_, _^_, _<_}
 use native.Mathlib.Nat.{mul-comm, div-add-mod', mod-lt, div-lt-iff-lt-mul}
 use lib.Arith.{digits-lt, digits-div, digits-mod}
 use lib.ListN.{length, getD}
+use Rattle.bch.specs.Polynomial.{Bits}
 use Rattle.bch.proofs.Sum.{mod2-bit}
 use Rattle.staircase.specs.Lists.{bitSum, tabulate}
-use Rattle.staircase.proofs.Tables.{tabulate-at, tabulate-same}
+use Rattle.staircase.proofs.System.{tabulate-at, tabulate-bits, tabulate-same}
 use Rattle.solution.specs.Bits.{digit, constantBit}
 
--- the row and the column of place p of a matrix of n columns and m rows, and where it lies in the transposed one
+-- place p of a matrix of n columns and m rows, and where it lies in the transposed one
 pub record Place (n m p : ℕ) : Type 0 where
-  pub plane : p / n < m
-  pub column : p % n < n
+  pub quotient : p / n < m
+  pub rest : p % n < n
   pub turned : p % n * m + p / n < n * m
 
 pub place : (n m p : ℕ) → 0 < n → p < n * m → Place n m p
 place n m p z h =
     let b : p / n < m = div-lt-iff-lt-mul z .1 (rw (mul-comm m n) h) in
     let c : p % n < n = mod-lt p z in
-    record { plane = b; column = c; turned = digits-lt c b }
+    record { quotient = b; rest = c; turned = digits-lt c b }
 
-pub record StackEntry (size r k : ℕ) : Type 0 where
-  pub column : k / r < size
-  pub row : k % r < r
-  pub inside : k % r * size + k / r < size * r
-
-pub stack-entry : (size r k : ℕ) → 0 < r → k < size * r → StackEntry size r k
-stack-entry size r k pos h =
-    let p : Place r size k = place r size k pos (rw (mul-comm r size) h) in
-    record { column = p .plane; row = p .column; inside = rw (mul-comm size r) (p .turned) }
+-- entry k of the stack is place k of a matrix of r columns
+pub stack-entry : (size r k : ℕ) → 0 < r → k < size * r → Place r size k
+stack-entry size r k pos h = place r size k pos (rw (mul-comm r size) h)
 
 pub stack-place : (size r k : ℕ) → 0 < r → k < size * r → (k % r * size + k / r) % size * r + (k % r * size + k / r) / size ≡ k
 stack-place size r k pos h =
-    let c = stack-entry size r k pos h .column in
+    let c = stack-entry size r k pos h .quotient in
     ap₂ (λ (x y : ℕ). x * r + y) (digits-mod (k % r) c) (digits-div (k % r) c) ∙ div-add-mod' k r
 
 pub place-stack : (size r q : ℕ) → 0 < size → q < size * r → (q % size * r + q / size) % r * size + (q % size * r + q / size) / r ≡ q
 place-stack size r q pos h =
-    let a = place size r q pos h .plane in
+    let a = place size r q pos h .quotient in
     ap₂ (λ (x y : ℕ). x * size + y) (digits-mod (q % size) a) (digits-div (q % size) a) ∙ div-add-mod' q size
 
 pub digit-row : (columns ys : List ℕ) (size r a : ℕ) → length columns ≡ size → ys ≡ tabulate (length columns) (λ b. digit (getD columns b 0) r a)
@@ -57,19 +52,17 @@ digit-row columns ys size r a wide e =
     ∙ tabulate-same size (λ b. digit (getD columns b 0) r a) (λ b. digit (getD columns ((a * size + b) % size) 0) r ((a * size + b) / size))
     (λ b l. sym (ap₂ (λ (x y : ℕ). digit (getD columns x 0) r y) (digits-mod a l) (digits-div a l)))
 
--- Q is given by its bits, place by place, and p is the place that the parity list sends to entry k
-module _ (columns rows sources q : List ℕ) (size r k : ℕ) (within : getD sources (k % r * size + k / r) 0 < size * r)
-    (by-rows : q ≡ tabulate (size * r) (λ p. digit (getD rows (p % size) 0) r (p / size))) where
-  abbrev p : ℕ
-  p = getD sources (k % r * size + k / r) 0
+-- Q is given by its bits, place by place
+module _ (rows q : List ℕ) (size r : ℕ) (by-rows : q ≡ tabulate (size * r) (λ p. digit (getD rows (p % size) 0) r (p / size))) where
+  abbrev bit : ℕ → ℕ
+  bit p = digit (getD rows (p % size) 0) r (p / size)
 
-  source-is : getD q p 0 ≡ digit (getD rows (p % size) 0) r (p / size)
-  source-is = ap (λ (t : List ℕ). getD t p 0) by-rows ∙ tabulate-at (size * r) (λ p. digit (getD rows (p % size) 0) r (p / size)) 0 p within
+  pub parity-binary : Bits q
+  parity-binary = subst⁻¹ Bits by-rows (tabulate-bits (size * r) bit (λ p. mod2-bit (getD rows (p % size) 0 / 2 ^ (r - 1 - p / size))))
 
-  pub source-bit : getD q (getD sources (k % r * size + k / r) 0) 0 < 2
-  source-bit = subst⁻¹ (λ (x : ℕ). x < 2) source-is (mod2-bit (getD rows (p % size) 0 / 2 ^ (r - 1 - p / size)))
-
-  pub constantBit-sum : (x : ℕ) → x ≡ digit (getD columns (k / r) 0) r (k % r)
-      → (x + getD q (getD sources (k % r * size + k / r) 0) 0) % 2 ≡ constantBit columns rows sources size r k
+  pub constantBit-sum : (columns sources : List ℕ) (k v : ℕ) → getD sources (k % r * size + k / r) 0 < size * r
+      → v ≡ bitSum (digit (getD columns (k / r) 0) r (k % r)) (getD q (getD sources (k % r * size + k / r) 0) 0) → v ≡ constantBit columns rows sources size r k
   unfolding constantBit
-  constantBit-sum x e = ap₂ bitSum e source-is
+  constantBit-sum columns sources k v within e =
+      let p : ℕ = getD sources (k % r * size + k / r) 0 in
+      e ∙ ap (bitSum (digit (getD columns (k / r) 0) r (k % r))) (ap (λ (t : List ℕ). getD t p 0) by-rows ∙ tabulate-at (size * r) bit 0 p within)

@@ -10,11 +10,12 @@
 // work: its rows are taken in the order in which they stand, so that memory is read from front to back, and the bits are scattered into Y instead.
 // Q is spread into bytes before c is packed, which spares a division for each entry.
 ghost use mathlib.Core.Path.{_≡_};
-ghost use Prim.Native.Nat.{ℕ, _-_, _*_, _/_, _%_, _^_, _≤_, _<_};
+ghost use Prim.Native.Nat.{ℕ, _+_, _-_, _*_, _/_, _%_, _^_, _≤_, _<_};
 ghost use lib.ListN.{length, getD};
-ghost use Rattle.staircase.specs.Lists.{tabulate};
+ghost use Rattle.bch.specs.Polynomial.{Bits};
+ghost use Rattle.staircase.specs.Lists.{bitSum, tabulate};
 ghost use Rattle.staircase.specs.System.{rowBytes};
-ghost use Rattle.solution.specs.Bits.{Packed, constantBit, productBit};
+ghost use Rattle.solution.specs.Bits.{digit, Packed, constantBit, productBit};
 
 // Bit a of the r digits of a remainder x, the highest first.
 fn digit_of(x: u32, r: usize, a: usize) -> u8
@@ -46,6 +47,19 @@ pub fn parity_bits(columns: &[u32], size: usize, r: usize, out: &mut [u8])
     }
 }
 
+// Entry k of the constant, from the remainders of the column words and from Q, a byte for each bit.
+fn constant_entry(columns: &[u32], q: &[u8], sources: &[u16], size: usize, r: usize, k: usize) -> u8
+    requires { ⌜ (length (now columns) ≡ size) × (length (now q) ≡ size * r) × Bits (now q) × (length (now sources) ≡ size * r) × (0 < r) × (r ≤ 32)
+        × (size * r ≤ 4096) × (k < size * r) × (getD (now sources) (k % r * size + k / r) 0 < size * r) ⌝ }
+    ensures { λ v. ⌜ (v ≡ bitSum (digit (getD (now (columns .entry)) (k / r) 0) r (k % r))
+        (getD (now (q .entry)) (getD (now (sources .entry)) (k % r * size + k / r) 0) 0)) × (v < 2) ⌝ }
+{
+    let a = k % r;
+    let b = k / r;
+    let p = sources[a * size + b] as usize;
+    (digit_of(columns[b], r, a) + q[p]) % 2
+}
+
 // `constant_bits` with a working byte lent for each bit of Q.
 fn constant_in(
     columns: &[u32],
@@ -62,15 +76,10 @@ fn constant_in(
     ensures { λ u. ⌜ (length (now (c .exit)) ≡ length (now (c .entry)))
         × Packed (size * r) (now (c .exit)) (constantBit (now (columns .entry)) (now (rows .entry)) (now (sources .entry)) size r) ⌝ }
 {
-    let n = size * r;
-    parity_bits(rows, size, r, &mut q[..]);
-    matrix::clear(&mut c[..]);
-    for k in 0..n {
-        let a = k % r;
-        let b = k / r;
-        let p = sources[a * size + b] as usize;
-        let v = digit_of(columns[b], r, a) + q[p];
-        matrix::add_bit(&mut c[..], k, v % 2);
+    parity_bits(rows, size, r, q);
+    matrix::clear(c);
+    for k in 0..size * r {
+        matrix::add_bit(c, k, constant_entry(columns, q, sources, size, r, k));
     }
 }
 

@@ -1,5 +1,5 @@
 pub mod Remainders
-pub mod Spread
+pub mod Columns
 pub mod Groups
 pub mod Count
 pub mod Verdict

@@ -5,17 +5,19 @@
 --   blockRows, blockColumns            those of their blocks alone, by the table of powers of x
 --   WordTable                          the table has the powers of x that the positions of a word carry
 --   BlocksLent                         what is asked of the information and of the table for the blocks
+--   Sends list n                       a list of n entries, each below n
 -- Assumes nothing.
 use mathlib.Core.Path.{_≡_}
 use mathlib.Core.Bool.{cond}
 use mathlib.Core.List.{List, [], _∷_, _++_}
-use Prim.Native.Nat.{ℕ, _+_, _*_, _≤_}
+use Prim.Native.Nat.{ℕ, _+_, _*_, _≤_, _<_}
 use lib.Dec.{eqb}
 use lib.ListN.{length, getD}
 use Rattle.bch.specs.Polynomial.{Bits, remainder}
 use Rattle.staircase.specs.Lists.{tabulate}
 use Rattle.staircase.specs.Design.{Params, Interleavers, most-blocks}
 use Rattle.staircase.specs.Frame.{Frame, Site, rowSites, columnSites, read}
+use Rattle.staircase.specs.Rules.{entries}
 use Rattle.design.specs.declared.Design.{Design}
 use Rattle.design.specs.Sizes.{paramsOf}
 use Rattle.blocks.specs.Blocks.{sent, blockBytes, sentBit, columnSum, rowSum, Powers}
@@ -56,3 +58,6 @@ pub record BlocksLent (L size : ℕ) (info table : List ℕ) : Type 0 where
   pub blocks : length info ≡ L * (size * size)
   pub bits : Bits info
   pub powers : 2 * size ≤ length table
+
+abbrev pub Sends : List ℕ → ℕ → Type 0
+Sends list n = (length list ≡ 2 * n) × ((p : ℕ) → p < n → getD (entries n list) p 0 < n)

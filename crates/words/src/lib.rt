@@ -14,8 +14,7 @@ ghost use mathlib.Core.Bool.{cond};
 ghost use Prim.Native.Nat.{ℕ, _+_, _*_, _^_, _≤_, _<_};
 ghost use lib.Dec.{eqb};
 ghost use lib.ListN.{length, getD};
-ghost use Rattle.bch.specs.Polynomial.{_⊕_, Bits};
-ghost use Rattle.bch.specs.Powers.{xorSum};
+ghost use Rattle.bch.specs.Polynomial.{Bits};
 ghost use Rattle.staircase.specs.Lists.{tabulate};
 ghost use Rattle.staircase.specs.Design.{most-blocks};
 ghost use Rattle.staircase.specs.Frame.{groups, outsideAmong, outside, frameOf};
@@ -24,7 +23,8 @@ ghost use Rattle.staircase.specs.Calls.{countedBy, wordsCall};
 ghost use Rattle.design.specs.Answers.{verdictOf, Allowed};
 ghost use Rattle.design.specs.Sizes.{paramsOf, orderOf, listsOf};
 ghost use Rattle.rules.specs.Received.{Received};
-ghost use Rattle.words.specs.Words.{rowRemainders, columnRemainders, nonzeros, groupWords, blockRows, blockColumns, WordTable, BlocksLent};
+ghost use Rattle.blocks.specs.Blocks.{PartAdded};
+ghost use Rattle.words.specs.Words.{rowRemainders, columnRemainders, nonzeros, groupWords, blockRows, blockColumns, WordTable, BlocksLent, Sends};
 ghost use Rattle.words.specs.Checks.{contentRules, receivedRules, frameRules, countedOf};
 use design::Check;
 use design::Design;
@@ -37,32 +37,47 @@ pub enum WordCount {
     Refused(Refusal),
 }
 
-// Makes byte p of `out` the byte of `bits` to which the list sends place p. One step for each byte.
-fn gather(list: &[u8], bits: &[u8], out: &mut [u8])
-    requires { ⌜ (length (now list) ≡ 2 * length (now out))
-        × ((p : ℕ) → p < length (now out) → getD (entries (length (now out)) (now list)) p 0 < length (now bits)) ⌝ }
-    ensures { λ u. ⌜ now (out .exit)
-        ≡ tabulate (length (now (out .entry))) (λ p. getD (now (bits .entry)) (getD (entries (length (now (out .entry))) (now (list .entry))) p 0) 0) ⌝ }
+// Makes byte p of `out` the byte of `bits`, counted from byte `at` on, to which the list sends place p. One step for each byte.
+fn gather(list: &[u8], bits: &[u8], at: usize, out: &mut [u8])
+    requires { ⌜ Sends (now list) (length (now out)) × (at + length (now out) ≤ length (now bits)) ⌝ }
+    ensures { λ u. ⌜ now (out .exit) ≡ tabulate (length (now (out .entry)))
+        (λ p. getD (now (bits .entry)) (at + getD (entries (length (now (out .entry))) (now (list .entry))) p 0) 0) ⌝ }
 {
     for p in 0..out.len() {
         let e = rules::entry(list, p);
-        out[p] = bits[e];
+        out[p] = bits[at + e];
     }
 }
 
-// Adds to each entry of `rows` the entries of `part` at the ones of its row of X, which the self list makes of Y's bytes; or of Q, by the parity list
-// from P's.
-fn add_spread(list: &[u8], bits: &[u8], part: &[u32], work: &mut [u8], rows: &mut [u32])
-    requires { ⌜ (length (now list) ≡ 2 * length (now work)) × (length (now work) ≡ length (now part) * length (now rows)) × Bits (now bits)
-        × ((p : ℕ) → p < length (now work) → getD (entries (length (now work)) (now list)) p 0 < length (now bits)) ⌝ }
-    ensures { λ u. ⌜ (length (now (rows .exit)) ≡ length (now (rows .entry)))
-        × ((a : ℕ) → a < length (now (rows .entry)) → getD (now (rows .exit)) a 0 ≡ getD (now (rows .entry)) a 0
-        ⊕ xorSum (length (now (part .entry)))
-        (λ j. getD (now (bits .entry)) (getD (entries (length (now (work .entry))) (now (list .entry))) (j * length (now (rows .entry)) + a) 0) 0
-        * getD (now (part .entry)) j 0)) ⌝ }
+// Adds to each of `sums` the r entries of the table from entry `from` on, at the ones of its column of r rows that stand in `bits` from byte `at`
+// on. A row has a column for each of `sums`.
+fn add_columns(sums: &mut [u32], bits: &[u8], at: usize, table: &[u32], from: usize, r: usize)
+    requires { ⌜ (at + r * length (now sums) ≤ length (now bits)) × Bits (now bits) × (from + r ≤ length (now table)) ⌝ }
+    ensures { λ u. ⌜ PartAdded (now (table .entry)) from r (λ w a j. getD (now (bits .entry)) (at + (j * w + a)) 0) (now (sums .entry)) (now (sums .exit)) ⌝ }
 {
-    gather(list, bits, &mut work[..]);
-    remainders::add_rows(&mut rows[..], &work[..], part);
+    let n = r * sums.len();
+    remainders::add_rows(sums, &bits[at..at + n], &table[from..from + r]);
+}
+
+// The same for columns of X, which the self list makes of Y's bytes; or of Q, by the parity list from P's.
+fn add_spread(
+    sums: &mut [u32],
+    list: &[u8],
+    bits: &[u8],
+    at: usize,
+    table: &[u32],
+    from: usize,
+    r: usize,
+    work: &mut [u8],
+)
+    requires { ⌜ Sends (now list) (length (now work)) × (length (now work) ≡ r * length (now sums)) × (at + length (now work) ≤ length (now bits))
+        × Bits (now bits) × (from + r ≤ length (now table)) ⌝ }
+    ensures { λ u. ⌜ PartAdded (now (table .entry)) from r
+        (λ w a j. getD (now (bits .entry)) (at + getD (entries (length (now (work .entry))) (now (list .entry))) (j * w + a) 0) 0)
+        (now (sums .entry)) (now (sums .exit)) ⌝ }
+{
+    gather(list, bits, at, work);
+    add_columns(sums, work, 0, table, from, r);
 }
 
 // Makes `rows` the remainders of the blocks of a group's row words.
@@ -112,18 +127,10 @@ pub fn row_remainders(
     let r = d.r();
     let n = work.len();
     let y = i * (2 * n);
-    let p = y + n;
-    let x = 2 * rows.len();
-    let q = x + r;
-    block_rows(info, blocks, i, table, &mut rows[..]);
-    add_spread(own, &red[y..p], &table[x..q], &mut work[..], &mut rows[..]);
-    add_spread(
-        parity,
-        &red[p..p + n],
-        &table[q..q + r],
-        &mut work[..],
-        &mut rows[..],
-    );
+    let x = 2 * (d.size as usize);
+    block_rows(info, blocks, i, table, rows);
+    add_spread(rows, own, red, y, table, x, r, work);
+    add_spread(rows, parity, red, y + n, table, x + r, r, work);
 }
 
 // Makes `columns` the remainders of the column words of the group that i groups precede. One step for each bit of the group's column words.
@@ -145,12 +152,10 @@ pub fn column_remainders(
     let r = d.r();
     let n = d.order();
     let y = i * (2 * n);
-    let p = y + n;
-    let x = 2 * columns.len();
-    let q = x + r;
-    block_columns(info, blocks, i, table, &mut columns[..]);
-    remainders::add_rows(&mut columns[..], &red[y..p], &table[x..q]);
-    remainders::add_rows(&mut columns[..], &red[p..p + n], &table[q..q + r]);
+    let x = 2 * (d.size as usize);
+    block_columns(info, blocks, i, table, columns);
+    add_columns(columns, red, y, table, x, r);
+    add_columns(columns, red, y + n, table, x + r, r);
 }
 
 // 1 where x is not 0.
@@ -192,21 +197,10 @@ fn group_outside(
     ensures { λ a. ⌜ (a ≡ outsideAmong (paramsOf d) (frameOf (now (info .entry)) (now (red .entry)))
         (groupWords (paramsOf d) (listsOf d (now (own .entry)) (now (parity .entry))) blocks i)) × (a ≤ 1000) ⌝ }
 {
-    row_remainders(
-        d,
-        blocks,
-        i,
-        own,
-        parity,
-        info,
-        red,
-        table,
-        &mut work[..],
-        &mut sums[..],
-    );
-    let rows = count_nonzero(&sums[..]);
-    column_remainders(d, blocks, i, own, parity, info, red, table, &mut sums[..]);
-    rows + count_nonzero(&sums[..])
+    row_remainders(d, blocks, i, own, parity, info, red, table, work, sums);
+    let rows = count_nonzero(sums);
+    column_remainders(d, blocks, i, own, parity, info, red, table, sums);
+    rows + count_nonzero(sums)
 }
 
 // `count_outside` with its working entries lent.
@@ -226,22 +220,10 @@ fn count_groups(
     ensures { λ a. ⌜ a
         ≡ outside (paramsOf d) (listsOf d (now (own .entry)) (now (parity .entry))) blocks (frameOf (now (info .entry)) (now (red .entry))) ⌝ }
 {
-    let count = (blocks + 1) / 2;
+    let count = design::group_count(blocks as u64) as usize;
     let mut total: u64 = 0;
     for i in 0..count {
-        total = total
-            + group_outside(
-                d,
-                blocks,
-                i,
-                own,
-                parity,
-                info,
-                red,
-                table,
-                &mut work[..],
-                &mut sums[..],
-            );
+        total = total + group_outside(d, blocks, i, own, parity, info, red, table, work, sums);
     }
     total
 }
@@ -404,7 +386,7 @@ pub fn check_words(
     let Designed::Made(d) = designed else {
         return refused_count(design::design_check(designed));
     };
-    let frame = check_frame(d, blocks, own, parity, info, red, &mut work[..]);
+    let frame = check_frame(d, blocks, own, parity, info, red, work);
     let Check::Passed = frame else {
         return refused_count(frame);
     };

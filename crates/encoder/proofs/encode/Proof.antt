@@ -5,7 +5,7 @@ use mathlib.Core.Path.{sym, _∙_}
 use lib.ListN.{length}
 use Rattle.design.proofs.Answers.{check-passed}
 use Rattle.design.proofs.Answers.{made-allowed}
-use Rattle.encoder.proofs.Verdict.{frame-fits, encode-design, encode-frame, encode-made}
+use Rattle.encoder.proofs.Verdict.{encodable, encode-design, encode-frame, encode-made}
 use Rattle.encoder.proofs.encode.Statement.{statement}
 use Rattle.encoder.proofs.encode.Tie as tie
 
@@ -54,7 +54,7 @@ make-redundancy-requires c κs =
     let a = c .before .before .before .before .before .before .before .before .before .before .before .before .before .before .before .before .before .before .args in
     let w = c .before .before .before .before .before .before .before .before .before .before .before .new .ensures in
     let d = c .before .before .before .before .before .before .before .before .before .designed .given .1 in
-    frame-fits _ (a .blocks) (a .own .now) (a .parity .now) (a .inverse .now) (a .info .now) (a .red .now) (length (a .work .now)) (made-allowed d (w .2)) (sym (c .before .before .before .before .before .check-frame .ensures) ∙ check-passed (c .before .enum-told2 .given .1))
+    encodable _ (a .blocks) (a .own .now) (a .parity .now) (a .inverse .now) (a .info .now) (a .red .now) (length (a .work .now)) (made-allowed d (w .2)) (sym (c .before .before .before .before .before .check-frame .ensures) ∙ check-passed (c .before .enum-told2 .given .1))
 
 same-length-3 : tie.Need-same-length-3
 same-length-3 c = search needs

@@ -2,8 +2,7 @@
 -- Assumes nothing.
 use native.Mathlib.Omega.{arith}
 use borrow.Author.Needs.{needs}
-use mathlib.Core.Path.{_∙_}
-use Rattle.staircase.proofs.Bounds.{small-product}
+use Rattle.staircase.proofs.Fill.{small-product}
 use Rattle.frames.proofs.Lending.{lent-from, group-from}
 use Rattle.frames.proofs.group_at.Statement.{statement}
 use Rattle.frames.proofs.group_at.Tie as tie
@@ -67,13 +66,12 @@ same-length c = search needs
 returns : tie.Need-returns
 returns c =
     let a = c .before .before .before .before .before .before .before .before .before .before .before .before .before .before .args in
-    let p = c .before .before .before .before .before .before .before .before .before .before .before .before .before .before .pre in
     let odd = c .before .before .before .before .before .before .before .block-of2 in
     let even = c .before .before .before .before .before .before .block-of3 in
     let before = c .before .before .before .before .before .before .before .before .block-of in
     let has-even = c .before .before .before .before .is-sent2 in
     let has-before = c .before .before .before .before .before .is-sent in
-    c .before .before .make-group .ensures ∙ group-from (a .blocks) (a .size) (a .r) (a .info .now) (a .table .now) (a .sources .now) (a .inverse .now) (a .i) (odd .result .now) (even .result .now) (before .result .now) (has-even .result) (has-before .result) (odd .ensures) (even .ensures) (before .ensures) (has-even .ensures) (has-before .ensures)
+    group-from (a .blocks) (a .size) (a .r) (a .info .now) (a .table .now) (a .sources .now) (a .inverse .now) (a .i) (odd .result .now) (even .result .now) (before .result .now) (has-even .result) (has-before .result) (odd .ensures) (even .ensures) (before .ensures) (has-even .ensures) (has-before .ensures) _ (c .before .before .make-group .ensures)
 
 pub group-at-spec : {M : Type 1} → statement M
 group-at-spec =

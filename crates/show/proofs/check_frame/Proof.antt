@@ -1,7 +1,7 @@
 -- Each check's refusal is the answer, and one that passes leaves it to the next. A count that passed is small.
 -- Assumes nothing.
 use mathlib.Core.Path.{sym, _∙_}
-use Rattle.show.specs.Show.{frameVerdict}
+use Rattle.show.specs.Show.{frameRules}
 use Rattle.design.proofs.Answers.{refused-then, passed-then, check-passed}
 use Rattle.staircase.proofs.Rules.{count-limits}
 use borrow.Author.Needs.{needs}
@@ -18,7 +18,7 @@ enum-told-2 : tie.Need-enum-told-2
 enum-told-2 c = search needs
 
 returns : tie.Need-returns
-unfolding frameVerdict
+unfolding frameRules
 returns c = refused-then _ (c .before .before .check-count .ensures) (c .enum-told2 .given .1)
 
 check-part-requires : tie.Need-check-part-requires
@@ -31,7 +31,7 @@ enum-told-4 : tie.Need-enum-told-4
 enum-told-4 c = search needs
 
 returns-2 : tie.Need-returns-2
-unfolding frameVerdict
+unfolding frameRules
 returns-2 c =
     refused-then _ (c .before .before .check-part .ensures) (c .enum-told4 .given .1)
     ∙ passed-then _ (c .before .before .before .before .before .check-count .ensures) (c .before .before .before .enum-told .given .1)
@@ -41,7 +41,7 @@ check-frame-lengths-requires c κs =
     count-limits _ (sym (c .before .before .before .before .before .check-count .ensures) ∙ check-passed (c .before .before .before .enum-told .given .1)) .1
 
 returns-3 : tie.Need-returns-3
-unfolding frameVerdict
+unfolding frameRules
 returns-3 c =
     c .check-frame-lengths .ensures
     ∙ passed-then _ (c .before .before .before .check-part .ensures) (c .before .enum-told3 .given .1)

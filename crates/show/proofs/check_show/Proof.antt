@@ -9,8 +9,8 @@ use Rattle.show.proofs.check_show.Tie as tie
 new-requires : tie.Need-new-requires
 new-requires c κs = search needs
 
-enum-known-a : tie.Need-enum-known-a
-enum-known-a c = search needs
+enum-known-designed : tie.Need-enum-known-designed
+enum-known-designed c = search needs
 
 enum-told : tie.Need-enum-told
 enum-told c = search needs
@@ -27,14 +27,14 @@ check-frame-requires c κs = search needs
 returns-2 : tie.Need-returns-2
 returns-2 c =
     let n = c .before .before .before .before .new .ensures in
-    frame-decides _ _ _ _ _ _ _ (n .0) (n .1) (c .before .before .a .given .1) _ (c .check-frame .ensures)
+    frame-decides _ _ _ _ _ _ _ (n .0) (n .1) (c .before .before .designed .given .1) _ (c .check-frame .ensures)
 
 pub check-show-spec : {M : Type 1} → statement M
 check-show-spec =
     tie.close
     (tie.spec
     new-requires
-    enum-known-a
+    enum-known-designed
     enum-told
     design-check-requires
     returns

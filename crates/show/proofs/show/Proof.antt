@@ -8,8 +8,8 @@ use Rattle.show.proofs.show.Tie as tie
 new-requires : tie.Need-new-requires
 new-requires c κs = search needs
 
-enum-known-a : tie.Need-enum-known-a
-enum-known-a c = search needs
+enum-known-designed : tie.Need-enum-known-designed
+enum-known-designed c = search needs
 
 enum-told : tie.Need-enum-told
 enum-told c = search needs
@@ -47,19 +47,19 @@ part-result-end-2 c = search needs
 returns-2 : tie.Need-returns-2
 returns-2 c =
     let n = c .before .before .before .before .before .before .before .new .ensures in
-    frame-empty _ _ _ _ _ _ _ (n .0) (n .1) (c .before .before .before .before .before .a .given .1) _ (c .before .before .before .check-frame .ensures)
+    frame-empty _ _ _ _ _ _ _ (n .0) (n .1) (c .before .before .before .before .before .designed .given .1) _ (c .before .before .before .check-frame .ensures)
     (c .before .enum-told3 .given .1)
 
 shown-part-requires : tie.Need-shown-part-requires
 shown-part-requires c κs =
     let n = c .before .before .before .before .before .before .new .ensures in
-    passed-part _ _ _ _ _ _ _ (n .0) (n .1) (c .before .before .before .before .a .given .1) _ (c .before .before .check-frame .ensures)
+    passed-part _ _ _ _ _ _ _ (n .0) (n .1) (c .before .before .before .before .designed .given .1) _ (c .before .before .check-frame .ensures)
     (c .enum-told2 .given .1)
 
 returns-3 : tie.Need-returns-3
 returns-3 c =
     let n = c .before .before .before .before .before .before .before .new .ensures in
-    passed-shown _ _ _ _ _ _ _ (n .0) (n .1) (c .before .before .before .before .before .a .given .1) _ (c .before .before .before .check-frame .ensures)
+    passed-shown _ _ _ _ _ _ _ (n .0) (n .1) (c .before .before .before .before .before .designed .given .1) _ (c .before .before .before .check-frame .ensures)
     (c .before .enum-told2 .given .1) (c .shown-part .ensures)
 
 pub show-spec : {M : Type 1} → statement M
@@ -67,7 +67,7 @@ show-spec =
     tie.close
     (tie.spec
     new-requires
-    enum-known-a
+    enum-known-designed
     enum-told
     sub-result
     part-result-start

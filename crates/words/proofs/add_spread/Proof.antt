@@ -1,27 +1,25 @@
 -- The working bytes are those that `gather` makes, and bits.
 -- Assumes nothing.
 use borrow.Author.Needs.{needs}
-use mathlib.Core.Path.{ap, _∙_}
-use Prim.Native.Nat.{ℕ}
+use native.Mathlib.Omega.{arith}
+use Prim.Native.Nat.{_+_}
 use lib.ListN.{length, getD}
-use Rattle.bch.specs.Polynomial.{_⊕_}
 use Rattle.staircase.specs.Rules.{entries}
-use Rattle.words.proofs.Spread.{spread-bits, spread-length, spread-sum}
+use Rattle.words.proofs.Columns.{spread-bits, spread-length, spread-added}
 use Rattle.words.proofs.add_spread.Statement.{statement}
 use Rattle.words.proofs.add_spread.Tie as tie
 
 gather-requires : tie.Need-gather-requires
 gather-requires c κs = search needs
 
-add-rows-requires : tie.Need-add-rows-requires
-add-rows-requires c κs =
+add-columns-requires : tie.Need-add-columns-requires
+add-columns-requires c κs =
     let s = c .before .before .before .before .before .before .before .before .before .before .before in
     let a = s .args in
     let n = length (a .work .now) in
-    let g = c .before .before .before .before .gather in (
-      spread-length (g .last .1 .1 .0) (a .bits .now) n (λ p. getD (entries n (a .list .now)) p 0) (g .ensures) ∙ s .pre .1,
-      spread-bits (g .last .1 .1 .0) (a .bits .now) n (λ p. getD (entries n (a .list .now)) p 0) (g .ensures) (s .pre .2),
-    )
+    let g = c .before .before .before .before .gather in
+    let long = spread-length (g .last .1 .1 .1 .0) (a .bits .now) n (λ p. a .at + getD (entries n (a .list .now)) p 0) (g .ensures) in
+    (omega (arith, long, s .pre .1), spread-bits (g .last .1 .1 .1 .0) (a .bits .now) n (λ p. a .at + getD (entries n (a .list .now)) p 0) (g .ensures) (s .pre .3), s .pre .4)
 
 same-length : tie.Need-same-length
 same-length c = search needs
@@ -35,12 +33,9 @@ returns c =
     let a = s .args in
     let n = length (a .work .now) in
     let g = c .before .before .before .before .before .before .before .gather in
-    let made = c .before .before .add-rows .ensures in (
-      made .0,
-      λ k h. made .1 k h
-          ∙ ap (λ (x : ℕ). getD (a .rows .now) k 0 ⊕ x)
-          (spread-sum (g .last .1 .1 .0) (a .bits .now) n (λ p. getD (entries n (a .list .now)) p 0) (g .ensures) (a .part .now) (length (a .rows .now)) k (s .pre .1) h),
-    )
+    let added = c .before .before .add-columns in
+    spread-added (g .last .1 .1 .1 .0) (a .bits .now) n (λ p. a .at + getD (entries n (a .list .now)) p 0) (g .ensures)
+    (a .table .now) (a .sums .now) (added .last .0) (a .from) (a .r) (s .pre .1) (added .ensures)
 
 pub add-spread-spec : {M : Type 1} → statement M
-add-spread-spec = tie.close (tie.spec gather-requires add-rows-requires same-length same-length-2 returns)
+add-spread-spec = tie.close (tie.spec gather-requires add-columns-requires same-length same-length-2 returns)

@@ -20,25 +20,23 @@ Inv-loop d blocks own parity info red table work₀ sums₀ count total₀ i₀ 
 abbrev μ-loop : tie.MeasureT-loop
 μ-loop d blocks own parity info red table work₀ sums₀ count total₀ i₀ work sums total i = count - i
 
-add-count : tie.Need-add-count Inv-loop μ-loop
-add-count c =
-    let s = c .before .before .before .before .before .before .before in
-    omega (arith, s .pre .0 .few-blocks)
+group-count-requires : tie.Need-group-count-requires Inv-loop μ-loop
+group-count-requires c κs = c .before .before .before .before .before .before .before .pre .0 .few-blocks
 
 loop-holds : tie.Need-loop-holds Inv-loop μ-loop
 loop-holds c =
-    let a = c .before .before .before .before .before .before .before .args in
+    let a = c .before .before .before .before .before .before .before .before .args in
     let none = none-yet (paramsOf (a .d)) (frameOf (a .info .now) (a .red .now)) (listsOf (a .d) (a .own .now) (a .parity .now)) (a .blocks) in
-    (omega arith, omega arith, omega arith, omega arith, omega arith, none)
+    (c .group-count .ensures, omega arith, omega arith, omega arith, omega arith, none)
 
 group-outside-requires : tie.Need-group-outside-requires Inv-loop μ-loop
 group-outside-requires c κs =
-    let s = c .before .before .before .before .before .before .before .before .before .before .before in
+    let s = c .before .before .before .before .before .before .before .before .before .before .before .before in
     (s .pre .0, omega arith, s .pre .1, omega (arith, s .pre .2), omega (arith, s .pre .3))
 
 add-total : tie.Need-add-total Inv-loop μ-loop
 add-total c =
-    let s = c .before .before .before .before .before .before .before .before .before .before .before .before .before .before .before .before in
+    let s = c .before .before .before .before .before .before .before .before .before .before .before .before .before .before .before .before .before in
     omega (arith, s .pre .0 .few-blocks, c .before .before .before .before .group-outside .ensures .1)
 
 add-i : tie.Need-add-i Inv-loop μ-loop
@@ -49,7 +47,7 @@ loop-less c = omega arith
 
 loop-again : tie.Need-loop-again Inv-loop μ-loop
 loop-again c =
-    let a = c .before .before .before .before .before .before .before .before .before .before .before .before .before .before .before .before .args in
+    let a = c .before .before .before .before .before .before .before .before .before .before .before .before .before .before .before .before .before .args in
     let l = c .before .before .before .before .before .before .before .before .loop in
     let more = c .before .before .before .before .group-outside in (
       omega arith,
@@ -69,7 +67,7 @@ same-length-2 c = omega arith
 
 returns : tie.Need-returns Inv-loop μ-loop
 returns c =
-    let a = c .before .before .before .before .before .before .before .before .before .args in
+    let a = c .before .before .before .before .before .before .before .before .before .before .args in
     let l = c .before .loop in
     all-groups (paramsOf (a .d)) (frameOf (a .info .now) (a .red .now)) (listsOf (a .d) (a .own .now) (a .parity .now)) (a .blocks)
     (l .i) (l .total) (l .inv .5) (omega arith)
@@ -80,7 +78,7 @@ count-groups-spec =
     (tie.spec
     Inv-loop
     μ-loop
-    add-count
+    group-count-requires
     loop-holds
     group-outside-requires
     add-total
