@@ -45,7 +45,7 @@ module _ {d : Design} {L i : ℕ} {own parity positions syndromes field : List �
       }
 
   pub table-of : WordTable d positions
-  table-of = record { long = R .long; powers = R .tables .position }
+  table-of = record { long = R .long; powers = R .tables .words .position }
 
 pub row-remainders : (s : Params) (l : Interleavers) (L : ℕ) (f : Frame) (i : ℕ) → rowRemainders s l L f i ≡ wordRemainders s l L f i false
 unfolding rowRemainders wordRemainders wordSites
