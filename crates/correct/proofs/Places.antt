@@ -1,13 +1,11 @@
 -- Where the positions of a word stand, by the numbers that the code computes.
 --   block-none, block-past, block-one   the sites of a block that is not sent, and of one that is
---   stretch-fits, place-fits, red-below, few-rows   the places of a stretch, of a block, and of Y and P
---   entry-is                  an entry of a list
+--   place-fits, red-below     the places of a matrix, and of Y and P
 --   bit-column, bit-self, bit-parity    the bit of a group at a place of X and Q, or of Y and P
 --   word-first, word-second, word-red   the site at a position of a row word or of a column word
 -- Assumes nothing.
 use mathlib.Core.Path.{_≡_, refl, sym, ap, ap₂, _∙_, subst}
 use mathlib.Core.Bool.{Bool, true, false, cond}
-use mathlib.Core.List.{List}
 use Prim.Native.Nat.{ℕ, zero, suc, _+_, _-_, _*_, _≤_, _<_}
 use native.Mathlib.Nat.{mul-comm, mul-assoc, add-mul}
 use native.Mathlib.Decide.{decLt}
@@ -19,12 +17,7 @@ use borrow.Author.Tests.{lt-ltb, le-ltb}
 use Rattle.staircase.specs.Design.{Params, Interleavers, order, wordLength}
 use Rattle.staircase.specs.Frame.{blockAt, rowSites, columnSites}
 use Rattle.staircase.specs.Frame.Site.{unsent, inInfo, inRed}
-use Rattle.staircase.specs.Rules.{entries}
-use Rattle.staircase.proofs.Fill.{small-product}
-use Rattle.staircase.proofs.System.{tabulate-at}
 use Rattle.staircase.proofs.Positions.{row-at-before, row-at-odd, row-at-self, row-at-parity, column-at-odd, column-at-even, column-at-self, column-at-parity}
-use Rattle.design.specs.declared.Design.{Design}
-use Rattle.design.specs.Answers.{Allowed}
 use Rattle.correct.specs.Sites.{groupBit, wordSites}
 
 pub block-none : (s : Params) (L b k : ℕ) → b < 1 → unsent ≡ blockAt s L b k
@@ -41,21 +34,9 @@ block-one s L (suc b) k h g =
     let e : suc b - 1 ≡ b = omega arith in
     ap (λ (z : ℕ). inInfo (z * (s .M * s .M) + k)) e ∙ sym (ap (λ (z : Bool). cond z (inInfo (b * (s .M * s .M) + k)) unsent) (lt-ltb b L (omega arith)))
 
--- a place of stretch b of n stretches
-pub stretch-fits : (n b w k : ℕ) → b < n → k < w → b * w + k < n * w
-stretch-fits n b w k h g = digits-lt {q = b} {m = n} {r = k} {c = w} h g
-
 -- a place of a matrix of n rows
 pub place-fits : (n w row column : ℕ) → row < n → column < w → row * w + column < w * n
-place-fits n w row column h g = subst (λ (z : ℕ). row * w + column < z) (mul-comm n w) (stretch-fits n row w column h g)
-
--- r is at most 30
-pub few-rows : (d : Design) → Allowed d → d .m * d .t ≤ 30
-few-rows d h = small-product (d .m) (d .t) 10 3 (h .m-high) (h .t-high)
-
-pub entry-is : (n p : ℕ) (b : List ℕ) (q : ℕ) → p < n → q ≡ getD b (2 * p) 0 + 256 * getD b (2 * p + 1) 0 → q ≡ getD (entries n b) p 0
-unfolding entries
-entry-is n p b q h e = e ∙ sym (tabulate-at n (λ j. getD b (2 * j) 0 + 256 * getD b (2 * j + 1) 0) 0 p h)
+place-fits n w row column h g = subst (λ (z : ℕ). row * w + column < z) (mul-comm n w) (digits-lt {q = row} {m = n} {r = column} {c = w} h g)
 
 -- a place of Y or X, and one of P or Q
 red-fits : (M r a p : ℕ) → 2 * M ≤ p → p < 2 * M + r → a < M → (p - 2 * M) * M + a < M * r

@@ -6,10 +6,11 @@
 --   root-none, root-is               what `root` answers
 --   exponents-zero, exponents-none, exponents-are   what `exponents` answers
 -- Assumes nothing.
-use mathlib.Core.Path.{_≡_, sym, ap, ap₂, _∙_, subst⁻¹}
+use mathlib.Core.Path.{_≡_, sym, ap, ap₂, _∙_, subst, subst⁻¹}
 use mathlib.Core.Logic.{_≢_, _⊎_, inl, inr}
 use mathlib.Core.List.{List}
 use Prim.Native.Nat.{ℕ, zero, suc, _+_, _-_, _*_, _/_, _%_, _^_, _≤_, _<_}
+use native.Mathlib.Decide.{ℕ-discrete}
 use native.Mathlib.Omega.{arith}
 use lib.Pow.{pow-pos, pow-mono}
 use lib.ListN.{length, getD, take, drop}
@@ -18,7 +19,8 @@ use Rattle.bch.specs.Field.{power}
 use Rattle.bch.specs.Locator.{SolutionTable}
 use Rattle.bch.proofs.Sum.{⊕-comm, ⊕-self-left}
 use Rattle.bch.proofs.Powers.{powerTable-at}
-use Rattle.bch.proofs.Locator.{power-below, power-cycle, power-one-only, power-not-zero, log-power, quarter-powers, quarter-logs}
+use Rattle.bch.proofs.Locator.{power-below, power-cycle, power-one-only, power-not-zero, log-power}
+use Rattle.bch.proofs.Locator.{quarter-powers, quarter-logs, quarter-halves, quarter-cubics}
 use Rattle.bch.proofs.Locator.{pair-sum, pair-defect, pair-halving, pair-root}
 use Rattle.locator.specs.declared.Pair.the-variants.{At}
 use Rattle.locator.specs.Steps.{Field, LogIs, SolutionIs, PairOf, RootOf, ExponentsAre}
@@ -47,8 +49,27 @@ module _ {m : ℕ} {field : List ℕ} (F : Field m field) where
       let L = quarter-logs (F .tables) in
       subst⁻¹ (LogIs m x) e (L .below x, log-power m (F .m-low) (F .m-high) _ L x l)
 
-pub solution-read : {m k v a : ℕ} {table : List ℕ} → SolutionTable m k table → v < 2 ^ m - 1 → a ≡ getD table v 0 → SolutionIs m k v a
-solution-read {m} {k} {v} S l e = subst⁻¹ (SolutionIs m k v) e (S .below v, S .sound v l, λ g. S .complete v g l)
+  -- the third quarter has those of z² + z, and the last those of z³ + z
+  solutions : (k : ℕ) → Dec (k ≡ 1) → 1 ≤ k → k ≤ 2
+      → SolutionTable m k (take ((k + 1) * (length field / 4) + length field / 4 - 1 - (k + 1) * (length field / 4)) (drop ((k + 1) * (length field / 4)) field))
+  solutions k (yes e) a b =
+      let q = length field / 4 in
+      let n : 3 * q - 1 - 2 * q ≡ 2 * q + q - 1 - 2 * q = omega arith in
+      subst⁻¹ (λ (i : ℕ). SolutionTable m i (take ((i + 1) * q + q - 1 - (i + 1) * q) (drop ((i + 1) * q) field))) e
+      (subst (λ (i : ℕ). SolutionTable m 1 (take i (drop (2 * q) field))) n (quarter-halves (F .tables)))
+  solutions k (no d) a b =
+      let q = length field / 4 in
+      let e : k ≡ 2 = omega arith in
+      let n : 4 * q - 1 - 3 * q ≡ 3 * q + q - 1 - 3 * q = omega arith in
+      subst⁻¹ (λ (i : ℕ). SolutionTable m i (take ((i + 1) * q + q - 1 - (i + 1) * q) (drop ((i + 1) * q) field))) e
+      (subst (λ (i : ℕ). SolutionTable m 2 (take i (drop (3 * q) field))) n (quarter-cubics (F .tables)))
+
+  pub solution-read : (k : ℕ) {v a : ℕ} → 1 ≤ k → k ≤ 2 → v < 2 ^ m - 1
+      → a ≡ getD (take ((k + 1) * (length field / 4) + length field / 4 - 1 - (k + 1) * (length field / 4)) (drop ((k + 1) * (length field / 4)) field)) v 0
+      → SolutionIs m k v a
+  solution-read k {v} low high l e =
+      let S = solutions k (ℕ-discrete k 1) low high in
+      subst⁻¹ (SolutionIs m k v) e (S .below v, S .sound v l, λ g. S .complete v g l)
 
 pub log-only : {m x a : ℕ} → 4 ≤ m → m ≤ 10 → (j : ℕ) → LogIs m x a → j < 2 ^ m - 1 → x ≡ power m j → a ≡ j
 log-only {m} {x} {a} low high j L l e = power-one-only m low high a j (L .0) l (L .1 (λ z. power-not-zero m low high j (sym e ∙ z)) ∙ e)

@@ -1,6 +1,7 @@
 -- The positions of a word's errors, from its remainder alone. A table has the power of x that each position carries, modulo the generator.
 --   sumAt          the sum of a table's entries at some positions
---   located        the positions whose entries have a given sum
+--   firstWithSum   the first of some choices of positions whose entries have a given sum
+--   located        the positions whose entries have it
 --   positionsOf    the positions that an answer of the code names
 --   SumTable       the values of the polynomials of four bits
 --   Words          m and t of a design, and what the table of its words' positions holds

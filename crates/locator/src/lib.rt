@@ -12,7 +12,7 @@
 // - Two errors: with z = α^e / S1, S3 + S1³ = S1³ (z² + z). A table has a solution z for each value of z² + z.
 // - Three errors: with S5, the value at the fifth power of the root, and Y = α^e + S1, Y³ + a Y + d = 0, where d = S1³ + S3 and
 //   a d = S1⁵ + S5. With a = c² and Y = c z, z³ + z = d / c³. A table has a solution z for each value of z³ + z; each solution is one of the
-//   three, and the other two are found as above from what is left of the sum. Where a is 0, each position is tried as the first.
+//   three, and the other two are found as above from what is left of the sum. Where a is 0, each position is tried.
 ghost use mathlib.Core.Path.{_≡_};
 ghost use mathlib.Core.Logic.{_≢_, _⊎_};
 ghost use Prim.Native.Nat.{_+_, _-_, _*_, _%_, _^_, _≤_, _<_};
@@ -75,24 +75,15 @@ fn log_of(m: usize, x: usize, field: &[u16]) -> usize
     wide(logs[x])
 }
 
-// The exponent of a solution z of z² + z = power v; 0 where there is none.
-fn half_at(m: usize, v: usize, field: &[u16]) -> usize
-    requires { ⌜ Field m (now field) × (v < 2 ^ m - 1) ⌝ }
-    ensures { λ a. ⌜ SolutionIs m 1 v a ⌝ }
+// The exponent of a solution z of z² + z = power v, where k is 1, and of z³ + z = power v, where k is 2; 0 where there is none.
+fn solution_at(m: usize, k: usize, v: usize, field: &[u16]) -> usize
+    requires { ⌜ Field m (now field) × (1 ≤ k) × (k ≤ 2) × (v < 2 ^ m - 1) ⌝ }
+    ensures { λ a. ⌜ SolutionIs m k v a ⌝ }
 {
     let q = field.len() / 4;
-    let halves = &field[2 * q..3 * q - 1];
-    wide(halves[v])
-}
-
-// The exponent of a solution z of z³ + z = power v; 0 where there is none.
-fn cubic_at(m: usize, v: usize, field: &[u16]) -> usize
-    requires { ⌜ Field m (now field) × (v < 2 ^ m - 1) ⌝ }
-    ensures { λ a. ⌜ SolutionIs m 2 v a ⌝ }
-{
-    let q = field.len() / 4;
-    let cubics = &field[3 * q..4 * q - 1];
-    wide(cubics[v])
+    let start = (k + 1) * q;
+    let solutions = &field[start..start + q - 1];
+    wide(solutions[v])
 }
 
 // An exponent below n with the same power as x, where the powers come back after n. No division.
@@ -178,7 +169,7 @@ fn root(m: usize, a: usize, cubes: usize, field: &[u16]) -> usize
         return 0;
     }
     let v = wrap(log_of(m, d, field) + n - c, n);
-    half_at(m, v, field)
+    solution_at(m, 1, v, field)
 }
 
 // The exponents of the two powers of the root whose sum is `sum` and whose cubes have the sum `cubes`.
@@ -333,7 +324,7 @@ fn cubic_root(m: usize, sum: usize, d: usize, e: usize, field: &[u16]) -> usize
     let n = field.len() / 4 - 1;
     let u = log_of(m, d, field);
     let h = half_exponent(log_of(m, e, field) + n - u, n);
-    let g = cubic_at(m, (u + 6 * n - 3 * h) % n, field);
+    let g = solution_at(m, 2, (u + 6 * n - 3 * h) % n, field);
     log_of(m, sum ^ power_at(m, (h + g) % n, field), field)
 }
 

@@ -1,16 +1,19 @@
--- `correct::block_site` meets its contract: no block before the first, and none after the last. Assumes nothing.
+-- No block stands before the first, and none after the last.
+-- Assumes nothing.
 use native.Mathlib.Omega.{arith}
 use mathlib.Core.Path.{_≡_, sym, ap, _∙_, subst}
 use mathlib.Core.List.{[], _∷_}
 use mathlib.Core.List.{[], _∷_}
 use Prim.Native.Nat.{ℕ, _+_, _-_, _*_, _<_}
+use lib.Arith.{digits-lt}
 use Rattle.staircase.specs.Frame.{Site}
+use lib.Arith.{digits-lt}
 use Rattle.staircase.specs.Frame.{Site}
 use Rattle.staircase.specs.Frame.Site.{inInfo}
 use Rattle.staircase.proofs.Fill.{small-product}
 use Rattle.design.specs.Sizes.{paramsOf}
 use Rattle.correct.specs.Sites.{sitesOf, Inside}
-use Rattle.correct.proofs.Places.{block-none, block-past, block-one, stretch-fits}
+use Rattle.correct.proofs.Places.{block-none, block-past, block-one}
 use borrow.Author.Needs.{needs}
 use Rattle.correct.proofs.block_site.Statement.{statement}
 use Rattle.correct.proofs.block_site.Tie as tie
@@ -43,7 +46,7 @@ returns-3 c =
     let z = a .d .size * a .d .size in
     let e : c .area .result ≡ z = c .area .ensures .0 in (
       ap (λ (z : Site). z ∷ []) (ap (λ (y : ℕ). inInfo ((a .b - 1) * y + a .k)) e ∙ block-one (paramsOf (a .d)) (a .blocks) (a .b) (a .k) (c .before .if2 .left) (c .before .before .if1 .left)),
-      λ n. subst (λ (y : ℕ). (a .b - 1) * y + a .k < a .blocks * z) (sym e) (stretch-fits (a .blocks) (a .b - 1) z (a .k) (c .before .if2 .left) (c .before .before .before .pre .1)),
+      λ n. subst (λ (y : ℕ). (a .b - 1) * y + a .k < a .blocks * z) (sym e) (digits-lt {q = a .b - 1} {m = a .blocks} {r = a .k} {c = z} (c .before .if2 .left) (c .before .before .before .pre .1)),
     )
 
 pub block-site-spec : {M : Type 1} → statement M

@@ -1,9 +1,11 @@
 -- A case for column words, and for row words one for each list.
 -- Assumes nothing.
+use mathlib.Core.Path.{_∙_}
 use Prim.Native.Nat.{_-_, _<_}
 use native.Mathlib.Omega.{arith}
 use Rattle.design.specs.Sizes.{paramsOf, orderOf, listsOf}
-use Rattle.correct.proofs.Places.{entry-is, bit-column, bit-self, bit-parity}
+use Rattle.rules.proofs.Entries.{entry-at}
+use Rattle.correct.proofs.Places.{bit-column, bit-self, bit-parity}
 use borrow.Author.Needs.{needs}
 use Rattle.correct.proofs.group_bit.Statement.{statement}
 use Rattle.correct.proofs.group_bit.Tie as tie
@@ -25,7 +27,7 @@ returns-2 c =
     let start = c .before .before .before .before .before .before in
     let a = start .args in
     let h : a .k < orderOf (a .d) = omega (arith, c .before .if2 .taken, c .before .before .order .ensures .0) in
-    let q = entry-is (orderOf (a .d)) (a .k) (a .own .now) (c .entry .result) h (c .entry .ensures .0) in (
+    let q = c .entry .ensures .0 ∙ entry-at (orderOf (a .d)) (a .own .now) (a .k) h in (
       bit-self (paramsOf (a .d)) (listsOf (a .d) (a .own .now) (a .parity .now)) (a .k) (c .before .before .before .if1 .left) h q,
       omega (arith, q, start .pre .0 .ownPermutes .below (a .k) h),
     )
@@ -42,7 +44,7 @@ returns-3 c =
     let a = start .args in
     let n = c .before .before .order in
     let h : a .k - n .result < orderOf (a .d) = omega (arith, start .pre .1, n .ensures .0) in
-    let q = entry-is (orderOf (a .d)) (a .k - n .result) (a .parity .now) (c .entry2 .result) h (c .entry2 .ensures .0) in (
+    let q = c .entry2 .ensures .0 ∙ entry-at (orderOf (a .d)) (a .parity .now) (a .k - n .result) h in (
       bit-parity (paramsOf (a .d)) (listsOf (a .d) (a .own .now) (a .parity .now)) (a .k) (c .before .before .before .if1 .left) (n .ensures .0) (c .before .if2 .left) q,
       omega (arith, q, n .ensures .0, start .pre .0 .parityPermutes .below (a .k - n .result) h),
     )

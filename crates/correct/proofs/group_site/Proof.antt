@@ -1,4 +1,5 @@
--- `correct::group_site` meets its contract. Assumes nothing.
+-- The group is stretch i of the redundancy.
+-- Assumes nothing.
 use native.Mathlib.Omega.{arith}
 use mathlib.Core.Path.{_≡_, sym, ap, subst}
 use mathlib.Core.List.{[], _∷_}
@@ -6,10 +7,10 @@ use mathlib.Core.List.{[], _∷_}
 use Prim.Native.Nat.{ℕ, _+_, _*_, _<_}
 use Rattle.staircase.specs.Frame.{groups}
 use Rattle.staircase.specs.Frame.Site.{inRed}
+use lib.Arith.{digits-lt}
 use Rattle.staircase.proofs.Fill.{small-product}
 use Rattle.design.specs.Sizes.{orderOf}
 use Rattle.correct.specs.Sites.{sitesOf, Inside}
-use Rattle.correct.proofs.Places.{stretch-fits}
 use borrow.Author.Needs.{needs}
 use Rattle.correct.proofs.group_site.Statement.{statement}
 use Rattle.correct.proofs.group_site.Tie as tie
@@ -35,7 +36,7 @@ returns c =
     let z = orderOf (a .d) in
     let e : c .order .result ≡ z = c .order .ensures .0 in (
       ap (λ (y : ℕ). inRed (a .i * (2 * y) + a .k) ∷ []) e,
-      λ n. subst (λ (y : ℕ). a .i * (2 * y) + a .k < groups (a .blocks) * (2 * z)) (sym e) (stretch-fits (groups (a .blocks)) (a .i) (2 * z) (a .k) (c .before .pre .1) (c .before .pre .2)),
+      λ n. subst (λ (y : ℕ). a .i * (2 * y) + a .k < groups (a .blocks) * (2 * z)) (sym e) (digits-lt {q = a .i} {m = groups (a .blocks)} {r = a .k} {c = 2 * z} (c .before .pre .1) (c .before .pre .2)),
     )
 
 pub group-site-spec : {M : Type 1} → statement M

@@ -3,10 +3,11 @@
 use mathlib.Core.Path.{ap, _∙_}
 use mathlib.Core.List.{[], _∷_}
 use Prim.Native.Nat.{_*_}
+use native.Mathlib.Nat.{mul-le-mul}
 use native.Mathlib.Omega.{arith}
 use Rattle.staircase.specs.Frame.{Site}
 use Rattle.design.specs.Sizes.{paramsOf, listsOf}
-use Rattle.correct.proofs.Places.{few-rows, red-below, word-first, word-second, word-red}
+use Rattle.correct.proofs.Places.{red-below, word-first, word-second, word-red}
 use borrow.Author.Needs.{needs}
 use borrow.Author.Needs.{needs}
 use Rattle.correct.proofs.site_at.Statement.{statement}
@@ -69,7 +70,7 @@ sub-place : tie.Need-sub-place
 sub-place c = search needs
 
 place-requires : tie.Need-place-requires
-place-requires c κs = let start = c .before .before .before .before .before in omega (arith, few-rows (start .args .d) (start .pre .0), start .pre .0 .M-high)
+place-requires c κs = let start = c .before .before .before .before .before in omega (arith, mul-le-mul (start .pre .0 .m-high) (start .pre .0 .t-high), start .pre .0 .M-high)
 
 group-bit-requires : tie.Need-group-bit-requires
 group-bit-requires c κs =

@@ -29,27 +29,27 @@ sub-half-exponent c = search needs
 half-exponent-requires : tie.Need-half-exponent-requires
 half-exponent-requires c κs = let F = c .before .before .before .pre .0 in (omega (arith, count-is F, c .before .log-of .ensures .0, c .log-of2 .ensures .0), count-size F .1, count-size F .2)
 
-mul-cubic-at : tie.Need-mul-cubic-at
-mul-cubic-at c = search needs
+mul-solution-at : tie.Need-mul-solution-at
+mul-solution-at c = search needs
 
-add-cubic-at : tie.Need-add-cubic-at
-add-cubic-at c = search needs
+add-solution-at : tie.Need-add-solution-at
+add-solution-at c = search needs
 
-mul-cubic-at-2 : tie.Need-mul-cubic-at-2
-mul-cubic-at-2 c = search needs
+mul-solution-at-2 : tie.Need-mul-solution-at-2
+mul-solution-at-2 c = search needs
 
-sub-cubic-at : tie.Need-sub-cubic-at
-sub-cubic-at c = search needs
+sub-solution-at : tie.Need-sub-solution-at
+sub-solution-at c = search needs
 
-rem-cubic-at : tie.Need-rem-cubic-at
-rem-cubic-at c = search needs
+rem-solution-at : tie.Need-rem-solution-at
+rem-solution-at c = search needs
 
-cubic-at-requires : tie.Need-cubic-at-requires
-cubic-at-requires c κs =
+solution-at-requires : tie.Need-solution-at-requires
+solution-at-requires c κs =
     let start = c .before .before .before .before in
     let F = start .pre .0 in
     let n = length (start .args .field .now) / 4 - 1 in
-    (F, within F (c .before .before .log-of .result + 6 * n - 3 * c .half-exponent .result))
+    (F, omega arith, omega arith, within F (c .before .before .log-of .result + 6 * n - 3 * c .half-exponent .result))
 
 add-power-at : tie.Need-add-power-at
 add-power-at c = search needs
@@ -58,7 +58,7 @@ rem-power-at : tie.Need-rem-power-at
 rem-power-at c = search needs
 
 power-at-requires : tie.Need-power-at-requires
-power-at-requires c κs = let F = c .before .before .before .before .before .pre .0 in (F, within F (c .before .half-exponent .result + c .cubic-at .result))
+power-at-requires c κs = let F = c .before .before .before .before .before .pre .0 in (F, within F (c .before .half-exponent .result + c .solution-at .result))
 
 log-of-requires-3 : tie.Need-log-of-requires-3
 unfolding _⊕_
@@ -73,7 +73,7 @@ returns c =
     let start = c .before .before .before .before .before .before .before in
     let F = start .pre .0 in
     cubic-root-is F (start .pre .3) (c .before .before .before .before .before .log-of .ensures) (start .pre .5) (c .before .before .before .before .log-of2 .ensures) (c .before .before .before .half-exponent .ensures .0)
-    (c .before .before .before .half-exponent .ensures .1) (c .before .before .cubic-at .ensures) (c .before .power-at .ensures .0) (c .log-of3 .ensures)
+    (c .before .before .before .half-exponent .ensures .1) (c .before .before .solution-at .ensures) (c .before .power-at .ensures .0) (c .log-of3 .ensures)
 
 pub cubic-root-spec : {M : Type 1} → statement M
 cubic-root-spec =
@@ -85,12 +85,12 @@ cubic-root-spec =
     add-half-exponent
     sub-half-exponent
     half-exponent-requires
-    mul-cubic-at
-    add-cubic-at
-    mul-cubic-at-2
-    sub-cubic-at
-    rem-cubic-at
-    cubic-at-requires
+    mul-solution-at
+    add-solution-at
+    mul-solution-at-2
+    sub-solution-at
+    rem-solution-at
+    solution-at-requires
     add-power-at
     rem-power-at
     power-at-requires

@@ -49,8 +49,8 @@ sub-wrap c = search needs
 wrap-requires-3 : tie.Need-wrap-requires-3
 wrap-requires-3 c κs = search needs
 
-half-at-requires : tie.Need-half-at-requires
-half-at-requires c κs = search needs
+solution-at-requires : tie.Need-solution-at-requires
+solution-at-requires c κs = search needs
 
 returns-2 : tie.Need-returns-2
 unfolding _⊕_
@@ -58,7 +58,7 @@ returns-2 c =
     let start = c .before .before .before .before .before .before .before .before in
     let F = start .pre .0 in
     root-is F (start .args .a) (c .before .before .before .before .before .before .wrap .ensures .1) (c .before .before .before .before .before .wrap2 .ensures .1) (c .before .before .before .before .power-at .ensures .0) (c .before .before .before .before .before .wrap2 .ensures .0) (c .before .before .before .if1 .left)
-    (c .before .before .log-of .ensures) (c .before .wrap3 .ensures .1) (c .half-at .ensures)
+    (c .before .before .log-of .ensures) (c .before .wrap3 .ensures .1) (c .solution-at .ensures)
 
 pub root-spec : {M : Type 1} → statement M
 root-spec =
@@ -75,5 +75,5 @@ root-spec =
     add-wrap-2
     sub-wrap
     wrap-requires-3
-    half-at-requires
+    solution-at-requires
     returns-2)
