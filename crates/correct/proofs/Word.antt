@@ -4,6 +4,7 @@
 --   inside-frame               bits inside a frame's lengths are bytes of its buffers
 --   listed-none, listed-one, listed-two, listed-three   the sites of the positions that an answer of `locate` names
 --   located-below              these are positions of the word
+--   zero-corrected             a word with remainder 0 stays
 --   none-corrected, all-corrected   the correction, by whether all of them are sent
 -- Assumes nothing.
 use mathlib.Core.Path.{_≡_, refl, sym, ap, ap₂, _∙_, subst}
@@ -31,6 +32,8 @@ use Rattle.locator.specs.declared.Located.{Located}
 use Rattle.locator.specs.declared.Located.the-variants.{Nowhere, One, Two, Three}
 use Rattle.locator.specs.Located.{located, positionsOf}
 use Rattle.locator.proofs.Link.{errorPositions-located}
+use Rattle.locator.proofs.Choices.{located-zero}
+use Rattle.locator.proofs.Values.{code-of}
 use Rattle.correct.specs.declared.Spot.{Spot}
 use Rattle.correct.specs.declared.Spot.the-variants.{Absent, Unsent, Info, Red}
 use Rattle.correct.specs.declared.Spots.{Spots}
@@ -123,6 +126,18 @@ module _ {d : Design} {L i : ℕ} {own parity positions syndromes field : List �
 
     found : errorPositions s (read f w) ≡ located positions (d .t) x
     found = errorPositions-located s (read f w) positions word-bits (R .long ∙ sym long) (R .tables .words .position) ∙ ap (located positions (d .t)) (sym e)
+
+    pub zero-corrected : x ≡ 0
+        → (frameOf info red ≡ flipAll (correction (paramsOf d) (frameOf info red) (wordSites (paramsOf d) (listsOf d own parity) L i column a)) (frameOf info red))
+        × (0 ≡ length (correction (paramsOf d) (frameOf info red) (wordSites (paramsOf d) (listsOf d own parity) L i column a)))
+    unfolding correction flipAll
+    zero-corrected z =
+        let W = R .tables .words in
+        let v : List ℕ → List Site = map (λ j. getD w j unsent) in
+        let none : errorPositions s (read f w) ≡ [] =
+        found ∙ ap (located positions (d .t)) z ∙ located-zero (d .m) (d .t) positions (W .position) (W .n-fits) (code-of W) in
+        let r : correction s f w ≡ [] = ap (λ (c : List ℕ). cond (allSent (v c)) (v c) []) none in
+        (ap (λ (y : List Site). flipAll y f) (sym r), ap length (sym r))
 
     module _ (z : Located) (h : positionsOf z ≡ located positions (d .t) x) where
       pub located-below : Below (wordLength (paramsOf d)) (positionsOf z)

@@ -266,6 +266,9 @@ fn correct_word(
         × (k ≡ length (correction (paramsOf d) (frameOf (now (info .entry)) (now (red .entry)))
         (wordSites (paramsOf d) (listsOf d (now (own .entry)) (now (parity .entry))) blocks i column a))) ⌝ }
 {
+    if remainder == 0 {
+        return 0;
+    }
     let found = locator::locate(
         d.m as usize,
         d.t as usize,

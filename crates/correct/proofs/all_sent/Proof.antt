@@ -18,16 +18,23 @@ is-sent-requires-2 c κs = search needs
 
 returns-2 : tie.Need-returns-2
 returns-2 c =
-    let e = sym (c .before .before .before .is-sent .ensures) ∙ not-false (c .before .before .before .is-sent .result) (c .before .before .if1 .left) in
-    listed-sent (c .before .before .before .before .args .s) e (sym (c .before .is-sent2 .ensures) ∙ not-true (c .before .is-sent2 .result) (c .if2 .taken))
+    let start = c .before .before .before .before in
+    let is-sent = c .before .before .before .is-sent in
+    let if1 = c .before .before .if1 in
+    let e = sym (is-sent .ensures) ∙ not-false (is-sent .result) (if1 .left) in
+    listed-sent (start .args .s) e (sym (c .before .is-sent2 .ensures) ∙ not-true (c .before .is-sent2 .result) (c .if2 .taken))
 
 is-sent-requires-3 : tie.Need-is-sent-requires-3
 is-sent-requires-3 c κs = search needs
 
 returns-3 : tie.Need-returns-3
 returns-3 c =
-    let e = sym (c .before .before .before .before .is-sent .ensures) ∙ not-false (c .before .before .before .before .is-sent .result) (c .before .before .before .if1 .left) in
-    c .is-sent3 .ensures ∙ listed-sent (c .before .before .before .before .before .args .s) e (sym (c .before .before .is-sent2 .ensures) ∙ not-false (c .before .before .is-sent2 .result) (c .before .if2 .left))
+    let start = c .before .before .before .before .before in
+    let is-sent = c .before .before .before .before .is-sent in
+    let if1 = c .before .before .before .if1 in
+    let is-sent2 = c .before .before .is-sent2 in
+    let e = sym (is-sent .ensures) ∙ not-false (is-sent .result) (if1 .left) in
+    c .is-sent3 .ensures ∙ listed-sent (start .args .s) e (sym (is-sent2 .ensures) ∙ not-false (is-sent2 .result) (c .before .if2 .left))
 
 pub all-sent-spec : {M : Type 1} → statement M
 all-sent-spec =

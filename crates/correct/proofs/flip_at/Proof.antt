@@ -25,7 +25,8 @@ slice-read-info : tie.Need-slice-read-info
 unfolding Inside
 slice-read-info c =
     let start = c .before .before .before .before in
-    omega (arith, subst (λ (z : Spot). Inside z (length (start .args .info .now)) (length (start .args .red .now))) (c .before .before .at .given .1) (start .pre .0))
+    let at = c .before .before .at in
+    omega (arith, subst (λ (z : Spot). Inside z (length (start .args .info .now)) (length (start .args .red .now))) (at .given .1) (start .pre .0))
 
 sub-info : tie.Need-sub-info
 sub-info c = le-of-suc-le-suc (c .before .before .before .before .pre .1 _)
@@ -34,7 +35,8 @@ slice-write-info : tie.Need-slice-write-info
 unfolding Inside
 slice-write-info c =
     let start = c .before .before .before .before in
-    omega (arith, subst (λ (z : Spot). Inside z (length (start .args .info .now)) (length (start .args .red .now))) (c .before .before .at .given .1) (start .pre .0))
+    let at = c .before .before .at in
+    omega (arith, subst (λ (z : Spot). Inside z (length (start .args .info .now)) (length (start .args .red .now))) (at .given .1) (start .pre .0))
 
 enum-known-at-2 : tie.Need-enum-known-at-2
 enum-known-at-2 c = search needs
@@ -43,7 +45,8 @@ slice-read-red : tie.Need-slice-read-red
 unfolding Inside
 slice-read-red c =
     let start = c .before .before .before .before in
-    omega (arith, subst (λ (z : Spot). Inside z (length (start .args .info .now)) (length (start .args .red .now))) (c .before .before .at2 .given .1) (start .pre .0))
+    let at2 = c .before .before .at2 in
+    omega (arith, subst (λ (z : Spot). Inside z (length (start .args .info .now)) (length (start .args .red .now))) (at2 .given .1) (start .pre .0))
 
 sub-red : tie.Need-sub-red
 sub-red c = le-of-suc-le-suc (c .before .before .before .before .pre .2 _)
@@ -52,7 +55,8 @@ slice-write-red : tie.Need-slice-write-red
 unfolding Inside
 slice-write-red c =
     let start = c .before .before .before .before in
-    omega (arith, subst (λ (z : Spot). Inside z (length (start .args .info .now)) (length (start .args .red .now))) (c .before .before .at2 .given .1) (start .pre .0))
+    let at2 = c .before .before .at2 in
+    omega (arith, subst (λ (z : Spot). Inside z (length (start .args .info .now)) (length (start .args .red .now))) (at2 .given .1) (start .pre .0))
 
 returns : tie.Need-returns
 unfolding sitesOf flipAll

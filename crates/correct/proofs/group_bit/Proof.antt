@@ -41,11 +41,13 @@ add-result c = search needs
 returns-3 : tie.Need-returns-3
 returns-3 c =
     let start = c .before .before .before .before .before .before in
+    let order = c .before .before .order in
+    let if1 = c .before .before .before .if1 in
     let a = start .args in
-    let n = c .before .before .order in
+    let n = order in
     let h : a .k - n .result < orderOf (a .d) = omega (arith, start .pre .1, n .ensures .0) in
     let q = c .entry2 .ensures .0 ∙ entry-at (orderOf (a .d)) (a .parity .now) (a .k - n .result) h in (
-      bit-parity (paramsOf (a .d)) (listsOf (a .d) (a .own .now) (a .parity .now)) (a .k) (c .before .before .before .if1 .left) (n .ensures .0) (c .before .if2 .left) q,
+      bit-parity (paramsOf (a .d)) (listsOf (a .d) (a .own .now) (a .parity .now)) (a .k) (if1 .left) (n .ensures .0) (c .before .if2 .left) q,
       omega (arith, q, n .ensures .0, start .pre .0 .parityPermutes .below (a .k - n .result) h),
     )
 

@@ -27,16 +27,18 @@ mul-t7 c =
 
 add-t8 : tie.Need-add-t8
 add-t8 c =
-    let a = c .before .args in omega (arith, small-product (a .i) (2 * c .order .result) 4096 8589934592 (omega arith) (omega arith), c .order .ensures)
+    let start = c .before in
+    let a = start .args in omega (arith, small-product (a .i) (2 * c .order .result) 4096 8589934592 (omega arith) (omega arith), c .order .ensures)
 
 returns : tie.Need-returns
 unfolding sitesOf Inside
 returns c =
-    let a = c .before .args in
+    let start = c .before in
+    let a = start .args in
     let z = orderOf (a .d) in
     let e : c .order .result ≡ z = c .order .ensures .0 in (
       ap (λ (y : ℕ). inRed (a .i * (2 * y) + a .k) ∷ []) e,
-      λ n. subst (λ (y : ℕ). a .i * (2 * y) + a .k < groups (a .blocks) * (2 * z)) (sym e) (digits-lt {q = a .i} {m = groups (a .blocks)} {r = a .k} {c = 2 * z} (c .before .pre .1) (c .before .pre .2)),
+      λ n. subst (λ (y : ℕ). a .i * (2 * y) + a .k < groups (a .blocks) * (2 * z)) (sym e) (digits-lt {q = a .i} {m = groups (a .blocks)} {r = a .k} {c = 2 * z} (start .pre .1) (start .pre .2)),
     )
 
 pub group-site-spec : {M : Type 1} → statement M

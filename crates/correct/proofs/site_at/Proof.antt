@@ -28,11 +28,13 @@ block-site-requires c κs = search needs
 returns : tie.Need-returns
 returns c =
     let start = c .before .before .before .before .before .before .before in
+    let if1 = c .before .before .before .if1 in
+    let line-bit = c .before .before .line-bit in
     let a = start .args in
     let s = paramsOf (a .d) in
     let l = listsOf (a .d) (a .own .now) (a .parity .now) in (
       c .block-site .ensures .0
-          ∙ ap (λ (z : Site). z ∷ []) (word-first s l (a .blocks) (a .i) (a .a) (a .column) (c .before .before .before .if1 .taken) (c .before .first-block .ensures .0) (c .before .before .line-bit .ensures .0)),
+          ∙ ap (λ (z : Site). z ∷ []) (word-first s l (a .blocks) (a .i) (a .a) (a .column) (if1 .taken) (c .before .first-block .ensures .0) (line-bit .ensures .0)),
       c .block-site .ensures .1 _,
     )
 
@@ -54,12 +56,15 @@ block-site-requires-2 c κs = search needs
 returns-2 : tie.Need-returns-2
 returns-2 c =
     let start = c .before .before .before .before .before .before .before .before in
+    let if1 = c .before .before .before .before .if1 in
+    let if2 = c .before .before .before .if2 in
+    let line-bit2 = c .before .before .line-bit2 in
     let a = start .args in
     let s = paramsOf (a .d) in
     let l = listsOf (a .d) (a .own .now) (a .parity .now) in (
       c .block-site2 .ensures .0
           ∙ ap (λ (z : Site). z ∷ [])
-          (word-second s l (a .blocks) (a .i) (a .a) (a .column) (c .before .before .before .before .if1 .left) (c .before .before .before .if2 .taken) (c .before .first-block2 .ensures .0) (c .before .before .line-bit2 .ensures .0)),
+          (word-second s l (a .blocks) (a .i) (a .a) (a .column) (if1 .left) (if2 .taken) (c .before .first-block2 .ensures .0) (line-bit2 .ensures .0)),
       c .block-site2 .ensures .1 _,
     )
 
@@ -70,7 +75,8 @@ sub-place : tie.Need-sub-place
 sub-place c = search needs
 
 place-requires : tie.Need-place-requires
-place-requires c κs = let start = c .before .before .before .before .before in omega (arith, mul-le-mul (start .pre .0 .m-high) (start .pre .0 .t-high), start .pre .0 .M-high)
+place-requires c κs =
+    let start = c .before .before .before .before .before in omega (arith, mul-le-mul (start .pre .0 .m-high) (start .pre .0 .t-high), start .pre .0 .M-high)
 
 group-bit-requires : tie.Need-group-bit-requires
 group-bit-requires c κs =
@@ -84,12 +90,14 @@ group-site-requires c κs = let s = c .before .before .before .before .before .b
 returns-3 : tie.Need-returns-3
 returns-3 c =
     let start = c .before .before .before .before .before .before .before .before in
+    let if2 = c .before .before .before .if2 in
+    let place = c .before .before .place in
     let a = start .args in
     let s = paramsOf (a .d) in
     let l = listsOf (a .d) (a .own .now) (a .parity .now) in (
       c .group-site .ensures .0
           ∙ ap (λ (z : Site). z ∷ [])
-          (word-red s l (a .blocks) (a .i) (a .a) (a .column) (c .before .before .before .if2 .left) (start .pre .5) (start .pre .3) (c .before .before .place .ensures .0) (c .before .group-bit .ensures .0)),
+          (word-red s l (a .blocks) (a .i) (a .a) (a .column) (if2 .left) (start .pre .5) (start .pre .3) (place .ensures .0) (c .before .group-bit .ensures .0)),
       c .group-site .ensures .1 _,
     )
 

@@ -27,7 +27,9 @@ sub-half-exponent : tie.Need-sub-half-exponent
 sub-half-exponent c = search needs
 
 half-exponent-requires : tie.Need-half-exponent-requires
-half-exponent-requires c κs = let F = c .before .before .before .pre .0 in (omega (arith, count-is F, c .before .log-of .ensures .0, c .log-of2 .ensures .0), count-size F .1, count-size F .2)
+half-exponent-requires c κs =
+    let start = c .before .before .before in
+    let F = start .pre .0 in (omega (arith, count-is F, c .before .log-of .ensures .0, c .log-of2 .ensures .0), count-size F .1, count-size F .2)
 
 mul-solution-at : tie.Need-mul-solution-at
 mul-solution-at c = search needs
@@ -58,7 +60,9 @@ rem-power-at : tie.Need-rem-power-at
 rem-power-at c = search needs
 
 power-at-requires : tie.Need-power-at-requires
-power-at-requires c κs = let F = c .before .before .before .before .before .pre .0 in (F, within F (c .before .half-exponent .result + c .solution-at .result))
+power-at-requires c κs =
+    let start = c .before .before .before .before .before in
+    let F = start .pre .0 in (F, within F (c .before .half-exponent .result + c .solution-at .result))
 
 log-of-requires-3 : tie.Need-log-of-requires-3
 unfolding _⊕_
@@ -71,9 +75,13 @@ returns : tie.Need-returns
 unfolding _⊕_
 returns c =
     let start = c .before .before .before .before .before .before .before in
+    let log-of = c .before .before .before .before .before .log-of in
+    let log-of2 = c .before .before .before .before .log-of2 in
+    let half-exponent = c .before .before .before .half-exponent in
+    let solution-at = c .before .before .solution-at in
     let F = start .pre .0 in
-    cubic-root-is F (start .pre .3) (c .before .before .before .before .before .log-of .ensures) (start .pre .5) (c .before .before .before .before .log-of2 .ensures) (c .before .before .before .half-exponent .ensures .0)
-    (c .before .before .before .half-exponent .ensures .1) (c .before .before .solution-at .ensures) (c .before .power-at .ensures .0) (c .log-of3 .ensures)
+    cubic-root-is F (start .pre .3) (log-of .ensures) (start .pre .5) (log-of2 .ensures) (half-exponent .ensures .0)
+    (half-exponent .ensures .1) (solution-at .ensures) (c .before .power-at .ensures .0) (c .log-of3 .ensures)
 
 pub cubic-root-spec : {M : Type 1} → statement M
 cubic-root-spec =

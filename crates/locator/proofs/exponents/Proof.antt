@@ -46,8 +46,13 @@ log-of-requires-2 c κs =
 returns-3 : tie.Need-returns-3
 unfolding _⊕_
 returns-3 c =
-    let F = c .before .before .before .before .before .before .before .before .pre .0 in
-    exponents-are F (c .before .before .before .before .before .before .if1 .left) (c .before .before .before .before .before .log-of .ensures) (c .before .before .before .before .root .ensures .1) (c .before .before .wrap .ensures .0) (c .before .before .wrap .ensures .1)
+    let start = c .before .before .before .before .before .before .before .before in
+    let if1 = c .before .before .before .before .before .before .if1 in
+    let log-of = c .before .before .before .before .before .log-of in
+    let root = c .before .before .before .before .root in
+    let wrap = c .before .before .wrap in
+    let F = start .pre .0 in
+    exponents-are F (if1 .left) (log-of .ensures) (root .ensures .1) (wrap .ensures .0) (wrap .ensures .1)
     (c .before .power-at .ensures .0) (c .log-of2 .ensures)
 
 pub exponents-spec : {M : Type 1} → statement M

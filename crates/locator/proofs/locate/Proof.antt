@@ -48,7 +48,8 @@ enum-known-single c = search needs
 returns-2 : tie.Need-returns-2
 returns-2 c =
     let start = c .before .before .before .before .before .before .before .before .before .before in
-    let u = subst (λ (z : Single). SingleIs (start .args .positions .now) (start .args .remainder) z) (c .before .single .given .1) (c .before .before .before .one .ensures) in
+    let one = c .before .before .before .one in
+    let u = subst (λ (z : Single). SingleIs (start .args .positions .now) (start .args .remainder) z) (c .before .single .given .1) (one .ensures) in
     answer-one (start .pre .0 .words) (start .args .remainder) _ u
 
 enum-told : tie.Need-enum-told
@@ -58,8 +59,10 @@ returns-3 : tie.Need-returns-3
 unfolding SingleIs
 returns-3 c =
     let start = c .before .before .before .before .before .before .before .before .before .before in
-    let u = subst (λ (z : Single). SingleIs (start .args .positions .now) (start .args .remainder) z) (c .before .enum-told .given .1) (c .before .before .before .one .ensures) in
-    answer-none (start .pre .0 .words) (start .args .remainder) (c .before .before .before .before .before .before .if1 .left) u (λ h. absurd (omega arith)) (λ h. absurd (omega arith))
+    let one = c .before .before .before .one in
+    let if1 = c .before .before .before .before .before .before .if1 in
+    let u = subst (λ (z : Single). SingleIs (start .args .positions .now) (start .args .remainder) z) (c .before .enum-told .given .1) (one .ensures) in
+    answer-none (start .pre .0 .words) (start .args .remainder) (if1 .left) u (λ h. absurd (omega arith)) (λ h. absurd (omega arith))
 
 two-requires : tie.Need-two-requires
 two-requires c κs = search needs
@@ -70,7 +73,8 @@ enum-known-pair c = search needs
 returns-4 : tie.Need-returns-4
 returns-4 c =
     let start = c .before .before .before .before .before .before .before .before .before .before .before .before .before .before in
-    let v = subst (λ (z : Pair). PairIs (start .args .positions .now) (start .args .remainder) z) (c .before .pair .given .1) (c .before .before .before .two .ensures) in
+    let two = c .before .before .before .two in
+    let v = subst (λ (z : Pair). PairIs (start .args .positions .now) (start .args .remainder) z) (c .before .pair .given .1) (two .ensures) in
     answer-two (start .pre .0 .words) (omega arith) (start .args .remainder) _ _ v
 
 enum-told-2 : tie.Need-enum-told-2
@@ -80,16 +84,23 @@ returns-5 : tie.Need-returns-5
 unfolding SingleIs PairIs
 returns-5 c =
     let start = c .before .before .before .before .before .before .before .before .before .before .before .before .before .before in
-    let u = subst (λ (z : Single). SingleIs (start .args .positions .now) (start .args .remainder) z) (c .before .before .before .before .before .enum-told .given .1) (c .before .before .before .before .before .before .before .one .ensures) in
-    let v = subst (λ (z : Pair). PairIs (start .args .positions .now) (start .args .remainder) z) (c .before .enum-told2 .given .1) (c .before .before .before .two .ensures) in
-    answer-none (start .pre .0 .words) (start .args .remainder) (c .before .before .before .before .before .before .before .before .before .before .if1 .left) u (λ h. v) (λ h. absurd (omega arith))
+    let enum-told = c .before .before .before .before .before .enum-told in
+    let one = c .before .before .before .before .before .before .before .one in
+    let two = c .before .before .before .two in
+    let if1 = c .before .before .before .before .before .before .before .before .before .before .if1 in
+    let u = subst (λ (z : Single). SingleIs (start .args .positions .now) (start .args .remainder) z) (enum-told .given .1) (one .ensures) in
+    let v = subst (λ (z : Pair). PairIs (start .args .positions .now) (start .args .remainder) z) (c .before .enum-told2 .given .1) (two .ensures) in
+    answer-none (start .pre .0 .words) (start .args .remainder) (if1 .left) u (λ h. v) (λ h. absurd (omega arith))
 
 three-requires : tie.Need-three-requires
 unfolding SingleIs
 three-requires c κs =
     let start = c .before .before .before .before .before .before .before .before .before .before .before .before .before .before in
-    let u = subst (λ (z : Single). SingleIs (start .args .positions .now) (start .args .remainder) z) (c .before .before .before .before .before .enum-told .given .1) (c .before .before .before .before .before .before .before .one .ensures) in
-    (start .pre .0, omega (arith, start .pre .0 .words .t-high), c .before .before .before .before .before .before .before .before .values-of .ensures, u, start .pre .1)
+    let enum-told = c .before .before .before .before .before .enum-told in
+    let one = c .before .before .before .before .before .before .before .one in
+    let values-of = c .before .before .before .before .before .before .before .before .values-of in
+    let u = subst (λ (z : Single). SingleIs (start .args .positions .now) (start .args .remainder) z) (enum-told .given .1) (one .ensures) in
+    (start .pre .0, omega (arith, start .pre .0 .words .t-high), values-of .ensures, u, start .pre .1)
 
 enum-told-3 : tie.Need-enum-told-3
 enum-told-3 c = search needs
@@ -101,15 +112,22 @@ returns-6 : tie.Need-returns-6
 unfolding SingleIs PairIs TripleIs
 returns-6 c =
     let start = c .before .before .before .before .before .before .before .before .before .before .before .before .before .before .before .before .before in
-    let u = subst (λ (z : Single). SingleIs (start .args .positions .now) (start .args .remainder) z) (c .before .before .before .before .before .before .before .before .enum-told .given .1) (c .before .before .before .before .before .before .before .before .before .before .one .ensures) in
-    let v = subst (λ (z : Pair). PairIs (start .args .positions .now) (start .args .remainder) z) (c .before .before .before .before .enum-told2 .given .1) (c .before .before .before .before .before .before .two .ensures) in
-    let w = subst (λ (z : Triple). TripleIs (start .args .positions .now) (start .args .remainder) z) (c .enum-told3 .given .1) (c .before .before .three .ensures) in
-    answer-none (start .pre .0 .words) (start .args .remainder) (c .before .before .before .before .before .before .before .before .before .before .before .before .before .if1 .left) u (λ h. v) (λ h. w)
+    let enum-told = c .before .before .before .before .before .before .before .before .enum-told in
+    let one = c .before .before .before .before .before .before .before .before .before .before .one in
+    let enum-told2 = c .before .before .before .before .enum-told2 in
+    let two = c .before .before .before .before .before .before .two in
+    let three = c .before .before .three in
+    let if1 = c .before .before .before .before .before .before .before .before .before .before .before .before .before .if1 in
+    let u = subst (λ (z : Single). SingleIs (start .args .positions .now) (start .args .remainder) z) (enum-told .given .1) (one .ensures) in
+    let v = subst (λ (z : Pair). PairIs (start .args .positions .now) (start .args .remainder) z) (enum-told2 .given .1) (two .ensures) in
+    let w = subst (λ (z : Triple). TripleIs (start .args .positions .now) (start .args .remainder) z) (c .enum-told3 .given .1) (three .ensures) in
+    answer-none (start .pre .0 .words) (start .args .remainder) (if1 .left) u (λ h. v) (λ h. w)
 
 returns-7 : tie.Need-returns-7
 returns-7 c =
     let start = c .before .before .before .before .before .before .before .before .before .before .before .before .before .before .before .before .before .before in
-    let w = subst (λ (z : Triple). TripleIs (start .args .positions .now) (start .args .remainder) z) (c .before .triple .given .1) (c .before .before .before .three .ensures) in
+    let three = c .before .before .before .three in
+    let w = subst (λ (z : Triple). TripleIs (start .args .positions .now) (start .args .remainder) z) (c .before .triple .given .1) (three .ensures) in
     answer-three (start .pre .0 .words) (omega arith) (start .args .remainder) _ _ _ w
 
 pub locate-spec : {M : Type 1} → statement M

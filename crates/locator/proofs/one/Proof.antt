@@ -48,10 +48,11 @@ returns-3 : tie.Need-returns-3
 unfolding SingleIs
 returns-3 c =
     let start = c .before .before .before .before .before .before .before in
+    let log-of = c .before .before .before .log-of in
     let s = start .pre in
     let t = start .args .positions .now in
     λ p l e.
-    let k : length t - 1 - c .before .before .before .log-of .result ≡ p = omega (arith, single-exponent (s .0) (start .args .x) (s .2) (c .before .before .before .log-of .ensures) p l e) in
+    let k : length t - 1 - log-of .result ≡ p = omega (arith, single-exponent (s .0) (start .args .x) (s .2) (log-of .ensures) p l e) in
     c .if3 .taken (ap (λ (z : ℕ). getD t z 0) k ∙ e)
 
 returns-4 : tie.Need-returns-4

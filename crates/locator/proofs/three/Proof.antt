@@ -43,26 +43,31 @@ mul-fifth-of : tie.Need-mul-fifth-of
 mul-fifth-of c = search needs
 
 fifth-of-requires : tie.Need-fifth-of-requires
-fifth-of-requires c κs = let s = c .before .before .before .before .before .before .pre in (field-of (s .0 .words) (s .0 .tables), degree-small (s .0 .words), s .4)
+fifth-of-requires c κs =
+    let start = c .before .before .before .before .before .before in
+    let s = start .pre in (field-of (s .0 .words) (s .0 .tables), degree-small (s .0 .words), s .4)
 
 three-by-trial-requires : tie.Need-three-by-trial-requires
-three-by-trial-requires c κs = search needs
+three-by-trial-requires c κs = let s = c .before .before .before .before .before .before .before .before .pre in (s .0, omega arith, s .2, s .3)
 
 returns-2 : tie.Need-returns-2
-returns-2 c = search needs
+returns-2 c = c .three-by-trial .ensures
 
 cubic-root-requires : tie.Need-cubic-root-requires
 unfolding _⊕_
 cubic-root-requires c κs =
     let start = c .before .before .before .before .before .before .before .before in
+    let power-of = c .before .before .before .before .power-of in
+    let if1 = c .before .before .before .if1 in
+    let power-of2 = c .before .before .power-of2 in
     let s = start .pre in
     let W = s .0 .words in
     let value = subst⁻¹ (λ (z : ℕ). z < 2 ^ start .args .m) (c .before .fifth-of .ensures) (value-below (start .args .m) (W .m-low) (W .m-high) 5 (start .args .x)) in (
       field-of W (s .0 .tables),
       low-below W (start .args .x) (s .2),
-      ⊕-below (start .args .m) (c .before .before .before .before .power-of .result) (start .args .s / 65536) (c .before .before .before .before .power-of .ensures .0) (high-below W (start .args .x) (s .2)),
-      c .before .before .before .if1 .left,
-      ⊕-below (start .args .m) (c .before .before .power-of2 .result) (c .before .fifth-of .result) (c .before .before .power-of2 .ensures .0) value,
+      ⊕-below (start .args .m) (power-of .result) (start .args .s / 65536) (power-of .ensures .0) (high-below W (start .args .x) (s .2)),
+      if1 .left,
+      ⊕-below (start .args .m) (power-of2 .result) (c .before .fifth-of .result) (power-of2 .ensures .0) value,
       c .if2 .left,
     )
 
@@ -70,12 +75,15 @@ returns-3 : tie.Need-returns-3
 unfolding _⊕_ TripleIs
 returns-3 c =
     let start = c .before .before .before .before .before .before .before .before .before .before in
+    let power-of = c .before .before .before .before .before .before .power-of in
+    let power-of2 = c .before .before .before .before .power-of2 in
+    let fifth-of = c .before .before .before .fifth-of in
     let s = start .pre in
     let W = s .0 .words in
     let R =
-    subst (λ (z : ℕ). CubicRootOf (start .args .m) (start .args .s % 65536) (c .before .before .before .before .before .before .power-of .result ⊕ start .args .s / 65536) (c .before .before .before .before .power-of2 .result ⊕ z) (c .before .cubic-root .result)) (c .before .before .before .fifth-of .ensures)
+    subst (λ (z : ℕ). CubicRootOf (start .args .m) (start .args .s % 65536) (power-of .result ⊕ start .args .s / 65536) (power-of2 .result ⊕ z) (c .before .cubic-root .result)) (fifth-of .ensures)
     (c .before .cubic-root .ensures) in
-    beyond W (s .1) (start .args .x) (s .2) (c .before .before .before .before .before .before .power-of .ensures .1) (c .before .before .before .before .power-of2 .ensures .1) R (c .if3 .taken)
+    beyond W (s .1) (start .args .x) (s .2) (power-of .ensures .1) (power-of2 .ensures .1) R (c .if3 .taken)
 
 sub-three-with : tie.Need-sub-three-with
 sub-three-with c = search needs
@@ -84,19 +92,23 @@ sub-three-with-2 : tie.Need-sub-three-with-2
 sub-three-with-2 c = search needs
 
 three-with-requires : tie.Need-three-with-requires
-three-with-requires c κs = search needs
+three-with-requires c κs = let s = c .before .before .before .before .before .before .before .before .before .before .pre in (s .0, omega arith, s .2, s .3, omega arith)
 
 returns-4 : tie.Need-returns-4
 unfolding _⊕_
 returns-4 c =
     let start = c .before .before .before .before .before .before .before .before .before .before .before in
+    let power-of = c .before .before .before .before .before .before .before .power-of in
+    let power-of2 = c .before .before .before .before .before .power-of2 in
+    let cubic-root = c .before .before .cubic-root in
+    let fifth-of = c .before .before .before .before .fifth-of in
     let s = start .pre in
     let W = s .0 .words in
     let R =
-    subst (λ (z : ℕ). CubicRootOf (start .args .m) (start .args .s % 65536) (c .before .before .before .before .before .before .before .power-of .result ⊕ start .args .s / 65536) (c .before .before .before .before .before .power-of2 .result ⊕ z) (c .before .before .cubic-root .result)) (c .before .before .before .before .fifth-of .ensures)
-    (c .before .before .cubic-root .ensures) in
-    with-one (start .args .positions .now) (start .args .x) (length (start .args .positions .now) - 1 - c .before .before .cubic-root .result) (c .three-with .result)
-    (one-of-three W (s .1) (start .args .x) (s .2) (c .before .before .before .before .before .before .before .power-of .ensures .1) (c .before .before .before .before .before .power-of2 .ensures .1) R) (c .three-with .ensures)
+    subst (λ (z : ℕ). CubicRootOf (start .args .m) (start .args .s % 65536) (power-of .result ⊕ start .args .s / 65536) (power-of2 .result ⊕ z) (cubic-root .result)) (fifth-of .ensures)
+    (cubic-root .ensures) in
+    with-one (start .args .positions .now) (start .args .x) (length (start .args .positions .now) - 1 - cubic-root .result) (c .three-with .result)
+    (one-of-three W (s .1) (start .args .x) (s .2) (power-of .ensures .1) (power-of2 .ensures .1) R) (c .three-with .ensures)
 
 pub three-spec : {M : Type 1} → statement M
 three-spec =

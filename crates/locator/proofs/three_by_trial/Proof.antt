@@ -34,8 +34,10 @@ returns : tie.Need-returns Inv-loop μ-loop
 unfolding TripleWith
 returns c =
     let start = c .before .before .before .before .before .before .before .before .before in
+    let loop = c .before .before .before .before .before .loop in
+    let three-with = c .before .before .before .three-with in
     let t = start .args .positions .now in
-    let y = subst (λ (z : Triple). TripleWith t (start .args .x) (c .before .before .before .before .before .loop .j) z) (c .before .found .given .1) (c .before .before .before .three-with .ensures) in
+    let y = subst (λ (z : Triple). TripleWith t (start .args .x) (loop .j) z) (c .before .found .given .1) (three-with .ensures) in
     y
 
 add-j : tie.Need-add-j Inv-loop μ-loop
@@ -48,9 +50,11 @@ loop-again : tie.Need-loop-again Inv-loop μ-loop
 unfolding TripleWith
 loop-again c =
     let start = c .before .before .before .before .before .before .before .before in
+    let loop = c .before .before .before .before .loop in
+    let three-with = c .before .before .three-with in
     let t = start .args .positions .now in
-    let y = subst (λ (z : Triple). TripleWith t (start .args .x) (c .before .before .before .before .loop .j) z) (c .enum-told .given .1) (c .before .before .three-with .ensures) in
-    (omega arith, omega arith, not-before-more t (start .args .x) (c .before .before .before .before .loop .j) (c .before .before .before .before .loop .inv .2) y)
+    let y = subst (λ (z : Triple). TripleWith t (start .args .x) (loop .j) z) (c .enum-told .given .1) (three-with .ensures) in
+    (omega arith, omega arith, not-before-more t (start .args .x) (loop .j) (loop .inv .2) y)
 
 returns-2 : tie.Need-returns-2 Inv-loop μ-loop
 unfolding TripleIs

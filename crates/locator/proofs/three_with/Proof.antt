@@ -42,32 +42,39 @@ returns : tie.Need-returns
 unfolding _⊕_
 returns c =
     let start = c .before .before .before .before .before .before .before .before .before .before in
+    let rest = c .before .before .rest in
+    let two = c .before .before .before .before .two in
     let t = start .args .positions .now in
-    let y = subst (λ (z : Pair). PairIs t (start .args .x ⊕ getD t (start .args .j) 0) z) (c .before .before .rest .given .1) (c .before .before .before .before .two .ensures) in
+    let y = subst (λ (z : Pair). PairIs t (start .args .x ⊕ getD t (start .args .j) 0) z) (rest .given .1) (two .ensures) in
     with-first t (start .args .x) (start .args .j) _ _ (start .pre .3) (start .pre .4) y (c .if1 .taken)
 
 returns-2 : tie.Need-returns-2
 unfolding _⊕_
 returns-2 c =
     let start = c .before .before .before .before .before .before .before .before .before .before .before in
+    let rest = c .before .before .before .rest in
+    let two = c .before .before .before .before .before .two in
     let t = start .args .positions .now in
-    let y = subst (λ (z : Pair). PairIs t (start .args .x ⊕ getD t (start .args .j) 0) z) (c .before .before .before .rest .given .1) (c .before .before .before .before .before .two .ensures) in
+    let y = subst (λ (z : Pair). PairIs t (start .args .x ⊕ getD t (start .args .j) 0) z) (rest .given .1) (two .ensures) in
     with-middle t (start .args .x) (start .args .j) _ _ (start .pre .3) (start .pre .4) y (c .before .if1 .left) (c .if2 .taken)
 
 returns-3 : tie.Need-returns-3
 unfolding _⊕_ PairIs TripleWith
 returns-3 c =
     let start = c .before .before .before .before .before .before .before .before in
+    let two = c .before .before .two in
     let t = start .args .positions .now in
-    let y = subst (λ (z : Pair). PairIs t (start .args .x ⊕ getD t (start .args .j) 0) z) (c .enum-told .given .1) (c .before .before .two .ensures) in
+    let y = subst (λ (z : Pair). PairIs t (start .args .x ⊕ getD t (start .args .j) 0) z) (c .enum-told .given .1) (two .ensures) in
     y
 
 returns-4 : tie.Need-returns-4
 unfolding _⊕_
 returns-4 c =
     let start = c .before .before .before .before .before .before .before .before .before .before .before in
+    let rest = c .before .before .before .rest in
+    let two = c .before .before .before .before .before .two in
     let t = start .args .positions .now in
-    let y = subst (λ (z : Pair). PairIs t (start .args .x ⊕ getD t (start .args .j) 0) z) (c .before .before .before .rest .given .1) (c .before .before .before .before .before .two .ensures) in
+    let y = subst (λ (z : Pair). PairIs t (start .args .x ⊕ getD t (start .args .j) 0) z) (rest .given .1) (two .ensures) in
     with-last t (start .args .x) (start .args .j) _ _ (start .pre .3) (start .pre .4) y (c .if2 .left)
 
 pub three-with-spec : {M : Type 1} → statement M

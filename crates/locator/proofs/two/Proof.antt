@@ -30,23 +30,27 @@ pair-at-requires : tie.Need-pair-at-requires
 unfolding ExponentsAre
 pair-at-requires c κs =
     let start = c .before .before .before .before .before .before in
+    let exponents = c .before .before .before .exponents in
     let s = start .pre in
-    let x = subst (λ (z : Pair). ExponentsAre (start .args .m) (start .args .s % 65536) (start .args .s / 65536) z) (c .before .roots .given .1) (c .before .before .before .exponents .ensures) in
+    let x = subst (λ (z : Pair). ExponentsAre (start .args .m) (start .args .s % 65536) (start .args .s / 65536) z) (c .before .roots .given .1) (exponents .ensures) in
     not-zero (s .0) (start .args .x) (s .3) (x .0)
 
 returns : tie.Need-returns
 unfolding PairIs
 returns c =
     let start = c .before .before .before .before .before in
+    let exponents = c .before .before .exponents in
     let s = start .pre in
-    let x = subst (λ (z : Pair). ExponentsAre (start .args .m) (start .args .s % 65536) (start .args .s / 65536) z) (c .enum-told .given .1) (c .before .before .exponents .ensures) in
+    let x = subst (λ (z : Pair). ExponentsAre (start .args .m) (start .args .s % 65536) (start .args .s / 65536) z) (c .enum-told .given .1) (exponents .ensures) in
     two-absent (s .0) (start .args .x) (s .3) (s .2) x
 
 returns-2 : tie.Need-returns-2
 returns-2 c =
     let start = c .before .before .before .before .before .before .before in
+    let roots = c .before .before .roots in
+    let exponents = c .before .before .before .before .exponents in
     let s = start .pre in
-    let x = subst (λ (z : Pair). ExponentsAre (start .args .m) (start .args .s % 65536) (start .args .s / 65536) z) (c .before .before .roots .given .1) (c .before .before .before .before .exponents .ensures) in
+    let x = subst (λ (z : Pair). ExponentsAre (start .args .m) (start .args .s % 65536) (start .args .s / 65536) z) (roots .given .1) (exponents .ensures) in
     two-carry (s .0) (start .args .x) (s .3) (s .2) _ _ x (c .pair-at .result) (c .pair-at .ensures)
 
 pub two-spec : {M : Type 1} → statement M
