@@ -1,37 +1,96 @@
 -- What the located positions of a word say of its correction.
 --   word-length, word-bits     a word of a received frame
 --   remainder-small            its remainder has r bits
---   positions-below            the located positions are positions of the word
---   nowhere-corrected, one-corrected, two-corrected, three-corrected   the correction, by the answer of `locate`
+--   inside-frame               bits inside a frame's lengths are bytes of its buffers
+--   listed-none, listed-one, listed-two, listed-three   the sites of the positions that an answer of `locate` names
+--   located-below              these are positions of the word
+--   zero-corrected             a word with remainder 0 stays
+--   none-corrected, all-corrected   the correction, by whether all of them are sent
 -- Assumes nothing.
 use mathlib.Core.Path.{_≡_, refl, sym, ap, ap₂, _∙_, subst}
-use mathlib.Core.Bool.{Bool, true, false}
+use mathlib.Core.Bool.{Bool, true, false, cond}
 use mathlib.Core.Logic.{inl, inr}
-use mathlib.Core.List.{List, [], _∷_, map}
+use mathlib.Core.List.{List, [], _∷_, _++_, map}
 use Prim.Native.Nat.{ℕ, _*_, _^_, _<_}
-use lib.ListN.{length, getD}
+use native.Mathlib.Omega.{arith}
+use lib.ListN.{length, getD, length-map}
 use Rattle.bch.specs.Polynomial.{Bits}
 use Rattle.bch.proofs.Word.{remainder-below}
 use Rattle.staircase.specs.Design.{Params, Interleavers, wordLength}
-use Rattle.staircase.specs.Frame.{Frame, Site, read, frameOf}
+use Rattle.staircase.specs.Frame.{Frame, Site, groups, read, frameOf}
 use Rattle.staircase.specs.Frame.Site.{unsent}
-use Rattle.staircase.specs.Decoder.{errorPositions, correction, flipAll}
+use Rattle.staircase.specs.Decoder.{allSent, errorPositions, correction, flipAll}
 use Rattle.staircase.proofs.Member.{In}
 use Rattle.staircase.proofs.System.{Proper}
 use Rattle.staircase.proofs.Flip.{read-bits, read-length}
 use Rattle.staircase.proofs.Errors.{errorPositions-positions, positions-below}
 use Rattle.staircase.proofs.Sites.{rowSites-length, columnSites-length}
 use Rattle.design.specs.declared.Design.{Design}
-use Rattle.design.specs.Sizes.{paramsOf, listsOf}
-use Rattle.design.proofs.Allowed.{proper-of}
+use Rattle.design.specs.Sizes.{paramsOf, orderOf, listsOf}
+use Rattle.design.proofs.Generator.{proper-of}
 use Rattle.locator.specs.declared.Located.{Located}
 use Rattle.locator.specs.declared.Located.the-variants.{Nowhere, One, Two, Three}
 use Rattle.locator.specs.Located.{located, positionsOf}
 use Rattle.locator.proofs.Link.{errorPositions-located}
-use Rattle.correct.specs.Sites.{accepted, wordSites}
+use Rattle.locator.proofs.Choices.{located-zero}
+use Rattle.locator.proofs.Values.{code-of}
+use Rattle.correct.specs.declared.Spot.{Spot}
+use Rattle.correct.specs.declared.Spot.the-variants.{Absent, Unsent, Info, Red}
+use Rattle.correct.specs.declared.Spots.{Spots}
+use Rattle.correct.specs.Sites.{Inside, AllInside, Below, wordSites}
 use Rattle.rules.specs.Received.{FrameFits}
 use Rattle.correct.specs.Ready.{GroupReady, remainderOf}
 use Rattle.correct.proofs.Flips.{received}
+
+-- bits inside a frame's lengths are bytes of its buffers
+inside : (x : Spot) {n k a b : ℕ} → n ≡ a → k ≡ b → Inside x a b → Inside x n k
+unfolding Inside
+inside Absent e f h = tt
+inside Unsent e f h = tt
+inside (Info j) e f h = omega (arith, h, e)
+inside (Red j) e f h = omega (arith, h, f)
+
+pub inside-frame : (s : Spots) {d : Design} {L : ℕ} {info red : List ℕ} → FrameFits d L info red
+    → AllInside s (L * (d .size * d .size)) (groups L * (2 * orderOf d)) → AllInside s (length info) (length red)
+inside-frame s F h = (
+  inside (s .x) (F .infoLength) (F .redLength) (h .0),
+  inside (s .y) (F .infoLength) (F .redLength) (h .1),
+  inside (s .z) (F .infoLength) (F .redLength) (h .2),
+)
+
+below-all : {n : ℕ} (c : List ℕ) → ((j : ℕ) → In j c → j < n) → Below n c
+unfolding Below
+below-all [] h = tt
+below-all (j ∷ c) h = (h j (inl refl), below-all c (λ k m. h k (inr m)))
+
+-- v has the sites of a word's positions
+module _ (v : ℕ → Site) {z : Located} where
+  pub listed-none : z ≡ Nowhere → ([] ≡ map v (positionsOf z)) × (0 ≡ length (positionsOf z))
+  unfolding positionsOf
+  listed-none e = (ap (λ (y : Located). map v (positionsOf y)) (sym e), ap (λ (y : Located). length (positionsOf y)) (sym e))
+
+  pub listed-one : {p : ℕ} {a : List Site} → z ≡ One p → a ≡ v p ∷ [] → (a ++ [] ≡ map v (positionsOf z)) × (1 ≡ length (positionsOf z))
+  unfolding positionsOf
+  listed-one e f = (
+    ap (λ (c : List Site). c ++ []) f ∙ ap (λ (y : Located). map v (positionsOf y)) (sym e),
+    ap (λ (y : Located). length (positionsOf y)) (sym e),
+  )
+
+  pub listed-two : {p q : ℕ} {a b : List Site} → z ≡ Two p q → a ≡ v p ∷ [] → b ≡ v q ∷ []
+      → (a ++ (b ++ []) ≡ map v (positionsOf z)) × (2 ≡ length (positionsOf z))
+  unfolding positionsOf
+  listed-two e f g = (
+    ap₂ (λ (c d : List Site). c ++ (d ++ [])) f g ∙ ap (λ (y : Located). map v (positionsOf y)) (sym e),
+    ap (λ (y : Located). length (positionsOf y)) (sym e),
+  )
+
+  pub listed-three : {p q u : ℕ} {a b c : List Site} → z ≡ Three p q u → a ≡ v p ∷ [] → b ≡ v q ∷ [] → c ≡ v u ∷ []
+      → (a ++ (b ++ c) ≡ map v (positionsOf z)) × (3 ≡ length (positionsOf z))
+  unfolding positionsOf
+  listed-three e f g h = (
+    ap₂ (λ (c d : List Site). c ++ d) f (ap₂ (λ (c d : List Site). c ++ d) g h) ∙ ap (λ (y : Located). map v (positionsOf y)) (sym e),
+    ap (λ (y : Located). length (positionsOf y)) (sym e),
+  )
 
 module _ {d : Design} {L i : ℕ} {own parity positions syndromes field : List ℕ} (R : GroupReady d L i own parity positions syndromes field) where
   abbrev s : Params
@@ -66,76 +125,45 @@ module _ {d : Design} {L i : ℕ} {own parity positions syndromes field : List �
     remainder-small = subst (λ (z : ℕ). z < 2 ^ (d .m * d .t)) (sym e) (remainder-below (s .g) (s .r) (ok .rpos) (ok .degree) (read f w) word-bits)
 
     found : errorPositions s (read f w) ≡ located positions (d .t) x
-    found = errorPositions-located s (read f w) positions word-bits (R .long ∙ sym long) (R .tables .position) ∙ ap (located positions (d .t)) (sym e)
+    found = errorPositions-located s (read f w) positions word-bits (R .long ∙ sym long) (R .tables .words .position) ∙ ap (located positions (d .t)) (sym e)
+
+    pub zero-corrected : x ≡ 0
+        → (frameOf info red ≡ flipAll (correction (paramsOf d) (frameOf info red) (wordSites (paramsOf d) (listsOf d own parity) L i column a)) (frameOf info red))
+        × (0 ≡ length (correction (paramsOf d) (frameOf info red) (wordSites (paramsOf d) (listsOf d own parity) L i column a)))
+    unfolding correction flipAll
+    zero-corrected z =
+        let W = R .tables .words in
+        let v : List ℕ → List Site = map (λ j. getD w j unsent) in
+        let none : errorPositions s (read f w) ≡ [] =
+        found ∙ ap (located positions (d .t)) z ∙ located-zero (d .m) (d .t) positions (W .position) (W .n-fits) (code-of W) in
+        let r : correction s f w ≡ [] = ap (λ (c : List ℕ). cond (allSent (v c)) (v c) []) none in
+        (ap (λ (y : List Site). flipAll y f) (sym r), ap length (sym r))
 
     module _ (z : Located) (h : positionsOf z ≡ located positions (d .t) x) where
-      pub located-below : (j : ℕ) → In j (positionsOf z) → j < wordLength (paramsOf d)
-      located-below j m =
-          subst (λ (n : ℕ). j < n) long (positions-below (errorPositions-positions s (read f w)) j (subst (λ (c : List ℕ). In j c) (h ∙ sym found) m))
+      pub located-below : Below (wordLength (paramsOf d)) (positionsOf z)
+      located-below =
+          below-all (positionsOf z)
+          (λ j m. subst (λ (n : ℕ). j < n) long
+          (positions-below (errorPositions-positions s (read f w)) j (subst (λ (c : List ℕ). In j c) (h ∙ sym found) m)))
 
-      pub located-corrects : correction s f w ≡ accepted (map (λ j. getD w j unsent) (positionsOf z))
-      unfolding correction accepted
-      located-corrects = ap (λ (c : List ℕ). accepted (map (λ j. getD w j unsent) c)) (found ∙ sym h)
+      -- the sites of the located positions
+      module _ {c : List Site} (sites : c ≡ map (λ j. getD (wordSites (paramsOf d) (listsOf d own parity) L i column a) j unsent) (positionsOf z)) where
+        by-sent : (b : Bool) → allSent c ≡ b → correction s f w ≡ cond b c []
+        unfolding correction
+        by-sent b q =
+            let v : List ℕ → List Site = map (λ j. getD w j unsent) in
+            let same : v (errorPositions s (read f w)) ≡ c = ap v (found ∙ sym h) ∙ sym sites in
+            ap (λ (y : List Site). cond (allSent y) y []) same ∙ ap (λ (y : Bool). cond y c []) q
 
-      corrected : (c : List Site) (g : Frame) (k : ℕ) → map (λ j. getD w j unsent) (positionsOf z) ≡ c → (g ≡ flipAll (accepted c) f) × (k ≡ length (accepted c))
-          → (g ≡ flipAll (correction s f w) f) × (k ≡ length (correction s f w))
-      corrected c g k q h =
-          let r : accepted c ≡ correction s f w = ap accepted (sym q) ∙ sym located-corrects in
-          (h .0 ∙ ap (λ (y : List Site). flipAll y f) r, h .1 ∙ ap length r)
+        pub none-corrected : allSent c ≡ false
+            → (frameOf info red ≡ flipAll (correction (paramsOf d) (frameOf info red) (wordSites (paramsOf d) (listsOf d own parity) L i column a)) (frameOf info red))
+            × (0 ≡ length (correction (paramsOf d) (frameOf info red) (wordSites (paramsOf d) (listsOf d own parity) L i column a)))
+        unfolding flipAll
+        none-corrected q = let r = by-sent false q in (ap (λ (y : List Site). flipAll y f) (sym r), ap length (sym r))
 
-      pub nowhere-corrected : z ≡ Nowhere
-          → (frameOf info red ≡ flipAll (correction (paramsOf d) (frameOf info red) (wordSites (paramsOf d) (listsOf d own parity) L i column a)) (frameOf info red))
-          × (0 ≡ length (correction (paramsOf d) (frameOf info red) (wordSites (paramsOf d) (listsOf d own parity) L i column a)))
-      unfolding positionsOf accepted flipAll
-      nowhere-corrected q = corrected [] f 0 (ap (λ (y : Located). map (λ j. getD w j unsent) (positionsOf y)) q) (refl, refl)
-
-      pub one-below : (p : ℕ) → z ≡ One p → p < wordLength (paramsOf d)
-      unfolding positionsOf
-      one-below p q = located-below p (subst (λ (y : Located). In p (positionsOf y)) (sym q) (inl refl))
-
-      pub two-below : (p q : ℕ) → z ≡ Two p q → (p < wordLength (paramsOf d)) × (q < wordLength (paramsOf d))
-      unfolding positionsOf
-      two-below p q e = (
-        located-below p (subst (λ (y : Located). In p (positionsOf y)) (sym e) (inl refl)),
-        located-below q (subst (λ (y : Located). In q (positionsOf y)) (sym e) (inr (inl refl))),
-      )
-
-      pub three-below : (p q u : ℕ) → z ≡ Three p q u → (p < wordLength (paramsOf d)) × (q < wordLength (paramsOf d)) × (u < wordLength (paramsOf d))
-      unfolding positionsOf
-      three-below p q u e = (
-        located-below p (subst (λ (y : Located). In p (positionsOf y)) (sym e) (inl refl)),
-        located-below q (subst (λ (y : Located). In q (positionsOf y)) (sym e) (inr (inl refl))),
-        located-below u (subst (λ (y : Located). In u (positionsOf y)) (sym e) (inr (inr (inl refl)))),
-      )
-
-      pub one-corrected : (p : ℕ) (x : Site) (g : Frame) (k : ℕ) → z ≡ One p
-          → x ≡ getD (wordSites (paramsOf d) (listsOf d own parity) L i column a) p unsent
-          → (g ≡ flipAll (accepted (x ∷ [])) (frameOf info red)) × (k ≡ length (accepted (x ∷ [])))
-          → (g ≡ flipAll (correction (paramsOf d) (frameOf info red) (wordSites (paramsOf d) (listsOf d own parity) L i column a)) (frameOf info red))
-          × (k ≡ length (correction (paramsOf d) (frameOf info red) (wordSites (paramsOf d) (listsOf d own parity) L i column a)))
-      unfolding positionsOf
-      one-corrected p x g k e ex = corrected (x ∷ []) g k (ap (λ (y : Located). map (λ j. getD w j unsent) (positionsOf y)) e ∙ ap (λ (y : Site). y ∷ []) (sym ex))
-
-      pub two-corrected : (p q : ℕ) (x y : Site) (g : Frame) (k : ℕ) → z ≡ Two p q
-          → x ≡ getD (wordSites (paramsOf d) (listsOf d own parity) L i column a) p unsent
-          → y ≡ getD (wordSites (paramsOf d) (listsOf d own parity) L i column a) q unsent
-          → (g ≡ flipAll (accepted (x ∷ y ∷ [])) (frameOf info red)) × (k ≡ length (accepted (x ∷ y ∷ [])))
-          → (g ≡ flipAll (correction (paramsOf d) (frameOf info red) (wordSites (paramsOf d) (listsOf d own parity) L i column a)) (frameOf info red))
-          × (k ≡ length (correction (paramsOf d) (frameOf info red) (wordSites (paramsOf d) (listsOf d own parity) L i column a)))
-      unfolding positionsOf
-      two-corrected p q x y g k e ex ey =
-          corrected (x ∷ y ∷ []) g k
-          (ap (λ (v : Located). map (λ j. getD w j unsent) (positionsOf v)) e ∙ ap₂ (λ (u v : Site). u ∷ v ∷ []) (sym ex) (sym ey))
-
-      pub three-corrected : (p q u : ℕ) (x y v : Site) (g : Frame) (k : ℕ) → z ≡ Three p q u
-          → x ≡ getD (wordSites (paramsOf d) (listsOf d own parity) L i column a) p unsent
-          → y ≡ getD (wordSites (paramsOf d) (listsOf d own parity) L i column a) q unsent
-          → v ≡ getD (wordSites (paramsOf d) (listsOf d own parity) L i column a) u unsent
-          → (g ≡ flipAll (accepted (x ∷ y ∷ v ∷ [])) (frameOf info red)) × (k ≡ length (accepted (x ∷ y ∷ v ∷ [])))
-          → (g ≡ flipAll (correction (paramsOf d) (frameOf info red) (wordSites (paramsOf d) (listsOf d own parity) L i column a)) (frameOf info red))
-          × (k ≡ length (correction (paramsOf d) (frameOf info red) (wordSites (paramsOf d) (listsOf d own parity) L i column a)))
-      unfolding positionsOf
-      three-corrected p q u x y v g k e ex ey ev =
-          corrected (x ∷ y ∷ v ∷ []) g k
-          (ap (λ (b : Located). map (λ j. getD w j unsent) (positionsOf b)) e
-          ∙ ap₂ (λ (b : Site) (c : List Site). b ∷ c) (sym ex) (ap₂ (λ (b c : Site). b ∷ c ∷ []) (sym ey) (sym ev)))
+        pub all-corrected : allSent c ≡ true → {g : Frame} {k : ℕ} → g ≡ flipAll c (frameOf info red) → k ≡ length (positionsOf z)
+            → (g ≡ flipAll (correction (paramsOf d) (frameOf info red) (wordSites (paramsOf d) (listsOf d own parity) L i column a)) (frameOf info red))
+            × (k ≡ length (correction (paramsOf d) (frameOf info red) (wordSites (paramsOf d) (listsOf d own parity) L i column a)))
+        all-corrected q p n =
+            let r = by-sent true q in
+            (p ∙ ap (λ (y : List Site). flipAll y f) (sym r), n ∙ sym (length-map (positionsOf z) (λ j. getD w j unsent)) ∙ ap length (sym sites ∙ sym r))

@@ -3,7 +3,7 @@
 --   one-choice       at most one choice of at most t positions has a sum: the BCH bound
 --   located-is       a choice with the sum is what is located
 --   located-none     nothing is located where no choice has the sum
---   located-zero, located-one, located-two, located-three, NotThree, located-nowhere   the same for choices by their number of positions
+--   located-zero, located-one, located-two, located-three, located-nowhere   the same for choices by their number of positions
 -- Assumes nothing.
 use mathlib.Core.Path.{_≡_, refl, sym, ap, _∙_, subst}
 use mathlib.Core.Bool.{Bool, cond}
@@ -29,7 +29,7 @@ use Rattle.staircase.specs.Decoder.{choices, flipBits, errorPositions}
 use Rattle.staircase.proofs.Member.{In, Sub, done, skip, keep, sub-nil, choices-sub}
 use Rattle.staircase.proofs.Errors.{Positions, positions-below, errorPositions-found, flipBits-length, flipBits-bits, flipBits-distance, flips-once}
 use Rattle.locator.specs.Located.{sumAt, firstWithSum, located}
-use Rattle.locator.specs.Steps.{NotOne, NotTwo}
+use Rattle.locator.specs.Steps.{NotOne, NotTwo, NotThree}
 use Rattle.locator.proofs.Link.{flipBits-remainder, errorPositions-located}
 
 -- ---- choices of positions
@@ -177,9 +177,6 @@ unfolding located
 located-none table t x h =
     let ps : List ℕ = tabulate (length table) (λ j. j) in
     none-first table x (choices t ps) (λ c i. let p = choices-sub ps t c i in h c (record { sub = p .0; few = p .1 }))
-
-abbrev pub NotThree : List ℕ → ℕ → Type 0
-NotThree table x = (j p q : ℕ) → j < p → p < q → q < length table → getD table j 0 ⊕ (getD table p 0 ⊕ getD table q 0) ≢ x
 
 pub located-nowhere : (table : List ℕ) (t x : ℕ) → t ≤ 3 → x ≢ 0 → NotOne table x → (2 ≤ t → NotTwo table x) → (3 ≤ t → NotThree table x)
     → located table t x ≡ []

@@ -1,6 +1,6 @@
 -- The values of the entries of positions, and what they say of the sums of entries.
 --   entries-apart                 positions whose entries have a sum that is not 0 differ
---   code-of                       the code of a table of positions
+--   code-of, field-of, degree-small   the code of a table of positions, its field, and the bits of a remainder
 --   low-below, high-below         values are field elements
 --   single-exponent, single-value a position whose entry is x
 --   pair-of-positions             two positions whose entries have the sum x
@@ -13,11 +13,13 @@ use mathlib.Core.Path.{_≡_, sym, ap, ap₂, _∙_, subst}
 use mathlib.Core.Logic.{_≢_, _⊎_, inl, inr}
 use mathlib.Core.List.{List}
 use Prim.Native.Nat.{ℕ, _+_, _-_, _*_, _/_, _%_, _^_, _≤_, _<_}
+use native.Mathlib.Nat.{mul-le-mul}
 use native.Mathlib.Omega.{arith}
-use lib.ListN.{length, getD}
+use lib.ListN.{length, getD, take}
+use lib.Seq.{length-take-le, getD-take}
 use Rattle.bch.specs.Polynomial.{_⊕_}
 use Rattle.bch.specs.Field.{power, valueAt}
-use Rattle.bch.specs.Locator.{LogTable, TripleOf, SyndromeTable, syndromes}
+use Rattle.bch.specs.Locator.{FieldTables, TripleOf, SyndromeTable, syndromes}
 use Rattle.bch.proofs.Sum.{⊕-comm, ⊕-self}
 use Rattle.bch.proofs.Polynomial.{polyAt-sum, polyAt-zero}
 use Rattle.bch.proofs.Bch.{Code}
@@ -25,7 +27,9 @@ use Rattle.bch.proofs.Locator.{power-not-zero}
 use Rattle.bch.proofs.Syndromes.{value-below, syndromes-sum, syndromes-low, syndromes-high, first-value, third-value, fifth-value}
 use Rattle.locator.specs.declared.Pair.{Pair}
 use Rattle.locator.specs.declared.Pair.the-variants.{Absent, At}
-use Rattle.locator.specs.Steps.{Words, NotTwo, PairIs, PairOf, CarryAre, ExponentsAre}
+use Rattle.locator.specs.Located.{Words}
+use Rattle.locator.specs.Steps.{Field, LogIs, NotTwo, PairIs, PairOf, CarryAre, ExponentsAre}
+use Rattle.locator.proofs.Roots.{log-only}
 
 -- positions whose entries have a sum that is not 0 differ
 pub entries-apart : (table : List ℕ) (p q x : ℕ) → getD table p 0 ⊕ getD table q 0 ≡ x → x ≢ 0 → p ≢ q
@@ -34,6 +38,12 @@ entries-apart table p q x e d z = d (sym e ∙ ap (λ (k : ℕ). getD table k 0 
 module _ {m t : ℕ} {table : List ℕ} (W : Words m t table) where
   pub code-of : Code m t
   code-of = record { m-low = W .m-low; m-high = W .m-high; t-low = W .t-low; t-high = W .t-high; fits = W .fits }
+
+  pub field-of : {field : List ℕ} → FieldTables m field → Field m field
+  field-of T = record { m-low = W .m-low; m-high = W .m-high; tables = T }
+
+  pub degree-small : m * t ≤ 30
+  degree-small = mul-le-mul (W .m-high) (W .t-high)
 
   value-at : (p : ℕ) → p < length table → valueAt m 1 (getD table p 0) ≡ power m (length table - 1 - p)
   value-at p l = ap (valueAt m 1) (W .position p l) ∙ first-value m t code-of (length table - 1 - p)
@@ -76,11 +86,10 @@ module _ {m t : ℕ} {table : List ℕ} (W : Words m t table) where
     pub single-value : (p : ℕ) → p < length table → getD table p 0 ≡ x → s % 65536 ≢ 0
     single-value p l e z = power-not-zero m (W .m-low) (W .m-high) (length table - 1 - p) (sym (single-low p l e) ∙ z)
 
-    pub single-exponent : {logs : List ℕ} → LogTable m logs → (p : ℕ) → p < length table → getD table p 0 ≡ x
-        → getD logs (s % 65536) 0 ≡ length table - 1 - p
-    single-exponent {logs} L p l e =
+    pub single-exponent : {a : ℕ} → LogIs m (s % 65536) a → (p : ℕ) → p < length table → getD table p 0 ≡ x → a ≡ length table - 1 - p
+    single-exponent L p l e =
         let n-fits = W .n-fits in
-        ap (λ (z : ℕ). getD logs z 0) (single-low p l e) ∙ L .log (length table - 1 - p) (omega arith)
+        log-only (W .m-low) (W .m-high) (length table - 1 - p) L (omega arith) (single-low p l e)
 
     pub triple-of-positions : 3 ≤ t → (i p q : ℕ) → i < p → p < q → q < length table → getD table i 0 ⊕ (getD table p 0 ⊕ getD table q 0) ≡ x
         → TripleOf m (s % 65536) (s / 65536) (valueAt m 5 x) (length table - 1 - i) (length table - 1 - p) (length table - 1 - q)
@@ -145,9 +154,11 @@ module _ {m t : ℕ} {table : List ℕ} (W : Words m t table) where
       two-carry e f E (At p q) h = h
       two-carry e f E Absent h = not-carried e f (E .1) h
 
-      pub left-values : (values : List ℕ) → SyndromeTable m values → length values ≡ length table → (j : ℕ) → j < length table
+      pub left-values : (values : List ℕ) → SyndromeTable m (take (length table) values) → length table ≤ length values → (j : ℕ) → j < length table
           → s ⊕ getD values j 0 ≡ syndromes m (x ⊕ getD table j 0)
-      left-values values S long j l =
+      left-values values S fit j l =
+          let long = length-take-le (length table) values fit in
           ap₂ _⊕_ is
-          (S j (omega arith) ∙ ap (λ (n : ℕ). power m (n - 1 - j) + 65536 * power m (3 * (n - 1 - j))) long ∙ sym (entry-values two j l))
+          (sym (getD-take (length table) values j 0 l) ∙ S j (omega (arith, long))
+          ∙ ap (λ (n : ℕ). power m (n - 1 - j) + 65536 * power m (3 * (n - 1 - j))) long ∙ sym (entry-values two j l))
           ∙ sym (syndromes-sum m (W .m-low) (W .m-high) x (getD table j 0))

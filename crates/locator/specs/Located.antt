@@ -1,8 +1,10 @@
 -- The positions of a word's errors, from its remainder alone. A table has the power of x that each position carries, modulo the generator.
 --   sumAt          the sum of a table's entries at some positions
---   located        the positions whose entries have a given sum
+--   firstWithSum   the first of some choices of positions whose entries have a given sum
+--   located        the positions whose entries have it
 --   positionsOf    the positions that an answer of the code names
 --   SumTable       the values of the polynomials of four bits
+--   Words          m and t of a design, and what the table of its words' positions holds
 --   Tables         what the tables lent to `locate` hold
 -- Assumes nothing.
 use mathlib.Core.Path.{_≡_}
@@ -43,16 +45,18 @@ positionsOf (Three j p q) = j ∷ p ∷ q ∷ []
 abbrev pub SumTable : ℕ → ℕ → List ℕ → Type 0
 SumTable m r sums = (k v : ℕ) → 4 * k < r → v < 16 → getD sums (16 * k + v) 0 ≡ syndromes m (v * 2 ^ (4 * k))
 
--- m and t of a design, and the tables of its words and of its field; the values of the positions stand before those of four bits
-pub record Tables (m t : ℕ) (positions syndromes field : List ℕ) : Type 0 where
+pub record Words (m t : ℕ) (positions : List ℕ) : Type 0 where
   pub m-low : 4 ≤ m
   pub m-high : m ≤ 10
   pub t-low : 1 ≤ t
   pub t-high : t ≤ 3
   pub fits : 2 * (m * t) + 2 < 2 ^ m
   pub position : PositionPowers (generator m t) (m * t) positions
-  pub r-fits : m * t ≤ length positions
   pub n-fits : length positions ≤ 2 ^ m - 1
+
+-- the values of the positions stand before those of four bits
+pub record Tables (m t : ℕ) (positions syndromes field : List ℕ) : Type 0 where
+  pub words : Words m t positions
   pub as-long : length syndromes ≡ length positions + 128
   pub syndrome : SyndromeTable m (take (length positions) syndromes)
   pub sums : SumTable m (m * t) (drop (length positions) syndromes)

@@ -12,16 +12,16 @@
 // - Two errors: with z = α^e / S1, S3 + S1³ = S1³ (z² + z). A table has a solution z for each value of z² + z.
 // - Three errors: with S5, the value at the fifth power of the root, and Y = α^e + S1, Y³ + a Y + d = 0, where d = S1³ + S3 and
 //   a d = S1⁵ + S5. With a = c² and Y = c z, z³ + z = d / c³. A table has a solution z for each value of z³ + z; each solution is one of the
-//   three, and the other two are found as above from what is left of the sum. Where a is 0, each position is tried as the first.
+//   three, and the other two are found as above from what is left of the sum. Where a is 0, each position is tried.
 ghost use mathlib.Core.Path.{_≡_};
 ghost use mathlib.Core.Logic.{_≢_, _⊎_};
 ghost use Prim.Native.Nat.{_+_, _-_, _*_, _%_, _^_, _≤_, _<_};
 ghost use lib.ListN.{length, take, drop};
-ghost use Rattle.bch.specs.Field.{powerTable, valueAt};
-ghost use Rattle.bch.specs.Locator.{LogTable, CubicTable, PowerIs, SyndromeTable, syndromes};
-ghost use Rattle.locator.specs.Located.{located, positionsOf, SumTable, Tables};
-ghost use Rattle.locator.specs.Steps.{Parts, Logs, Fields, Words, NotOne, NotTwo, SingleIs, PairIs, RootOf, ExponentsAre, CarryAre};
-ghost use Rattle.locator.specs.Steps.{CubicRootOf, OneOfThree};
+ghost use Rattle.bch.specs.Field.{power, valueAt};
+ghost use Rattle.bch.specs.Locator.{FieldTables, PowerIs, SyndromeTable, syndromes};
+ghost use Rattle.locator.specs.Located.{located, positionsOf, SumTable, Words, Tables};
+ghost use Rattle.locator.specs.Steps.{Field, LogIs, SolutionIs, NotOne, SingleIs, PairIs, TripleIs, TripleWith, CarryAre};
+ghost use Rattle.locator.specs.Steps.{RootOf, ExponentsAre, CubicRootOf};
 
 // The positions of at most three errors, the first in front.
 pub enum Located {
@@ -43,11 +43,47 @@ enum Pair {
     At(usize, usize),
 }
 
+// Three positions, if there are such.
+enum Triple {
+    Absent,
+    At(usize, usize, usize),
+}
+
 // A table entry as an index.
 fn wide(x: u16) -> usize
     ensures { λ a. ⌜ a ≡ x ⌝ }
 {
     x as usize
+}
+
+// Power e of the root.
+fn power_at(m: usize, e: usize, field: &[u16]) -> usize
+    requires { ⌜ Field m (now field) × (e < 2 ^ m - 1) ⌝ }
+    ensures { λ a. ⌜ (a ≡ power m e) × (a < 2 ^ m) ⌝ }
+{
+    let powers = &field[0..field.len() / 4 - 1];
+    wide(powers[e])
+}
+
+// The logarithm of the field element x.
+fn log_of(m: usize, x: usize, field: &[u16]) -> usize
+    requires { ⌜ Field m (now field) × (x < 2 ^ m) ⌝ }
+    ensures { λ a. ⌜ LogIs m x a ⌝ }
+{
+    let q = field.len() / 4;
+    let logs = &field[q..2 * q];
+    wide(logs[x])
+}
+
+// The exponent of a solution z of z² + z = power v, where k is 1, and of z³ + z = power v, where k is 2; 0 where there is none.
+fn solution_at(m: usize, k: usize, v: usize, field: &[u16]) -> usize
+    requires { ⌜ Field m (now field) × (1 ≤ k) × (k ≤ 2) × (v < 2 ^ m - 1) ⌝ }
+    ensures { λ a. ⌜ SolutionIs m k v a ⌝ }
+{
+    let q = field.len() / 4;
+    let start = (k + 1) * q;
+    let solutions = &field[start..start + q - 1];
+    wide(solutions[v])
 }
 
 // An exponent below n with the same power as x, where the powers come back after n. No division.
@@ -100,8 +136,8 @@ fn values_of(m: usize, r: usize, x: u32, sums: &[u32]) -> u32
 }
 
 // The position whose entry is x. `s` has the values of x.
-fn one(m: usize, t: usize, x: u32, s: u32, positions: &[u32], logs: &[u16]) -> Single
-    requires { ⌜ Words m t (now positions) × LogTable m (now logs) × (s ≡ syndromes m x) ⌝ }
+fn one(m: usize, t: usize, x: u32, s: u32, positions: &[u32], field: &[u16]) -> Single
+    requires { ⌜ Words m t (now positions) × FieldTables m (now field) × (s ≡ syndromes m x) ⌝ }
     ensures { λ a. ⌜ SingleIs (now (positions .entry)) x a ⌝ }
 {
     let low = (s % 65536) as usize;
@@ -109,7 +145,7 @@ fn one(m: usize, t: usize, x: u32, s: u32, positions: &[u32], logs: &[u16]) -> S
         return Single::Absent;
     }
     let n = positions.len();
-    let e = wide(logs[low]);
+    let e = log_of(m, low, field);
     if n <= e {
         return Single::Absent;
     }
@@ -122,42 +158,35 @@ fn one(m: usize, t: usize, x: u32, s: u32, positions: &[u32], logs: &[u16]) -> S
 
 // Of two powers of the root whose sum is power a and whose cubes have the sum `cubes`, one is power h + a, where h is the answer. It is 0
 // where there are no such two.
-fn root(m: usize, a: usize, cubes: usize, powers: &[u16], logs: &[u16], halves: &[u16]) -> usize
-    requires { ⌜ Fields m (now powers) (now logs) (now halves) × (a < 2 ^ m - 1) × (cubes < 2 ^ m) ⌝ }
+fn root(m: usize, a: usize, cubes: usize, field: &[u16]) -> usize
+    requires { ⌜ Field m (now field) × (a < 2 ^ m - 1) × (cubes < 2 ^ m) ⌝ }
     ensures { λ h. ⌜ (h < 2 ^ m - 1) × RootOf m a cubes h ⌝ }
 {
-    let n = powers.len();
+    let n = field.len() / 4 - 1;
     let c = wrap(wrap(2 * a, n) + a, n);
-    let d = cubes ^ wide(powers[c]);
+    let d = cubes ^ power_at(m, c, field);
     if d == 0 {
         return 0;
     }
-    let v = wrap(wide(logs[d]) + n - c, n);
-    wide(halves[v])
+    let v = wrap(log_of(m, d, field) + n - c, n);
+    solution_at(m, 1, v, field)
 }
 
 // The exponents of the two powers of the root whose sum is `sum` and whose cubes have the sum `cubes`.
-fn exponents(
-    m: usize,
-    sum: usize,
-    cubes: usize,
-    powers: &[u16],
-    logs: &[u16],
-    halves: &[u16],
-) -> Pair
-    requires { ⌜ Fields m (now powers) (now logs) (now halves) × (sum < 2 ^ m) × (cubes < 2 ^ m) ⌝ }
+fn exponents(m: usize, sum: usize, cubes: usize, field: &[u16]) -> Pair
+    requires { ⌜ Field m (now field) × (sum < 2 ^ m) × (cubes < 2 ^ m) ⌝ }
     ensures { λ a. ⌜ ExponentsAre m sum cubes a ⌝ }
 {
     if sum == 0 {
         return Pair::Absent;
     }
-    let a = wide(logs[sum]);
-    let h = root(m, a, cubes, powers, logs, halves);
+    let a = log_of(m, sum, field);
+    let h = root(m, a, cubes, field);
     if h == 0 {
         return Pair::Absent;
     }
-    let e = wrap(h + a, powers.len());
-    let f = wide(logs[sum ^ wide(powers[e])]);
+    let e = wrap(h + a, field.len() / 4 - 1);
+    let f = log_of(m, sum ^ power_at(m, e, field), field);
     Pair::At(e, f)
 }
 
@@ -185,34 +214,48 @@ fn pair_at(x: u32, e: usize, f: usize, positions: &[u32]) -> Pair
 }
 
 // The two positions whose entries have the sum x. `s` has the values of x.
-fn two(
-    m: usize,
-    t: usize,
-    x: u32,
-    s: u32,
-    positions: &[u32],
-    powers: &[u16],
-    logs: &[u16],
-    halves: &[u16],
-) -> Pair
-    requires { ⌜ Words m t (now positions) × Fields m (now powers) (now logs) (now halves) × (2 ≤ t) × (s ≡ syndromes m x) ⌝ }
+fn two(m: usize, t: usize, x: u32, s: u32, positions: &[u32], field: &[u16]) -> Pair
+    requires { ⌜ Words m t (now positions) × FieldTables m (now field) × (2 ≤ t) × (s ≡ syndromes m x) ⌝ }
     ensures { λ a. ⌜ PairIs (now (positions .entry)) x a ⌝ }
 {
-    let roots = exponents(
-        m,
-        (s % 65536) as usize,
-        (s / 65536) as usize,
-        powers,
-        logs,
-        halves,
-    );
+    let roots = exponents(m, (s % 65536) as usize, (s / 65536) as usize, field);
     match roots {
         Pair::Absent => Pair::Absent,
         Pair::At(e, f) => pair_at(x, e, f, positions),
     }
 }
 
-// The three positions whose entries have the sum x, where it is not that of fewer: the first position is tried out. `s` has the values of x.
+// The three positions whose entries have the sum x, where j is one of them and the sum is no single entry. `s` has the values of x.
+fn three_with(
+    m: usize,
+    t: usize,
+    x: u32,
+    s: u32,
+    j: usize,
+    positions: &[u32],
+    values: &[u32],
+    field: &[u16],
+) -> Triple
+    requires { ⌜ Tables m t (now positions) (now values) (now field) × (2 ≤ t) × (s ≡ syndromes m x) × NotOne (now positions) x
+        × (j < length (now positions)) ⌝ }
+    ensures { λ a. ⌜ TripleWith (now (positions .entry)) x j a ⌝ }
+{
+    let rest = two(m, t, x ^ positions[j], s ^ values[j], positions, field);
+    match rest {
+        Pair::Absent => Triple::Absent,
+        Pair::At(p, q) => {
+            if j < p {
+                return Triple::At(j, p, q);
+            }
+            if j < q {
+                return Triple::At(p, j, q);
+            }
+            Triple::At(p, q, j)
+        }
+    }
+}
+
+// The three positions whose entries have the sum x, where it is no single entry: each position is tried as one of them. `s` has the values of x.
 // One step for each position.
 fn three_by_trial(
     m: usize,
@@ -221,59 +264,47 @@ fn three_by_trial(
     s: u32,
     positions: &[u32],
     values: &[u32],
-    powers: &[u16],
-    logs: &[u16],
-    halves: &[u16],
-) -> Located
-    requires { ⌜ Parts m t (now positions) (now values) (now powers) (now logs) (now halves) × (t ≡ 3) × (s ≡ syndromes m x)
-        × (x ≢ 0) × NotOne (now positions) x × NotTwo (now positions) x ⌝ }
-    ensures { λ a. ⌜ positionsOf a ≡ located (now (positions .entry)) t x ⌝ }
+    field: &[u16],
+) -> Triple
+    requires { ⌜ Tables m t (now positions) (now values) (now field) × (2 ≤ t) × (s ≡ syndromes m x) × NotOne (now positions) x ⌝ }
+    ensures { λ a. ⌜ TripleIs (now (positions .entry)) x a ⌝ }
 {
     for j in 0..positions.len() {
-        let rest = two(
-            m,
-            t,
-            x ^ positions[j],
-            s ^ values[j],
-            positions,
-            powers,
-            logs,
-            halves,
-        );
-        match rest {
-            Pair::Absent => {}
-            Pair::At(p, q) => {
-                return Located::Three(j, p, q);
+        let found = three_with(m, t, x, s, j, positions, values, field);
+        match found {
+            Triple::Absent => {}
+            Triple::At(i, p, q) => {
+                return Triple::At(i, p, q);
             }
         }
     }
-    Located::Nowhere
+    Triple::Absent
 }
 
 // The value of the polynomial x, of r bits, at the fifth power of the root: one power for each bit.
-fn fifth_of(m: usize, r: usize, x: usize, powers: &[u16]) -> usize
-    requires { ⌜ (4 ≤ m) × (m ≤ 10) × (r ≤ 30) × (x < 2 ^ r) × (now powers ≡ powerTable m (2 ^ m - 1)) ⌝ }
+fn fifth_of(m: usize, r: usize, x: usize, field: &[u16]) -> usize
+    requires { ⌜ Field m (now field) × (r ≤ 30) × (x < 2 ^ r) ⌝ }
     ensures { λ a. ⌜ a ≡ valueAt m 5 x ⌝ }
 {
-    let n = powers.len();
+    let n = field.len() / 4 - 1;
     let mut acc: usize = 0;
     let mut e: usize = 0;
     for k in 0..r {
-        acc = acc ^ (x >> k) % 2 * wide(powers[e]);
+        acc = acc ^ (x >> k) % 2 * power_at(m, e, field);
         e = wrap(e + 5, n);
     }
     acc
 }
 
 // Power k of the field element x, where k is at most 5.
-fn power_of(m: usize, k: usize, x: usize, powers: &[u16], logs: &[u16]) -> usize
-    requires { ⌜ Logs m (now powers) (now logs) × (k ≤ 5) × (x < 2 ^ m) ⌝ }
+fn power_of(m: usize, k: usize, x: usize, field: &[u16]) -> usize
+    requires { ⌜ Field m (now field) × (k ≤ 5) × (x < 2 ^ m) ⌝ }
     ensures { λ a. ⌜ (a < 2 ^ m) × PowerIs m k x a ⌝ }
 {
     if x == 0 {
         return 0;
     }
-    wide(powers[k * wide(logs[x]) % powers.len()])
+    power_at(m, k * log_of(m, x, field) % (field.len() / 4 - 1), field)
 }
 
 // The exponent of the square root of power w, where the powers come back after n, which is odd.
@@ -286,68 +317,18 @@ fn half_exponent(w: usize, n: usize) -> usize
 
 // The exponent of one of three powers of the root. Their sum is `sum`, d is the sum of their cubes and the cube of `sum`, and e that of their
 // fifth powers and the fifth power of `sum`. Any exponent where there are no such three.
-fn cubic_root(
-    m: usize,
-    sum: usize,
-    d: usize,
-    e: usize,
-    powers: &[u16],
-    logs: &[u16],
-    cubics: &[u16],
-) -> usize
-    requires { ⌜ Logs m (now powers) (now logs) × CubicTable m (now cubics) × (sum < 2 ^ m) × (d < 2 ^ m) × (d ≢ 0) × (e < 2 ^ m) × (e ≢ 0) ⌝ }
+fn cubic_root(m: usize, sum: usize, d: usize, e: usize, field: &[u16]) -> usize
+    requires { ⌜ Field m (now field) × (sum < 2 ^ m) × (d < 2 ^ m) × (d ≢ 0) × (e < 2 ^ m) × (e ≢ 0) ⌝ }
     ensures { λ a. ⌜ CubicRootOf m sum d e a ⌝ }
 {
-    let n = powers.len();
-    let u = wide(logs[d]);
-    let h = half_exponent(wide(logs[e]) + n - u, n);
-    let g = wide(cubics[(u + 6 * n - 3 * h) % n]);
-    let y = wide(powers[(h + g) % n]);
-    wide(logs[sum ^ y])
+    let n = field.len() / 4 - 1;
+    let u = log_of(m, d, field);
+    let h = half_exponent(log_of(m, e, field) + n - u, n);
+    let g = solution_at(m, 2, (u + 6 * n - 3 * h) % n, field);
+    log_of(m, sum ^ power_at(m, (h + g) % n, field), field)
 }
 
-// The three positions whose entries have the sum x, where it is not that of fewer, and where j is one of them. `s` has the values of x.
-fn three_at(
-    m: usize,
-    t: usize,
-    x: u32,
-    s: u32,
-    j: usize,
-    positions: &[u32],
-    values: &[u32],
-    powers: &[u16],
-    logs: &[u16],
-    halves: &[u16],
-) -> Located
-    requires { ⌜ Parts m t (now positions) (now values) (now powers) (now logs) (now halves) × (t ≡ 3) × (s ≡ syndromes m x)
-        × (x ≢ 0) × NotOne (now positions) x × NotTwo (now positions) x × (j < length (now positions)) × OneOfThree (now positions) x j ⌝ }
-    ensures { λ a. ⌜ positionsOf a ≡ located (now (positions .entry)) t x ⌝ }
-{
-    let rest = two(
-        m,
-        t,
-        x ^ positions[j],
-        s ^ values[j],
-        positions,
-        powers,
-        logs,
-        halves,
-    );
-    match rest {
-        Pair::Absent => Located::Nowhere,
-        Pair::At(p, q) => {
-            if j < p {
-                return Located::Three(j, p, q);
-            }
-            if j < q {
-                return Located::Three(p, j, q);
-            }
-            Located::Three(p, q, j)
-        }
-    }
-}
-
-// The three positions whose entries have the sum x, where it is not that of fewer. `s` has the values of x.
+// The three positions whose entries have the sum x, where it is no single entry. `s` has the values of x.
 fn three(
     m: usize,
     t: usize,
@@ -355,90 +336,27 @@ fn three(
     s: u32,
     positions: &[u32],
     values: &[u32],
-    powers: &[u16],
-    logs: &[u16],
-    halves: &[u16],
-    cubics: &[u16],
-) -> Located
-    requires { ⌜ Parts m t (now positions) (now values) (now powers) (now logs) (now halves) × (t ≡ 3) × (s ≡ syndromes m x)
-        × (x ≢ 0) × NotOne (now positions) x × NotTwo (now positions) x × CubicTable m (now cubics) × (x < 2 ^ (m * t)) ⌝ }
-    ensures { λ a. ⌜ positionsOf a ≡ located (now (positions .entry)) t x ⌝ }
+    field: &[u16],
+) -> Triple
+    requires { ⌜ Tables m t (now positions) (now values) (now field) × (t ≡ 3) × (s ≡ syndromes m x) × NotOne (now positions) x
+        × (x < 2 ^ (m * t)) ⌝ }
+    ensures { λ a. ⌜ TripleIs (now (positions .entry)) x a ⌝ }
 {
     let sum = (s % 65536) as usize;
-    let d = power_of(m, 3, sum, powers, logs) ^ ((s / 65536) as usize);
+    let d = power_of(m, 3, sum, field) ^ ((s / 65536) as usize);
     if d == 0 {
-        return Located::Nowhere;
+        return Triple::Absent;
     }
-    let e = power_of(m, 5, sum, powers, logs) ^ fifth_of(m, m * t, x as usize, powers);
+    let e = power_of(m, 5, sum, field) ^ fifth_of(m, m * t, x as usize, field);
     if e == 0 {
-        return three_by_trial(m, t, x, s, positions, values, powers, logs, halves);
+        return three_by_trial(m, t, x, s, positions, values, field);
     }
-    let k = cubic_root(m, sum, d, e, powers, logs, cubics);
+    let k = cubic_root(m, sum, d, e, field);
     let n = positions.len();
     if n <= k {
-        return Located::Nowhere;
+        return Triple::Absent;
     }
-    three_at(
-        m,
-        t,
-        x,
-        s,
-        n - 1 - k,
-        positions,
-        values,
-        powers,
-        logs,
-        halves,
-    )
-}
-
-// One position, two or three, in this order, from the tables apart.
-fn search(
-    m: usize,
-    t: usize,
-    remainder: u32,
-    positions: &[u32],
-    values: &[u32],
-    sums: &[u32],
-    powers: &[u16],
-    logs: &[u16],
-    halves: &[u16],
-    cubics: &[u16],
-) -> Located
-    requires { ⌜ Parts m t (now positions) (now values) (now powers) (now logs) (now halves) × (remainder < 2 ^ (m * t))
-        × CubicTable m (now cubics) × (length (now sums) ≡ 128) × SumTable m (m * t) (now sums) ⌝ }
-    ensures { λ a. ⌜ positionsOf a ≡ located (now (positions .entry)) t remainder ⌝ }
-{
-    if remainder == 0 {
-        return Located::Nowhere;
-    }
-    let s = values_of(m, m * t, remainder, sums);
-    let single = one(m, t, remainder, s, positions, logs);
-    if let Single::At(p) = single {
-        return Located::One(p);
-    }
-    if t < 2 {
-        return Located::Nowhere;
-    }
-    let pair = two(m, t, remainder, s, positions, powers, logs, halves);
-    if let Pair::At(p, q) = pair {
-        return Located::Two(p, q);
-    }
-    if t < 3 {
-        return Located::Nowhere;
-    }
-    three(
-        m,
-        t,
-        remainder,
-        s,
-        positions,
-        values,
-        powers,
-        logs,
-        halves,
-        cubics,
-    )
+    three_with(m, t, x, s, n - 1 - k, positions, values, field)
 }
 
 // The positions, at most t, whose entries have the sum `remainder`; `Nowhere` where there are no such, and where the remainder is 0. The lent
@@ -455,18 +373,27 @@ pub fn locate(
     requires { ⌜ Tables m t (now positions) (now syndromes) (now field) × (remainder < 2 ^ (m * t)) ⌝ }
     ensures { λ a. ⌜ positionsOf a ≡ located (now (positions .entry)) t remainder ⌝ }
 {
-    let n = positions.len();
-    let q = field.len() / 4;
-    search(
-        m,
-        t,
-        remainder,
-        positions,
-        &syndromes[0..n],
-        &syndromes[n..n + 128],
-        &field[0..q - 1],
-        &field[q..2 * q],
-        &field[2 * q..3 * q - 1],
-        &field[3 * q..4 * q - 1],
-    )
+    if remainder == 0 {
+        return Located::Nowhere;
+    }
+    let s = values_of(m, m * t, remainder, &syndromes[positions.len()..]);
+    let single = one(m, t, remainder, s, positions, field);
+    if let Single::At(p) = single {
+        return Located::One(p);
+    }
+    if t < 2 {
+        return Located::Nowhere;
+    }
+    let pair = two(m, t, remainder, s, positions, field);
+    if let Pair::At(p, q) = pair {
+        return Located::Two(p, q);
+    }
+    if t < 3 {
+        return Located::Nowhere;
+    }
+    let triple = three(m, t, remainder, s, positions, syndromes, field);
+    match triple {
+        Triple::Absent => Located::Nowhere,
+        Triple::At(j, p, q) => Located::Three(j, p, q),
+    }
 }

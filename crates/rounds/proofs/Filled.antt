@@ -16,8 +16,8 @@ use Rattle.staircase.specs.Design.{wordLength}
 use Rattle.design.specs.declared.Design.{Design}
 use Rattle.design.specs.Answers.{Allowed}
 use Rattle.design.specs.Sizes.{paramsOf}
-use Rattle.design.proofs.Allowed.{code-of}
-use Rattle.locator.specs.Located.{SumTable, Tables}
+use Rattle.design.proofs.Generator.{code-of}
+use Rattle.locator.specs.Located.{SumTable, Words, Tables}
 
 -- the values of the positions, written before 128 other entries
 pub values-written : (m n : ℕ) (xs ys : List ℕ) → SyndromeTable m ys → length ys ≡ length (take (n - 0) xs) → length xs ≡ n + 128
@@ -42,6 +42,7 @@ pub tables-of : (d : Design) (positions syndromes field : List ℕ) (n r : ℕ) 
 tables-of d positions syndromes field n r h p l i q s v k f =
     let c = code-of d h in
     let e : n ≡ length positions = i ∙ sym l in
+    let w : Words (d .m) (d .t) positions =
     record {
       m-low = h .m-low;
       m-high = h .m-high;
@@ -49,8 +50,11 @@ tables-of d positions syndromes field n r h p l i q s v k f =
       t-high = h .t-high;
       fits = c .fits;
       position = p;
-      r-fits = omega (arith, l);
       n-fits = omega (arith, l, h .n-high);
+    }
+    in
+    record {
+      words = w;
       as-long = k ∙ ap (λ (z : ℕ). z + 128) e;
       syndrome = subst (λ (z : ℕ). SyndromeTable (d .m) (take z syndromes)) e s;
       sums = subst (λ (z : ℕ). SumTable (d .m) (d .m * d .t) (drop z syndromes)) e (subst (λ (z : ℕ). SumTable (d .m) z (drop n syndromes)) q v);

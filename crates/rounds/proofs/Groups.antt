@@ -42,7 +42,7 @@ module _ {d : Design} {L i : ℕ} {own parity positions syndromes field : List �
       }
 
   pub table-of : WordTable d positions
-  table-of = record { long = R .long; powers = R .tables .position }
+  table-of = record { long = R .long; powers = R .tables .words .position }
 
 module _ (s : Params) (l : Interleavers) (L : ℕ) (f : Frame) (i : ℕ) (column : Bool) (u : List ℕ) where
   pub line-rows : column ≡ false → u ≡ rowRemainders s l L f i → u ≡ wordRemainders s l L f i column

@@ -1,25 +1,33 @@
--- `correct::block_site` meets its contract: no block before the first, and none after the last. Assumes nothing.
+-- No block stands before the first, and none after the last.
+-- Assumes nothing.
 use native.Mathlib.Omega.{arith}
 use mathlib.Core.Path.{_≡_, sym, ap, _∙_, subst}
+use mathlib.Core.List.{[], _∷_}
+use mathlib.Core.List.{[], _∷_}
 use Prim.Native.Nat.{ℕ, _+_, _-_, _*_, _<_}
+use lib.Arith.{digits-lt}
+use Rattle.staircase.specs.Frame.{Site}
+use lib.Arith.{digits-lt}
+use Rattle.staircase.specs.Frame.{Site}
 use Rattle.staircase.specs.Frame.Site.{inInfo}
 use Rattle.staircase.proofs.Bounds.{small-product}
 use Rattle.design.specs.Sizes.{paramsOf}
-use Rattle.correct.specs.Sites.{siteOf, Inside}
-use Rattle.correct.proofs.Places.{block-none, block-past, block-one, stretch-fits}
+use Rattle.correct.specs.Sites.{sitesOf, Inside}
+use Rattle.correct.proofs.Places.{block-none, block-past, block-one}
 use borrow.Author.Needs.{needs}
 use Rattle.correct.proofs.block_site.Statement.{statement}
 use Rattle.correct.proofs.block_site.Tie as tie
 
 returns : tie.Need-returns
-unfolding siteOf Inside
+unfolding sitesOf Inside
 returns c =
-    let a = c .before .args in (block-none (paramsOf (a .d)) (a .blocks) (a .b) (a .k) (c .if1 .taken), λ n. tt)
+    let a = c .before .args in (ap (λ (z : Site). z ∷ []) (block-none (paramsOf (a .d)) (a .blocks) (a .b) (a .k) (c .if1 .taken)), λ n. tt)
 
 returns-2 : tie.Need-returns-2
-unfolding siteOf Inside
+unfolding sitesOf Inside
 returns-2 c =
-    let a = c .before .before .args in (block-past (paramsOf (a .d)) (a .blocks) (a .b) (a .k) (c .if2 .taken) (c .before .if1 .left), λ n. tt)
+    let start = c .before .before in
+    let a = start .args in (ap (λ (z : Site). z ∷ []) (block-past (paramsOf (a .d)) (a .blocks) (a .b) (a .k) (c .if2 .taken) (c .before .if1 .left)), λ n. tt)
 
 area-requires : tie.Need-area-requires
 area-requires c κs = search needs
@@ -30,16 +38,19 @@ mul-t8 c =
 
 add-t9 : tie.Need-add-t9
 add-t9 c =
-    let a = c .before .before .before .args in omega (arith, small-product (a .b - 1) (c .area .result) 4098 4294967296 (omega arith) (omega arith), c .area .ensures)
+    let start = c .before .before .before in
+    let a = start .args in omega (arith, small-product (a .b - 1) (c .area .result) 4098 4294967296 (omega arith) (omega arith), c .area .ensures)
 
 returns-3 : tie.Need-returns-3
-unfolding siteOf Inside
+unfolding sitesOf Inside
 returns-3 c =
-    let a = c .before .before .before .args in
+    let start = c .before .before .before in
+    let if1 = c .before .before .if1 in
+    let a = start .args in
     let z = a .d .size * a .d .size in
     let e : c .area .result ≡ z = c .area .ensures .0 in (
-      ap (λ (y : ℕ). inInfo ((a .b - 1) * y + a .k)) e ∙ block-one (paramsOf (a .d)) (a .blocks) (a .b) (a .k) (c .before .if2 .left) (c .before .before .if1 .left),
-      λ n. subst (λ (y : ℕ). (a .b - 1) * y + a .k < a .blocks * z) (sym e) (stretch-fits (a .blocks) (a .b - 1) z (a .k) (c .before .if2 .left) (c .before .before .before .pre .1)),
+      ap (λ (z : Site). z ∷ []) (ap (λ (y : ℕ). inInfo ((a .b - 1) * y + a .k)) e ∙ block-one (paramsOf (a .d)) (a .blocks) (a .b) (a .k) (c .before .if2 .left) (if1 .left)),
+      λ n. subst (λ (y : ℕ). (a .b - 1) * y + a .k < a .blocks * z) (sym e) (digits-lt {q = a .b - 1} {m = a .blocks} {r = a .k} {c = z} (c .before .if2 .left) (start .pre .1)),
     )
 
 pub block-site-spec : {M : Type 1} → statement M

@@ -1,4 +1,5 @@
--- `correct::place` meets its contract. Assumes nothing.
+-- Products of two sizes are small.
+-- Assumes nothing.
 use native.Mathlib.Omega.{arith}
 use mathlib.Core.Path.{refl}
 use Rattle.staircase.proofs.Bounds.{small-product}

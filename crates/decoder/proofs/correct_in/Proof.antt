@@ -29,7 +29,7 @@ outside-after-requires c κs =
     let a = c .before .before .before .before .before .before .before .before .before .before .before .before .before .before .before .before .before .before .before .before .before .before .before .before .before .before .before .before .before .before .before .before .before .before .before .before .before .before .before .before .args in
     let t = c .before .before .before .before .before .before .before .before .before .before .before .before .before .before .before .before .before .before .before .before .before .before .before .before .before .before .fill-tables .ensures in
     let F = rounds-fit (words (paramsOf (a .d)) (listsOf (a .d) (a .own .now) (a .parity .now)) (a .blocks)) _ _ (p .0 .frame) (c .before .before .before .before .before .before .before .before .before .before .before .before .run-rounds .ensures .0) refl in
-    (record { allowed = p .0 .allowed; some-blocks = p .0 .some-blocks; few-blocks = p .0 .few-blocks; lists = p .0 .lists; frame = F }, record { long = t .1 ∙ p .3; powers = t .0 .position }, c .before .before .before .before .before .before .before .before .before .before .before .before .run-rounds .ensures .2 ∙ p .1, c .before .before .before .before .before .before .before .before .before .before .before .before .run-rounds .ensures .1)
+    (record { allowed = p .0 .allowed; some-blocks = p .0 .some-blocks; few-blocks = p .0 .few-blocks; lists = p .0 .lists; frame = F }, record { long = t .1 ∙ p .3; powers = t .0 .words .position }, c .before .before .before .before .before .before .before .before .before .before .before .before .run-rounds .ensures .2 ∙ p .1, c .before .before .before .before .before .before .before .before .before .before .before .before .run-rounds .ensures .1)
 
 same-length : tie.Need-same-length
 same-length c = c .before .before .before .before .before .before .before .before .before .before .before .before .before .before .info .given

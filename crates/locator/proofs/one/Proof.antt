@@ -4,9 +4,9 @@ use mathlib.Core.Path.{_≡_, ap, _∙_}
 use Prim.Native.Nat.{ℕ, _-_}
 use native.Mathlib.Omega.{arith}
 use lib.ListN.{length, getD}
-use borrow.Author.Needs.{needs}
 use Rattle.locator.specs.Steps.{SingleIs}
-use Rattle.locator.proofs.Values.{low-below, single-value, single-exponent}
+use Rattle.locator.proofs.Values.{field-of, low-below, single-value, single-exponent}
+use borrow.Author.Needs.{needs}
 use Rattle.locator.proofs.one.Statement.{statement}
 use Rattle.locator.proofs.one.Tie as tie
 
@@ -16,29 +16,21 @@ cast-low c = search needs
 returns : tie.Need-returns
 unfolding SingleIs
 returns c =
-    let s = c .before .before .before in
-    let a = s .args in
-    λ p l e. single-value (s .pre .0) (a .x) (s .pre .2) p l e (c .if1 .taken)
+    let start = c .before .before .before in
+    let s = start .pre in
+    λ p l e. single-value (s .0) (start .args .x) (s .2) p l e (c .if1 .taken)
 
-mul-wide : tie.Need-mul-wide
-mul-wide c = search needs
-
-shared-slice-read-wide : tie.Need-shared-slice-read-wide
-shared-slice-read-wide c =
-    let s = c .before .before .before .before in
-    let a = s .args in
-    omega (arith, low-below (s .pre .0) (a .x) (s .pre .2), s .pre .1 .long)
-
-wide-requires : tie.Need-wide-requires
-wide-requires c κs = search needs
+log-of-requires : tie.Need-log-of-requires
+log-of-requires c κs =
+    let start = c .before .before .before in
+    let s = start .pre in (field-of (s .0) (s .1), low-below (s .0) (start .args .x) (s .2))
 
 returns-2 : tie.Need-returns-2
 unfolding SingleIs
 returns-2 c =
-    let s = c .before .before .before .before .before .before in
-    let a = s .args in
-    let wide = c .before .wide in
-    λ p l e. omega (arith, single-exponent (s .pre .0) (a .x) (s .pre .2) (s .pre .1) p l e, wide .ensures)
+    let start = c .before .before .before .before .before in
+    let s = start .pre in
+    λ p l e. omega (arith, single-exponent (s .0) (start .args .x) (s .2) (c .before .log-of .ensures) p l e)
 
 sub-p : tie.Need-sub-p
 sub-p c = search needs
@@ -55,12 +47,12 @@ shared-slice-read-if3 c = search needs
 returns-3 : tie.Need-returns-3
 unfolding SingleIs
 returns-3 c =
-    let s = c .before .before .before .before .before .before .before .before in
-    let a = s .args in
-    let wide = c .before .before .before .wide in
-    let t = a .positions .now in
+    let start = c .before .before .before .before .before .before .before in
+    let log-of = c .before .before .before .log-of in
+    let s = start .pre in
+    let t = start .args .positions .now in
     λ p l e.
-    let k : length t - 1 - wide .result ≡ p = omega (arith, single-exponent (s .pre .0) (a .x) (s .pre .2) (s .pre .1) p l e, wide .ensures) in
+    let k : length t - 1 - log-of .result ≡ p = omega (arith, single-exponent (s .0) (start .args .x) (s .2) (log-of .ensures) p l e) in
     c .if3 .taken (ap (λ (z : ℕ). getD t z 0) k ∙ e)
 
 returns-4 : tie.Need-returns-4
@@ -73,9 +65,7 @@ one-spec =
     (tie.spec
     cast-low
     returns
-    mul-wide
-    shared-slice-read-wide
-    wide-requires
+    log-of-requires
     returns-2
     sub-p
     sub-p-2

@@ -7,7 +7,7 @@ use lib.ListN.{length, getD}
 use borrow.Author.Needs.{needs}
 use Rattle.bch.specs.Polynomial.{_⊕_}
 use Rattle.bch.proofs.Sum.{⊕-comm}
-use Rattle.locator.specs.Steps.{CarryAre}
+use Rattle.locator.specs.Steps.{PairIs, CarryAre}
 use Rattle.locator.proofs.Values.{entries-apart}
 use Rattle.locator.proofs.pair_at.Statement.{statement}
 use Rattle.locator.proofs.pair_at.Tie as tie
@@ -49,11 +49,11 @@ unfolding CarryAre _⊕_
 returns-3 c = λ e f. c .if3 .taken
 
 returns-4 : tie.Need-returns-4
-unfolding CarryAre _⊕_
+unfolding CarryAre PairIs _⊕_
 returns-4 c = (c .if4 .taken, omega arith, c .before .if3 .left)
 
 returns-5 : tie.Need-returns-5
-unfolding CarryAre _⊕_
+unfolding CarryAre PairIs _⊕_
 returns-5 c =
     let s = c .before .before .before .before .before .before in
     let a = s .args in

@@ -2,10 +2,10 @@
 -- Assumes nothing.
 use mathlib.Core.Path.{subst}
 use Prim.Native.Nat.{_/_, _%_}
-use borrow.Author.Needs.{needs}
 use Rattle.locator.specs.declared.Pair.{Pair}
 use Rattle.locator.specs.Steps.{PairIs, ExponentsAre}
-use Rattle.locator.proofs.Values.{low-below, high-below, not-zero, two-absent, two-carry}
+use Rattle.locator.proofs.Values.{field-of, low-below, high-below, not-zero, two-absent, two-carry}
+use borrow.Author.Needs.{needs}
 use Rattle.locator.proofs.two.Statement.{statement}
 use Rattle.locator.proofs.two.Tie as tie
 
@@ -17,9 +17,8 @@ cast-exponents-2 c = search needs
 
 exponents-requires : tie.Need-exponents-requires
 exponents-requires c κs =
-    let s = c .before .before .before .before in
-    let a = s .args in
-    (s .pre .1, low-below (s .pre .0) (a .x) (s .pre .3), high-below (s .pre .0) (a .x) (s .pre .3))
+    let start = c .before .before in
+    let s = start .pre in (field-of (s .0) (s .1), low-below (s .0) (start .args .x) (s .3), high-below (s .0) (start .args .x) (s .3))
 
 enum-told : tie.Need-enum-told
 enum-told c = search needs
@@ -30,30 +29,29 @@ enum-known-roots c = search needs
 pair-at-requires : tie.Need-pair-at-requires
 unfolding ExponentsAre
 pair-at-requires c κs =
-    let s = c .before .before .before .before .before .before .before .before in
-    let a = s .args in
-    let roots = c .before .roots in
+    let start = c .before .before .before .before .before .before in
     let exponents = c .before .before .before .exponents in
-    let x = subst (λ (z : Pair). ExponentsAre (a .m) (a .s % 65536) (a .s / 65536) z) (roots .given .1) (exponents .ensures) in
-    not-zero (s .pre .0) (a .x) (s .pre .3) (x .0)
+    let s = start .pre in
+    let x = subst (λ (z : Pair). ExponentsAre (start .args .m) (start .args .s % 65536) (start .args .s / 65536) z) (c .before .roots .given .1) (exponents .ensures) in
+    not-zero (s .0) (start .args .x) (s .3) (x .0)
 
 returns : tie.Need-returns
 unfolding PairIs
 returns c =
-    let s = c .before .before .before .before .before .before .before in
-    let a = s .args in
+    let start = c .before .before .before .before .before in
     let exponents = c .before .before .exponents in
-    let x = subst (λ (z : Pair). ExponentsAre (a .m) (a .s % 65536) (a .s / 65536) z) (c .enum-told .given .1) (exponents .ensures) in
-    two-absent (s .pre .0) (a .x) (s .pre .3) (s .pre .2) x
+    let s = start .pre in
+    let x = subst (λ (z : Pair). ExponentsAre (start .args .m) (start .args .s % 65536) (start .args .s / 65536) z) (c .enum-told .given .1) (exponents .ensures) in
+    two-absent (s .0) (start .args .x) (s .3) (s .2) x
 
 returns-2 : tie.Need-returns-2
 returns-2 c =
-    let s = c .before .before .before .before .before .before .before .before .before in
-    let a = s .args in
+    let start = c .before .before .before .before .before .before .before in
     let roots = c .before .before .roots in
     let exponents = c .before .before .before .before .exponents in
-    let x = subst (λ (z : Pair). ExponentsAre (a .m) (a .s % 65536) (a .s / 65536) z) (roots .given .1) (exponents .ensures) in
-    two-carry (s .pre .0) (a .x) (s .pre .3) (s .pre .2) _ _ x (c .pair-at .result) (c .pair-at .ensures)
+    let s = start .pre in
+    let x = subst (λ (z : Pair). ExponentsAre (start .args .m) (start .args .s % 65536) (start .args .s / 65536) z) (roots .given .1) (exponents .ensures) in
+    two-carry (s .0) (start .args .x) (s .3) (s .2) _ _ x (c .pair-at .result) (c .pair-at .ensures)
 
 pub two-spec : {M : Type 1} → statement M
 two-spec =
