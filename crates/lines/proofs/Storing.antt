@@ -1,4 +1,7 @@
 -- Runs of stores, one after another.
+--   sets-append, put-then               one run behind another
+--   put-one, put-last                   `put_digits`
+--   copy-start, copy-more, copy-end     a text copied byte by byte
 -- Assumes nothing.
 use Prim.Native.Nat.{ℕ, suc, _+_, _/_, _%_, _^_, _≤_, _<_}
 use mathlib.Core.Path.{_≡_, refl, sym, ap, _∙_}
@@ -9,7 +12,7 @@ use native.Mathlib.Numerals.{add-one}
 use lib.ListN.{length, set, drop, getD, length-append, drop-of-length-le}
 use lib.Seq.{sets, drop-cons}
 use Rattle.formats.specs.Format.{dec}
-use Rattle.formats.proofs.Digits.{dec1}
+use Rattle.formats.proofs.Digits.{dec-one}
 use Rattle.lines.proofs.Decimal.{dec-more}
 
 -- One run after another is their bytes in one run.
@@ -33,7 +36,7 @@ put-byte o at v = (refl, refl)
 
 -- A number below 10, and a number's last digit behind the others.
 pub put-one : (o : List ℕ) (at v : ℕ) → v < 10 → (at + 1 ≡ at + length (dec v)) × (set o at (48 + v) ≡ sets o at (dec v))
-put-one o at v h = rw (dec1 v h) (put-byte o at (48 + v))
+put-one o at v h = rw (dec-one v h) (put-byte o at (48 + v))
 
 pub put-last : (o : List ℕ) (at v : ℕ) {o₁ : List ℕ} {i : ℕ} → 10 ≤ v → v < 2 ^ 64
     → (i ≡ at + length (dec (v / 10))) × (o₁ ≡ sets o at (dec (v / 10)))

@@ -1,4 +1,7 @@
--- A text where there is room for it, and where there is not: what the test of the room tells, and what is then answered and left.
+-- A text where there is room for it, and where there is not.
+--   no-fit, last-fits                  `has_room`
+--   puts-room .. after-none            what is left, and what is answered
+--   told-room, told-put, told-kept     the same, by what the test of the room told
 -- Assumes nothing.
 use Prim.Native.Nat.{ℕ, _+_, _-_, _≤_, _<_}
 use mathlib.Core.Path.{_≡_, sym, _∙_}
