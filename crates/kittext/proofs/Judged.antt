@@ -3,8 +3,8 @@
 --   not-eleven                      none of these rules has the number 11
 --   Found, two-lines                the two lines at the start of a text, or the place where they go wrong
 --   scan-stuck, scan-found          the verdict of either
---   accepted-found                  an accepted text starts with two lines
---   rule-read, rule-refused         a scan, by its verdict
+--   rule-refused                    the place of a scan, by its verdict
+--   Accepted, accepted-is           an accepted text starts with two lines of a design that passes, and the scan reads the rest
 -- Assumes nothing.
 use Prim.Native.Nat.{ℕ, _-_, _*_, _^_, _≤_, _<_}
 use mathlib.Core.Path.{_≡_, refl, sym, ap, _∙_}
@@ -23,7 +23,7 @@ use Rattle.readers.specs.Verdicts.{scanRule}
 use Rattle.staircase.specs.Design.{Params, params, order, wordLength}
 use Rattle.staircase.specs.Rules.{Verdict, _then_, refuse, outOfRange, sizeRule, longRule, largeRule, designRules}
 use Rattle.staircase.specs.Rules.Verdict.{accepted, refused}
-use Rattle.staircase.proofs.Rules.{then-rest, refuse-false, design-limits}
+use Rattle.staircase.proofs.Rules.{then-first, then-rest, refuse-false, design-limits}
 use Rattle.kitscan.specs.KitText.{headItems, kitFormat}
 use Rattle.kittext.specs.Reader.{headNumber, kitParams, bodyScan, bodyRule, scanKit, Passing}
 use Rattle.kitscan.specs.Answers.{restFormat}
@@ -118,14 +118,7 @@ module _ (s : List ℕ) (F : Found s) where
       ∙ ap (λ (x : Scan). designRules (headNumber s 0) (headNumber s 1) (headNumber s 2) then scanRule 11 x) (body-found ∙ sym (kit-rest s (F .m) (F .t) (F .M) (F .q) (F .lines)))
       ∙ rw (shown .first, shown .second, shown .third)
 
-pub accepted-found : (s : List ℕ) → scanKit s ≡ accepted → Found s
-accepted-found s e = go (two-lines s)
-  where
-    go : ((q : ℕ) × (walk headItems s 0 ≡ stuck q)) ⊎ Found s → Found s
-    go (inl (q, f)) = let g = scan-stuck s q f in let z : _≡_ {A = ℕ} 0 1 = cc in absurd (omega arith)
-    go (inr F) = F
-
-pub rule-read : (x : Scan) → scanRule 11 x ≡ accepted → (L : ℕ) × (vs : List ℕ) × (x ≡ format.read L vs)
+rule-read : (x : Scan) → scanRule 11 x ≡ accepted → (L : ℕ) × (vs : List ℕ) × (x ≡ format.read L vs)
 unfolding scanRule
 rule-read (format.refused k) e = let z : _≡_ {A = ℕ} 0 1 = cc in absurd (omega arith)
 rule-read (format.read L vs) e = (L, vs, refl)
@@ -134,3 +127,24 @@ pub rule-refused : (x : Scan) (k : ℕ) → scanRule 11 x ≡ refused 11 k → x
 unfolding scanRule
 rule-refused (format.refused j) k e = let z : j ≡ k = cc in ap format.refused z
 rule-refused (format.read L vs) k e = let z : _≡_ {A = ℕ} 0 1 = cc in absurd (omega arith)
+
+-- ---- accepted texts
+
+pub record Accepted (s : List ℕ) : Type 0 where
+  pub found : Found s
+  pub passing : Passing (found .m) (found .t) (found .M)
+  pub mark : ℕ
+  pub vs : List ℕ
+  pub scanned : scan (kitFormat (found .m) (found .t) (found .M)) s ≡ format.read mark vs
+
+pub accepted-is : (s : List ℕ) → scanKit s ≡ accepted → Accepted s
+accepted-is s e = go (two-lines s)
+  where
+    go : ((q : ℕ) × (walk headItems s 0 ≡ stuck q)) ⊎ Found s → Accepted s
+    go (inl (q, f)) = let g = scan-stuck s q f in let z : _≡_ {A = ℕ} 0 1 = cc in absurd (omega arith)
+    go (inr F) =
+        let d : Verdict = designRules (F .m) (F .t) (F .M) in
+        let x : Scan = scan (kitFormat (F .m) (F .t) (F .M)) s in
+        let g : (d then scanRule 11 x) ≡ accepted = sym (scan-found s F) ∙ e in
+        let (L, vs, h) = rule-read x (then-rest d (scanRule 11 x) g) in
+        record { found = F; passing = then-first d (scanRule 11 x) g; mark = L; vs = vs; scanned = h }

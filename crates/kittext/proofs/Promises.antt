@@ -21,13 +21,13 @@ use Rattle.staircase.specs.Design.{order}
 use Rattle.staircase.specs.System.{rowBytes}
 use Rattle.staircase.specs.Rules.{Verdict, _then_, designRules, listLengths, kitLengths}
 use Rattle.staircase.specs.Rules.Verdict.{accepted, refused}
-use Rattle.staircase.proofs.Rules.{then-first, then-rest, then-accepted, length-accepted}
+use Rattle.staircase.proofs.Rules.{then-accepted, length-accepted}
 use Rattle.kitscan.specs.KitText.{headItems, headFormat, headBytes, listNames, rowNames, pairLines, kitFormat, KitText}
 use Rattle.kittext.specs.Reader.{headNumber, kitParams, headRule, bodyRule, scanKit, selfOf, parityOf, inverseOf, readVerdict, readKitCall, Passing}
 use Rattle.kittext.specs.Rendered.{kitBytes}
 use Rattle.kittext.proofs.Counting.{rows-count}
 use Rattle.kittext.proofs.KitTexts.{clear-kit, head-place, head-found, head-passed, kit-starts, kit-rest, any-place}
-use Rattle.kittext.proofs.Judged.{small, not-eleven, Found, two-lines, scan-stuck, shown, scan-found, accepted-found, rule-read, rule-refused}
+use Rattle.kittext.proofs.Judged.{small, not-eleven, Found, two-lines, scan-stuck, shown, scan-found, rule-refused, accepted-is}
 use Rattle.kittext.proofs.Told.{kit-told, fit-long, rendered}
 
 -- ---- accepted texts
@@ -39,13 +39,10 @@ kit-accepted s = (there, back)
   where
     there : scanKit s ≡ accepted → KitText Passing s
     there e =
-        let F = accepted-found s e in
-        let d : Verdict = designRules (F .m) (F .t) (F .M) in
-        let r : Verdict = scanRule 11 (scan (kitFormat (F .m) (F .t) (F .M)) s) in
-        let g : (d then r) ≡ accepted = sym (scan-found s F) ∙ e in
-        let (L, vs, h) = rule-read (scan (kitFormat (F .m) (F .t) (F .M)) s) (then-rest d r g) in
-        let p : Passing (F .m) (F .t) (F .M) = then-first d r g in
-        (F .m, F .t, F .M, p, (L, vs, scan-sound (kitFormat (F .m) (F .t) (F .M)) L vs s (clear-kit (F .m) (F .t) (F .M) (small (F .m) (F .t) (F .M) p)) h))
+        let A = accepted-is s e in
+        let F = A .found in
+        let k = clear-kit (F .m) (F .t) (F .M) (small (F .m) (F .t) (F .M) (A .passing)) in
+        (F .m, F .t, F .M, A .passing, (A .mark, A .vs, scan-sound (kitFormat (F .m) (F .t) (F .M)) (A .mark) (A .vs) s k (A .scanned)))
 
     back : KitText Passing s → scanKit s ≡ accepted
     back (m, t, M, p, (L, vs, r)) =

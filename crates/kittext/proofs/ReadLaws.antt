@@ -11,7 +11,7 @@ use native.Mathlib.Omega.{arith}
 use lib.ListN.{length}
 use Rattle.formats.specs.Items.{Walk, stuck, past, walk, values, Passes, bitsLines}
 use Rattle.readers.specs.Verdicts.{valuesOf, kept}
-use Rattle.staircase.specs.Rules.{Verdict, _then_, designRules, kitLengths}
+use Rattle.staircase.specs.Rules.{Verdict, _then_, kitLengths}
 use Rattle.staircase.specs.Rules.Verdict.{accepted, refused}
 use Rattle.staircase.specs.Design.{Params, order}
 use Rattle.staircase.specs.System.{rowBytes}
@@ -26,7 +26,7 @@ use Rattle.design.proofs.Answers.{refused-then, passed-then, check-refused}
 use Rattle.lengths.proofs.Fit.{lengths-fit}
 use Rattle.kitscan.specs.KitText.{pairLines}
 use Rattle.kitfill.specs.Bytes.{firsts, seconds, packs, packRows}
-use Rattle.kittext.specs.Reader.{headNumber, kitParams, headRule, bodyScan, bodyRule, selfOf, parityOf, inverseOf, readVerdict, readKitCall, kitScanVerdict, KitDesign}
+use Rattle.kittext.specs.Reader.{kitParams, bodyScan, bodyRule, selfOf, parityOf, inverseOf, readVerdict, readKitCall, kitScanVerdict, KitDesign}
 use Rattle.kitscan.specs.Answers.{frontRule, frontVerdict, FrontIs, restRule, restVerdict, RestParts}
 use Rattle.kittext.specs.declared.KitScan.{KitScan}
 use Rattle.kittext.specs.declared.KitScan.the-variants.{Kit, Refused, Broken}
@@ -35,7 +35,7 @@ use Rattle.kitscan.specs.declared.Front.the-variants.{Starts, Ruled, NoStart}
 use Rattle.kitscan.specs.declared.Rest.{Rest}
 use Rattle.kitscan.specs.declared.Rest.the-variants.{Whole, NotWhole}
 use Rattle.kittext.proofs.Counting.{pairs-walked, self-shown, parity-shown, inverse-shown}
-use Rattle.kittext.proofs.ScanLaws.{then-three, refusal-first, Opens, front-broken, front-refused, opens, small-order, order-is, body-is, rule-is, kit-design}
+use Rattle.kittext.proofs.ScanLaws.{front-then, refusal-first, Opens, front-broken, front-refused, opens, small-order, order-is, body-is, rule-is, kit-design}
 
 -- ---- the call
 
@@ -81,13 +81,9 @@ refused-not : (n p : ℕ) → refused n p ≢ accepted
 refused-not n p e = let z : _≡_ {A = ℕ} 0 1 = cc in omega arith
 
 module _ (s own parity w : List ℕ) where
-  read-parts : readVerdict s own parity w ≡ (frontRule s then (kitLengths (kitParams s) own parity w then bodyRule s))
-  unfolding readVerdict frontRule
-  read-parts =
-      sym (then-three (headRule s) (designRules (headNumber s 0) (headNumber s 1) (headNumber s 2)) (kitLengths (kitParams s) own parity w then bodyRule s))
-
   from-front : (v : Verdict) → frontRule s ≡ v → (v then (kitLengths (kitParams s) own parity w then bodyRule s)) ≡ readVerdict s own parity w
-  from-front v e = sym (read-parts ∙ ap (λ (u : Verdict). u then (kitLengths (kitParams s) own parity w then bodyRule s)) e)
+  unfolding readVerdict
+  from-front v e = sym (front-then s (kitLengths (kitParams s) own parity w then bodyRule s) v e)
 
   module _ (f : Front) (ef : (frontVerdict f ≡ frontRule s) × FrontIs f s) where
     pub read-none : (q : ℕ) → f ≡ NoStart q → Leaves (Broken q) s own parity w own parity w

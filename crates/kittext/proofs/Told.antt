@@ -14,14 +14,13 @@ use Rattle.formats.specs.Items.{Walk, stuck, past, walk, spell, Fit, bitsLines,
 use Rattle.formats.proofs.Items.{dec-long}
 use Rattle.formats.proofs.Parts.{fit-split, lits-first}
 use Rattle.formats.proofs.Spelling.{continue, prefix, scan-seq, tidy-oks, walk-sound}
-use Rattle.readers.specs.Verdicts.{scanRule, valuesOf}
+use Rattle.readers.specs.Verdicts.{valuesOf}
 use Rattle.staircase.specs.Design.{order}
 use Rattle.staircase.specs.Lists.{concat}
 use Rattle.staircase.specs.System.{inverseEntry}
-use Rattle.staircase.specs.Rules.{Verdict, _then_, designRules, entries}
+use Rattle.staircase.specs.Rules.{entries}
 use Rattle.staircase.specs.Rules.Verdict.{accepted, refused}
-use Rattle.staircase.proofs.Rules.{then-first, then-rest}
-use Rattle.kitscan.specs.KitText.{headBytes, listNames, rowNames, pairLines, kitBody, kitFormat}
+use Rattle.kitscan.specs.KitText.{headBytes, listNames, rowNames, pairLines, kitBody}
 use Rattle.kitfill.specs.Bytes.{firsts, seconds, packs, packRows}
 use Rattle.kittext.specs.Reader.{headNumber, kitParams, bodyScan, scanKit, selfOf, parityOf, inverseOf}
 use Rattle.kitscan.specs.Answers.{restFormat, tailItems}
@@ -29,7 +28,7 @@ use Rattle.kittext.specs.Rendered.{pairText, rowText}
 use Rattle.kittext.proofs.Counting.{pairs-count, self-shown, parity-shown, inverse-shown}
 use Rattle.kittext.proofs.KitTexts.{tidy-body, head-passed, kit-rest}
 use Rattle.kittext.proofs.Rendering.{concat-same, pairs-render, values-small, entry-of, row-same, rows-bits, rows-render, inverse-of}
-use Rattle.kittext.proofs.Judged.{order-small, Found, shown, order-found, body-found, scan-found, accepted-found, rule-read}
+use Rattle.kittext.proofs.Judged.{order-small, shown, order-found, body-found, Accepted, accepted-is}
 
 -- ---- what an accepted text shows
 
@@ -94,27 +93,27 @@ items-read is s q L vs f = go (walk is s q) refl (sym (scan-seq is (end 0) s q) 
         let (a, b) = last ws k (scanAt (end 0) s k) refl g in
         (k, e ∙ ap (λ (z : List ℕ). past z k) a, b)
 
+-- a text that is a and then b, which is x
+joined : (s a b x : List ℕ) (q e : ℕ) → s ≡ a ++ drop q s → drop q s ≡ b ++ drop e s → drop e s ≡ [] → b ≡ x → s ≡ a ++ x
+joined s a b x q e h p z f = h ∙ ap (λ (l : List ℕ). a ++ l) (p ∙ ap (λ (l : List ℕ). b ++ l) z ∙ append-nil b ∙ f)
+
 pub kit-told : (s : List ℕ) → scanKit s ≡ accepted → Told s (order (kitParams s))
 unfolding valuesOf
-kit-told s acc = go (accepted-found s acc)
+kit-told s acc = go (accepted-is s acc)
   where
     told : (n : ℕ) → order (kitParams s) ≡ n → Told s n → Told s (order (kitParams s))
     told n e T = rw e T
 
-    go : Found s → Told s (order (kitParams s))
-    go F =
+    go : Accepted s → Told s (order (kitParams s))
+    go A =
+        let F = A .found in
         let S = shown s F in
         let n : ℕ = F .M * (F .m * F .t) in
-        let d : Verdict = designRules (F .m) (F .t) (F .M) in
-        let r : Verdict = scanRule 11 (scan (kitFormat (F .m) (F .t) (F .M)) s) in
-        let g : (d then r) ≡ accepted = sym (scan-found s F) ∙ acc in
-        let (L, vs, h) = rule-read (scan (kitFormat (F .m) (F .t) (F .M)) s) (then-rest d r g) in
-        let p : n ≤ 4096 = order-small (F .m) (F .t) (F .M) (then-first d r g) in
-        let b : scanAt (restFormat n) s (F .q) ≡ format.read L vs = sym (kit-rest s (F .m) (F .t) (F .M) (F .q) (F .lines)) ∙ h in
-        let (e, w, z) = items-read (kitBody n) s (F .q) L vs b in
-        let P = walk-sound (kitBody n) s (F .q) vs e (tidy-oks (kitBody n) (tidy-body n (omega arith))) w in
-        let B = body-parts n vs (P .fit) in
-        let H = head-passed s (F .m) (F .t) (F .M) (F .q) (F .lines) in
+        let p : n ≤ 4096 = order-small (F .m) (F .t) (F .M) (A .passing) in
+        let b : scanAt (restFormat n) s (F .q) ≡ format.read (A .mark) (A .vs) = sym (kit-rest s (F .m) (F .t) (F .M) (F .q) (F .lines)) ∙ A .scanned in
+        let (e, w, z) = items-read (kitBody n) s (F .q) (A .mark) (A .vs) b in
+        let P = walk-sound (kitBody n) s (F .q) (A .vs) e (tidy-oks (kitBody n) (tidy-body n (omega arith))) w in
+        let B = body-parts n (A .vs) (P .fit) in
         told n (order-found s F)
         (record {
           order-is = order-found s F;
@@ -125,9 +124,7 @@ kit-told s acc = go (accepted-found s acc)
           values-are = ap valuesOf (body-found s F ∙ b) ∙ B .values-are;
           text =
               rw (S .first, S .second, S .third)
-              (H .spelt
-              ∙ ap (λ (l : List ℕ). headBytes (F .m) (F .t) (F .M) ++ l)
-              (P .spelt ∙ ap (λ (l : List ℕ). spell (kitBody n) vs ++ l) z ∙ append-nil (spell (kitBody n) vs) ∙ B .spelt));
+              (joined s (headBytes (F .m) (F .t) (F .M)) (spell (kitBody n) (A .vs)) _ (F .q) e (head-passed s (F .m) (F .t) (F .M) (F .q) (F .lines) .spelt) (P .spelt) z (B .spelt));
         })
 
 -- ---- its lists and its inverse
