@@ -2,7 +2,7 @@
 --   digitAt-out, low-read, high-read, digit-read   `digit_at`
 --   Digit, digitAt-small, digitAt-big              what its answer says of the byte
 --   none-read, zero-read                           `number`, where there is none and where it starts with 0
---   Reads, reads-first .. reads-full               the state of `number` after n digits
+--   Leading, leading-first .. leading-full         the state of `number` after n digits
 -- Assumes nothing.
 use Prim.Native.Nat.{ℕ, zero, suc, _+_, _-_, _*_, _^_, _≤_, _<_}
 use mathlib.Core.Path.{_≡_, refl, sym, ap, _∙_}
@@ -85,7 +85,7 @@ value-at s at zero v h e f = absurd (omega arith)
 value-at s at (suc n) v h e f = rw (e, f)
 
 -- After n digits, the first of which is not 0: their value is v, and what is left of the number is what is left of the digits.
-pub record Reads (s : List ℕ) (at n v : ℕ) : Type 0 where
+pub record Leading (s : List ℕ) (at n v : ℕ) : Type 0 where
   pub low : 1 ≤ n
   pub high : n ≤ 4
   pub room : at + n ≤ length s
@@ -104,8 +104,8 @@ module _ (s : List ℕ) (at a : ℕ) (ea : a ≡ digitAt s at) where
       let f : getD (drop at s) 0 256 ≡ 48 = head-at s at ∙ omega (arith, d .low, d .is) in
       value-at s at 1 0 (omega arith) (len-zero (drop at s) f) (omega arith)
 
-  pub reads-first : a < 10 → (a ≡ 0 → ⊥) → Reads s at 1 a
-  reads-first h p =
+  pub leading-first : a < 10 → (a ≡ 0 → ⊥) → Leading s at 1 a
+  leading-first h p =
       let d = digitAt-small s at a ea h in
       let f = head-at s at in
       let m : more 3 (drop 1 (drop at s)) ≡ more (4 - 1) (drop (at + 1) s) = ap (λ (l : List ℕ). more 3 l) (drop-drop 1 at s) in
@@ -119,16 +119,16 @@ module _ (s : List ℕ) (at a : ℕ) (ea : a ≡ digitAt s at) where
         valued = omega (arith, d .is);
       }
 
-module _ (s : List ℕ) (at n v : ℕ) (R : Reads s at n v) where
-  pub reads-small : v < 10000
-  reads-small = let p : 10 ^ n ≤ 10 ^ 4 = pow-le-pow-right (omega arith) (R .high) in omega (arith, R .below)
+module _ (s : List ℕ) (at n v : ℕ) (R : Leading s at n v) where
+  pub leading-small : v < 10000
+  leading-small = let p : 10 ^ n ≤ 10 ^ 4 = pow-le-pow-right (omega arith) (R .high) in omega (arith, R .below)
 
   module _ (lt : n < 4) (d : ℕ) (ed : d ≡ digitAt s (at + n)) where
-    pub reads-stop : 10 ≤ d → Value v (at + n) ≡ numAt s at
-    reads-stop h = value-at s at n v (R .low) (omega (arith, R .counted, more-stop (4 - n) (drop (at + n) s) (digitAt-big s (at + n) d ed h))) (R .valued)
+    pub leading-stop : 10 ≤ d → Value v (at + n) ≡ numAt s at
+    leading-stop h = value-at s at n v (R .low) (omega (arith, R .counted, more-stop (4 - n) (drop (at + n) s) (digitAt-big s (at + n) d ed h))) (R .valued)
 
-    pub reads-next : d < 10 → Reads s at (n + 1) (v * 10 + d)
-    reads-next h =
+    pub leading-next : d < 10 → Leading s at (n + 1) (v * 10 + d)
+    leading-next h =
         let D = digitAt-small s (at + n) d ed h in
         let f = head-at s (at + n) in
         let k : 4 - n ≡ suc (4 - (n + 1)) = omega arith in
@@ -147,9 +147,9 @@ module _ (s : List ℕ) (at n v : ℕ) (R : Reads s at n v) where
           valued = rw (add-one n, R .valued, getD-drop at s n 256, ← D .is, ed);
         }
 
-  pub reads-full : 4 ≤ n → Value v (at + n) ≡ numAt s at
+  pub leading-full : 4 ≤ n → Value v (at + n) ≡ numAt s at
   unfolding more
-  reads-full h =
+  leading-full h =
       let z : n ≡ 4 = omega (arith, R .high) in
       let m : more (4 - n) (drop (at + n) s) ≡ 0 = ap (λ (x : ℕ). more (4 - x) (drop (at + n) s)) z in
       value-at s at n v (R .low) (omega (arith, R .counted, m)) (R .valued)
