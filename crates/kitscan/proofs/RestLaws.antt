@@ -1,59 +1,28 @@
 -- The rest of a kit text, as the code has it.
---   scan-stops .. lits-go        the scan of items and a format, by the answer to the items
 --   tail-names .. tail-whole     `rows_and_end`
 --   rest-names .. rest-whole     `judge_rest`
 -- Assumes nothing.
 use Prim.Native.Nat.{ℕ, _≤_, _<_}
 use mathlib.Core.Path.{_≡_, sym, ap, _∙_}
-use mathlib.Core.List.{List, [], _++_, append-nil}
-use native.Mathlib.Nat.{add-zero}
-use lib.ListN.{length, drop-of-length-le}
-use lib.Seq.{drop-cons}
+use mathlib.Core.List.{List, _++_, append-nil}
+use lib.ListN.{length}
 use Rattle.formats.specs.Format as format
-use Rattle.formats.specs.Format.{Item, Format, end}
+use Rattle.formats.specs.Format.{Format, end}
 use Rattle.formats.specs.Items.{lits, seq, Walk, past, walk, values, Passes, scanAt, bitsLines}
-use Rattle.formats.proofs.Spelling.{continue, prefix, prefix-nil, scan-seq}
+use Rattle.formats.proofs.Spelling.{prefix}
 use Rattle.formats.proofs.Parts.{seq-append}
 use Rattle.readers.specs.declared.Step.{Step}
 use Rattle.readers.specs.declared.Step.the-variants.{Next, Refused}
 use Rattle.readers.specs.Answers.{stepOf, stepWalk}
 use Rattle.readers.specs.Verdicts.{scanRule, valuesOf}
-use Rattle.readers.proofs.Lines.{step-of, answer-stuck, answer-past}
+use Rattle.readers.proofs.Lines.{answer-past}
+use Rattle.readers.proofs.Scans.{scan-end, scan-more, scan-stops, scan-goes, lits-stop, lits-go}
 use Rattle.kitscan.specs.KitText.{listNames, rowNames, pairLines, kitBody}
 use Rattle.kitscan.specs.Answers.{restFormat, tailItems, tailFormat, restRule, restVerdict, RestParts, TailIs}
 use Rattle.kitscan.specs.declared.Rest.the-variants.{Whole, NotWhole}
 
--- ---- the end of a text
-
-scan-end : (s : List ℕ) (q : ℕ) → length s ≤ q → scanAt (end 0) s q ≡ format.read 0 []
-unfolding scanAt
-scan-end s q h = rw (drop-of-length-le s {i = q} h)
-
-scan-more : (s : List ℕ) (q : ℕ) → q < length s → scanAt (end 0) s q ≡ format.refused q
-unfolding scanAt
-scan-more s q h = rw (drop-cons s q 0 h) (ap format.refused (add-zero q))
-
 past-passes : (w : Walk) (ws : List ℕ) (q : ℕ) → w ≡ past ws q → Passes w
 past-passes w ws q e = rw e tt
-
--- ---- the scan of items and a format, by the answer to the items
-module _ (is : List Item) (F : Format) (s : List ℕ) (at : ℕ) (x : Step) (e : x ≡ stepOf (walk is s at)) where
-  pub scan-stops : (q : ℕ) → x ≡ Refused q → scanAt (seq is F) s at ≡ format.refused q
-  scan-stops q f = scan-seq is F s at ∙ ap (λ (w : Walk). continue w (λ r. scanAt F s r)) (answer-stuck (walk is s at) x q e f)
-
-  pub scan-goes : (q : ℕ) → x ≡ Next q → scanAt (seq is F) s at ≡ prefix (values (walk is s at)) (scanAt F s q)
-  scan-goes q f = scan-seq is F s at ∙ ap (λ (w : Walk). continue w (λ r. scanAt F s r)) (answer-past (walk is s at) x q e f)
-
--- the same for fixed bytes, which have no values
-module _ (b : List ℕ) (F : Format) (s : List ℕ) (at : ℕ) (x : Step) (e : stepWalk x ≡ walk (lits b) s at) where
-  pub lits-stop : (q : ℕ) → x ≡ Refused q → scanAt (seq (lits b) F) s at ≡ format.refused q
-  lits-stop q f = scan-stops (lits b) F s at x (step-of x _ e) q f
-
-  pub lits-go : (q : ℕ) → x ≡ Next q → scanAt (seq (lits b) F) s at ≡ scanAt F s q
-  lits-go q f =
-      scan-seq (lits b) F s at
-      ∙ ap (λ (w : Walk). continue w (λ r. scanAt F s r)) (sym e ∙ ap stepWalk f)
-      ∙ prefix-nil (scanAt F s q)
 
 -- ---- the rows and the end
 
@@ -79,13 +48,13 @@ module _ (n : ℕ) (s : List ℕ) (at : ℕ) (x : Step) (ex : stepWalk x ≡ wal
 
       pub tail-more : e < length s → TailIs (Refused e) n s at
       unfolding TailIs
-      tail-more l = from-rows ∙ ap (prefix Bits) (scan-more s e l)
+      tail-more l = from-rows ∙ ap (prefix Bits) (scan-more 0 s e l)
 
       pub tail-whole : length s ≤ e → TailIs (Next j) n s at
       unfolding TailIs
       tail-whole l = (
         past-passes _ _ e (answer-past (walk (bitsLines n 0 n) s j) y e ey fy),
-        from-rows ∙ ap (prefix Bits) (scan-end s e l) ∙ ap (format.read 0) (append-nil Bits),
+        from-rows ∙ ap (prefix Bits) (scan-end 0 s e l) ∙ ap (format.read 0) (append-nil Bits),
       )
 
 -- ---- the lists and what follows them
