@@ -1,16 +1,30 @@
 -- Decimal numbers: what `numLen` and `value` find at the front of a text is `dec` of the value, and the other way round.
+--   digit-is, digit-true                the bytes that are digits
+--   digits-one, digits-more             the digits of a number: the last one, and those before it
+--   digits-enough, digits-length        a number below 10 ^ k has at most k digits; to ask for more finds no more
+--   dec-one, dec-digits                 the same of `dec`
+--   Digits, digits-are, digits-lead     each of them is a digit, and the first of a number above 0 is not 0
+--   more-stop .. more-all               how many digits stand at the front of a text
+--   len-none, len-zero, len-more        the length of the number there
+--   Spelled, spelled                    the digits found are those of their value
+--   Found, found                        the digits of a number are found, and have its value
 -- Assumes nothing.
-use Prim.Native.Nat.{ℕ, zero, suc, _+_, _-_, _*_, _/_, _%_, _≤_, _<_}
-use mathlib.Core.Path.{_≡_, refl, ap, _∙_}
+use Prim.Native.Nat.{ℕ, zero, suc, _+_, _-_, _*_, _/_, _%_, _^_, _≤_, _<_}
+use mathlib.Core.Path.{_≡_, refl, sym, ap, _∙_}
 use mathlib.Core.Bool.{Bool, true, false, cond}
 use mathlib.Core.List.{List, [], _∷_, _++_}
 use native.Mathlib.Omega.{arith}
-use native.Mathlib.Nat.{div-div-eq-div-mul}
+use native.Mathlib.Nat.{pow-le-pow-right, not-suc-le-zero, le-of-suc-le-suc}
+use native.Mathlib.Numerals.{add-one}
 use native.Mathlib.Decide.{decLt}
 use borrow.Author.Tests.{lt-ltb, le-ltb, le-leb, leb-true, ne-eqb}
-use lib.ListN.{length, getD, take}
+use lib.ListN.{length, getD, take, drop, length-append}
+use lib.Seq.{take-suc, append-snoc, getD-append-seam}
 use lib.Dec.{leb}
 use Rattle.formats.specs.Format.{digitsOf, dec, digit, more, value, numLen}
+use Rattle.formats.proofs.Walking.{getD-there}
+
+-- ---- one byte
 
 pub digit-is : (c : ℕ) → 48 ≤ c → c ≤ 57 → digit c ≡ true
 unfolding digit
@@ -24,7 +38,8 @@ digit-true c e = go (leb 48 c) refl e
     go true a h = (leb-true 48 c a, leb-true c 57 h)
     go false a h = let z : _≡_ {A = ℕ} 0 1 = cc in omega arith
 
--- One digit, and the digits before the last.
+-- ---- the digits of a number
+
 pub digits-one : (k v : ℕ) → v < 10 → digitsOf (suc k) v ≡ (48 + v) ∷ []
 unfolding digitsOf
 digits-one k v h = simp (lt-ltb v 10 h)
@@ -33,141 +48,209 @@ pub digits-more : (k v : ℕ) → 10 ≤ v → digitsOf (suc k) v ≡ digitsOf k
 unfolding digitsOf
 digits-more k v h = simp (le-ltb v 10 h)
 
-pub dec1 : (v : ℕ) → v < 10 → dec v ≡ (48 + v) ∷ []
-unfolding dec
-dec1 v h = digits-one 19 v h
-
-two : (k v : ℕ) → 10 ≤ v → v < 100 → digitsOf (suc (suc k)) v ≡ (48 + v / 10) ∷ (48 + v % 10) ∷ []
-two k v l h = rw (digits-more (suc k) v l, digits-one k (v / 10) (omega arith))
-
-pub dec2 : (v : ℕ) → 10 ≤ v → v < 100 → dec v ≡ (48 + v / 10) ∷ (48 + v % 10) ∷ []
-unfolding dec
-dec2 v l h = two 18 v l h
-
-three : (k v : ℕ) → 100 ≤ v → v < 1000 → digitsOf (suc (suc (suc k))) v ≡ (48 + v / 100) ∷ (48 + v / 10 % 10) ∷ (48 + v % 10) ∷ []
-three k v l h = rw (digits-more (suc (suc k)) v (omega arith), two k (v / 10) (omega arith) (omega arith), div-div-eq-div-mul v 10 10)
-
-pub dec3 : (v : ℕ) → 100 ≤ v → v < 1000 → dec v ≡ (48 + v / 100) ∷ (48 + v / 10 % 10) ∷ (48 + v % 10) ∷ []
-unfolding dec
-dec3 v l h = three 17 v l h
-
-pub dec4 : (v : ℕ) → 1000 ≤ v → v < 10000 → dec v ≡ (48 + v / 1000) ∷ (48 + v / 100 % 10) ∷ (48 + v / 10 % 10) ∷ (48 + v % 10) ∷ []
-unfolding dec
-dec4 v l h =
-    rw (digits-more 19 v (omega arith), three 16 (v / 10) (omega arith) (omega arith), div-div-eq-div-mul v 10 100, div-div-eq-div-mul v 10 10)
-
--- The first n bytes of s are there, and are digits.
-abbrev pub Ds : ℕ → List ℕ → Type 0
-Ds zero s = Unit {0}
-Ds (suc n) [] = ⊥
-Ds (suc n) (c ∷ t) = (48 ≤ c) × (c ≤ 57) × Ds n t
-
-pub more-ds : (k : ℕ) (t : List ℕ) → Ds (more k t) t × (more k t ≤ k)
-unfolding more
-more-ds zero t = (tt, omega arith)
-more-ds (suc k) [] = (tt, omega arith)
-more-ds (suc k) (c ∷ t) = go (digit c) refl (more-ds k t)
+pub digits-enough : (j k v : ℕ) → v < 10 ^ suc j → v < 10 ^ suc k → digitsOf (suc j) v ≡ digitsOf (suc k) v
+digits-enough zero k v g h = digits-one 0 v (omega arith) ∙ sym (digits-one k v (omega arith))
+digits-enough (suc j) zero v g h = digits-one (suc j) v (omega arith) ∙ sym (digits-one 0 v (omega arith))
+digits-enough (suc j) (suc k) v g h = go (decLt v 10) (digits-enough j k (v / 10) (omega arith) (omega arith))
   where
-    go : (b : Bool) → digit c ≡ b → Ds (more k t) t × (more k t ≤ k) → Ds (cond b (suc (more k t)) 0) (c ∷ t) × (cond b (suc (more k t)) 0 ≤ suc k)
-    go true e h = ((digit-true c e .0, digit-true c e .1, h .0), omega arith)
-    go false e h = (tt, omega arith)
+    go : Dec (v < 10) → digitsOf (suc j) (v / 10) ≡ digitsOf (suc k) (v / 10) → digitsOf (suc (suc j)) v ≡ digitsOf (suc (suc k)) v
+    go (yes l) e = digits-one (suc j) v l ∙ sym (digits-one (suc k) v l)
+    go (no l) e = rw (digits-more (suc j) v (omega arith), digits-more (suc k) v (omega arith), e)
+
+pub digits-length : (k v : ℕ) → length (digitsOf k v) ≤ k
+unfolding digitsOf
+digits-length zero v = omega arith
+digits-length (suc k) v = go (decLt v 10) (digits-length k (v / 10))
+  where
+    go : Dec (v < 10) → length (digitsOf k (v / 10)) ≤ k → length (digitsOf (suc k) v) ≤ suc k
+    go (yes l) f = rw (digits-one k v l) (omega arith)
+    go (no l) f = rw (digits-more k v (omega arith)) (omega (arith, f, length-append (digitsOf k (v / 10)) ((48 + v % 10) ∷ [])))
+
+pub dec-one : (v : ℕ) → v < 10 → dec v ≡ (48 + v) ∷ []
+unfolding dec
+dec-one v h = digits-one 19 v h
+
+pub dec-digits : (k v : ℕ) → v < 10000 → v < 10 ^ suc k → dec v ≡ digitsOf (suc k) v
+unfolding dec
+dec-digits k v h l = digits-enough 19 k v (omega arith) l
+
+-- All of these bytes are digits.
+abbrev pub Digits : List ℕ → Type 0
+Digits [] = Unit {0}
+Digits (c ∷ l) = (48 ≤ c) × (c ≤ 57) × Digits l
+
+digits-snoc : (l : List ℕ) (c : ℕ) → Digits l → 48 ≤ c → c ≤ 57 → Digits (l ++ (c ∷ []))
+digits-snoc [] c d a b = (a, b, tt)
+digits-snoc (x ∷ l) c d a b = (d .0, d .1, digits-snoc l c (d .2) a b)
+
+pub digits-are : (k v : ℕ) → Digits (digitsOf k v)
+unfolding digitsOf
+digits-are zero v = tt
+digits-are (suc k) v = go (decLt v 10) (digits-are k (v / 10))
+  where
+    go : Dec (v < 10) → Digits (digitsOf k (v / 10)) → Digits (digitsOf (suc k) v)
+    go (yes l) d = rw (digits-one k v l) (omega arith, omega arith, tt)
+    go (no l) d = rw (digits-more k v (omega arith)) (digits-snoc (digitsOf k (v / 10)) (48 + v % 10) d (omega arith) (omega arith))
+
+abbrev Leads : ℕ → ℕ → Type 0
+Leads k v = (c : ℕ) × (l : List ℕ) × (48 < c) × (digitsOf (suc k) v ≡ c ∷ l)
+
+digits-lead : (k v : ℕ) → 0 < v → v < 10 ^ suc k → Leads k v
+digits-lead zero v p h = (48 + v, [], omega arith, digits-one 0 v (omega arith))
+digits-lead (suc k) v p h = go (decLt v 10) (digits-lead k (v / 10))
+  where
+    go : Dec (v < 10) → (0 < v / 10 → v / 10 < 10 ^ suc k → Leads k (v / 10)) → Leads (suc k) v
+    go (yes l) f = (48 + v, [], omega arith, digits-one (suc k) v l)
+    go (no l) f =
+        let (c, ds, a, e) = f (omega arith) (omega arith) in
+        (c, ds ++ ((48 + v % 10) ∷ []), a, digits-more (suc k) v (omega arith) ∙ ap (λ (z : List ℕ). z ++ ((48 + v % 10) ∷ [])) e)
+
+-- ---- the number at the front of a text
+
+pub more-stop : (k : ℕ) (l : List ℕ) → digit (getD l 0 256) ≡ false → more k l ≡ 0
+unfolding more
+more-stop zero l e = refl
+more-stop (suc k) [] e = refl
+more-stop (suc k) (c ∷ t) e = simp e
+
+pub more-digit : (k : ℕ) (l : List ℕ) → 48 ≤ getD l 0 256 → getD l 0 256 ≤ 57 → more (suc k) l ≡ suc (more k (drop 1 l))
+unfolding more
+more-digit k [] a b = absurd (omega arith)
+more-digit k (c ∷ t) a b = simp (digit-is c a b)
+
+pub more-most : (k : ℕ) (l : List ℕ) → more k l ≤ k
+unfolding more
+more-most zero l = omega arith
+more-most (suc k) [] = omega arith
+more-most (suc k) (c ∷ t) = go (digit c) (more-most k t)
+  where
+    go : (b : Bool) → more k t ≤ k → cond b (suc (more k t)) 0 ≤ suc k
+    go true h = omega arith
+    go false h = omega arith
+
+-- The first n bytes are digits.
+abbrev pub Front : ℕ → List ℕ → Type 0
+Front n l = (i : ℕ) → i < n → (48 ≤ getD l i 256) × (getD l i 256 ≤ 57)
+
+front-cons : (n c : ℕ) (t : List ℕ) → 48 ≤ c → c ≤ 57 → Front n t → Front (suc n) (c ∷ t)
+front-cons n c t a b f zero h = (a, b)
+front-cons n c t a b f (suc i) h = f i (le-of-suc-le-suc h)
+
+pub more-front : (k : ℕ) (l : List ℕ) → Front (more k l) l
+unfolding more
+more-front zero l i h = absurd (not-suc-le-zero h)
+more-front (suc k) [] i h = absurd (not-suc-le-zero h)
+more-front (suc k) (c ∷ t) i h = go (digit c) refl (more-front k t) h
+  where
+    go : (b : Bool) → digit c ≡ b → Front (more k t) t → i < cond b (suc (more k t)) 0 → (48 ≤ getD (c ∷ t) i 256) × (getD (c ∷ t) i 256 ≤ 57)
+    go true e f l = front-cons (more k t) c t (digit-true c e .0) (digit-true c e .1) f i l
+    go false e f l = absurd (not-suc-le-zero l)
+
+pub more-all : (k : ℕ) (l t : List ℕ) → Digits l → length l ≤ k → digit (getD t 0 256) ≡ false → more k (l ++ t) ≡ length l
+more-all k [] t d h e = more-stop k t e
+more-all zero (c ∷ l) t d h e = absurd (omega arith)
+more-all (suc k) (c ∷ l) t d h e = more-digit k (c ∷ l ++ t) (d .0) (d .1) ∙ ap suc (more-all k l t (d .2) (omega arith) e)
+
+pub len-none : (l : List ℕ) → digit (getD l 0 256) ≡ false → numLen l ≡ 0
+unfolding numLen
+len-none [] e = refl
+len-none (c ∷ t) e = simp e
+
+pub len-zero : (l : List ℕ) → getD l 0 256 ≡ 48 → numLen l ≡ 1
+unfolding numLen digit
+len-zero [] e = absurd (omega arith)
+len-zero (c ∷ t) e = rw e
+
+pub len-more : (l : List ℕ) → 48 < getD l 0 256 → getD l 0 256 ≤ 57 → numLen l ≡ suc (more 3 (drop 1 l))
+unfolding numLen
+len-more [] a b = absurd (omega arith)
+len-more (c ∷ t) a b = simp (digit-is c (omega arith) b, ne-eqb c 48 (λ e. omega arith))
+
+-- ---- the digits found are those of their value
 
 pub record Spelled (n : ℕ) (s : List ℕ) : Type 0 where
   pub within : n ≤ length s
   pub small : value n s < 10000
   pub spelled : take n s ≡ dec (value n s)
 
-pub spelled : (m c : ℕ) (t : List ℕ) → 48 < c → c ≤ 57 → Ds m t → m ≤ 3 → Spelled (suc m) (c ∷ t)
-spelled zero c t l h d k = record { within = omega arith; small = omega arith; spelled = rw (dec1 (value 1 (c ∷ t)) (omega arith)) (let e : c ≡ 48 + (0 * 10 + (c - 48)) = omega arith in cc) }
-spelled (suc zero) c (a ∷ t) l h d k =
-    let v : ℕ = value 2 (c ∷ a ∷ t) in
-    let e : c ≡ 48 + v / 10 = omega arith in
-    let f : a ≡ 48 + v % 10 = omega arith in
-    record { within = omega arith; small = omega arith; spelled = rw (dec2 v (omega arith) (omega arith)) (cc) }
-spelled (suc (suc zero)) c (a ∷ b ∷ t) l h d k =
-    let v : ℕ = value 3 (c ∷ a ∷ b ∷ t) in
-    let e : c ≡ 48 + v / 100 = omega arith in
-    let q : ℕ = value 2 (c ∷ a ∷ b ∷ t) in
-    let p : v / 10 ≡ q = omega arith in
-    let r : a ≡ 48 + q % 10 = omega arith in
-    let f : a ≡ 48 + v / 10 % 10 = rw p r in
-    let g : b ≡ 48 + v % 10 = omega arith in
-    record { within = omega arith; small = omega arith; spelled = rw (dec3 v (omega arith) (omega arith)) (cc) }
-spelled (suc (suc (suc zero))) c (a ∷ b ∷ x ∷ t) l h d k =
-    let v : ℕ = value 4 (c ∷ a ∷ b ∷ x ∷ t) in
-    let e : c ≡ 48 + v / 1000 = omega arith in
-    let q : ℕ = value 2 (c ∷ a ∷ b ∷ x ∷ t) in
-    let q′ : ℕ = value 3 (c ∷ a ∷ b ∷ x ∷ t) in
-    let p : v / 100 ≡ q = omega arith in
-    let p′ : v / 10 ≡ q′ = omega arith in
-    let r : a ≡ 48 + q % 10 = omega arith in
-    let r′ : b ≡ 48 + q′ % 10 = omega arith in
-    let f : a ≡ 48 + v / 100 % 10 = rw p r in
-    let g : b ≡ 48 + v / 10 % 10 = rw p′ r′ in
-    let i : x ≡ 48 + v % 10 = omega arith in
-    record { within = omega arith; small = omega arith; spelled = rw (dec4 v (omega arith) (omega arith)) (cc) }
-spelled (suc (suc (suc (suc m)))) c t l h d k = absurd (omega arith)
-spelled (suc zero) c [] l h d k = absurd d
-spelled (suc (suc zero)) c [] l h d k = absurd d
-spelled (suc (suc zero)) c (a ∷ []) l h d k = absurd (d .2)
-spelled (suc (suc (suc zero))) c [] l h d k = absurd d
-spelled (suc (suc (suc zero))) c (a ∷ []) l h d k = absurd (d .2)
-spelled (suc (suc (suc zero))) c (a ∷ b ∷ []) l h d k = absurd (d .2 .2)
+-- The first n digits, and the first of all is not 0.
+record Run (n : ℕ) (s : List ℕ) : Type 0 where
+  room : n ≤ length s
+  above : 0 < value n s
+  below : value n s < 10 ^ n
+  same : take n s ≡ digitsOf n (value n s)
 
-pub more-stop : (k : ℕ) (t : List ℕ) → digit (getD t 0 256) ≡ false → more k t ≡ 0
-unfolding more
-more-stop zero t e = refl
-more-stop (suc k) [] e = refl
-more-stop (suc k) (c ∷ t) e = simp e
+run : (m : ℕ) (s : List ℕ) → Front (suc m) s → 48 < getD s 0 256 → Run (suc m) s
+run zero s f p =
+    let (a, b) = f 0 (omega arith) in
+    let l = getD-there s 0 (omega arith) in
+    let v : ℕ = value 1 s in
+    let z : getD s 0 256 ≡ 48 + v = omega arith in
+    record {
+      room = l;
+      above = omega arith;
+      below = omega arith;
+      same = take-suc s 0 256 l ∙ ap (λ (c : ℕ). c ∷ []) z ∙ sym (digits-one 0 v (omega arith));
+    }
+run (suc m) s f p =
+    let R = run m s (λ i l. f i (omega arith)) p in
+    let (a, b) = f (suc m) (omega arith) in
+    let l = getD-there s (suc m) (omega arith) in
+    let u : ℕ = value (suc m) s in
+    let c : ℕ = getD s (suc m) 256 in
+    let v : ℕ = u * 10 + (c - 48) in
+    let big : 10 ≤ v = omega (arith, R .above) in
+    let front : u ≡ v / 10 = omega arith in
+    let last : c ≡ 48 + v % 10 = omega arith in
+    record {
+      room = l;
+      above = omega (arith, R .above);
+      below = omega (arith, R .below);
+      same =
+          take-suc s (suc m) 256 l ∙ ap (λ (x : List ℕ). x ++ (c ∷ [])) (R .same ∙ ap (digitsOf (suc m)) front) ∙ ap (λ (x : ℕ). digitsOf (suc m) (v / 10) ++ (x ∷ [])) last
+          ∙ sym (digits-more (suc m) v big);
+    }
 
-pub more-digit : (k c : ℕ) (t : List ℕ) → 48 ≤ c → c ≤ 57 → more (suc k) (c ∷ t) ≡ suc (more k t)
-unfolding more
-more-digit k c t l h = simp (digit-is c l h)
+pub spelled : (m c : ℕ) (t : List ℕ) → 48 < c → c ≤ 57 → Front m t → m ≤ 3 → Spelled (suc m) (c ∷ t)
+spelled m c t l h f k =
+    let R = run m (c ∷ t) (front-cons m c t (omega arith) h f) l in
+    let n : suc m ≤ 4 = omega arith in
+    let e : 10 ^ suc m ≤ 10 ^ 4 = pow-le-pow-right (omega arith) n in
+    let s : value (suc m) (c ∷ t) < 10000 = omega (arith, R .below) in
+    record { within = R .room; small = s; spelled = R .same ∙ sym (dec-digits m (value (suc m) (c ∷ t)) s (R .below)) }
 
-pub len-first : (c : ℕ) (t : List ℕ) → 48 < c → c ≤ 57 → numLen (c ∷ t) ≡ suc (more 3 t)
-unfolding numLen
-len-first c t l h = simp (digit-is c (omega arith) h, ne-eqb c 48 (λ e. omega arith))
+-- ---- the digits of a number are found
 
-len-zero : (t : List ℕ) → numLen (48 ∷ t) ≡ 1
-unfolding numLen digit
-len-zero t = refl
+value-snoc : (ds : List ℕ) (c v : ℕ) (t : List ℕ) → value (length ds) (ds ++ (c ∷ t)) ≡ v
+    → value (length (ds ++ (c ∷ []))) (ds ++ (c ∷ []) ++ t) ≡ v * 10 + (c - 48)
+value-snoc ds c v t e = rw (append-snoc ds c t, length-append ds (c ∷ []), add-one (length ds), e, getD-append-seam ds c t 256)
+
+value-digits : (k v : ℕ) (t : List ℕ) → v < 10 ^ k → value (length (digitsOf k v)) (digitsOf k v ++ t) ≡ v
+unfolding digitsOf
+value-digits zero v t h = omega arith
+value-digits (suc k) v t h = go (decLt v 10) (value-digits k (v / 10) ((48 + v % 10) ∷ t) (omega arith))
+  where
+    go : Dec (v < 10) → value (length (digitsOf k (v / 10))) (digitsOf k (v / 10) ++ ((48 + v % 10) ∷ t)) ≡ v / 10
+        → value (length (digitsOf (suc k) v)) (digitsOf (suc k) v ++ t) ≡ v
+    go (yes l) e = rw (digits-one k v l) (omega arith)
+    go (no l) e =
+        let z : v / 10 * 10 + (48 + v % 10 - 48) ≡ v = omega arith in
+        rw (digits-more k v (omega arith)) (value-snoc (digitsOf k (v / 10)) (48 + v % 10) (v / 10) t e ∙ z)
 
 pub record Found (v : ℕ) (t : List ℕ) : Type 0 where
   pub counted : numLen (dec v ++ t) ≡ length (dec v)
   pub valued : value (length (dec v)) (dec v ++ t) ≡ v
 
 pub found : (v : ℕ) (t : List ℕ) → v < 10000 → digit (getD t 0 256) ≡ false → Found v t
-found v t h e = go0 (decLt v 1)
+found v t h e = record { counted = go (decLt v 1); valued = rw four (value-digits 4 v t h) }
   where
-    via : (l : List ℕ) → dec v ≡ l → numLen (l ++ t) ≡ length l → value (length l) (l ++ t) ≡ v → Found v t
-    via l d a b = record { counted = rw d a; valued = rw d b }
+    four : dec v ≡ digitsOf 4 v
+    four = dec-digits 3 v h h
 
-    go3 : 100 ≤ v → Dec (v < 1000) → Found v t
-    go3 l (yes k) =
-        let a : ℕ = 48 + v / 100 in
-        let b : ℕ = 48 + v / 10 % 10 in
-        let c : ℕ = 48 + v % 10 in
-        via (a ∷ b ∷ c ∷ []) (dec3 v l k) (len-first a (b ∷ c ∷ t) (omega arith) (omega arith) ∙ ap suc (more-digit 2 b (c ∷ t) (omega arith) (omega arith) ∙ ap suc (more-digit 1 c t (omega arith) (omega arith) ∙ ap suc (more-stop 1 t e)))) (omega arith)
-    go3 l (no k) =
-        let a : ℕ = 48 + v / 1000 in
-        let b : ℕ = 48 + v / 100 % 10 in
-        let c : ℕ = 48 + v / 10 % 10 in
-        let d : ℕ = 48 + v % 10 in
-        let p : v / 10 / 10 ≡ v / 100 = div-div-eq-div-mul v 10 10 in
-        let q : v / 100 / 10 ≡ v / 1000 = div-div-eq-div-mul v 100 10 in
-        via (a ∷ b ∷ c ∷ d ∷ []) (dec4 v (omega arith) (omega arith)) (len-first a (b ∷ c ∷ d ∷ t) (omega arith) (omega arith) ∙ ap suc (more-digit 2 b (c ∷ d ∷ t) (omega arith) (omega arith) ∙ ap suc (more-digit 1 c (d ∷ t) (omega arith) (omega arith) ∙ ap suc (more-digit 0 d t (omega arith) (omega arith) ∙ ap suc (more-stop 0 t e))))) (omega arith)
-
-    go2 : 10 ≤ v → Dec (v < 100) → Found v t
-    go2 l (yes k) =
-        let a : ℕ = 48 + v / 10 in
-        let b : ℕ = 48 + v % 10 in
-        via (a ∷ b ∷ []) (dec2 v l k) (len-first a (b ∷ t) (omega arith) (omega arith) ∙ ap suc (more-digit 2 b t (omega arith) (omega arith) ∙ ap suc (more-stop 2 t e))) (omega arith)
-    go2 l (no k) = go3 (omega arith) (decLt v 1000)
-
-    go1 : 1 ≤ v → Dec (v < 10) → Found v t
-    go1 l (yes k) = via ((48 + v) ∷ []) (dec1 v k) (len-first (48 + v) t (omega arith) (omega arith) ∙ ap suc (more-stop 3 t e)) (omega arith)
-    go1 l (no k) = go2 (omega arith) (decLt v 100)
-
-    go0 : Dec (v < 1) → Found v t
-    go0 (yes k) = let z : v ≡ 0 = omega arith in via (48 ∷ []) (ap dec z ∙ dec1 0 (omega arith)) (len-zero t) (omega arith)
-    go0 (no k) = go1 (omega arith) (decLt v 10)
+    go : Dec (v < 1) → numLen (dec v ++ t) ≡ length (dec v)
+    go (yes k) = rw (dec-one v (omega arith)) (len-zero ((48 + v) ∷ t) (omega arith))
+    go (no k) =
+        let (c, l, a, f) = digits-lead 3 v (omega arith) h in
+        let d : Digits (c ∷ l) = rw f at (digits-are 4 v) in
+        let n : length (c ∷ l) ≤ 4 = rw f at (digits-length 4 v) in
+        rw (four, f) (len-more (c ∷ l ++ t) a (d .1) ∙ ap suc (more-all 3 l t (d .2) (omega arith) e))

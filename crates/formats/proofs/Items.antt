@@ -1,18 +1,21 @@
--- What `item` finds at the front of a text: it shows the item, every shown item is found, and what is found depends on no byte past the next.
+-- What `item` finds at the front of a text.
+--   Sound, item-sound           what is found shows the item
+--   Guard, item-complete        an item that is shown is found, if no digit follows a number
+--   item-none, item-local       what is found depends on no byte past the next
+--   first-byte, dec-long        the first byte of a text; a number has at least one digit
 -- Assumes nothing.
-use Prim.Native.Nat.{ℕ, zero, suc, _+_, _-_, _/_, _%_, _≤_, _<_}
+use Prim.Native.Nat.{ℕ, zero, suc, _+_, _/_, _%_, _≤_, _<_}
 use mathlib.Core.Path.{_≡_, refl, sym, ap, _∙_}
 use mathlib.Core.Bool.{Bool, true, false, cond}
 use mathlib.Core.List.{List, [], _∷_, _++_}
 use native.Mathlib.Omega.{arith}
 use borrow.Author.Tests.{eq-eqb, eqb-true, eqb-false}
-use lib.ListN.{length, getD, take}
-use lib.ListN.{List·getD-append, length-append}
+use lib.ListN.{length, getD, take, drop, List·getD-append, length-append}
 use native.Mathlib.Decide.{decLt}
 use lib.Seq.{getD-take, length-take-le}
 use lib.Dec.{eqb}
 use Rattle.formats.specs.Format.{digitsOf, dec, digit, more, value, numLen, numPiece, Item, byte, num, bit, Shows, none, got, item}
-use Rattle.formats.proofs.Digits.{digits-one, digits-more, Spelled, spelled, more-ds, digit-true, found, dec1}
+use Rattle.formats.proofs.Digits.{digits-one, digits-more, dec-one, digit-true, more-most, more-front, len-none, Spelled, spelled, found}
 
 pub record Sound (i : Item) (ws : List ℕ) (n : ℕ) (s : List ℕ) : Type 0 where
   pub within : n ≤ length s
@@ -39,20 +42,20 @@ num-sound (c ∷ t) ws n e = go (digit c) refl e
     pick d true z f =
         let q : c ≡ 48 = eqb-true c 48 z in
         let w : value 1 (c ∷ t) ≡ 0 = omega arith in
-        done 0 (record { within = omega arith; small = omega arith; spelled = rw (w, dec1 0 (omega arith)) (ap (λ (k : ℕ). k ∷ []) q) }) f
+        done 0 (record { within = omega arith; small = omega arith; spelled = rw (w, dec-one 0 (omega arith)) (ap (λ (k : ℕ). k ∷ []) q) }) f
     pick d false z f =
         let q = digit-true c d in
         let k : (c ≡ 48 → ⊥) = eqb-false c 48 z in
-        done (more 3 t) (spelled (more 3 t) c t (omega arith) (q .1) (more-ds 3 t .0) (more-ds 3 t .1)) f
+        done (more 3 t) (spelled (more 3 t) c t (omega arith) (q .1) (more-front 3 t) (more-most 3 t)) f
 
     go : (b : Bool) → digit c ≡ b → numPiece (cond b (cond (eqb c 48) 1 (suc (more 3 t))) 0) (c ∷ t) ≡ got ws n → Sound num ws n (c ∷ t)
     go true d f = pick d (eqb c 48) refl f
     go false d f = let z : _≡_ {A = ℕ} 0 1 = cc in absurd (omega arith)
 
 -- The first byte is there where it is below 256.
-pub first : (s : List ℕ) (b : ℕ) → b < 256 → getD s 0 256 ≡ b → (1 ≤ length s) × (take 1 s ≡ b ∷ [])
-first [] b h e = absurd (omega arith)
-first (c ∷ t) b h e = (omega arith, ap (λ (k : ℕ). k ∷ []) e)
+pub first-byte : (s : List ℕ) (b : ℕ) → b < 256 → getD s 0 256 ≡ b → s ≡ b ∷ drop 1 s
+first-byte [] b h e = absurd (omega arith)
+first-byte (c ∷ t) b h e = ap (λ (k : ℕ). k ∷ t) e
 
 pub item-sound : (i : Item) (s ws : List ℕ) (n : ℕ) → Ok i → item i s ≡ got ws n → Sound i ws n s
 unfolding item
@@ -60,20 +63,20 @@ item-sound (byte b) s ws n h e = go (eqb (getD s 0 256) b) refl e
   where
     go : (q : Bool) → eqb (getD s 0 256) b ≡ q → cond q (got [] 1) none ≡ got ws n → Sound (byte b) ws n s
     go true q f =
-        let r = first s b h (eqb-true (getD s 0 256) b q) in
+        let r : s ≡ b ∷ drop 1 s = first-byte s b h (eqb-true (getD s 0 256) b q) in
         let a : 1 ≡ n = cc in
         let w : ws ≡ [] = cc in
-        record { within = omega (arith, r .0); shows = (w, ap (λ (k : ℕ). take k s) (sym a) ∙ r .1) }
+        record { within = omega (arith, ap length r); shows = (w, ap (λ (k : ℕ). take k s) (sym a) ∙ ap (take 1) r) }
     go false q f = let z : _≡_ {A = ℕ} 0 1 = cc in absurd (omega arith)
 item-sound num s ws n h e = num-sound s ws n e
 item-sound bit s ws n h e = go (eqb (getD s 0 256) 48) refl e
   where
     is : (v : ℕ) → v < 2 → getD s 0 256 ≡ 48 + v → got (v ∷ []) 1 ≡ got ws n → Sound bit ws n s
     is v l q f =
-        let r = first s (48 + v) (omega arith) q in
+        let r : s ≡ (48 + v) ∷ drop 1 s = first-byte s (48 + v) (omega arith) q in
         let a : 1 ≡ n = cc in
         let w : ws ≡ v ∷ [] = cc in
-        record { within = omega (arith, r .0); shows = (v, l, w, ap (λ (k : ℕ). take k s) (sym a) ∙ r .1) }
+        record { within = omega (arith, ap length r); shows = (v, l, w, ap (λ (k : ℕ). take k s) (sym a) ∙ ap (take 1) r) }
 
     go2 : (q : Bool) → eqb (getD s 0 256) 49 ≡ q → cond q (got (1 ∷ []) 1) none ≡ got ws n → Sound bit ws n s
     go2 true q f = is 1 (omega arith) (eqb-true (getD s 0 256) 49 q) f
@@ -147,10 +150,6 @@ none-digit c t e = go (digit c) (eqb c 48) e
     go true true f = let z : _≡_ {A = ℕ} 0 1 = cc in absurd (omega arith)
     go true false f = let z : _≡_ {A = ℕ} 0 1 = cc in absurd (omega arith)
 
-len-none : (c : ℕ) (t : List ℕ) → digit c ≡ false → numLen (c ∷ t) ≡ 0
-unfolding numLen
-len-none c t e = simp e
-
 len-local : (c n : ℕ) (t r : List ℕ) → numLen (c ∷ t) ≡ n → n < suc (length t) → numLen (c ∷ (take n t ++ r)) ≡ n
 unfolding numLen
 len-local c n t r e h = go (digit c) (eqb c 48) n e h
@@ -172,7 +171,7 @@ unfolding item
 item-none i [] r e h = absurd (omega arith)
 item-none (byte b) (c ∷ t) r e h = e
 item-none bit (c ∷ t) r e h = e
-item-none num (c ∷ t) r e h = rw (len-none c r (none-digit c t e))
+item-none num (c ∷ t) r e h = rw (len-none (c ∷ r) (none-digit c t e))
 
 pub item-local : (i : Item) (s ws r : List ℕ) (n : ℕ) → item i s ≡ got ws n → n < length s → item i (take (suc n) s ++ r) ≡ got ws n
 unfolding item

@@ -1,7 +1,12 @@
 -- The scan of a clear format accepts exactly its texts, with the values that they render, and refuses any other at the length of the longest
 -- start that it shares with a text.
+--   scan-complete, scan-sound    texts are accepted, and what is accepted is a text
+--   scan-shared, scan-local      some text starts with the bytes before the place of a refusal; a refusal depends on no byte after its place
+--   scan-longest                 so the place is the longest start that some text shares
+--   longest-same                 sets of the same texts have the same longest start
+--   dec-head                     a number starts with a digit
 -- Assumes nothing.
-use Prim.Native.Nat.{ℕ, suc, _+_, _-_, _/_, _≤_, _<_}
+use Prim.Native.Nat.{ℕ, suc, _+_, _-_, _≤_, _<_}
 use mathlib.Core.Path.{_≡_, refl, sym, ap, _∙_}
 use mathlib.Core.Bool.{Bool, true, false, cond}
 use mathlib.Core.List.{List, [], _∷_, _++_, append-assoc}
@@ -14,24 +19,17 @@ use lib.Seq.{take-add, drop-append-seam, drop-at, length-take-le}
 use lib.Dec.{eqb}
 use Rattle.formats.specs.Format.{dec, digit, Item, byte, num, bit, Shows, Piece, none, got, item}
 use Rattle.formats.specs.Format.{Format, end, _▷_, opt, fork, Renders, Text, Shares, Longest, Scan, refused, read, after, step, scan, Avoids, Begins, Clear}
-use Rattle.formats.proofs.Digits.{dec1, dec2, dec3, dec4}
-use Rattle.formats.proofs.Items.{Ok, Guard, item-sound, item-complete, item-none, item-local, first, dec-long}
+use Rattle.formats.proofs.Digits.{Digits, digits-are}
+use Rattle.formats.proofs.Items.{Ok, Guard, item-sound, item-complete, item-none, item-local, first-byte, dec-long}
 
 -- A number starts with a digit.
 pub dec-head : (v : ℕ) → v < 10000 → (d : ℕ) × (t : List ℕ) × (d < 10) × (dec v ≡ (48 + d) ∷ t)
-dec-head v h = go1 (decLt v 10)
+unfolding dec
+dec-head v h = go (dec v) (digits-are 20 v) (dec-long v)
   where
-    go3 : 100 ≤ v → Dec (v < 1000) → (d : ℕ) × (t : List ℕ) × (d < 10) × (dec v ≡ (48 + d) ∷ t)
-    go3 l (yes k) = (v / 100, _, omega arith, dec3 v l k)
-    go3 l (no k) = (v / 1000, _, omega arith, dec4 v (omega arith) (omega arith))
-
-    go2 : 10 ≤ v → Dec (v < 100) → (d : ℕ) × (t : List ℕ) × (d < 10) × (dec v ≡ (48 + d) ∷ t)
-    go2 l (yes k) = (v / 10, _, omega arith, dec2 v l k)
-    go2 l (no k) = go3 (omega arith) (decLt v 1000)
-
-    go1 : Dec (v < 10) → (d : ℕ) × (t : List ℕ) × (d < 10) × (dec v ≡ (48 + d) ∷ t)
-    go1 (yes k) = (v, _, k, dec1 v k)
-    go1 (no k) = go2 (omega arith) (decLt v 100)
+    go : (l : List ℕ) → Digits l → 0 < length l → (d : ℕ) × (t : List ℕ) × (d < 10) × (l ≡ (48 + d) ∷ t)
+    go [] d n = absurd (omega arith)
+    go (c ∷ t) d n = let z : c ≡ 48 + (c - 48) = omega arith in (c - 48, t, omega arith, ap (λ (k : ℕ). k ∷ t) z)
 
 pub avoid : (p : ℕ → Bool) (F : Format) (L : ℕ) (vs s : List ℕ) → p 256 ≡ false → Avoids p F → Renders F L vs s → p (getD s 0 256) ≡ false
 avoid p (end l) L vs s z a r = rw (r .2) z
@@ -123,10 +121,6 @@ fork-refused : (t : Bool) (x y : Scan) (q : ℕ) → cond t (after [] 1 x) y ≡
 fork-refused true x y q e = let r = after-refused [] 1 x q e in inl (r .0, refl, r .1, r .2)
 fork-refused false x y q e = inr (refl, e)
 
-one-byte : (s : List ℕ) (b : ℕ) → b < 256 → getD s 0 256 ≡ b → s ≡ b ∷ drop 1 s
-one-byte [] b h e = absurd (omega arith)
-one-byte (c ∷ t) b h e = ap (λ (k : ℕ). k ∷ t) e
-
 -- WHAT IS ACCEPTED IS A TEXT: the values render to it.
 pub scan-sound : (F : Format) (L : ℕ) (vs s : List ℕ) → Clear F → scan F s ≡ read L vs → Renders F L vs s
 scan-sound (end l) L vs [] c e = (cc, cc, refl)
@@ -144,7 +138,7 @@ scan-sound (fork b F G) L vs s c e =
         → Renders (fork b F G) L vs s
     go f g (inl h) =
         let r = after-read [] 1 (scan F (drop 1 s)) L vs (h .1) in
-        inl (drop 1 s, one-byte s b (c .0) (eqb-true (getD s 0 256) b (h .0)), rw (r .2) (f (r .0) (r .1)))
+        inl (drop 1 s, first-byte s b (c .0) (eqb-true (getD s 0 256) b (h .0)), rw (r .2) (f (r .0) (r .1)))
     go f g (inr h) = inr (g (h .1))
 
 -- Every format has a text.
@@ -197,11 +191,11 @@ scan-shared (fork b F G) s q c e =
     go : ((j : ℕ) → scan F (drop 1 s) ≡ refused j → Shares (Text F) (drop 1 s) j) → (scan G s ≡ refused q → Shares (Text G) s q)
         → ForkStuck (eqb (getD s 0 256) b) (scan F (drop 1 s)) (scan G s) q → Shares (Text (fork b F G)) s q
     go f g (inl (j, t, d, w)) =
-        let p = first s b (c .0) (eqb-true (getD s 0 256) b t) in
+        let p : s ≡ b ∷ drop 1 s = first-byte s b (c .0) (eqb-true (getD s 0 256) b t) in
         let (l, x) = f j d in
         let (u, y) = x in
         let (L, vs, r) = y in
-        (omega (arith, p .0, length-drop 1 s), (u, (L, vs, inl (take j (drop 1 s) ++ u, rw (w, take-add 1 j s, p .1), r))))
+        (omega (arith, ap length p, length-drop 1 s), (u, (L, vs, inl (take j (drop 1 s) ++ u, rw (w, take-add 1 j s, ap (take 1) p), r))))
     go f g (inr h) =
         let (l, x) = g (h .1) in
         let (u, y) = x in
@@ -264,17 +258,6 @@ scan-longest F s q c e = record { shared = scan-shared F s q c e; most = λ j h.
         let d : scan F (take j s ++ u) ≡ read L vs = scan-complete F L vs (take j s ++ u) c r in
         let z : _≡_ {A = ℕ} 0 1 = cc in
         absurd (omega arith)
-
--- There is one longest start.
-pub longest-one : (T : List ℕ → Type 0) (s : List ℕ) (j k : ℕ) → Longest T s j → Longest T s k → j ≡ k
-longest-one T s j k a b = let l : j ≤ k = b .most j (a .shared) in let m : k ≤ j = a .most k (b .shared) in omega arith
-
--- No text is refused.
-pub refused-no-text : (F : Format) (s : List ℕ) (q : ℕ) → Clear F → scan F s ≡ refused q → Text F s → ⊥
-refused-no-text F s q c e (L, vs, r) =
-    let d = scan-complete F L vs s c r in
-    let z : _≡_ {A = ℕ} 0 1 = cc in
-    omega arith
 
 -- The same texts have the same longest start.
 pub longest-same : (T U : List ℕ → Type 0) → ((s : List ℕ) → T s → U s) → ((s : List ℕ) → U s → T s) → (s : List ℕ) (k : ℕ) → Longest T s k → Longest U s k

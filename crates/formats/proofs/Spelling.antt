@@ -1,17 +1,24 @@
 -- Lists of items: what they render, when they are clear, and what the scan of a format makes of them.
+--   seq-renders, Spelt, renders-seq   the texts of items and a format are what the items spell, and a text of the format
+--   Tidy, clear-seq, tidy-..          lists of items that keep a format clear
+--   prefix, continue, scan-seq        the scan of items and a format is the walk of the items, and then the scan of the format
+--   scan-whole                        the scan from position 0 on
+--   walk-spell                        a tidy list that is spelt is passed
+--   Oks, tidy-oks, Passed, walk-sound what is passed is spelt
+--   oks-bytes, spell-lits, fit-lits   the bytes that are spelt, as fixed bytes
 -- Assumes nothing.
-use Prim.Native.Nat.{ℕ, zero, suc, _+_, _-_, _≤_, _<_}
+use Prim.Native.Nat.{ℕ, zero, suc, _+_, _≤_, _<_}
 use mathlib.Core.Path.{_≡_, refl, sym, ap, _∙_}
 use mathlib.Core.Bool.{false}
 use mathlib.Core.List.{List, [], _∷_, _++_, append-assoc}
 use native.Mathlib.Omega.{arith}
-use native.Mathlib.Decide.{decLt}
-use lib.ListN.{length, take, drop, length-append}
-use lib.Seq.{drop-drop, drop-append-seam}
+use native.Mathlib.Nat.{add-zero, zero-add, add-assoc}
+use lib.ListN.{length, take, drop, length-append, take-append-drop}
+use lib.Seq.{drop-drop, drop-append-seam, length-take-le}
 use Rattle.formats.specs.Format.{dec, digit, Item, byte, num, bit, Shows, Piece, none, got, item}
 use Rattle.formats.specs.Format.{Format, Renders, Scan, refused, read, after, step, scan, Clear}
 use Rattle.formats.specs.Items.{lits, seq, Walk, stuck, past, prep, stride, walk, spell, Fit, bits, bitsLine, bitsLines, moved, scanAt}
-use Rattle.formats.proofs.Digits.{dec1, dec2, dec3, dec4}
+use Rattle.formats.proofs.Digits.{Digits, digits-are}
 use Rattle.formats.proofs.Items.{Sound, Ok, Guard, item-sound, item-complete}
 
 -- RENDERING.
@@ -29,13 +36,17 @@ seq-renders (bit ∷ is) F L (v ∷ ws) us t h r =
 abbrev pub Spelt : List Item → Format → ℕ → List ℕ → List ℕ → Type 0
 Spelt is F L vs s = (ws : List ℕ) × (us : List ℕ) × (t : List ℕ) × Fit is ws × (vs ≡ ws ++ us) × (s ≡ spell is ws ++ t) × Renders F L us t
 
+-- One item more.
+pub spell-item : (i : Item) (is : List Item) (w p us : List ℕ) → Shows i w p → Fit is us → (spell (i ∷ is) (w ++ us) ≡ p ++ spell is us) × Fit (i ∷ is) (w ++ us)
+spell-item (byte b) is w p us sh f = (rw (sh .0, sh .1), rw (sh .0) f)
+spell-item num is w p us sh f = (rw (sh .2, sh .3), rw (sh .2) (sh .1, f))
+spell-item bit is w p us sh f = (rw (sh .2, sh .3), rw (sh .2) (sh .1, f))
+
 spelt-item : (i : Item) (is : List Item) (F : Format) (L : ℕ) (vs s ws p us t : List ℕ)
     → Shows i ws p → vs ≡ ws ++ us → s ≡ p ++ t → Spelt is F L us t → Spelt (i ∷ is) F L vs s
-spelt-item (byte b) is F L vs s ws p us t sh e f (ws′, us′, t′, h, e′, f′, r′) = (ws′, us′, t′, h, rw (e, sh .0) e′, rw (f, sh .1, f′), r′)
-spelt-item num is F L vs s ws p us t sh e f (ws′, us′, t′, h, e′, f′, r′) =
-    (sh .0 ∷ ws′, us′, t′, (sh .1, h), rw (e, sh .2, e′), rw (f, sh .3, f′) (sym (append-assoc (dec (sh .0)) (spell is ws′) t′)), r′)
-spelt-item bit is F L vs s ws p us t sh e f (ws′, us′, t′, h, e′, f′, r′) =
-    (sh .0 ∷ ws′, us′, t′, (sh .1, h), rw (e, sh .2, e′), rw (f, sh .3, f′), r′)
+spelt-item i is F L vs s ws p us t sh e f (ws′, us′, t′, h, e′, f′, r′) =
+    let g = spell-item i is ws p ws′ sh h in
+    (ws ++ ws′, us′, t′, g .1, rw (e, e′) (sym (append-assoc ws ws′ us′)), rw (f, f′, g .0) (sym (append-assoc p (spell is ws′) t′)), r′)
 
 pub renders-seq : (is : List Item) (F : Format) (L : ℕ) (vs s : List ℕ) → Renders (seq is F) L vs s → Spelt is F L vs s
 renders-seq [] F L vs s r = ([], vs, s, tt, refl, refl, r)
@@ -73,20 +84,13 @@ pub tidy-bits : (n : ℕ) → Tidy (bits n)
 tidy-bits zero = tt
 tidy-bits (suc n) = tidy-bits n
 
+tidy-digits : (l : List ℕ) → Digits l → Tidy (lits l)
+tidy-digits [] d = tt
+tidy-digits (c ∷ l) d = (omega arith, tidy-digits l (d .2))
+
 pub tidy-dec : (v : ℕ) → v < 10000 → Tidy (lits (dec v))
-tidy-dec v h = go1 (decLt v 10)
-  where
-    go3 : 100 ≤ v → Dec (v < 1000) → Tidy (lits (dec v))
-    go3 l (yes k) = rw (dec3 v l k) (omega arith)
-    go3 l (no k) = rw (dec4 v (omega arith) (omega arith)) (omega arith)
-
-    go2 : 10 ≤ v → Dec (v < 100) → Tidy (lits (dec v))
-    go2 l (yes k) = rw (dec2 v l k) (omega arith)
-    go2 l (no k) = go3 (omega arith) (decLt v 1000)
-
-    go1 : Dec (v < 10) → Tidy (lits (dec v))
-    go1 (yes k) = rw (dec1 v k) (omega arith)
-    go1 (no k) = go2 (omega arith) (decLt v 100)
+unfolding dec
+tidy-dec v h = tidy-digits (dec v) (digits-are 20 v)
 
 pub tidy-bitsLine : (n p : ℕ) → p < 10000 → Tidy (bitsLine n p)
 unfolding bitsLine
@@ -114,10 +118,7 @@ prefix-nil (refused k) = refl
 prefix-nil (read l vs) = refl
 
 moved-after : (ws : List ℕ) (at n : ℕ) (x : Scan) → moved at (after ws n x) ≡ prefix ws (moved (at + n) x)
-moved-after ws at n (refused k) = ap refused (regroup at n k)
-  where
-    regroup : (a b c : ℕ) → a + (b + c) ≡ a + b + c
-    regroup a b c = omega arith
+moved-after ws at n (refused k) = ap refused (sym (add-assoc at n k))
 moved-after ws at n (read l vs) = refl
 
 prefix-continue : (ws : List ℕ) (w : Walk) (k : ℕ → Scan) → prefix ws (continue w k) ≡ continue (prep ws w) k
@@ -135,10 +136,7 @@ scan-seq (i ∷ is) F s at = go (item i (drop at s)) (λ n. scan-seq is F s n)
   where
     go : (x : Piece) → ((q : ℕ) → moved q (scan (seq is F) (drop q s)) ≡ continue (walk is s q) (λ r. moved r (scan F (drop r s))))
         → moved at (step x (λ n. scan (seq is F) (drop n (drop at s)))) ≡ continue (stride x at (λ q. walk is s q)) (λ q. moved q (scan F (drop q s)))
-    go none ih = ap refused (zero-right at)
-      where
-        zero-right : (a : ℕ) → a + 0 ≡ a
-        zero-right a = omega arith
+    go none ih = ap refused (add-zero at)
     go (got ws n) ih =
         moved-after ws at n (scan (seq is F) (drop n (drop at s)))
         ∙ ap (λ (l : List ℕ). prefix ws (moved (at + n) (scan (seq is F) l))) (drop-drop n at s)
@@ -149,18 +147,9 @@ pub scan-whole : (F : Format) (s : List ℕ) → scanAt F s 0 ≡ scan F s
 unfolding scanAt
 scan-whole F s = go (scan F s)
   where
-    zero-left : (a : ℕ) → 0 + a ≡ a
-    zero-left a = omega arith
-
     go : (x : Scan) → moved 0 x ≡ x
-    go (refused k) = ap refused (zero-left k)
+    go (refused k) = ap refused (zero-add k)
     go (read l vs) = refl
-
--- One item more.
-pub spell-item : (i : Item) (is : List Item) (w p us : List ℕ) → Shows i w p → Fit is us → (spell (i ∷ is) (w ++ us) ≡ p ++ spell is us) × Fit (i ∷ is) (w ++ us)
-spell-item (byte b) is w p us sh f = (rw (sh .0, sh .1), rw (sh .0) f)
-spell-item num is w p us sh f = (rw (sh .2, sh .3), rw (sh .2) (sh .1, f))
-spell-item bit is w p us sh f = (rw (sh .2, sh .3), rw (sh .2) (sh .1, f))
 
 walk-item : (i : Item) (is : List Item) (w p rest s : List ℕ) (at : ℕ) → Shows i w p → Guard i rest → drop at s ≡ p ++ rest
     → walk (i ∷ is) s at ≡ prep w (walk is s (at + length p))
@@ -173,7 +162,7 @@ drop-item p rest s at e = sym (drop-drop (length p) at s) ∙ ap (λ (l : List �
 -- A CLEAR LIST THAT IS SPELT IS PASSED, whatever follows it.
 pub walk-spell : (is : List Item) (ws t s : List ℕ) (at : ℕ) → Tidy is → Fit is ws → drop at s ≡ spell is ws ++ t → walk is s at ≡ past ws (at + length (spell is ws))
 unfolding walk
-walk-spell [] [] t s at h k e = let z : at ≡ at + 0 = omega arith in ap (λ (n : ℕ). past [] n) z
+walk-spell [] [] t s at h k e = ap (λ (n : ℕ). past [] n) (sym (add-zero at))
 walk-spell [] (w ∷ ws) t s at h k e = absurd k
 walk-spell (byte b ∷ is) ws t s at h k e =
     let z : at + 1 + length (spell is ws) ≡ at + suc (length (spell is ws)) = omega arith in
@@ -209,6 +198,19 @@ tidy-oks (num ∷ byte b ∷ is) h = (tt, (h .1, tidy-oks is (h .2)))
 tidy-oks (num ∷ num ∷ is) h = absurd h
 tidy-oks (num ∷ bit ∷ is) h = absurd h
 
+-- What they spell is bytes.
+tidy-bytes : (a b : List ℕ) → Tidy (lits a) → Tidy (lits b) → Tidy (lits (a ++ b))
+tidy-bytes [] b h k = k
+tidy-bytes (x ∷ a) b h k = (h .0, tidy-bytes a b (h .1) k)
+
+pub oks-bytes : (is : List Item) (ws : List ℕ) → Oks is → Fit is ws → Tidy (lits (spell is ws))
+oks-bytes [] ws h f = tt
+oks-bytes (byte b ∷ is) ws h f = (h .0, oks-bytes is ws (h .1) f)
+oks-bytes (num ∷ is) [] h f = absurd f
+oks-bytes (num ∷ is) (w ∷ ws) h f = tidy-bytes (dec w) (spell is ws) (tidy-dec w (f .0)) (oks-bytes is ws (h .1) (f .1))
+oks-bytes (bit ∷ is) [] h f = absurd f
+oks-bytes (bit ∷ is) (w ∷ ws) h f = (omega arith, oks-bytes is ws (h .1) (f .1))
+
 pub record Passed (is : List Item) (s : List ℕ) (at : ℕ) (ws : List ℕ) (q : ℕ) : Type 0 where
   pub fit : Fit is ws
   pub spelt : drop at s ≡ spell is ws ++ drop q s
@@ -227,27 +229,21 @@ passed-item : (i : Item) (is : List Item) (s : List ℕ) (at : ℕ) (ws : List �
     → Sound i w n (drop at s) → Passed is s (at + n) us q → ws ≡ w ++ us → Passed (i ∷ is) s at ws q
 passed-item i is s at ws q w n us k P e =
     let g = spell-item i is w (take n (drop at s)) us (k .shows) (P .fit) in
-    let l : length (take n (drop at s)) ≡ n = lib.Seq.length-take-le n (drop at s) (k .within) in
+    let l : length (take n (drop at s)) ≡ n = length-take-le n (drop at s) (k .within) in
     record {
       fit = rw e (g .1);
       spelt =
           rw (e, g .0, append-assoc)
-          (sym (lib.ListN.take-append-drop n (drop at s)) ∙ ap (λ (z : List ℕ). take n (drop at s) ++ z) (drop-drop n at s ∙ P .spelt));
-      moves = rw (e, g .0, length-append, l) (P .moves ∙ regroup at n (length (spell is us)));
+          (sym (take-append-drop n (drop at s)) ∙ ap (λ (z : List ℕ). take n (drop at s) ++ z) (drop-drop n at s ∙ P .spelt));
+      moves = rw (e, g .0, length-append, l) (P .moves ∙ add-assoc at n (length (spell is us)));
     }
-  where
-    regroup : (a b c : ℕ) → a + b + c ≡ a + (b + c)
-    regroup a b c = omega arith
 
 pub walk-sound : (is : List Item) (s : List ℕ) (at : ℕ) (ws : List ℕ) (q : ℕ) → Oks is → walk is s at ≡ past ws q → Passed is s at ws q
 unfolding walk
 walk-sound [] s at ws q h e =
     let a : ws ≡ [] = cc in
     let b : q ≡ at = cc in
-    record { fit = rw a tt; spelt = rw b; moves = rw b (zero-right at) }
-  where
-    zero-right : (x : ℕ) → x ≡ x + 0
-    zero-right x = omega arith
+    record { fit = rw a tt; spelt = rw b; moves = rw b (sym (add-zero at)) }
 walk-sound (i ∷ is) s at ws q h e =
     let (w, n, us, g, f, z) = stride-past (item i (drop at s)) at (λ r. walk is s r) ws q e in
     passed-item i is s at ws q w n us (item-sound i (drop at s) w n (h .0) g) (walk-sound is s (at + n) us q (h .1) f) z

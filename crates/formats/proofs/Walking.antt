@@ -1,10 +1,16 @@
--- Laws of `walk`: over lists put together, and of a fixed byte or a bit at a position.
+-- Laws of `walk`.
+--   prep-nil, prep-prep            values before a walk
+--   walk-append                    lists of items one after the other
+--   walk-byte .. this-byte         a fixed byte at a position
+--   bit-none, walk-bit             a bit at a position
+--   getD-any, getD-there, head-at  a byte of a text by its position
 -- Assumes nothing.
 use Prim.Native.Nat.{ℕ, zero, suc, _+_, _-_, _≤_, _<_}
 use mathlib.Core.Path.{_≡_, refl, sym, ap, _∙_}
 use mathlib.Core.List.{List, [], _∷_, _++_, append-assoc}
 use native.Mathlib.Omega.{arith}
 use native.Mathlib.Nat.{add-zero, not-suc-le-zero, le-of-suc-le-suc}
+use native.Mathlib.Decide.{decLt}
 use borrow.Author.Tests.{eq-eqb, ne-eqb}
 use lib.ListN.{length, getD, drop, List·getD-eq-default}
 use lib.Seq.{getD-drop}
@@ -16,6 +22,14 @@ pub getD-any : (s : List ℕ) (i d e : ℕ) → i < length s → getD s i d ≡ 
 getD-any [] i d e h = absurd (not-suc-le-zero h)
 getD-any (x ∷ s) zero d e h = refl
 getD-any (x ∷ s) (suc i) d e h = getD-any s i d e (le-of-suc-le-suc h)
+
+-- What is a byte is within.
+pub getD-there : (s : List ℕ) (i : ℕ) → getD s i 256 < 256 → i < length s
+getD-there s i h = go (decLt i (length s))
+  where
+    go : Dec (i < length s) → i < length s
+    go (yes l) = l
+    go (no l) = let e = List·getD-eq-default s 256 {n = i} (omega arith) in absurd (omega arith)
 
 pub prep-nil : (w : Walk) → prep [] w ≡ w
 prep-nil (stuck q) = refl
@@ -50,7 +64,7 @@ pub walk-not : (b : ℕ) (is : List Item) (s : List ℕ) (at : ℕ) → (getD s 
 unfolding walk item
 walk-not b is s at e = rw (head-at s at, ne-eqb (getD s at 256) b e)
 
--- The same as the code has it.
+-- The same as code meets it: past the end of the text, and by the byte that is there.
 pub walk-end : (b : ℕ) (is : List Item) (s : List ℕ) (at : ℕ) → b < 256 → length s ≤ at → walk (byte b ∷ is) s at ≡ stuck at
 walk-end b is s at h l = walk-not b is s at (λ e. let f = List·getD-eq-default s 256 {n = at} l in omega arith)
 
@@ -61,15 +75,10 @@ module _ (b : ℕ) (is : List Item) (s : List ℕ) (at : ℕ) (l : at < length s
   pub walk-other : (getD s at 0 ≡ b → ⊥) → walk (byte b ∷ is) s at ≡ stuck at
   walk-other e = walk-not b is s at (λ f. e (getD-any s at 0 256 l ∙ f))
 
-pub onward-ext : (w : Walk) (f g : ℕ → Walk) → ((q : ℕ) → f q ≡ g q) → onward w f ≡ onward w g
-onward-ext (stuck q) f g h = refl
-onward-ext (past ws q) f g h = ap (prep ws) (h q)
-
 pub this-byte : (b : ℕ) (s : List ℕ) (at : ℕ) → at < length s → getD s at 0 ≡ b → walk (byte b ∷ []) s at ≡ past [] (at + 1)
 unfolding walk
 this-byte b s at l e = walk-this b [] s at l e
 
--- A bit, as the code has it.
 pub bit-none : (is : List Item) (s : List ℕ) (at : ℕ) → (getD s at 256 ≡ 48 → ⊥) → (getD s at 256 ≡ 49 → ⊥) → walk (bit ∷ is) s at ≡ stuck at
 unfolding walk item
 bit-none is s at a b = rw (head-at s at, ne-eqb (getD s at 256) 48 a, ne-eqb (getD s at 256) 49 b)
@@ -84,7 +93,7 @@ bit-one is s at a = rw (head-at s at, a)
 
 pub walk-bit : (is : List Item) (s : List ℕ) (at : ℕ) → at < length s → 48 ≤ getD s at 0 → getD s at 0 ≤ 49
     → walk (bit ∷ is) s at ≡ prep ((getD s at 0 - 48) ∷ []) (walk is s (at + 1))
-walk-bit is s at l a b = go (native.Mathlib.Decide.decLt 48 (getD s at 0))
+walk-bit is s at l a b = go (decLt 48 (getD s at 0))
   where
     e : getD s at 256 ≡ getD s at 0
     e = getD-any s at 256 0 l

@@ -1,8 +1,10 @@
 -- Lists of items: what they spell, how they are read at a position of a text, and the lines of a number and bits.
 --   lits, bits, bitsLine, bitsLines   fixed bytes; n bits; a line of a number and n bits, and such lines from a number on
+--   seq                               the format of items and what follows them
 --   spell, Fit, Spells                the bytes that items with given values make
---   walk                              reads items at a position: their values and the position after them, or the place where they go wrong
---   scanAt                            the scan of a format from a position on; places count from the start of the text
+--   Walk, walk                        reads items at a position: their values and the position after them, or the place where they go wrong
+--   onward, values, Passes            going on after a walk; its values; whether it passes
+--   scanAt, verdict                   the scan of a format from a position on, places counted from the start of the text; a scan without its values
 -- Assumes nothing.
 use Prim.Native.Nat.{ℕ, zero, suc, _+_, _<_}
 use mathlib.Core.Path.{_≡_}
@@ -10,51 +12,30 @@ use mathlib.Core.List.{List, [], _∷_, _++_}
 use lib.ListN.{drop, replicate}
 use Rattle.formats.specs.Format.{Item, byte, num, bit, Piece, none, got, item, Format, _▷_, dec, Scan, refused, read, scan}
 
--- Fixed bytes.
+-- LISTS OF ITEMS.
+
 abbrev pub lits : List ℕ → List Item
 lits [] = []
 lits (b ∷ bs) = byte b ∷ lits bs
+
+abbrev pub bits : ℕ → List Item
+bits n = replicate n bit
+
+-- The line of the number p and n bits: the number, a space, the bits and the line feed.
+unfoldable pub bitsLine : ℕ → ℕ → List Item
+bitsLine n p = lits (dec p) ++ (byte 32 ∷ bits n) ++ (byte 10 ∷ [])
+
+-- The lines of the numbers p to p + k - 1.
+unfoldable pub bitsLines : ℕ → ℕ → ℕ → List Item
+bitsLines n p zero = []
+bitsLines n p (suc k) = bitsLine n p ++ bitsLines n (suc p) k
 
 -- The items, and then the format.
 abbrev pub seq : List Item → Format → Format
 seq [] F = F
 seq (i ∷ is) F = i ▷ seq is F
 
--- What reading items at a position finds: the place where they go wrong, or their values and the position after them.
-pub data Walk : Type 0 where
-  stuck : ℕ → Walk
-  past : List ℕ → ℕ → Walk
-
-abbrev pub prep : List ℕ → Walk → Walk
-prep ws (stuck q) = stuck q
-prep ws (past us q) = past (ws ++ us) q
-
-abbrev pub stride : Piece → ℕ → (ℕ → Walk) → Walk
-stride none at k = stuck at
-stride (got ws n) at k = prep ws (k (at + n))
-
-unfoldable pub walk : List Item → List ℕ → ℕ → Walk
-walk [] s at = past [] at
-walk (i ∷ is) s at = stride (item i (drop at s)) at (λ q. walk is s q)
-
--- Go on after what was found.
-abbrev pub onward : Walk → (ℕ → Walk) → Walk
-onward (stuck q) k = stuck q
-onward (past ws q) k = prep ws (k q)
-
--- The values of a walk, and whether it passes.
-abbrev pub values : Walk → List ℕ
-values (stuck q) = []
-values (past ws q) = ws
-
-abbrev pub Passes : Walk → Type 0
-Passes (stuck q) = ⊥
-Passes (past ws q) = Unit {0}
-
--- What a slice holds after a reading: the new bytes where the walk passes, and the old ones where it does not.
-abbrev pub kept : Walk → List ℕ → List ℕ → List ℕ
-kept (stuck q) new old = old
-kept (past ws q) new old = new
+-- WHAT THEY SPELL.
 
 -- The bytes that items with these values make.
 abbrev pub spell : List Item → List ℕ → List ℕ
@@ -75,22 +56,47 @@ Fit (num ∷ is) (v ∷ vs) = (v < 10000) × Fit is vs
 Fit (bit ∷ is) [] = ⊥
 Fit (bit ∷ is) (v ∷ vs) = (v < 2) × Fit is vs
 
--- The line p of the inverse and the lines p to p + k - 1, of n bits each.
-abbrev pub bits : ℕ → List Item
-bits n = replicate n bit
-
-unfoldable pub bitsLine : ℕ → ℕ → List Item
-bitsLine n p = lits (dec p) ++ (byte 32 ∷ bits n) ++ (byte 10 ∷ [])
-
-unfoldable pub bitsLines : ℕ → ℕ → ℕ → List Item
-bitsLines n p zero = []
-bitsLines n p (suc k) = bitsLine n p ++ bitsLines n (suc p) k
-
 -- s is a text of these items with these values.
 abbrev pub Spells : List Item → List ℕ → List ℕ → Type 0
 Spells is vs s = Fit is vs × (s ≡ spell is vs)
 
--- THE SCAN FROM A POSITION ON, with places counted from the start of s.
+-- READING THEM AT A POSITION.
+
+-- What is found: the place where they go wrong, or their values and the position after them.
+pub data Walk : Type 0 where
+  stuck : ℕ → Walk
+  past : List ℕ → ℕ → Walk
+
+-- What is found behind the values ws.
+abbrev pub prep : List ℕ → Walk → Walk
+prep ws (stuck q) = stuck q
+prep ws (past us q) = past (ws ++ us) q
+
+-- What is found after the piece at the position `at`.
+abbrev pub stride : Piece → ℕ → (ℕ → Walk) → Walk
+stride none at k = stuck at
+stride (got ws n) at k = prep ws (k (at + n))
+
+unfoldable pub walk : List Item → List ℕ → ℕ → Walk
+walk [] s at = past [] at
+walk (i ∷ is) s at = stride (item i (drop at s)) at (λ q. walk is s q)
+
+-- Going on after what was found.
+abbrev pub onward : Walk → (ℕ → Walk) → Walk
+onward (stuck q) k = stuck q
+onward (past ws q) k = prep ws (k q)
+
+abbrev pub values : Walk → List ℕ
+values (stuck q) = []
+values (past ws q) = ws
+
+abbrev pub Passes : Walk → Type 0
+Passes (stuck q) = ⊥
+Passes (past ws q) = Unit {0}
+
+-- THE SCAN FROM A POSITION ON.
+
+-- A scan's places, counted from the start of a text that `at` bytes precede.
 abbrev pub moved : ℕ → Scan → Scan
 moved at (refused k) = refused (at + k)
 moved at (read l vs) = read l vs
@@ -98,7 +104,7 @@ moved at (read l vs) = read l vs
 unfoldable pub scanAt : Format → List ℕ → ℕ → Scan
 scanAt F s at = moved at (scan F (drop at s))
 
--- A scan's verdict, without the values; and what the answer of a count says.
+-- A scan without its values.
 abbrev pub verdict : Scan → Scan
 verdict (refused k) = refused k
 verdict (read l vs) = read l []

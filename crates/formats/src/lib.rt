@@ -1,1 +1,2 @@
-// Text formats as data. No code: the definitions are in specs/, what holds of every format in proofs/ (Scan: the scan is right; Spelling, Parts: lists of items).
+// Text formats as data. No code. Definitions, in specs/: Format has formats, their texts and the scan, Items has lists of items. What holds of every
+// format, in proofs/: Digits and Items of what stands at the front of a text, Scan that the scan is right, Walking, Spelling and Parts of lists of items.

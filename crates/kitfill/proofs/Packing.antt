@@ -8,18 +8,11 @@ use mathlib.Core.Path.{_≡_, refl, sym, ap, _∙_}
 use mathlib.Core.List.{List, [], _∷_, _++_}
 use native.Mathlib.Omega.{arith}
 use native.Mathlib.Numerals.{add-one}
-use native.Mathlib.Nat.{add-zero, zero-min, min-zero, suc-min-suc, suc-sub-suc, sub-zero, zero-sub}
+use native.Mathlib.Nat.{zero-min, min-zero, suc-min-suc, suc-sub-suc, sub-zero, zero-sub}
 use lib.ListN.{length, set, take, drop, getD, length-drop, drop-of-length-le}
 use lib.Seq.{sets, drop-cons, drop-drop, length-take-le, getD-take, getD-drop, take-nil}
-use Rattle.kitfill.specs.Bytes.{binary, pack}
-use Rattle.kitfill.specs.Bytes.{lows}
-
--- a run of stores, and one more
-sets-snoc : (vs l : List ℕ) (i a : ℕ) → set (sets l i vs) (i + length vs) a ≡ sets l i (vs ++ (a ∷ []))
-sets-snoc [] l i a = ap (λ (k : ℕ). set l k a) (add-zero i)
-sets-snoc (v ∷ vs) l i a =
-    let e : i + suc (length vs) ≡ suc i + length vs = omega arith in
-    ap (λ (k : ℕ). set (sets (set l i v) (suc i) vs) k a) e ∙ sets-snoc vs (set l i v) (suc i) a
+use Rattle.lines.proofs.Storing.{sets-append}
+use Rattle.kitfill.specs.Bytes.{binary, pack, lows}
 
 -- at most eight bits make a byte
 binary-small : (k : ℕ) (l : List ℕ) → length l ≤ k → binary (lows l) < 2 ^ k
@@ -115,7 +108,7 @@ module _ (s : List ℕ) (at n : ℕ) (o : List ℕ) (from b c v : ℕ) (ec : c �
       let w : List ℕ = lows (take n (drop at s)) in
       let e : v % 256 ≡ binary (take 8 (drop (b * 8) w)) = mod-small small ∙ byte-is in
       ap (λ (k : ℕ). set (sets o from (pack b w)) (from + k) (v % 256)) (sym (length-pack b w))
-      ∙ sets-snoc (pack b w) o from (v % 256)
+      ∙ sym (sets-append (pack b w) ((v % 256) ∷ []) o from)
       ∙ ap (λ (k : ℕ). sets o from (pack b w ++ (k ∷ []))) e
       ∙ ap (sets o from) (sym (pack-snoc b w))
       ∙ ap (λ (k : ℕ). sets o from (pack k w)) (sym (add-one b))

@@ -1,16 +1,16 @@
 -- Filling the inverse from the values of its lines.
---   Parts, row-parts             where the bits of a row's line stand
---   packRows-more                one row more
+--   Parts, row-not .. row-packed   `fill_row`: where the bits of a row's line stand
+--   packRows-more, put-row         one row more
 --   Packed, packed-start .. packed-all   the state of the filling after p lines
 -- Assumes nothing.
 use Prim.Native.Nat.{ℕ, zero, suc, _+_, _-_, _*_, _%_, _≤_, _<_}
-use mathlib.Core.Path.{_≡_, refl, sym, ap, _∙_}
+use mathlib.Core.Path.{_≡_, refl, sym, ap, ap₂, _∙_}
 use mathlib.Core.List.{List, [], _∷_, _++_, append-assoc, append-nil}
 use native.Mathlib.Omega.{arith}
 use native.Mathlib.Nat.{mul-le-mul-right}
 use native.Mathlib.Numerals.{add-one}
 use lib.ListN.{length, take, drop, length-append, length-drop, drop-of-length-le}
-use lib.Seq.{sets, sets-eq, take-at, take-all, drop-drop, drop-append-add, take-append-le, drop-append-le}
+use lib.Seq.{sets, take-all, drop-drop, take-append-le, drop-append-le}
 use Rattle.formats.specs.Format.{byte, dec}
 use Rattle.formats.specs.Items.{lits, Walk, stuck, past, prep, walk, onward, spell, Fit, bits, bitsLine, bitsLines, values, Passes}
 use Rattle.formats.proofs.Spelling.{tidy-append, tidy-bits, tidy-oks, walk-sound}
@@ -19,11 +19,11 @@ use Rattle.readers.specs.declared.Step.{Step}
 use Rattle.readers.specs.declared.Step.the-variants.{Next, Refused}
 use Rattle.readers.specs.Answers.{stepOf, stepWalk}
 use Rattle.staircase.specs.System.{rowBytes}
-use Rattle.kitfill.specs.Bytes.{pack, packRows}
-use Rattle.kitfill.specs.Bytes.{lows}
+use Rattle.kitfill.specs.Bytes.{pack, packRows, lows}
 use Rattle.kitfill.proofs.RowCounts.{Run, row-items, row-walked}
 use Rattle.kitfill.proofs.Packing.{length-pack}
-use Rattle.kitscan.proofs.RestLaws.{answer-past}
+use Rattle.kitfill.proofs.Filling.{put-behind}
+use Rattle.readers.proofs.Lines.{answer-past}
 use Rattle.kitscan.proofs.RowLines.{rows-all, rows-done, rows-split}
 
 -- ---- the bits of a line
@@ -77,8 +77,9 @@ module _ (n p : ℕ) (s : List ℕ) (at : ℕ) (x : Step) (ex : stepWalk x ≡ w
     pub row-next : Passes (walk (bitsLine n p) s at) → Next (i + 1 + n + 1) ≡ stepOf (walk (bitsLine n p) s at)
     row-next h = sym (ap stepOf (row-parts h .line))
 
-    pub row-values : Passes (walk (bitsLine n p) s at) → lows (take n (drop (i + 1) s)) ≡ values (walk (bitsLine n p) s at)
-    row-values h = sym (ap values (row-parts h .line))
+    pub row-packed : Passes (walk (bitsLine n p) s at) → (from : ℕ) (o o′ : List ℕ) → o′ ≡ sets o from (pack (rowBytes n) (lows (take n (drop (i + 1) s))))
+        → o′ ≡ sets o from (pack (rowBytes n) (values (walk (bitsLine n p) s at)))
+    row-packed h from o o′ e = e ∙ sym (ap (λ (w : Walk). sets o from (pack (rowBytes n) (values w))) (row-parts h .line))
 
 -- ---- one row more
 
@@ -114,20 +115,10 @@ put-row : (w₀ ws vs : List ℕ) (n p : ℕ) → length ws ≡ p * n → length
     → sets (packRows n p ws ++ drop (p * rowBytes n) w₀) (p * rowBytes n) (pack (rowBytes n) vs) ≡ packRows n (p + 1) (ws ++ vs) ++ drop ((p + 1) * rowBytes n) w₀
 put-row w₀ ws vs n p e f h =
     let b : ℕ = rowBytes n in
-    let g : List ℕ = packRows n p ws in
-    let r : List ℕ = pack b vs in
-    let d : List ℕ = drop (p * b) w₀ in
-    let k : length g ≡ p * b = packRows-length n p ws in
-    let l : length r ≡ b = length-pack b vs in
-    let a : p * b + length r ≡ length g + b = omega arith in
-    let c : p * b + b ≡ (p + 1) * b = omega arith in
-    let z : drop (p * b + length r) (g ++ d) ≡ drop ((p + 1) * b) w₀ =
-    ap (λ (i : ℕ). drop i (g ++ d)) a ∙ drop-append-add g d b ∙ drop-drop b (p * b) w₀ ∙ ap (λ (i : ℕ). drop i w₀) c
-    in
-    sets-eq r (g ++ d) (p * b) (omega (arith, length-append g d, length-drop (p * b) w₀))
-    ∙ ap (λ (x : List ℕ). x ++ r ++ drop (p * b + length r) (g ++ d)) (take-at g d (p * b) k)
-    ∙ ap (λ (x : List ℕ). g ++ r ++ x) z
-    ∙ ap (λ (x : List ℕ). x ++ drop ((p + 1) * b) w₀) (sym (packRows-more n p ws vs e f) ∙ ap (λ (i : ℕ). packRows n i (ws ++ vs)) (sym (add-one p)))
+    let l : length (pack b vs) ≡ b = length-pack b vs in
+    let z : p * b + length (pack b vs) ≡ (p + 1) * b = omega (arith, l) in
+    put-behind (packRows n p ws) (pack b vs) w₀ (p * b) (packRows-length n p ws) (omega (arith, l, h))
+    ∙ ap₂ (λ (x : List ℕ) (i : ℕ). x ++ drop i w₀) (sym (packRows-more n p ws vs e f) ∙ ap (λ (i : ℕ). packRows n i (ws ++ vs)) (sym (add-one p))) z
 
 -- ---- the state of the filling
 

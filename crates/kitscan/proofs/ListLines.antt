@@ -1,6 +1,6 @@
 -- The lines of the lists, as the code has them.
---   tail-end .. tail-got       `pair_tail`
---   line-stop, line-on         `pair_line`
+--   two-first .. two-read      `two_numbers`
+--   place-wrong .. pair-read   `pair_line`
 --   lines-wrong .. lines-done  the lines from p on
 -- Assumes nothing.
 use Prim.Native.Nat.{ℕ, suc, _+_, _-_, _≤_, _<_}
@@ -8,53 +8,50 @@ use mathlib.Core.Path.{_≡_, sym, ap, _∙_}
 use mathlib.Core.List.{List, [], _∷_}
 use native.Mathlib.Omega.{arith}
 use native.Mathlib.Numerals.{add-one}
-use lib.ListN.{length, getD}
 use Rattle.formats.specs.Format.{byte, num, dec}
 use Rattle.formats.specs.Items.{lits, Walk, stuck, past, prep, walk, onward}
-use Rattle.formats.proofs.Walking.{walk-append, walk-end, walk-this, walk-other, prep-nil}
+use Rattle.formats.proofs.Walking.{walk-append}
 use Rattle.readers.specs.declared.Step.{Step}
 use Rattle.readers.specs.declared.Step.the-variants.{Next, Refused}
 use Rattle.readers.specs.declared.Field.{Field}
 use Rattle.readers.specs.declared.Field.the-variants.{Got, Stop}
 use Rattle.readers.specs.Answers.{stepOf, stepWalk, fieldWalk}
+use Rattle.readers.proofs.Fields.{walk-stops, walk-goes, field-stops, field-goes}
 use Rattle.readers.proofs.Lines.{step-prep}
-use Rattle.kitscan.specs.KitText.{pairTail, pairLine, pairLines}
+use Rattle.kitscan.specs.KitText.{twoNumbers, pairTail, pairLine, pairLines}
 use Rattle.kitscan.specs.Answers.{lineWalk}
 use Rattle.kitscan.specs.declared.Line.{Line}
 use Rattle.kitscan.specs.declared.Line.the-variants.{Pair, NoPair}
 
--- what follows the place
-pub tail-end : (s : List ℕ) (at : ℕ) → length s ≤ at → stuck at ≡ walk pairTail s at
-tail-end s at l = sym (walk-end 32 _ s at (omega arith) l)
+-- two numbers
+module _ (s : List ℕ) (at : ℕ) (x : Field) (ex : fieldWalk x ≡ walk (num ∷ byte 32 ∷ []) s at) where
+  pub two-first : (q : ℕ) → x ≡ Stop q → stuck q ≡ walk twoNumbers s at
+  two-first q f = sym (field-stops (num ∷ byte 32 ∷ []) (num ∷ byte 10 ∷ []) s at x ex q f)
 
-module _ (s : List ℕ) (at : ℕ) (l : at < length s) where
-  pub tail-other : (getD s at 0 ≡ 32 → ⊥) → stuck at ≡ walk pairTail s at
-  tail-other n = sym (walk-other 32 _ s at l n)
+  module _ (a j : ℕ) (fx : x ≡ Got a j) (y : Field) (ey : fieldWalk y ≡ walk (num ∷ byte 10 ∷ []) s j) where
+    two-from : prep (a ∷ []) (fieldWalk y) ≡ walk twoNumbers s at
+    two-from = ap (prep (a ∷ [])) ey ∙ sym (field-goes (num ∷ byte 32 ∷ []) (num ∷ byte 10 ∷ []) s at x ex a j fx)
 
-  module _ (e : getD s at 0 ≡ 32) where
-    tail-from : walk pairTail s at ≡ onward (walk (num ∷ byte 32 ∷ []) s (at + 1)) (λ q. walk (num ∷ byte 10 ∷ []) s q)
-    tail-from = walk-this 32 _ s at l e ∙ walk-append (num ∷ byte 32 ∷ []) (num ∷ byte 10 ∷ []) s (at + 1)
+    pub two-second : (q : ℕ) → y ≡ Stop q → stuck q ≡ walk twoNumbers s at
+    two-second q f = sym (ap (λ (z : Field). prep (a ∷ []) (fieldWalk z)) f) ∙ two-from
 
-    pub tail-stop : (x : Field) (q : ℕ) → fieldWalk x ≡ walk (num ∷ byte 32 ∷ []) s (at + 1) → x ≡ Stop q → stuck q ≡ walk pairTail s at
-    tail-stop x q f g = rw (tail-from, ← f, g)
-
-    module _ (x : Field) (a i : ℕ) (f : fieldWalk x ≡ walk (num ∷ byte 32 ∷ []) s (at + 1)) (g : x ≡ Got a i)
-        (y : Field) (h : fieldWalk y ≡ walk (num ∷ byte 10 ∷ []) s i) where
-      pub tail-stop-2 : (q : ℕ) → y ≡ Stop q → stuck q ≡ walk pairTail s at
-      tail-stop-2 q k = rw (tail-from, ← f, g, ← h, k)
-
-      pub tail-got : (b q : ℕ) → y ≡ Got b q → past (a ∷ b ∷ []) q ≡ walk pairTail s at
-      tail-got b q k = rw (tail-from, ← f, g, ← h, k)
+    pub two-read : (b e : ℕ) → y ≡ Got b e → past (a ∷ b ∷ []) e ≡ walk twoNumbers s at
+    two-read b e f = sym (ap (λ (z : Field). prep (a ∷ []) (fieldWalk z)) f) ∙ two-from
 
 -- the line of a place
-module _ (s : List ℕ) (at p : ℕ) (x : Step) (e : stepWalk x ≡ walk (lits (dec p)) s at) where
-  pub line-stop : (q : ℕ) → x ≡ Refused q → stuck q ≡ walk (pairLine p) s at
+module _ (s : List ℕ) (at p : ℕ) (x : Step) (ex : stepWalk x ≡ walk (lits (dec p)) s at) where
+  pub place-wrong : (q : ℕ) → x ≡ Refused q → stuck q ≡ walk (pairLine p) s at
   unfolding pairLine
-  line-stop q f = rw (walk-append (lits (dec p)) pairTail s at, ← e, f)
+  place-wrong q f = sym (walk-stops (lits (dec p)) pairTail s at x ex q f)
 
-  pub line-on : (q : ℕ) → x ≡ Next q → (w : Walk) → w ≡ walk pairTail s q → w ≡ walk (pairLine p) s at
-  unfolding pairLine
-  line-on q f w g = rw (walk-append (lits (dec p)) pairTail s at, ← e, f) (g ∙ sym (prep-nil (walk pairTail s q)))
+  module _ (i : ℕ) (fx : x ≡ Next i) (y : Step) (ey : stepWalk y ≡ walk (byte 32 ∷ []) s i) where
+    pub space-wrong : (q : ℕ) → y ≡ Refused q → stuck q ≡ walk (pairLine p) s at
+    unfolding pairLine
+    space-wrong q f = sym (walk-goes (lits (dec p)) pairTail s at x ex i fx ∙ walk-stops (byte 32 ∷ []) twoNumbers s i y ey q f)
+
+    pub pair-read : (j : ℕ) → y ≡ Next j → (w : Walk) → w ≡ walk twoNumbers s j → w ≡ walk (pairLine p) s at
+    unfolding pairLine
+    pair-read j f w g = g ∙ sym (walk-goes (lits (dec p)) pairTail s at x ex i fx ∙ walk-goes (byte 32 ∷ []) twoNumbers s i y ey j f)
 
 -- the lines from p on
 lines-suc : (p n : ℕ) (s : List ℕ) (q : ℕ) → p < n → walk (pairLines p (n - p)) s q ≡ onward (walk (pairLine p) s q) (λ r. walk (pairLines (p + 1) (n - (p + 1))) s r)

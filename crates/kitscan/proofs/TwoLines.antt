@@ -1,16 +1,16 @@
 -- The two lines of a kit text, as the code has them, and rules 1 to 3 for their numbers.
---   two-second .. two-read       `last_two`
---   lines-names .. lines-rest    `read_head`
---   head-read                    what a text shows that starts with two lines
+--   lines-names .. lines-read    `read_head`
+--   Shown, head-read             what a text shows that starts with two lines
+--   head-stuck                   the verdict of one that does not
 --   front-none .. front-starts   `read_front`
 -- Assumes nothing.
 use Prim.Native.Nat.{ℕ}
 use mathlib.Core.Path.{_≡_, sym, ap, _∙_}
-use mathlib.Core.List.{List, [], _∷_, _++_}
+use mathlib.Core.List.{List, [], _∷_}
 use lib.ListN.{getD}
-use Rattle.formats.specs.Format.{Item, byte, num}
-use Rattle.formats.specs.Items.{lits, Walk, stuck, past, prep, walk, onward, values}
-use Rattle.formats.proofs.Walking.{walk-append, onward-ext, prep-nil}
+use Rattle.formats.specs.Format.{byte, num}
+use Rattle.formats.specs.Items.{lits, Walk, stuck, past, prep, walk, values}
+use Rattle.readers.proofs.Fields.{walk-stops, walk-goes, field-stops, field-goes}
 use Rattle.readers.specs.declared.Step.{Step}
 use Rattle.readers.specs.declared.Step.the-variants.{Next, Refused}
 use Rattle.readers.specs.declared.Field.{Field}
@@ -24,47 +24,36 @@ use Rattle.design.specs.declared.Designed.{Designed}
 use Rattle.design.specs.declared.Designed.the-variants as designed
 use Rattle.design.specs.declared.Refusal.{Refusal}
 use Rattle.design.specs.Answers.{designVerdict, DesignIs, DesignAllowed}
-use Rattle.kitscan.specs.KitText.{names, headItems}
+use Rattle.kitscan.specs.KitText.{names, twoNumbers, headItems}
 use Rattle.kitscan.specs.TwoLines.{headNumber, headRule}
-use Rattle.kitscan.specs.Answers.{headWalk, frontRule, frontVerdict, FrontIs}
+use Rattle.kitscan.specs.Answers.{headWalk, lineWalk, frontRule, frontVerdict, FrontIs}
 use Rattle.kitscan.specs.declared.Head.{Head}
 use Rattle.kitscan.specs.declared.Head.the-variants.{Lines, NoLines}
+use Rattle.kitscan.specs.declared.Line.{Line}
+use Rattle.kitscan.specs.declared.Line.the-variants.{Pair, NoPair}
 use Rattle.kitscan.specs.declared.Front.the-variants.{Starts, Ruled, NoStart}
-
--- the second and the third number
-abbrev Two : List Item
-Two = num ∷ byte 32 ∷ num ∷ byte 10 ∷ []
-
-module _ (s : List ℕ) (at m : ℕ) (x : Field) (ex : fieldWalk x ≡ walk (num ∷ byte 32 ∷ []) s at) where
-  two-from : walk Two s at ≡ onward (walk (num ∷ byte 32 ∷ []) s at) (λ j. walk (num ∷ byte 10 ∷ []) s j)
-  two-from = walk-append (num ∷ byte 32 ∷ []) (num ∷ byte 10 ∷ []) s at
-
-  pub two-second : (q : ℕ) → x ≡ Stop q → stuck q ≡ prep (m ∷ []) (walk (num ∷ byte 32 ∷ num ∷ byte 10 ∷ []) s at)
-  two-second q f = rw (two-from, ← ex, f)
-
-  module _ (t j : ℕ) (fx : x ≡ Got t j) (y : Field) (ey : fieldWalk y ≡ walk (num ∷ byte 10 ∷ []) s j) where
-    pub two-third : (q : ℕ) → y ≡ Stop q → stuck q ≡ prep (m ∷ []) (walk (num ∷ byte 32 ∷ num ∷ byte 10 ∷ []) s at)
-    two-third q f = rw (two-from, ← ex, fx, ← ey, f)
-
-    pub two-read : (M e : ℕ) → y ≡ Got M e → past (m ∷ t ∷ M ∷ []) e ≡ prep (m ∷ []) (walk (num ∷ byte 32 ∷ num ∷ byte 10 ∷ []) s at)
-    two-read M e f = rw (two-from, ← ex, fx, ← ey, f)
 
 -- the names and the three numbers
 module _ (s : List ℕ) (x : Step) (ex : stepWalk x ≡ walk (lits names) s 0) where
-  lines-from : walk headItems s 0 ≡ onward (walk (lits names) s 0) (λ i. onward (walk (num ∷ byte 32 ∷ []) s i) (λ j. walk Two s j))
-  lines-from =
-      walk-append (lits names) ((num ∷ byte 32 ∷ []) ++ Two) s 0
-      ∙ onward-ext (walk (lits names) s 0) _ (λ i. onward (walk (num ∷ byte 32 ∷ []) s i) (λ j. walk Two s j)) (λ i. walk-append (num ∷ byte 32 ∷ []) Two s i)
-
   pub lines-names : (q : ℕ) → x ≡ Refused q → stuck q ≡ walk headItems s 0
-  lines-names q f = rw (lines-from, ← ex, f)
+  lines-names q f = sym (walk-stops (lits names) (num ∷ byte 32 ∷ twoNumbers) s 0 x ex q f)
 
   module _ (i : ℕ) (fx : x ≡ Next i) (y : Field) (ey : fieldWalk y ≡ walk (num ∷ byte 32 ∷ []) s i) where
-    pub lines-first : (q : ℕ) → y ≡ Stop q → stuck q ≡ walk headItems s 0
-    lines-first q f = rw (lines-from, ← ex, fx, ← ey, f)
+    from-names : walk headItems s 0 ≡ walk (num ∷ byte 32 ∷ twoNumbers) s i
+    from-names = walk-goes (lits names) (num ∷ byte 32 ∷ twoNumbers) s 0 x ex i fx
 
-    pub lines-rest : (m j : ℕ) → y ≡ Got m j → (w : Walk) → w ≡ prep (m ∷ []) (walk (num ∷ byte 32 ∷ num ∷ byte 10 ∷ []) s j) → w ≡ walk headItems s 0
-    lines-rest m j f w g = rw (lines-from, ← ex, fx, ← ey, f) (g ∙ sym (prep-nil (prep (m ∷ []) (walk Two s j))))
+    pub lines-first : (q : ℕ) → y ≡ Stop q → stuck q ≡ walk headItems s 0
+    lines-first q f = sym (from-names ∙ field-stops (num ∷ byte 32 ∷ []) twoNumbers s i y ey q f)
+
+    module _ (m j : ℕ) (fy : y ≡ Got m j) (z : Line) (ez : lineWalk z ≡ walk twoNumbers s j) where
+      from-first : prep (m ∷ []) (lineWalk z) ≡ walk headItems s 0
+      from-first = ap (prep (m ∷ [])) ez ∙ sym (from-names ∙ field-goes (num ∷ byte 32 ∷ []) twoNumbers s i y ey m j fy)
+
+      pub lines-others : (q : ℕ) → z ≡ NoPair q → stuck q ≡ walk headItems s 0
+      lines-others q f = sym (ap (λ (w : Line). prep (m ∷ []) (lineWalk w)) f) ∙ from-first
+
+      pub lines-read : (t M e : ℕ) → z ≡ Pair t M e → past (m ∷ t ∷ M ∷ []) e ≡ walk headItems s 0
+      lines-read t M e f = sym (ap (λ (w : Line). prep (m ∷ []) (lineWalk w)) f) ∙ from-first
 
 -- what a text shows that starts with two lines
 pub record Shown (s : List ℕ) (m t M q : ℕ) : Type 0 where

@@ -2,15 +2,18 @@
 --   headWalk, lineWalk          the walk that an answer tells
 --   frontRule                   the two lines, and then rules 1 to 3
 --   frontVerdict, FrontIs       the verdict of the two lines' answer; its design and position are those of the text
---   restRule, tailRule          rule 11 for the rest from a position on, and for what follows the lists' lines
---   restVerdict                 the verdict of an answer for the rest
---   RestParts, TailParts        the lines at the positions that an answer gives are right, and have the values of the whole
+--   restRule, restVerdict       rule 11 for the rest from a position on; the verdict of an answer for it
+--   RestParts                   the lines at the positions that an answer gives are right, and have the values of the rest
+--   TailIs                      what an answer says of what follows the lists' lines
 -- Assumes nothing.
 use Prim.Native.Nat.{ℕ}
 use mathlib.Core.Path.{_≡_}
 use mathlib.Core.List.{List, [], _∷_, _++_}
-use Rattle.formats.specs.Format.{Item, Format, end}
+use Rattle.formats.specs.Format as format
+use Rattle.formats.specs.Format.{Item, Format, end, read}
 use Rattle.formats.specs.Items.{Walk, stuck, past, walk, values, Passes, lits, seq, scanAt, bitsLines}
+use Rattle.readers.specs.declared.Step.{Step}
+use Rattle.readers.specs.declared.Step.the-variants.{Next, Refused}
 use Rattle.readers.specs.Verdicts.{scanRule, passed, valuesOf}
 use Rattle.staircase.specs.Rules.{Verdict, _then_, designRules}
 use Rattle.staircase.specs.Rules.Verdict.{accepted, refused}
@@ -67,9 +70,6 @@ tailFormat n = seq (tailItems n) (end 0)
 unfoldable pub restRule : ℕ → List ℕ → ℕ → Verdict
 restRule n s at = scanRule 11 (scanAt (restFormat n) s at)
 
-unfoldable pub tailRule : ℕ → List ℕ → ℕ → Verdict
-tailRule n s at = scanRule 11 (scanAt (tailFormat n) s at)
-
 unfoldable pub restVerdict : Rest → Verdict
 restVerdict (Whole i j) = accepted
 restVerdict (NotWhole p) = refused 11 p
@@ -82,8 +82,7 @@ RestParts (Whole i j) n s at =
     × (valuesOf (scanAt (restFormat n) s at) ≡ values (walk (pairLines 0 n) s i) ++ values (walk (bitsLines n 0 n) s j))
 RestParts (NotWhole p) n s at = Unit
 
--- The rows' lines at j are right, and their values are those of what follows the lists' lines; i is the position that was handed on.
-unfoldable pub TailParts : Rest → ℕ → List ℕ → ℕ → ℕ → Type 0
-TailParts (Whole i j) n s at i₀ =
-    (i ≡ i₀) × Passes (walk (bitsLines n 0 n) s j) × (valuesOf (scanAt (tailFormat n) s at) ≡ values (walk (bitsLines n 0 n) s j))
-TailParts (NotWhole p) n s at i₀ = Unit
+-- The rows' lines at j are right, and their values are those of what follows the lists' lines; or the place where that goes wrong.
+unfoldable pub TailIs : Step → ℕ → List ℕ → ℕ → Type 0
+TailIs (Next j) n s at = Passes (walk (bitsLines n 0 n) s j) × (scanAt (tailFormat n) s at ≡ read 0 (values (walk (bitsLines n 0 n) s j)))
+TailIs (Refused p) n s at = scanAt (tailFormat n) s at ≡ format.refused p

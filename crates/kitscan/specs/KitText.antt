@@ -1,5 +1,6 @@
 -- Document 01, "Kit text": the format, for a design.
 --   headItems, headFormat    the line `m t M` and the line of the three numbers, "where any numbers of one to four digits will do"
+--   headBytes                the two lines of a design, as bytes
 --   pairLine, pairLines      the lines of the lists: `place`, an entry of the self list, an entry of the parity list
 --   kitBody n                what follows the two lines, for n = M × r
 --   kitFormat m t M          the kit texts of a design; its two lines are fixed bytes
@@ -16,8 +17,12 @@ use Rattle.formats.specs.Items.{lits, seq, spell, bitsLines}
 abbrev pub names : List ℕ
 names = 109 ∷ 32 ∷ 116 ∷ 32 ∷ 77 ∷ 10 ∷ []
 
+-- the two numbers with which either line of values ends
+abbrev pub twoNumbers : List Item
+twoNumbers = num ∷ byte 32 ∷ num ∷ byte 10 ∷ []
+
 abbrev pub headItems : List Item
-headItems = lits names ++ (num ∷ byte 32 ∷ num ∷ byte 32 ∷ num ∷ byte 10 ∷ [])
+headItems = lits names ++ (num ∷ byte 32 ∷ twoNumbers)
 
 abbrev pub headFormat : Format
 headFormat = seq headItems (end 0)
@@ -36,10 +41,11 @@ listNames = 112 ∷ 108 ∷ 97 ∷ 99 ∷ 101 ∷ 32 ∷ 115 ∷ 101 ∷ 108 ∷
 abbrev pub rowNames : List ℕ
 rowNames = 114 ∷ 111 ∷ 119 ∷ 32 ∷ 105 ∷ 110 ∷ 118 ∷ 101 ∷ 114 ∷ 115 ∷ 101 ∷ 10 ∷ []
 
--- "First columns run from 0": the line of place p, and the lines p to p + n - 1
+-- what follows the place in a line of the lists
 abbrev pub pairTail : List Item
-pairTail = byte 32 ∷ num ∷ byte 32 ∷ num ∷ byte 10 ∷ []
+pairTail = byte 32 ∷ twoNumbers
 
+-- "First columns run from 0": the line of place p, and the lines p to p + n - 1
 unfoldable pub pairLine : ℕ → List Item
 pairLine p = lits (dec p) ++ pairTail
 

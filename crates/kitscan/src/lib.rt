@@ -6,13 +6,11 @@
 // Each function reads at a position of the whole text and answers the position after what it read, or the place where that goes wrong. An answer is
 // an enum; specs/Answers.antt says what its cases mean by the format of specs/KitText.antt, which contracts cite. Each goes once through what it reads.
 ghost use mathlib.Core.Path.{_≡_};
-ghost use mathlib.Core.List.{[], _∷_};
 ghost use Prim.Native.Nat.{_≤_, _<_};
-ghost use Rattle.formats.specs.Format.{byte, num};
-ghost use Rattle.formats.specs.Items.{walk, prep, bitsLines};
+ghost use Rattle.formats.specs.Items.{walk, bitsLines};
 ghost use Rattle.readers.specs.Answers.{stepOf};
-ghost use Rattle.kitscan.specs.KitText.{headItems, pairTail, pairLine, pairLines};
-ghost use Rattle.kitscan.specs.Answers.{headWalk, lineWalk, frontRule, frontVerdict, FrontIs, restRule, restVerdict, RestParts, tailRule, TailParts};
+ghost use Rattle.kitscan.specs.KitText.{twoNumbers, headItems, pairLine, pairLines};
+ghost use Rattle.kitscan.specs.Answers.{headWalk, lineWalk, frontRule, frontVerdict, FrontIs, restRule, restVerdict, RestParts, TailIs};
 use design::Design;
 use design::Designed;
 use design::Refusal;
@@ -44,18 +42,18 @@ pub enum Rest {
     NotWhole(usize),
 }
 
-// The second and the third number of the second line, behind the first, m.
-fn last_two(s: &[u8], at: usize, m: usize) -> Head
-    ensures { λ r. ⌜ headWalk r ≡ prep (m ∷ []) (walk (num ∷ byte 32 ∷ num ∷ byte 10 ∷ []) (now (s .entry)) at) ⌝ }
+// Two numbers, with a space between them and the line feed behind them.
+fn two_numbers(s: &[u8], at: usize) -> Line
+    ensures { λ r. ⌜ lineWalk r ≡ walk twoNumbers (now (s .entry)) at ⌝ }
 {
-    let second = readers::number_then(s, at, 32);
-    match second {
-        Field::Stop(q) => Head::NoLines(q),
-        Field::Got(t, j) => {
-            let third = readers::number_then(s, j, 10);
-            match third {
-                Field::Stop(q) => Head::NoLines(q),
-                Field::Got(size, e) => Head::Lines(m, t, size, e),
+    let first = readers::number_then(s, at, 32);
+    match first {
+        Field::Stop(q) => Line::NoPair(q),
+        Field::Got(a, i) => {
+            let second = readers::number_then(s, i, 10);
+            match second {
+                Field::Stop(q) => Line::NoPair(q),
+                Field::Got(b, e) => Line::Pair(a, b, e),
             }
         }
     }
@@ -72,7 +70,13 @@ fn read_head(s: &[u8]) -> Head
             let first = readers::number_then(s, i, 32);
             match first {
                 Field::Stop(q) => Head::NoLines(q),
-                Field::Got(m, j) => last_two(s, j, m),
+                Field::Got(m, j) => {
+                    let others = two_numbers(s, j);
+                    match others {
+                        Line::NoPair(q) => Head::NoLines(q),
+                        Line::Pair(t, size, e) => Head::Lines(m, t, size, e),
+                    }
+                }
             }
         }
     }
@@ -96,29 +100,6 @@ pub fn read_front(s: &[u8]) -> Front
     }
 }
 
-// What follows the place in a line of the lists: ` self parity` and the line feed.
-fn pair_tail(s: &[u8], at: usize) -> Line
-    ensures { λ r. ⌜ lineWalk r ≡ walk pairTail (now (s .entry)) at ⌝ }
-{
-    if s.len() <= at {
-        return Line::NoPair(at);
-    }
-    if s[at] != 32 {
-        return Line::NoPair(at);
-    }
-    let first = readers::number_then(s, at + 1, 32);
-    match first {
-        Field::Stop(q) => Line::NoPair(q),
-        Field::Got(a, i) => {
-            let second = readers::number_then(s, i, 10);
-            match second {
-                Field::Stop(q) => Line::NoPair(q),
-                Field::Got(b, e) => Line::Pair(a, b, e),
-            }
-        }
-    }
-}
-
 // The line of place p: `p self parity`.
 pub fn pair_line(s: &[u8], at: usize, p: usize) -> Line
     requires { ⌜ p < 10000 ⌝ }
@@ -127,7 +108,13 @@ pub fn pair_line(s: &[u8], at: usize, p: usize) -> Line
     let place = readers::number_is(s, at, p);
     match place {
         Step::Refused(q) => Line::NoPair(q),
-        Step::Next(i) => pair_tail(s, i),
+        Step::Next(i) => {
+            let space = readers::byte_is(s, i, 32);
+            match space {
+                Step::Refused(q) => Line::NoPair(q),
+                Step::Next(j) => two_numbers(s, j),
+            }
+        }
     }
 }
 
@@ -175,29 +162,23 @@ fn rows(s: &[u8], at: usize, n: usize) -> Step
     Step::Next(q)
 }
 
-// What follows the lists' lines: the names, the lines of the rows and the end of the text. Where all is right, i is answered with the position of the
-// rows' lines.
-fn rows_and_end(s: &[u8], at: usize, n: usize, i: usize) -> Rest
+// What follows the lists' lines: the names, the lines of the rows and the end of the text. Answers the position of the rows' lines.
+fn rows_and_end(s: &[u8], at: usize, n: usize) -> Step
     requires { ⌜ n ≤ 4096 ⌝ }
-    ensures { λ r. ⌜ restVerdict r ≡ tailRule n (now (s .entry)) at ⌝ }
-    ensures { λ r. ⌜ TailParts r n (now (s .entry)) at i ⌝ }
+    ensures { λ r. ⌜ TailIs r n (now (s .entry)) at ⌝ }
 {
     let names = readers::literal(s, at, b"row inverse\n");
-    match names {
-        Step::Refused(q) => Rest::NotWhole(q),
-        Step::Next(j) => {
-            let inverse = rows(s, j, n);
-            match inverse {
-                Step::Refused(stop) => Rest::NotWhole(stop),
-                Step::Next(e) => {
-                    if e < s.len() {
-                        return Rest::NotWhole(e);
-                    }
-                    Rest::Whole(i, j)
-                }
-            }
-        }
+    let Step::Next(i) = names else {
+        return names;
+    };
+    let inverse = rows(s, i, n);
+    let Step::Next(e) = inverse else {
+        return inverse;
+    };
+    if e < s.len() {
+        return Step::Refused(e);
     }
+    Step::Next(i)
 }
 
 // The rest of a kit text, for n = M × r, to the end of the text.
@@ -213,7 +194,13 @@ pub fn judge_rest(s: &[u8], at: usize, n: usize) -> Rest
             let lists = pairs(s, i, n);
             match lists {
                 Step::Refused(q) => Rest::NotWhole(q),
-                Step::Next(j) => rows_and_end(s, j, n, i),
+                Step::Next(e) => {
+                    let inverse = rows_and_end(s, e, n);
+                    match inverse {
+                        Step::Refused(q) => Rest::NotWhole(q),
+                        Step::Next(j) => Rest::Whole(i, j),
+                    }
+                }
             }
         }
     }

@@ -1,19 +1,25 @@
--- The lines of a kit text: how many values they have.
+-- The lines of a kit text: how many values they have, and the lists and the inverse that these make.
 --   tidy-pairLine, tidy-pairLines   the lists' lines are tidy
 --   PairIs, pair-is                 the values of a line of the lists, and its bytes
 --   pairs-count, pairs-walked       2 values a line of the lists
 --   rows-count                      n values a line of the rows
+--   self-shown .. inverse-shown     the lists and the inverse of a text, by the values of its lines
 -- Assumes nothing.
 use Prim.Native.Nat.{ℕ, zero, suc, _+_, _*_, _≤_, _<_}
 use mathlib.Core.Path.{_≡_, refl, ap, _∙_}
 use mathlib.Core.List.{List, [], _∷_, _++_}
 use native.Mathlib.Omega.{arith}
-use lib.ListN.{length, length-append}
+use lib.ListN.{length, take, length-append}
+use lib.Seq.{take-at, drop-at}
 use Rattle.formats.specs.Format.{digit, dec}
 use Rattle.formats.specs.Items.{lits, past, walk, spell, Fit, bitsLine, bitsLines}
-use Rattle.formats.proofs.Spelling.{Tidy, tidy-append, tidy-dec, tidy-oks, walk-sound}
+use Rattle.formats.proofs.Spelling.{Tidy, tidy-append, tidy-dec, tidy-oks, walk-sound, spell-lits}
 use Rattle.formats.proofs.Parts.{Split, fit-split, fit-none}
+use Rattle.readers.specs.Verdicts.{valuesOf}
+use Rattle.staircase.specs.Design.{order}
 use Rattle.kitscan.specs.KitText.{pairTail, pairLine, pairLines}
+use Rattle.kitfill.specs.Bytes.{firsts, seconds, packs, packRows}
+use Rattle.kittext.specs.Reader.{kitParams, bodyScan, selfOf, parityOf, inverseOf}
 use Rattle.kitfill.proofs.RowCounts.{row-count}
 
 -- ---- the lists' lines
@@ -58,7 +64,7 @@ pair-is p ws h = go (fit-split (lits (dec p)) pairTail ws h)
           both = S .all ∙ ap (λ (z : List ℕ). z ++ S .vs) n ∙ e;
           spelt =
               S .spelt ∙ ap (λ (z : List ℕ). spell (lits (dec p)) z ++ spell pairTail (S .vs)) n
-              ∙ ap (λ (z : List ℕ). z ++ spell pairTail (S .vs)) (Rattle.formats.proofs.Spelling.spell-lits (dec p))
+              ∙ ap (λ (z : List ℕ). z ++ spell pairTail (S .vs)) (spell-lits (dec p))
               ∙ ap (λ (z : List ℕ). dec p ++ spell pairTail z) e;
         }
 
@@ -85,3 +91,22 @@ rows-count n (suc k) p ws h =
     let S = fit-split (bitsLine n p) (bitsLines n (suc p) k) ws h in
     let i = rows-count n k (suc p) (S .vs) (S .right) in
     omega (arith, ap length (S .all), length-append (S .us) (S .vs), row-count n p (S .us) (S .left))
+
+-- ---- the lists and the inverse
+
+-- n is M × r, ps and rs are the values of the lists' lines and of the rows' lines
+module _ (s : List ℕ) (n : ℕ) (ps rs : List ℕ) (on : order (kitParams s) ≡ n) (vs : valuesOf (bodyScan s) ≡ ps ++ rs) (count : length ps ≡ 2 * n) where
+  lists-shown : take (2 * order (kitParams s)) (valuesOf (bodyScan s)) ≡ ps
+  lists-shown = rw (on, vs) (take-at ps rs (2 * n) count)
+
+  pub self-shown : selfOf s ≡ packs (firsts ps)
+  unfolding selfOf
+  self-shown = ap (λ (l : List ℕ). packs (firsts l)) lists-shown
+
+  pub parity-shown : parityOf s ≡ packs (seconds ps)
+  unfolding parityOf
+  parity-shown = ap (λ (l : List ℕ). packs (seconds l)) lists-shown
+
+  pub inverse-shown : inverseOf s ≡ packRows n n rs
+  unfolding inverseOf
+  inverse-shown = rw (on, vs) (ap (packRows n n) (drop-at ps rs (2 * n) count))

@@ -1,9 +1,10 @@
 -- The scan of a text by its two lines, and designs that rules 1 to 3 let through.
---   passing-small, small            the sizes of designs that rules 1 to 3 let through
+--   order-small, small              the sizes of designs that rules 1 to 3 let through
 --   not-eleven                      none of these rules has the number 11
 --   Found, two-lines                the two lines at the start of a text, or the place where they go wrong
 --   scan-stuck, scan-found          the verdict of either
---   accepted-found                  an accepted text starts with two lines
+--   rule-refused                    the place of a scan, by its verdict
+--   Accepted, accepted-is           an accepted text starts with two lines of a design that passes, and the scan reads the rest
 -- Assumes nothing.
 use Prim.Native.Nat.{ℕ, _-_, _*_, _^_, _≤_, _<_}
 use mathlib.Core.Path.{_≡_, refl, sym, ap, _∙_}
@@ -11,6 +12,7 @@ use mathlib.Core.Bool.{Bool, true, false}
 use mathlib.Core.List.{List, [], _∷_}
 use mathlib.Core.Logic.{_⊎_, inl, inr}
 use native.Mathlib.Omega.{arith}
+use native.Mathlib.Nat.{pow-le-pow-right}
 use lib.Dec.{ltb}
 use lib.ListN.{getD}
 use borrow.Author.Tests.{ltb-false}
@@ -18,39 +20,31 @@ use Rattle.formats.specs.Format as format
 use Rattle.formats.specs.Format.{Scan, scan}
 use Rattle.formats.specs.Items.{Walk, stuck, past, walk, scanAt}
 use Rattle.readers.specs.Verdicts.{scanRule}
-use Rattle.staircase.specs.Design.{params, order, wordLength}
+use Rattle.staircase.specs.Design.{Params, params, order, wordLength}
 use Rattle.staircase.specs.Rules.{Verdict, _then_, refuse, outOfRange, sizeRule, longRule, largeRule, designRules}
 use Rattle.staircase.specs.Rules.Verdict.{accepted, refused}
-use Rattle.staircase.proofs.Rules.{then-first, then-rest, refuse-false, outOfRange-false, design-limits}
+use Rattle.staircase.proofs.Rules.{then-first, then-rest, refuse-false, design-limits}
 use Rattle.kitscan.specs.KitText.{headItems, kitFormat}
-use Rattle.kittext.specs.Reader.{headNumber, kitParams, bodyScan, bodyRule, scanKit}
-use Rattle.kittext.specs.Reader.{Passing}
+use Rattle.kittext.specs.Reader.{headNumber, kitParams, bodyScan, bodyRule, scanKit, Passing}
 use Rattle.kitscan.specs.Answers.{restFormat}
 use Rattle.kittext.proofs.KitTexts.{Small, head-three, kit-rest}
 use Rattle.kitscan.proofs.TwoLines.{Shown, head-read, head-stuck}
 
 -- ---- designs that rules 1 to 3 let through
 
-pub passing-small : (m t M : ℕ) → Passing m t M → (M ≤ 500) × (M * (m * t) ≤ 4096)
-unfolding designRules sizeRule longRule largeRule
-passing-small m t M e =
-    let rm : Verdict = refuse (outOfRange 4 10 m) 1 1 in
-    let rt : Verdict = refuse (outOfRange 1 3 t) 1 2 in
-    let rM : Verdict = refuse (outOfRange 1 500 M) 1 3 in
-    let rn : Verdict = longRule m (params m t M) in
-    let ro : Verdict = refuse (ltb 4096 (M * (m * t))) 3 (M * (m * t)) in
-    let a : (rm then rt then rM) ≡ accepted = then-first (rm then rt then rM) (rn then ro) e in
-    let b : rM ≡ accepted = then-rest rt rM (then-rest rm (rt then rM) a) in
-    let c : ro ≡ accepted = then-rest rn ro (then-rest (rm then rt then rM) (rn then ro) e) in (
-      outOfRange-false 1 500 M (refuse-false (outOfRange 1 500 M) 1 3 b) .1,
-      ltb-false 4096 (M * (m * t)) (refuse-false (ltb 4096 (M * (m * t))) 3 (M * (m * t)) c),
-    )
+pub order-small : (m t M : ℕ) → Passing m t M → M * (m * t) ≤ 4096
+unfolding designRules largeRule
+order-small m t M e =
+    let s : Params = params m t M in
+    let large : largeRule s ≡ accepted = then-rest (longRule m s) (largeRule s) (then-rest (sizeRule m t M) (longRule m s then largeRule s) e) in
+    ltb-false 4096 (M * (m * t)) (refuse-false (ltb 4096 (M * (m * t))) 3 (M * (m * t)) large)
 
 pub small : (m t M : ℕ) → Passing m t M → Small m t M
 small m t M e =
     let l = design-limits m t M e in
-    let h = passing-small m t M e in
-    record { hm = omega (arith, l .m-high); ht = omega (arith, l .t-high); hM = omega (arith, h .0); hn = omega (arith, h .1) }
+    let h = order-small m t M e in
+    let p : 2 ^ m ≤ 2 ^ 10 = pow-le-pow-right (omega arith) (l .m-high) in
+    record { hm = omega (arith, l .m-high); ht = omega (arith, l .t-high); hM = omega (arith, l .fits); hn = omega arith }
 
 -- no rule of these has the number 11
 abbrev Other : Verdict → Type 0
@@ -124,14 +118,7 @@ module _ (s : List ℕ) (F : Found s) where
       ∙ ap (λ (x : Scan). designRules (headNumber s 0) (headNumber s 1) (headNumber s 2) then scanRule 11 x) (body-found ∙ sym (kit-rest s (F .m) (F .t) (F .M) (F .q) (F .lines)))
       ∙ rw (shown .first, shown .second, shown .third)
 
-pub accepted-found : (s : List ℕ) → scanKit s ≡ accepted → Found s
-accepted-found s e = go (two-lines s)
-  where
-    go : ((q : ℕ) × (walk headItems s 0 ≡ stuck q)) ⊎ Found s → Found s
-    go (inl (q, f)) = let g = scan-stuck s q f in let z : _≡_ {A = ℕ} 0 1 = cc in absurd (omega arith)
-    go (inr F) = F
-
-pub rule-read : (x : Scan) → scanRule 11 x ≡ accepted → (L : ℕ) × (vs : List ℕ) × (x ≡ format.read L vs)
+rule-read : (x : Scan) → scanRule 11 x ≡ accepted → (L : ℕ) × (vs : List ℕ) × (x ≡ format.read L vs)
 unfolding scanRule
 rule-read (format.refused k) e = let z : _≡_ {A = ℕ} 0 1 = cc in absurd (omega arith)
 rule-read (format.read L vs) e = (L, vs, refl)
@@ -140,3 +127,24 @@ pub rule-refused : (x : Scan) (k : ℕ) → scanRule 11 x ≡ refused 11 k → x
 unfolding scanRule
 rule-refused (format.refused j) k e = let z : j ≡ k = cc in ap format.refused z
 rule-refused (format.read L vs) k e = let z : _≡_ {A = ℕ} 0 1 = cc in absurd (omega arith)
+
+-- ---- accepted texts
+
+pub record Accepted (s : List ℕ) : Type 0 where
+  pub found : Found s
+  pub passing : Passing (found .m) (found .t) (found .M)
+  pub mark : ℕ
+  pub vs : List ℕ
+  pub scanned : scan (kitFormat (found .m) (found .t) (found .M)) s ≡ format.read mark vs
+
+pub accepted-is : (s : List ℕ) → scanKit s ≡ accepted → Accepted s
+accepted-is s e = go (two-lines s)
+  where
+    go : ((q : ℕ) × (walk headItems s 0 ≡ stuck q)) ⊎ Found s → Accepted s
+    go (inl (q, f)) = let g = scan-stuck s q f in let z : _≡_ {A = ℕ} 0 1 = cc in absurd (omega arith)
+    go (inr F) =
+        let d : Verdict = designRules (F .m) (F .t) (F .M) in
+        let x : Scan = scan (kitFormat (F .m) (F .t) (F .M)) s in
+        let g : (d then scanRule 11 x) ≡ accepted = sym (scan-found s F) ∙ e in
+        let (L, vs, h) = rule-read x (then-rest d (scanRule 11 x) g) in
+        record { found = F; passing = then-first d (scanRule 11 x) g; mark = L; vs = vs; scanned = h }

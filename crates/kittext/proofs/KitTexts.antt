@@ -1,9 +1,10 @@
 -- Kit texts: the scan of the rest, after the two lines, is the scan of the whole kit text of their numbers, and its place is the longest start that
 -- a kit text of any design shares.
---   tidy-head, oks-head, tidy-body, clear-head, clear-kit   the formats are clear
+--   tidy-head, oks-head, tidy-body, clear-kit   the formats are clear
+--   Small                      numbers that the text of a kit can have
 --   head-place                 the place of the two lines
---   head-three, head-small     the two lines have three numbers, of one to four digits
---   head-found                 two lines at the start of a text are found there
+--   head-three, head-passed    the two lines have three numbers, of one to four digits
+--   head-found, kit-starts     two lines at the start of a text are found there, and a kit text starts with them
 --   kit-rest                   the scan of the rest is that of the whole
 --   any-place                  the place of a refusal
 -- Assumes nothing.
@@ -14,11 +15,11 @@ use native.Mathlib.Omega.{arith}
 use native.Mathlib.Decide.{decLt}
 use lib.ListN.{length, getD, take, drop}
 use lib.Seq.{take-append-add}
-use Rattle.formats.specs.Format.{dec, digit, Format, end, Renders, Text, Shares, Longest, Scan, refused, read, scan, Clear}
+use Rattle.formats.specs.Format.{digit, Format, end, Renders, Text, Shares, Longest, Scan, refused, read, scan, Clear}
 use Rattle.formats.specs.Items.{lits, seq, Walk, stuck, past, walk, spell, Fit, bitsLines, moved, scanAt}
 use Rattle.formats.proofs.Parts.{fit-none}
 use Rattle.formats.proofs.Scan.{scan-longest}
-use Rattle.formats.proofs.Spelling.{renders-seq, Spelt, Tidy, Oks, clear-seq, tidy-append, tidy-dec, tidy-bitsLines, tidy-oks, scan-seq, scan-whole}
+use Rattle.formats.proofs.Spelling.{renders-seq, Spelt, Tidy, Oks, clear-seq, tidy-append, tidy-bitsLines, tidy-oks, oks-bytes, scan-seq, scan-whole}
 use Rattle.formats.proofs.Spelling.{continue, prefix-nil, walk-spell, walk-sound, Passed, spell-lits, fit-lits}
 use Rattle.kitscan.specs.KitText.{headItems, headFormat, headBytes, listNames, rowNames, pairLines, kitBody, kitFormat, KitText}
 use Rattle.kitscan.specs.Answers.{restFormat, tailItems}
@@ -65,31 +66,6 @@ pub record Small (m t M : ℕ) : Type 0 where
   pub hM : M < 10000
   pub hn : M * (m * t) ≤ 10000
 
-tidy-lits-append : (a b : List ℕ) → Tidy (lits a) → Tidy (lits b) → Tidy (lits (a ++ b))
-tidy-lits-append [] b h k = k
-tidy-lits-append (x ∷ a) b h k = (h .0, tidy-lits-append a b (h .1) k)
-
-tidy-lits-head : (m t M : ℕ) → m < 10000 → t < 10000 → M < 10000 → Tidy (lits (headBytes m t M))
-tidy-lits-head m t M a b c = (
-  omega arith,
-  (
-    omega arith,
-    (
-      omega arith,
-      (
-        omega arith,
-        (
-          omega arith,
-          (
-            omega arith,
-            tidy-lits-append (dec m) _ (tidy-dec m a) (omega arith, tidy-lits-append (dec t) _ (tidy-dec t b) (omega arith, tidy-lits-append (dec M) _ (tidy-dec M c) (omega arith, tt))),
-          ),
-        ),
-      ),
-    ),
-  ),
-)
-
 pub tidy-body : (n : ℕ) → n ≤ 10000 → Tidy (kitBody n)
 unfolding kitBody
 tidy-body n h =
@@ -100,7 +76,7 @@ tidy-body n h =
 pub clear-kit : (m t M : ℕ) → Small m t M → Clear (kitFormat m t M)
 unfolding kitFormat
 clear-kit m t M k =
-    clear-seq (lits (headBytes m t M)) (restFormat (M * (m * t))) (tidy-lits-head m t M (k .hm) (k .ht) (k .hM))
+    clear-seq (lits (headBytes m t M)) (restFormat (M * (m * t))) (oks-bytes headItems (m ∷ t ∷ M ∷ []) oks-head (k .hm, (k .ht, (k .hM, tt))))
     (clear-seq (kitBody (M * (m * t))) (end 0) (tidy-body (M * (m * t)) (k .hn)) tt)
 
 -- fixed bytes at the start of a text are passed
@@ -143,7 +119,7 @@ module _ (s : List ℕ) (m t M q : ℕ) (e : walk headItems s 0 ≡ past (m ∷ 
 
   head-lits : walk (lits (headBytes m t M)) s 0 ≡ past [] q
   head-lits =
-      lits-pass (headBytes m t M) s q (tidy-lits-head m t M (head-small .0) (head-small .1) (head-small .2)) (head-passed .spelt) (head-passed .moves)
+      lits-pass (headBytes m t M) s q (oks-bytes headItems (m ∷ t ∷ M ∷ []) oks-head (head-passed .fit)) (head-passed .spelt) (head-passed .moves)
 
   -- the scan of the rest is that of the whole
   pub kit-rest : scan (kitFormat m t M) s ≡ scanAt (restFormat (M * (m * t))) s q

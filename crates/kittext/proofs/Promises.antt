@@ -2,7 +2,6 @@
 --   kit-accepted                    a text is accepted exactly when it is the kit text of a design that rules 1 to 3 let through
 --   kit-place                       the place of rule 11 is "the longest start that some kit text shares"
 --   kit-ruled, kit-rules            refusals by rules 1 to 3 are those of the two lines' numbers, whatever follows
---   kit-self-length .. kit-inverse-length   the lengths of what an accepted text shows
 --   kit-order-small                 an accepted text has at least n² bytes, n being M × r
 --   kit-read-scan, kit-read         with slices of the right lengths the reader's verdict is the scan's, and an accepted text fills them
 --   kit-renders                     an accepted text is the kit text rendered from what the reader leaves
@@ -22,18 +21,14 @@ use Rattle.staircase.specs.Design.{order}
 use Rattle.staircase.specs.System.{rowBytes}
 use Rattle.staircase.specs.Rules.{Verdict, _then_, designRules, listLengths, kitLengths}
 use Rattle.staircase.specs.Rules.Verdict.{accepted, refused}
-use Rattle.staircase.proofs.Rules.{then-first, then-rest, then-accepted, length-accepted}
+use Rattle.staircase.proofs.Rules.{then-accepted, length-accepted}
 use Rattle.kitscan.specs.KitText.{headItems, headFormat, headBytes, listNames, rowNames, pairLines, kitFormat, KitText}
-use Rattle.kitfill.specs.Bytes.{firsts, seconds}
-use Rattle.kittext.specs.Reader.{headNumber, kitParams, headRule, bodyRule, scanKit, selfOf, parityOf, inverseOf, readVerdict, readKitCall}
-use Rattle.kittext.specs.Reader.{Passing}
+use Rattle.kittext.specs.Reader.{headNumber, kitParams, headRule, bodyRule, scanKit, selfOf, parityOf, inverseOf, readVerdict, readKitCall, Passing}
 use Rattle.kittext.specs.Rendered.{kitBytes}
 use Rattle.kittext.proofs.Counting.{rows-count}
-use Rattle.kitfill.proofs.Filling.{packs-length}
 use Rattle.kittext.proofs.KitTexts.{clear-kit, head-place, head-found, head-passed, kit-starts, kit-rest, any-place}
-use Rattle.kitfill.proofs.RowFilling.{packRows-length}
-use Rattle.kittext.proofs.Judged.{small, not-eleven, Found, two-lines, scan-stuck, shown, scan-found, accepted-found, rule-read, rule-refused}
-use Rattle.kittext.proofs.Told.{kit-told, halves, pairs-are, self-told, parity-told, inverse-told, fit-long, rendered}
+use Rattle.kittext.proofs.Judged.{small, not-eleven, Found, two-lines, scan-stuck, shown, scan-found, rule-refused, accepted-is}
+use Rattle.kittext.proofs.Told.{kit-told, fit-long, rendered}
 
 -- ---- accepted texts
 
@@ -44,13 +39,10 @@ kit-accepted s = (there, back)
   where
     there : scanKit s ≡ accepted → KitText Passing s
     there e =
-        let F = accepted-found s e in
-        let d : Verdict = designRules (F .m) (F .t) (F .M) in
-        let r : Verdict = scanRule 11 (scan (kitFormat (F .m) (F .t) (F .M)) s) in
-        let g : (d then r) ≡ accepted = sym (scan-found s F) ∙ e in
-        let (L, vs, h) = rule-read (scan (kitFormat (F .m) (F .t) (F .M)) s) (then-rest d r g) in
-        let p : Passing (F .m) (F .t) (F .M) = then-first d r g in
-        (F .m, F .t, F .M, p, (L, vs, scan-sound (kitFormat (F .m) (F .t) (F .M)) L vs s (clear-kit (F .m) (F .t) (F .M) (small (F .m) (F .t) (F .M) p)) h))
+        let A = accepted-is s e in
+        let F = A .found in
+        let k = clear-kit (F .m) (F .t) (F .M) (small (F .m) (F .t) (F .M) (A .passing)) in
+        (F .m, F .t, F .M, A .passing, (A .mark, A .vs, scan-sound (kitFormat (F .m) (F .t) (F .M)) (A .mark) (A .vs) s k (A .scanned)))
 
     back : KitText Passing s → scanKit s ≡ accepted
     back (m, t, M, p, (L, vs, r)) =
@@ -111,26 +103,7 @@ kit-rules s m t M n k r a b c e p =
     let F : Found s = record { m = m; t = t; M = M; q = 0 + length (headBytes m t M); lines = head-found m t M s r a b c e } in
     scan-found s F ∙ ap (λ (v : Verdict). v then scanRule 11 (scan (kitFormat m t M) s)) p
 
--- ---- lengths
-
--- The lists of an accepted text have two bytes for each of M × r entries, and its inverse M × r packed rows.
-pub kit-self-length : (s : List ℕ) → scanKit s ≡ accepted → length (selfOf s) ≡ 2 * order (kitParams s)
-kit-self-length s e =
-    let T = kit-told s e in
-    let n : ℕ = order (kitParams s) in
-    ap length (self-told s n T) ∙ packs-length (firsts (T .ps)) ∙ ap (λ (k : ℕ). 2 * k) (halves n (T .ps) (pairs-are s n T) .0)
-
-pub kit-parity-length : (s : List ℕ) → scanKit s ≡ accepted → length (parityOf s) ≡ 2 * order (kitParams s)
-kit-parity-length s e =
-    let T = kit-told s e in
-    let n : ℕ = order (kitParams s) in
-    ap length (parity-told s n T) ∙ packs-length (seconds (T .ps)) ∙ ap (λ (k : ℕ). 2 * k) (halves n (T .ps) (pairs-are s n T) .1)
-
-pub kit-inverse-length : (s : List ℕ) → scanKit s ≡ accepted → length (inverseOf s) ≡ order (kitParams s) * rowBytes (order (kitParams s))
-kit-inverse-length s e =
-    let T = kit-told s e in
-    let n : ℕ = order (kitParams s) in
-    ap length (inverse-told s n T) ∙ packRows-length n n (T .rs)
+-- ---- the length of an accepted text
 
 -- Each of the M × r rows of an accepted text shows M × r bits, so (M × r)² is at most the text's length.
 pub kit-order-small : (s : List ℕ) → scanKit s ≡ accepted → order (kitParams s) * order (kitParams s) ≤ length s

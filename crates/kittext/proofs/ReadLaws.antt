@@ -1,23 +1,21 @@
 -- The reader's verdict and what it leaves, as the code has it.
---   lengths-first .. lengths-third    `check_lengths`
 --   Leaves                            the answer and the three slices are those of the definition
 --   read-none .. read-whole           `read_kit`
 --   lists-ready, inverse-ready        what the filling requires
 -- Assumes nothing.
-use Prim.Native.Nat.{ℕ, _+_, _*_, _/_, _≤_, _<_}
+use Prim.Native.Nat.{ℕ, _*_, _≤_, _<_}
 use mathlib.Core.Path.{_≡_, refl, sym, ap, _∙_}
 use mathlib.Core.Logic.{_≢_}
 use mathlib.Core.List.{List, _++_}
 use native.Mathlib.Omega.{arith}
-use lib.ListN.{length, take, drop}
-use lib.Seq.{take-at, drop-at}
+use lib.ListN.{length}
 use Rattle.formats.specs.Items.{Walk, stuck, past, walk, values, Passes, bitsLines}
 use Rattle.readers.specs.Verdicts.{valuesOf, kept}
-use Rattle.staircase.specs.Rules.{Verdict, _then_, designRules, lengthRule, listLengths, kitLengths}
+use Rattle.staircase.specs.Rules.{Verdict, _then_, kitLengths}
 use Rattle.staircase.specs.Rules.Verdict.{accepted, refused}
 use Rattle.staircase.specs.Design.{Params, order}
 use Rattle.staircase.specs.System.{rowBytes}
-use Rattle.staircase.proofs.Rules.{then-first, then-rest, length-equal, list-lengths}
+use Rattle.staircase.specs.Demand2.{FitsOrder}
 use Rattle.design.specs.declared.Design.{Design}
 use Rattle.design.specs.declared.Refusal.{Refusal}
 use Rattle.design.specs.declared.Check.{Check}
@@ -25,9 +23,10 @@ use Rattle.design.specs.declared.Check.the-variants as check
 use Rattle.design.specs.Answers.{refusalVerdict, verdictOf}
 use Rattle.design.specs.Sizes.{paramsOf}
 use Rattle.design.proofs.Answers.{refused-then, passed-then, check-refused}
+use Rattle.lengths.proofs.Fit.{lengths-fit}
 use Rattle.kitscan.specs.KitText.{pairLines}
 use Rattle.kitfill.specs.Bytes.{firsts, seconds, packs, packRows}
-use Rattle.kittext.specs.Reader.{headNumber, kitParams, headRule, bodyScan, bodyRule, selfOf, parityOf, inverseOf, readVerdict, readKitCall, kitScanVerdict, KitDesign}
+use Rattle.kittext.specs.Reader.{kitParams, bodyScan, bodyRule, selfOf, parityOf, inverseOf, readVerdict, readKitCall, kitScanVerdict, KitDesign}
 use Rattle.kitscan.specs.Answers.{frontRule, frontVerdict, FrontIs, restRule, restVerdict, RestParts}
 use Rattle.kittext.specs.declared.KitScan.{KitScan}
 use Rattle.kittext.specs.declared.KitScan.the-variants.{Kit, Refused, Broken}
@@ -35,46 +34,8 @@ use Rattle.kitscan.specs.declared.Front.{Front}
 use Rattle.kitscan.specs.declared.Front.the-variants.{Starts, Ruled, NoStart}
 use Rattle.kitscan.specs.declared.Rest.{Rest}
 use Rattle.kitscan.specs.declared.Rest.the-variants.{Whole, NotWhole}
-use Rattle.kittext.proofs.Counting.{pairs-walked}
-use Rattle.kittext.proofs.ScanLaws.{then-three, refusal-first, Opens, front-broken, front-refused, opens, small-order, order-is, body-is, rule-is, kit-design}
-
--- ---- rule 6
-
-module _ (d : Design) (own parity w : List ℕ) (n : ℕ) (en : n ≡ d .size * (d .m * d .t)) (x : Check) (ex : verdictOf x ≡ lengthRule 1 (length own) (2 * n)) where
-  abbrev A : Verdict
-  A = lengthRule 1 (length own) (2 * order (paramsOf d))
-
-  abbrev B : Verdict
-  B = lengthRule 2 (length parity) (2 * order (paramsOf d))
-
-  abbrev C : Verdict
-  C = lengthRule 3 (length w) (order (paramsOf d) * rowBytes (order (paramsOf d)))
-
-  ordered : (A then (B then C)) ≡ kitLengths (paramsOf d) own parity w
-  unfolding kitLengths listLengths
-  ordered = sym (then-three A B C)
-
-  first-is : verdictOf x ≡ A
-  first-is = ex ∙ ap (λ (k : ℕ). lengthRule 1 (length own) (2 * k)) en
-
-  pub lengths-first : (r : Refusal) → x ≡ check.Refused r → verdictOf x ≡ kitLengths (paramsOf d) own parity w
-  lengths-first r f = refused-then (B then C) first-is f ∙ ordered
-
-  module _ (px : x ≡ check.Passed) (y : Check) (ey : verdictOf y ≡ lengthRule 2 (length parity) (2 * n)) where
-    second-is : verdictOf y ≡ B
-    second-is = ey ∙ ap (λ (k : ℕ). lengthRule 2 (length parity) (2 * k)) en
-
-    after-first : (B then C) ≡ kitLengths (paramsOf d) own parity w
-    after-first = passed-then (B then C) first-is px ∙ ordered
-
-    pub lengths-second : (r : Refusal) → y ≡ check.Refused r → verdictOf y ≡ kitLengths (paramsOf d) own parity w
-    lengths-second r f = refused-then C second-is f ∙ after-first
-
-    pub lengths-third : y ≡ check.Passed → (b : ℕ) → b ≡ (d .size * (d .m * d .t) + 7) / 8 → (z : Check) → verdictOf z ≡ lengthRule 3 (length w) (n * b)
-        → verdictOf z ≡ kitLengths (paramsOf d) own parity w
-    lengths-third py b eb z ez =
-        ez ∙ ap (λ (k : ℕ). lengthRule 3 (length w) (k * b)) en ∙ ap (λ (k : ℕ). lengthRule 3 (length w) (order (paramsOf d) * k)) eb
-        ∙ passed-then C second-is py ∙ after-first
+use Rattle.kittext.proofs.Counting.{pairs-walked, self-shown, parity-shown, inverse-shown}
+use Rattle.kittext.proofs.ScanLaws.{front-then, refusal-first, Opens, front-broken, front-refused, opens, small-order, order-is, body-is, rule-is, kit-design}
 
 -- ---- the call
 
@@ -120,13 +81,9 @@ refused-not : (n p : ℕ) → refused n p ≢ accepted
 refused-not n p e = let z : _≡_ {A = ℕ} 0 1 = cc in omega arith
 
 module _ (s own parity w : List ℕ) where
-  read-parts : readVerdict s own parity w ≡ (frontRule s then (kitLengths (kitParams s) own parity w then bodyRule s))
-  unfolding readVerdict frontRule
-  read-parts =
-      sym (then-three (headRule s) (designRules (headNumber s 0) (headNumber s 1) (headNumber s 2)) (kitLengths (kitParams s) own parity w then bodyRule s))
-
   from-front : (v : Verdict) → frontRule s ≡ v → (v then (kitLengths (kitParams s) own parity w then bodyRule s)) ≡ readVerdict s own parity w
-  from-front v e = sym (read-parts ∙ ap (λ (u : Verdict). u then (kitLengths (kitParams s) own parity w then bodyRule s)) e)
+  unfolding readVerdict
+  from-front v e = sym (front-then s (kitLengths (kitParams s) own parity w then bodyRule s) v e)
 
   module _ (f : Front) (ef : (frontVerdict f ≡ frontRule s) × FrontIs f s) where
     pub read-none : (q : ℕ) → f ≡ NoStart q → Leaves (Broken q) s own parity w own parity w
@@ -179,28 +136,17 @@ module _ (s own parity w : List ℕ) where
             unfolding verdictOf
             lengths-ok = sym ex ∙ ap verdictOf px
 
-            list-ok : (length own ≡ 2 * n) × (length parity ≡ 2 * n)
-            unfolding kitLengths
-            list-ok =
-                rw (en .0)
-                (list-lengths (paramsOf d) own parity
-                (then-first (listLengths (paramsOf d) own parity) (lengthRule 3 (length w) (order (paramsOf d) * rowBytes (order (paramsOf d)))) lengths-ok))
-
-            inverse-ok : length w ≡ n * rowBytes n
-            unfolding kitLengths
-            inverse-ok =
-                rw (en .0)
-                (length-equal 3 (length w) (order (paramsOf d) * rowBytes (order (paramsOf d)))
-                (then-rest (listLengths (paramsOf d) own parity) (lengthRule 3 (length w) (order (paramsOf d) * rowBytes (order (paramsOf d)))) lengths-ok))
+            fits : FitsOrder n own parity w
+            fits = rw (en .0) (lengths-fit (paramsOf d) own parity w lengths-ok)
 
             -- what the filling requires
             pub lists-ready : (n ≤ 4096) × (Passes (walk (pairLines 0 n) s i) × ((length own ≡ 2 * n) × (length parity ≡ 2 * n)))
             unfolding RestParts
-            lists-ready = (read-small, (parts .0, list-ok))
+            lists-ready = (read-small, (parts .0, (fits .selfLength, fits .parityLength)))
 
             pub inverse-ready : (n ≤ 4096) × (Passes (walk (bitsLines n 0 n) s j) × (length w ≡ n * rowBytes n))
             unfolding RestParts
-            inverse-ready = (read-small, (parts .1, inverse-ok))
+            inverse-ready = (read-small, (parts .1, fits .inverseLength))
 
             abbrev Ws : List ℕ
             Ws = values (walk (pairLines 0 n) s i)
@@ -208,8 +154,8 @@ module _ (s own parity w : List ℕ) where
             abbrev Us : List ℕ
             Us = values (walk (bitsLines n 0 n) s j)
 
-            order-ok : n ≡ order (kitParams s)
-            order-ok = order-is s d at open-is n (en .0)
+            order-ok : order (kitParams s) ≡ n
+            order-ok = sym (order-is s d at open-is n (en .0))
 
             shows : valuesOf (bodyScan s) ≡ Ws ++ Us
             unfolding RestParts
@@ -224,30 +170,12 @@ module _ (s own parity w : List ℕ) where
                 let (q, e) = passes-past (walk (pairLines 0 n) s i) (lists-ready .1 .0) in
                 pairs-walked n s i Ws q (omega (arith, read-small)) e
 
-            first-part : take (2 * order (kitParams s)) (valuesOf (bodyScan s)) ≡ Ws
-            first-part = ap (λ (k : ℕ). take (2 * k) (valuesOf (bodyScan s))) (sym order-ok) ∙ ap (take (2 * n)) shows ∙ take-at Ws Us (2 * n) count
-
-            last-part : drop (2 * order (kitParams s)) (valuesOf (bodyScan s)) ≡ Us
-            last-part = ap (λ (k : ℕ). drop (2 * k) (valuesOf (bodyScan s))) (sym order-ok) ∙ ap (drop (2 * n)) shows ∙ drop-at Ws Us (2 * n) count
-
-            self-is : packs (firsts Ws) ≡ selfOf s
-            unfolding selfOf
-            self-is = sym (ap (λ (l : List ℕ). packs (firsts l)) first-part)
-
-            parity-is : packs (seconds Ws) ≡ parityOf s
-            unfolding parityOf
-            parity-is = sym (ap (λ (l : List ℕ). packs (seconds l)) first-part)
-
-            inverse-is : packRows n n Us ≡ inverseOf s
-            unfolding inverseOf
-            inverse-is = ap (λ (k : ℕ). packRows k k Us) order-ok ∙ sym (ap (packRows (order (kitParams s)) (order (kitParams s))) last-part)
-
             pub read-whole : (own′ parity′ w′ : List ℕ) → own′ ≡ packs (firsts (values (walk (pairLines 0 n) s i)))
                 → parity′ ≡ packs (seconds (values (walk (pairLines 0 n) s i))) → w′ ≡ packRows n n (values (walk (bitsLines n 0 n) s j))
                 → Leaves (Kit d) s own parity w own′ parity′ w′
             unfolding kitScanVerdict restVerdict
             read-whole own′ parity′ w′ a b c =
                 leaves-new (Kit d) s own parity w (sym (ap restVerdict h) ∙ rest-is) (kit-design s d at open-is n (en .0)) refl own′ parity′ w′
-                (a ∙ self-is)
-                (b ∙ parity-is)
-                (c ∙ inverse-is)
+                (a ∙ sym (self-shown s n Ws Us order-ok shows count))
+                (b ∙ sym (parity-shown s n Ws Us order-ok shows count))
+                (c ∙ sym (inverse-shown s n Ws Us order-ok shows count))

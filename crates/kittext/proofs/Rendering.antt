@@ -8,7 +8,7 @@ use Prim.Native.Nat.{ℕ, zero, suc, _+_, _*_, _/_, _%_, _^_, _<_}
 use mathlib.Core.Path.{_≡_, refl, sym, ap, ap₂, _∙_}
 use mathlib.Core.List.{List, [], _∷_, _++_}
 use native.Mathlib.Omega.{arith}
-use native.Mathlib.Nat.{not-suc-le-zero, le-of-suc-le-suc, pow-succ', div-le-self, div-div-eq-div-mul}
+use native.Mathlib.Nat.{add-zero, not-suc-le-zero, le-of-suc-le-suc, pow-succ', div-le-self, div-div-eq-div-mul}
 use lib.ListN.{length, getD, take, drop, List·getD-append}
 use lib.Seq.{getD-take, getD-drop, getD-append-add, drop-drop}
 use Rattle.formats.specs.Format.{byte, dec}
@@ -31,6 +31,9 @@ unfolding concat
 concat-same zero f g h = refl
 concat-same (suc n) f g h =
     ap₂ (λ (x y : List ℕ). x ++ y) (h zero (omega arith)) (concat-same n (λ k. f (suc k)) (λ k. g (suc k)) (λ k l. h (suc k) (omega arith)))
+
+shift : (x i : ℕ) → suc x + i ≡ x + suc i
+shift x i = omega arith
 
 -- ---- the lists' lines
 
@@ -76,15 +79,9 @@ pairs-one k p ws P ih =
     P .spelt
     ∙ ap (λ (l : List ℕ). pairText p (P .a) (P .b) ++ l)
     (ih ∙ concat-same k _ (λ i. pairText (p + suc i) (getD (firsts (P .vs)) i 0) (getD (seconds (P .vs)) i 0))
-    (λ i l. ap (λ (x : ℕ). pairText x (getD (firsts (P .vs)) i 0) (getD (seconds (P .vs)) i 0)) (moved p i)))
-    ∙ ap (λ (x : ℕ). pairText x (P .a) (P .b) ++ concat k (λ i. pairText (p + suc i) (getD (firsts (P .vs)) i 0) (getD (seconds (P .vs)) i 0))) (zero-right p)
+    (λ i l. ap (λ (x : ℕ). pairText x (getD (firsts (P .vs)) i 0) (getD (seconds (P .vs)) i 0)) (shift p i)))
+    ∙ ap (λ (x : ℕ). pairText x (P .a) (P .b) ++ concat k (λ i. pairText (p + suc i) (getD (firsts (P .vs)) i 0) (getD (seconds (P .vs)) i 0))) (sym (add-zero p))
     ∙ ap (λ (l : List ℕ). concat (suc k) (λ i. pairText (p + i) (getD (firsts l) i 0) (getD (seconds l) i 0))) (sym (P .all))
-  where
-    moved : (x i : ℕ) → suc x + i ≡ x + suc i
-    moved x i = omega arith
-
-    zero-right : (x : ℕ) → x ≡ x + 0
-    zero-right x = omega arith
 
 pub pairs-render : (k p : ℕ) (ws : List ℕ) → Fit (pairLines p k) ws
     → spell (pairLines p k) ws ≡ concat k (λ i. pairText (p + i) (getD (firsts ws) i 0) (getD (seconds ws) i 0))
@@ -175,12 +172,6 @@ rows-one n k p ws S ih =
     count : length (S .us) ≡ n
     count = row-count n p (S .us) (S .left)
 
-    zero-right : (x : ℕ) → x ≡ x + 0
-    zero-right x = omega arith
-
-    moved : (x i : ℕ) → suc x + i ≡ x + suc i
-    moved x i = omega arith
-
     here : (j : ℕ) → j < n → getD (S .us) j 0 ≡ getD ws (0 * n + j) 0
     here j l =
         let z : j ≡ 0 * n + j = omega arith in
@@ -192,12 +183,12 @@ rows-one n k p ws S ih =
         sym (getD-append-add (S .us) (S .vs) (i * n + j) 0) ∙ ap (λ (x : List ℕ). getD x (length (S .us) + (i * n + j)) 0) (sym (S .all)) ∙ ap (λ (k : ℕ). getD ws k 0) z
 
     first : rowText n p (λ j. getD (S .us) j 0) ≡ rowText n (p + 0) (λ j. getD ws (0 * n + j) 0)
-    first = row-same n p (λ j. getD (S .us) j 0) (λ j. getD ws (0 * n + j) 0) here ∙ ap (λ (x : ℕ). rowText n x (λ j. getD ws (0 * n + j) 0)) (zero-right p)
+    first = row-same n p (λ j. getD (S .us) j 0) (λ j. getD ws (0 * n + j) 0) here ∙ ap (λ (x : ℕ). rowText n x (λ j. getD ws (0 * n + j) 0)) (sym (add-zero p))
 
     later : (i : ℕ) → i < k → rowText n (suc p + i) (λ j. getD (S .vs) (i * n + j) 0) ≡ rowText n (p + suc i) (λ j. getD ws (suc i * n + j) 0)
     later i l =
         row-same n (suc p + i) (λ j. getD (S .vs) (i * n + j) 0) (λ j. getD ws (suc i * n + j) 0) (λ j q. there i j)
-        ∙ ap (λ (x : ℕ). rowText n x (λ j. getD ws (suc i * n + j) 0)) (moved p i)
+        ∙ ap (λ (x : ℕ). rowText n x (λ j. getD ws (suc i * n + j) 0)) (shift p i)
 
 pub rows-render : (n k p : ℕ) (ws : List ℕ) → Fit (bitsLines n p k) ws → spell (bitsLines n p k) ws ≡ concat k (λ i. rowText n (p + i) (λ j. getD ws (i * n + j) 0))
 unfolding bitsLines concat

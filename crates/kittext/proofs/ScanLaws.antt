@@ -1,6 +1,7 @@
 -- The verdict of a kit text, as the code has it.
---   small-order                 a design that is allowed has at most 4,096 entries a list
+--   front-then, refusal-first   the two lines and the design, and then other rules
 --   Opens, opens                what is known of a text whose two lines and design are right
+--   small-order .. kit-design   its sizes, its rest and its design
 --   scan-none .. scan-whole     `scan_kit`
 -- Assumes nothing.
 use Prim.Native.Nat.{ℕ, _*_, _≤_, _<_}
@@ -25,9 +26,14 @@ use Rattle.kitscan.specs.declared.Front.the-variants.{Starts, Ruled, NoStart}
 use Rattle.kitscan.specs.declared.Rest.{Rest}
 use Rattle.kitscan.specs.declared.Rest.the-variants.{Whole, NotWhole}
 
-pub then-three : (u v w : Verdict) → ((u then v) then w) ≡ (u then (v then w))
+then-three : (u v w : Verdict) → ((u then v) then w) ≡ (u then (v then w))
 then-three accepted v w = refl
 then-three (refused n p) v w = refl
+
+-- the two lines and the design, and then any rule
+pub front-then : (s : List ℕ) (u v : Verdict) → frontRule s ≡ v → (headRule s then designRules (headNumber s 0) (headNumber s 1) (headNumber s 2) then u) ≡ (v then u)
+unfolding frontRule
+front-then s u v e = sym (then-three (headRule s) (designRules (headNumber s 0) (headNumber s 1) (headNumber s 2)) u) ∙ ap (λ (w : Verdict). w then u) e
 
 pub refusal-first : (r : Refusal) (v : Verdict) → (refusalVerdict r then v) ≡ refusalVerdict r
 unfolding verdictOf
@@ -79,26 +85,20 @@ module _ (s : List ℕ) (d : Design) (at : ℕ) (o : Opens s d at) (n : ℕ) (en
 
 -- ---- the scan
 
-scan-parts : (s : List ℕ) → scanKit s ≡ (frontRule s then bodyRule s)
-unfolding scanKit frontRule
-scan-parts s = sym (then-three (headRule s) (designRules (headNumber s 0) (headNumber s 1) (headNumber s 2)) (bodyRule s))
-
-from-front : (s : List ℕ) (v : Verdict) → frontRule s ≡ v → scanKit s ≡ (v then bodyRule s)
-from-front s v e = scan-parts s ∙ ap (λ (u : Verdict). u then bodyRule s) e
-
 module _ (s : List ℕ) (f : Front) (ef : (frontVerdict f ≡ frontRule s) × FrontIs f s) where
   pub scan-none : (q : ℕ) → f ≡ NoStart q → (kitScanVerdict (Broken q) ≡ scanKit s) × KitDesign (Broken q) s
-  unfolding kitScanVerdict KitDesign
-  scan-none q g = (sym (from-front s (refused 11 q) (front-broken s f ef q g)), tt)
+  unfolding kitScanVerdict KitDesign scanKit
+  scan-none q g = (sym (front-then s (bodyRule s) (refused 11 q) (front-broken s f ef q g)), tt)
 
   pub scan-ruled : (r : Refusal) → f ≡ Ruled r → (kitScanVerdict (Refused r) ≡ scanKit s) × KitDesign (Refused r) s
-  unfolding kitScanVerdict KitDesign
-  scan-ruled r g = (sym (from-front s (refusalVerdict r) (front-refused s f ef r g) ∙ refusal-first r (bodyRule s)), tt)
+  unfolding kitScanVerdict KitDesign scanKit
+  scan-ruled r g = (sym (front-then s (bodyRule s) (refusalVerdict r) (front-refused s f ef r g) ∙ refusal-first r (bodyRule s)), tt)
 
   module _ (d : Design) (at : ℕ) (g : f ≡ Starts d at) (n : ℕ) (en : (n ≡ d .size * (d .m * d .t)) × (n < 4294967296))
       (x : Rest) (ex : (restVerdict x ≡ restRule n s at) × RestParts x n s at) where
     scan-rest : restVerdict x ≡ scanKit s
-    scan-rest = ex .0 ∙ sym (rule-is s d at (opens s f ef d at g) n (en .0)) ∙ sym (from-front s accepted (opens s f ef d at g .rule))
+    unfolding scanKit
+    scan-rest = ex .0 ∙ sym (rule-is s d at (opens s f ef d at g) n (en .0)) ∙ sym (front-then s (bodyRule s) accepted (opens s f ef d at g .rule))
 
     pub scan-not : (q : ℕ) → x ≡ NotWhole q → (kitScanVerdict (Broken q) ≡ scanKit s) × KitDesign (Broken q) s
     unfolding kitScanVerdict KitDesign restVerdict

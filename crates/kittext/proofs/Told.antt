@@ -1,37 +1,34 @@
 -- What an accepted text shows: the values of its lines, its bytes, and the lists and the inverse that the reader leaves.
 --   Told, kit-told                  the values of the lists' lines and of the rows' lines, and the text of them
---   self-told .. inverse-told       the lists and the inverse
---   halves, fit-long                lengths
+--   fit-long                        each value shows at least one byte
 --   rendered                        the text of the lists and the inverse
 -- Assumes nothing.
-use Prim.Native.Nat.{ℕ, zero, suc, _+_, _*_, _≤_, _<_}
+use Prim.Native.Nat.{ℕ, _+_, _*_, _≤_, _<_}
 use mathlib.Core.Path.{_≡_, refl, sym, ap, ap₂, _∙_}
 use mathlib.Core.List.{List, [], _∷_, _++_, append-nil}
 use native.Mathlib.Omega.{arith}
-use lib.ListN.{length, getD, take, drop, length-append}
-use lib.Seq.{take-at, drop-at}
+use lib.ListN.{length, getD, drop, length-append}
 use Rattle.formats.specs.Format as format
 use Rattle.formats.specs.Format.{Item, byte, num, bit, dec, Scan, scan, end}
-use Rattle.formats.specs.Items.{Walk, stuck, past, walk, spell, Fit, bitsLines, seq, scanAt}
+use Rattle.formats.specs.Items.{Walk, stuck, past, walk, spell, Fit, bitsLines, seq, moved, scanAt}
 use Rattle.formats.proofs.Items.{dec-long}
 use Rattle.formats.proofs.Parts.{fit-split, lits-first}
-use Rattle.formats.proofs.Spelling.{continue, scan-seq, tidy-oks, walk-sound}
-use Rattle.readers.specs.Verdicts.{scanRule, valuesOf}
+use Rattle.formats.proofs.Spelling.{continue, prefix, scan-seq, tidy-oks, walk-sound}
+use Rattle.readers.specs.Verdicts.{valuesOf}
 use Rattle.staircase.specs.Design.{order}
 use Rattle.staircase.specs.Lists.{concat}
 use Rattle.staircase.specs.System.{inverseEntry}
-use Rattle.staircase.specs.Rules.{Verdict, _then_, designRules, entries}
+use Rattle.staircase.specs.Rules.{entries}
 use Rattle.staircase.specs.Rules.Verdict.{accepted, refused}
-use Rattle.staircase.proofs.Rules.{then-first, then-rest}
-use Rattle.kitscan.specs.KitText.{headBytes, listNames, rowNames, pairLines, kitBody, kitFormat}
+use Rattle.kitscan.specs.KitText.{headBytes, listNames, rowNames, pairLines, kitBody}
 use Rattle.kitfill.specs.Bytes.{firsts, seconds, packs, packRows}
 use Rattle.kittext.specs.Reader.{headNumber, kitParams, bodyScan, scanKit, selfOf, parityOf, inverseOf}
 use Rattle.kitscan.specs.Answers.{restFormat, tailItems}
 use Rattle.kittext.specs.Rendered.{pairText, rowText}
-use Rattle.kittext.proofs.Counting.{pairs-count}
+use Rattle.kittext.proofs.Counting.{pairs-count, self-shown, parity-shown, inverse-shown}
 use Rattle.kittext.proofs.KitTexts.{tidy-body, head-passed, kit-rest}
 use Rattle.kittext.proofs.Rendering.{concat-same, pairs-render, values-small, entry-of, row-same, rows-bits, rows-render, inverse-of}
-use Rattle.kittext.proofs.Judged.{passing-small, Found, shown, order-found, body-found, scan-found, accepted-found, rule-read}
+use Rattle.kittext.proofs.Judged.{order-small, shown, order-found, body-found, Accepted, accepted-is}
 
 -- ---- what an accepted text shows
 
@@ -75,7 +72,7 @@ end-read : (s : List ℕ) (q L : ℕ) (vs : List ℕ) → scanAt (end 0) s q ≡
 unfolding scanAt
 end-read s q L vs e = go (drop q s) e
   where
-    go : (l : List ℕ) → Rattle.formats.specs.Items.moved q (scan (end 0) l) ≡ format.read L vs → (l ≡ []) × (vs ≡ [])
+    go : (l : List ℕ) → moved q (scan (end 0) l) ≡ format.read L vs → (l ≡ []) × (vs ≡ [])
     go [] f = (refl, cc)
     go (x ∷ l) f = let z : _≡_ {A = ℕ} 0 1 = cc in absurd (omega arith)
 
@@ -83,7 +80,7 @@ items-read : (is : List Item) (s : List ℕ) (q L : ℕ) (vs : List ℕ) → sca
     → (e : ℕ) × (walk is s q ≡ past vs e) × (drop e s ≡ [])
 items-read is s q L vs f = go (walk is s q) refl (sym (scan-seq is (end 0) s q) ∙ f)
   where
-    last : (ws : List ℕ) (e : ℕ) (x : Scan) → scanAt (end 0) s e ≡ x → Rattle.formats.proofs.Spelling.prefix ws x ≡ format.read L vs → (ws ≡ vs) × (drop e s ≡ [])
+    last : (ws : List ℕ) (e : ℕ) (x : Scan) → scanAt (end 0) s e ≡ x → prefix ws x ≡ format.read L vs → (ws ≡ vs) × (drop e s ≡ [])
     last ws e (format.refused k) g h = let z : _≡_ {A = ℕ} 0 1 = cc in absurd (omega arith)
     last ws e (format.read l us) g h =
         let (a, b) = end-read s e l us g in
@@ -96,27 +93,27 @@ items-read is s q L vs f = go (walk is s q) refl (sym (scan-seq is (end 0) s q) 
         let (a, b) = last ws k (scanAt (end 0) s k) refl g in
         (k, e ∙ ap (λ (z : List ℕ). past z k) a, b)
 
+-- a text that is a and then b, which is x
+joined : (s a b x : List ℕ) (q e : ℕ) → s ≡ a ++ drop q s → drop q s ≡ b ++ drop e s → drop e s ≡ [] → b ≡ x → s ≡ a ++ x
+joined s a b x q e h p z f = h ∙ ap (λ (l : List ℕ). a ++ l) (p ∙ ap (λ (l : List ℕ). b ++ l) z ∙ append-nil b ∙ f)
+
 pub kit-told : (s : List ℕ) → scanKit s ≡ accepted → Told s (order (kitParams s))
 unfolding valuesOf
-kit-told s acc = go (accepted-found s acc)
+kit-told s acc = go (accepted-is s acc)
   where
     told : (n : ℕ) → order (kitParams s) ≡ n → Told s n → Told s (order (kitParams s))
     told n e T = rw e T
 
-    go : Found s → Told s (order (kitParams s))
-    go F =
+    go : Accepted s → Told s (order (kitParams s))
+    go A =
+        let F = A .found in
         let S = shown s F in
         let n : ℕ = F .M * (F .m * F .t) in
-        let d : Verdict = designRules (F .m) (F .t) (F .M) in
-        let r : Verdict = scanRule 11 (scan (kitFormat (F .m) (F .t) (F .M)) s) in
-        let g : (d then r) ≡ accepted = sym (scan-found s F) ∙ acc in
-        let (L, vs, h) = rule-read (scan (kitFormat (F .m) (F .t) (F .M)) s) (then-rest d r g) in
-        let p = passing-small (F .m) (F .t) (F .M) (then-first d r g) in
-        let b : scanAt (restFormat n) s (F .q) ≡ format.read L vs = sym (kit-rest s (F .m) (F .t) (F .M) (F .q) (F .lines)) ∙ h in
-        let (e, w, z) = items-read (kitBody n) s (F .q) L vs b in
-        let P = walk-sound (kitBody n) s (F .q) vs e (tidy-oks (kitBody n) (tidy-body n (omega (arith, p .1)))) w in
-        let B = body-parts n vs (P .fit) in
-        let H = head-passed s (F .m) (F .t) (F .M) (F .q) (F .lines) in
+        let p : n ≤ 4096 = order-small (F .m) (F .t) (F .M) (A .passing) in
+        let b : scanAt (restFormat n) s (F .q) ≡ format.read (A .mark) (A .vs) = sym (kit-rest s (F .m) (F .t) (F .M) (F .q) (F .lines)) ∙ A .scanned in
+        let (e, w, z) = items-read (kitBody n) s (F .q) (A .mark) (A .vs) b in
+        let P = walk-sound (kitBody n) s (F .q) (A .vs) e (tidy-oks (kitBody n) (tidy-body n (omega arith))) w in
+        let B = body-parts n (A .vs) (P .fit) in
         told n (order-found s F)
         (record {
           order-is = order-found s F;
@@ -127,42 +124,23 @@ kit-told s acc = go (accepted-found s acc)
           values-are = ap valuesOf (body-found s F ∙ b) ∙ B .values-are;
           text =
               rw (S .first, S .second, S .third)
-              (H .spelt
-              ∙ ap (λ (l : List ℕ). headBytes (F .m) (F .t) (F .M) ++ l)
-              (P .spelt ∙ ap (λ (l : List ℕ). spell (kitBody n) vs ++ l) z ∙ append-nil (spell (kitBody n) vs) ∙ B .spelt));
+              (joined s (headBytes (F .m) (F .t) (F .M)) (spell (kitBody n) (A .vs)) _ (F .q) e (head-passed s (F .m) (F .t) (F .M) (F .q) (F .lines) .spelt) (P .spelt) z (B .spelt));
         })
 
 -- ---- its lists and its inverse
 
-pub halves : (k : ℕ) (l : List ℕ) → length l ≡ 2 * k → (length (firsts l) ≡ k) × (length (seconds l) ≡ k)
-unfolding firsts seconds
-halves zero [] e = (refl, refl)
-halves zero (a ∷ l) e = absurd (omega arith)
-halves (suc k) [] e = absurd (omega arith)
-halves (suc k) (a ∷ []) e = absurd (omega arith)
-halves (suc k) (a ∷ b ∷ l) e = let i = halves k l (omega arith) in (ap suc (i .0), ap suc (i .1))
-
 module _ (s : List ℕ) (n : ℕ) (T : Told s n) where
-  pub pairs-are : length (T .ps) ≡ 2 * n
+  pairs-are : length (T .ps) ≡ 2 * n
   pairs-are = pairs-count n 0 (T .ps) (T .pairs-fit)
 
-  pub lists-told : take (2 * order (kitParams s)) (valuesOf (bodyScan s)) ≡ T .ps
-  lists-told = rw (T .order-is, T .values-are) (take-at (T .ps) (T .rs) (2 * n) pairs-are)
+  self-told : selfOf s ≡ packs (firsts (T .ps))
+  self-told = self-shown s n (T .ps) (T .rs) (T .order-is) (T .values-are) pairs-are
 
-  pub rows-told : drop (2 * order (kitParams s)) (valuesOf (bodyScan s)) ≡ T .rs
-  rows-told = rw (T .order-is, T .values-are) (drop-at (T .ps) (T .rs) (2 * n) pairs-are)
+  parity-told : parityOf s ≡ packs (seconds (T .ps))
+  parity-told = parity-shown s n (T .ps) (T .rs) (T .order-is) (T .values-are) pairs-are
 
-  pub self-told : selfOf s ≡ packs (firsts (T .ps))
-  unfolding selfOf
-  self-told = ap (λ (l : List ℕ). packs (firsts l)) lists-told
-
-  pub parity-told : parityOf s ≡ packs (seconds (T .ps))
-  unfolding parityOf
-  parity-told = ap (λ (l : List ℕ). packs (seconds l)) lists-told
-
-  pub inverse-told : inverseOf s ≡ packRows n n (T .rs)
-  unfolding inverseOf
-  inverse-told = ap (packRows (order (kitParams s)) (order (kitParams s))) rows-told ∙ ap (λ (k : ℕ). packRows k k (T .rs)) (T .order-is)
+  inverse-told : inverseOf s ≡ packRows n n (T .rs)
+  inverse-told = inverse-shown s n (T .ps) (T .rs) (T .order-is) (T .values-are) pairs-are
 
 -- each value shows at least one byte
 pub fit-long : (is : List Item) (ws : List ℕ) → Fit is ws → length ws ≤ length (spell is ws)

@@ -1,11 +1,12 @@
 -- Document 01: "The reader takes two lines (11, where any numbers of one to four digits will do), then 1 to 3, 6, then the rest (11); it doesn't
 -- judge lists."
---   headNumber, kitParams       the numbers of the second line, and what they make
---   Passing                     the designs that rules 1 to 3 let through
---   headRule, bodyRule          rule 11 for the two lines, and for the rest
---   scanKit                     the scan: no slices are lent to it, so it has no rule 6
---   selfOf, parityOf, inverseOf the lists and the inverse that a text shows
---   readKitCall                 the reader: its verdict, and what it leaves in the three lent slices
+--   headNumber, kitParams         the numbers of the second line (kitscan/specs/TwoLines.antt), and the sizes that they make
+--   Passing                       the designs that rules 1 to 3 let through
+--   headRule, bodyScan, bodyRule  rule 11 for the two lines (there), the scan of the rest, and rule 11 for it
+--   scanKit                       the scan: no slices are lent to it, so it has no rule 6
+--   selfOf, parityOf, inverseOf   the lists and the inverse that a text shows
+--   readKitCall                   the reader: its verdict, and what it leaves in the three lent slices
+--   kitScanVerdict, KitDesign     what an answer says: its verdict, and its design
 -- Assumes nothing.
 use mathlib.Core.List.{List}
 use mathlib.Core.Path.{_≡_}

@@ -1,4 +1,4 @@
--- The characters of bits: how many they are, and each of them.
+-- The characters of bits: how many they are (length-chars), and each of them (chars-at).
 -- Assumes nothing.
 use Prim.Native.Nat.{ℕ, zero, suc, _+_, _%_, _<_}
 use mathlib.Core.Path.{_≡_, refl, ap}

@@ -1,4 +1,7 @@
 -- Lines put together from their parts, and their lengths.
+--   bits-length .. counts-length   the length of each line
+--   put-snoc                       bytes and the byte behind them
+--   block-put .. counts-put        the parts of each line, one put behind another, are the line
 -- Assumes nothing.
 use Prim.Native.Nat.{ℕ, _+_}
 use mathlib.Core.Path.{_≡_, refl}
@@ -43,7 +46,6 @@ counts-length rounds turned outside =
     omega (arith, first, second, snoc-length (dec outside) 10)
 
 -- THE PARTS. Each is n bytes with one byte behind them.
--- The bytes, and the byte behind them.
 pub put-snoc : (o xs : List ℕ) (b at n : ℕ) {o₁ o₂ : List ℕ} {i r : ℕ} → length xs ≡ n → (i ≡ at + n) × (o₁ ≡ sets o at xs)
     → (r ≡ i + 1) × (o₂ ≡ sets o₁ i (b ∷ [])) → (r ≡ at + (n + 1)) × (o₂ ≡ sets o at (xs ++ (b ∷ [])))
 put-snoc o xs b at n {o₁} {o₂} {i} {r} e p q =

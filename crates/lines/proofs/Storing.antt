@@ -1,4 +1,7 @@
 -- Runs of stores, one after another.
+--   sets-append, put-then               one run behind another
+--   put-one, put-last                   `put_digits`
+--   Copied, copied-none .. copied-all   a text copied byte by byte
 -- Assumes nothing.
 use Prim.Native.Nat.{ℕ, suc, _+_, _/_, _%_, _^_, _≤_, _<_}
 use mathlib.Core.Path.{_≡_, refl, sym, ap, _∙_}
@@ -6,10 +9,10 @@ use mathlib.Core.List.{List, [], _∷_, _++_}
 use native.Mathlib.Omega.{arith}
 use native.Mathlib.Nat.{add-zero}
 use native.Mathlib.Numerals.{add-one}
-use lib.ListN.{length, set, drop, getD, length-append, drop-of-length-le}
+use lib.ListN.{length, set, drop, getD, length-set, length-append, drop-of-length-le}
 use lib.Seq.{sets, drop-cons}
 use Rattle.formats.specs.Format.{dec}
-use Rattle.formats.proofs.Digits.{dec1}
+use Rattle.formats.proofs.Digits.{dec-one}
 use Rattle.lines.proofs.Decimal.{dec-more}
 
 -- One run after another is their bytes in one run.
@@ -33,24 +36,28 @@ put-byte o at v = (refl, refl)
 
 -- A number below 10, and a number's last digit behind the others.
 pub put-one : (o : List ℕ) (at v : ℕ) → v < 10 → (at + 1 ≡ at + length (dec v)) × (set o at (48 + v) ≡ sets o at (dec v))
-put-one o at v h = rw (dec1 v h) (put-byte o at (48 + v))
+put-one o at v h = rw (dec-one v h) (put-byte o at (48 + v))
 
 pub put-last : (o : List ℕ) (at v : ℕ) {o₁ : List ℕ} {i : ℕ} → 10 ≤ v → v < 2 ^ 64
     → (i ≡ at + length (dec (v / 10))) × (o₁ ≡ sets o at (dec (v / 10)))
     → (i + 1 ≡ at + length (dec v)) × (set o₁ i (48 + v % 10) ≡ sets o at (dec v))
 put-last o at v {o₁} {i} l h p = rw (dec-more v l h) (put-then o (dec (v / 10)) ((48 + v % 10) ∷ []) at p (put-byte o₁ i (48 + v % 10)))
 
--- A text copied byte by byte, one byte more: what is left of it, written behind what stands there, gives the same bytes.
-pub copy-more : (o t : List ℕ) (at i : ℕ) → i < length t → sets o (at + i) (drop i t) ≡ sets (set o (at + i) (getD t i 0)) (at + (i + 1))
-    (drop (i + 1) t)
-copy-more o t at i h =
-    let e : suc (at + i) ≡ at + (i + 1) = omega arith in
-    ap (sets o (at + i)) (drop-cons t i 0 h)
-    ∙ ap (λ (k : ℕ). sets (set o (at + i) (getD t i 0)) k (drop (suc i) t)) e
-    ∙ ap (λ (k : ℕ). sets (set o (at + i) (getD t i 0)) (at + (i + 1)) (drop k t)) (sym (add-one i))
+-- i bytes of the text t are copied: what is left of it, written behind them, gives the bytes that are asked for.
+pub record Copied (o₀ t : List ℕ) (at : ℕ) (o : List ℕ) (i : ℕ) : Type 0 where
+  pub same : length o ≡ length o₀
+  pub left : sets o (at + i) (drop i t) ≡ sets o₀ at t
 
-pub copy-start : (o t : List ℕ) (at : ℕ) → sets o (at + 0) (drop 0 t) ≡ sets o at t
-copy-start o t at = ap (λ (k : ℕ). sets o k t) (add-zero at)
+module _ (o₀ t : List ℕ) (at : ℕ) where
+  pub copied-none : Copied o₀ t at o₀ 0
+  copied-none = record { same = refl; left = ap (λ (k : ℕ). sets o₀ k t) (add-zero at) }
 
-pub copy-end : (o t : List ℕ) (at i : ℕ) → length t ≤ i → sets o (at + i) (drop i t) ≡ o
-copy-end o t at i h = ap (sets o (at + i)) (drop-of-length-le t h)
+  module _ (o : List ℕ) (i : ℕ) (C : Copied o₀ t at o i) where
+    pub copied-more : (v : ℕ) → i < length t → v ≡ getD t i 0 → Copied o₀ t at (set o (at + i) v) (i + 1)
+    copied-more v h e =
+        let k : suc (at + i) ≡ at + (i + 1) = omega arith in
+        let l : sets o (at + i) (getD t i 0 ∷ drop (suc i) t) ≡ sets o₀ at t = sym (ap (sets o (at + i)) (drop-cons t i 0 h)) ∙ C .left in
+        record { same = length-set o (at + i) v ∙ C .same; left = rw (e, ← k, add-one i) l }
+
+    pub copied-all : length t ≤ i → o ≡ sets o₀ at t
+    copied-all h = sym (ap (sets o (at + i)) (drop-of-length-le t h)) ∙ C .left

@@ -1,4 +1,9 @@
 -- Bits, and the lines of a number and bits, as the code has them.
+--   bits-done .. bits-all               `bit_run`: the bits from i on
+--   step-of, answer-stuck, answer-past  a walk, by the answer to it
+--   stops-first, goes-on                items one after the other, by the answers to each
+--   part-space, part-bits               `bits_part`
+--   line-number, line-bits, line-end    `bits_line`
 -- Assumes nothing.
 use Prim.Native.Nat.{ℕ, suc, _+_, _-_, _≤_, _<_}
 use mathlib.Core.Path.{_≡_, refl, sym, ap, _∙_}
@@ -6,9 +11,8 @@ use mathlib.Core.List.{List, [], _∷_, _++_, append-assoc}
 use native.Mathlib.Omega.{arith}
 use lib.ListN.{length, getD, List·getD-eq-default}
 use Rattle.formats.specs.Format.{Item, byte, bit, dec}
-use Rattle.formats.specs.Items.{lits, Walk, stuck, past, prep, walk, onward}
+use Rattle.formats.specs.Items.{lits, Walk, stuck, past, prep, walk, onward, values, bits, bitsLine}
 use Rattle.readers.specs.Answers.{stepOf, stepWalk}
-use Rattle.formats.specs.Items.{bits, bitsLine}
 use Rattle.readers.specs.declared.Step.{Step}
 use Rattle.readers.specs.declared.Step.the-variants.{Next, Refused}
 use Rattle.formats.proofs.Walking.{bit-none, getD-any, walk-append, walk-bit}
@@ -49,25 +53,31 @@ module _ (s : List ℕ) (n i q : ℕ) where
 pub bits-all : (s : List ℕ) (n q : ℕ) → stepOf (walk (bits n) s q) ≡ stepOf (walk (bits (n - 0)) s q)
 bits-all s n q = let e : n ≡ n - 0 = omega arith in ap (λ (k : ℕ). stepOf (walk (bits k) s q)) e
 
--- Items one after the other, by the answers to each.
-onward-stop : (w : Walk) (k : ℕ → Walk) (x : Step) (q : ℕ) → x ≡ stepOf w → x ≡ Refused q → x ≡ stepOf (onward w k)
-onward-stop (stuck r) k x q e f = e
-onward-stop (past ws r) k x q e f = let z : _≡_ {A = ℕ} 0 1 = cc in absurd (omega arith)
-
-onward-on : (w : Walk) (k : ℕ → Walk) (x : Step) (q : ℕ) → x ≡ stepOf w → x ≡ Next q → stepOf (onward w k) ≡ stepOf (k q)
-onward-on (stuck r) k x q e f = let z : _≡_ {A = ℕ} 0 1 = cc in absurd (omega arith)
-onward-on (past ws r) k x q e f = let z : r ≡ q = cc in step-prep ws (k r) ∙ ap (λ (y : ℕ). stepOf (k y)) z
-
+-- A walk, by the answer to it.
 pub step-of : (x : Step) (w : Walk) → stepWalk x ≡ w → x ≡ stepOf w
 step-of (Next q) w e = ap stepOf e
 step-of (Refused q) w e = ap stepOf e
 
+pub answer-stuck : (w : Walk) (x : Step) (q : ℕ) → x ≡ stepOf w → x ≡ Refused q → w ≡ stuck q
+answer-stuck (stuck k) x q e f = let z : k ≡ q = cc in ap stuck z
+answer-stuck (past ws k) x q e f = let z : _≡_ {A = ℕ} 0 1 = cc in absurd (omega arith)
+
+pub answer-past : (w : Walk) (x : Step) (q : ℕ) → x ≡ stepOf w → x ≡ Next q → w ≡ past (values w) q
+answer-past (stuck k) x q e f = let z : _≡_ {A = ℕ} 0 1 = cc in absurd (omega arith)
+answer-past (past ws k) x q e f = let z : k ≡ q = cc in ap (λ (i : ℕ). past ws i) z
+
+-- Items one after the other, by the answers to each.
 module _ (is js : List Item) (s : List ℕ) (at : ℕ) (x : Step) (e : x ≡ stepOf (walk is s at)) where
+  from-first : (w : Walk) → walk is s at ≡ w → stepOf (onward w (λ i. walk js s i)) ≡ stepOf (walk (is ++ js) s at)
+  from-first w f = sym (ap stepOf (walk-append is js s at ∙ ap (λ (u : Walk). onward u (λ i. walk js s i)) f))
+
   pub stops-first : (q : ℕ) → x ≡ Refused q → x ≡ stepOf (walk (is ++ js) s at)
-  stops-first q f = onward-stop (walk is s at) (λ i. walk js s i) x q e f ∙ ap stepOf (sym (walk-append is js s at))
+  stops-first q f = f ∙ from-first (stuck q) (answer-stuck (walk is s at) x q e f)
 
   pub goes-on : (i : ℕ) → x ≡ Next i → (y : Step) → y ≡ stepOf (walk js s i) → y ≡ stepOf (walk (is ++ js) s at)
-  goes-on i f y g = g ∙ sym (ap stepOf (walk-append is js s at) ∙ onward-on (walk is s at) (λ j. walk js s j) x i e f)
+  goes-on i f y g =
+      let vs : List ℕ = values (walk is s at) in
+      g ∙ sym (step-prep vs (walk js s i)) ∙ from-first (past vs i) (answer-past (walk is s at) x i e f)
 
 -- A space and bits.
 module _ (n : ℕ) (s : List ℕ) (at : ℕ) (x : Step) (e : stepWalk x ≡ walk (byte 32 ∷ []) s at) where

@@ -1,5 +1,5 @@
 -- What the answers say.
---   digitAt, numAt       the digit and the number at a position
+--   digitAt, numAt       the answers of `digit_at` and of `number`: the digit and the number at a position
 --   stepOf               the answer to a walk, without its values
 --   stepWalk, fieldWalk  the walk that an answer tells
 -- Assumes nothing.
@@ -20,6 +20,7 @@ use Rattle.readers.specs.declared.Field.the-variants.{Got, Stop}
 unfoldable pub digitAt : List ℕ → ℕ → ℕ
 digitAt s i = cond (digit (getD s i 256)) (getD s i 256 - 48) 10
 
+-- The number of n digits at the front of s, which stands at the position `at`; none where n is 0.
 abbrev pub numOf : ℕ → List ℕ → ℕ → Num
 numOf zero s at = Bad
 numOf (suc n) s at = Value (value (suc n) s) (at + suc n)
@@ -27,6 +28,7 @@ numOf (suc n) s at = Value (value (suc n) s) (at + suc n)
 unfoldable pub numAt : List ℕ → ℕ → Num
 numAt s at = numOf (numLen (drop at s)) (drop at s) at
 
+-- The answer to a walk.
 abbrev pub stepOf : Walk → Step
 stepOf (stuck q) = Refused q
 stepOf (past ws q) = Next q

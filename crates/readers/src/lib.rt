@@ -48,69 +48,28 @@ fn digit_at(s: &[u8], i: usize) -> usize
     (c - 48) as usize
 }
 
-// The number at a position.
+// The number at a position: one to four digits, the first of which is 0 only where it is the only one.
 pub fn number(s: &[u8], at: usize) -> Num
     ensures { λ r. ⌜ r ≡ numAt (now (s .entry)) at ⌝ }
 {
-    let a = digit_at(s, at);
-    if 10 <= a {
+    let first = digit_at(s, at);
+    if 10 <= first {
         return Num::Bad;
     }
-    if a == 0 {
+    if first == 0 {
         return Num::Value(0, at + 1);
     }
-    let b = digit_at(s, at + 1);
-    if 10 <= b {
-        return Num::Value(a, at + 1);
-    }
-    let c = digit_at(s, at + 2);
-    if 10 <= c {
-        return Num::Value(a * 10 + b, at + 2);
-    }
-    let d = digit_at(s, at + 3);
-    if 10 <= d {
-        return Num::Value((a * 10 + b) * 10 + c, at + 3);
-    }
-    Num::Value(((a * 10 + b) * 10 + c) * 10 + d, at + 4)
-}
-
-// The fixed bytes pat at a position.
-pub fn literal(s: &[u8], at: usize, pat: &[u8]) -> Step
-    ensures { λ r. ⌜ stepWalk r ≡ walk (lits (now (pat .entry))) (now (s .entry)) at ⌝ }
-{
-    let mut q = at;
-    let mut i = 0;
-    while i < pat.len() {
-        let b = pat[i];
-        if s.len() <= q {
-            return Step::Refused(q);
+    let mut v = first;
+    let mut n = 1;
+    while n < 4 {
+        let d = digit_at(s, at + n);
+        if 10 <= d {
+            return Num::Value(v, at + n);
         }
-        if s[q] != b {
-            return Step::Refused(q);
-        }
-        q += 1;
-        i += 1;
+        v = v * 10 + d;
+        n += 1;
     }
-    Step::Next(q)
-}
-
-// A number at a position, with the byte b after it.
-pub fn number_then(s: &[u8], at: usize, b: u8) -> Field
-    ensures { λ r. ⌜ fieldWalk r ≡ walk (num ∷ byte b ∷ []) (now (s .entry)) at ⌝ }
-{
-    let found = number(s, at);
-    match found {
-        Num::Bad => Field::Stop(at),
-        Num::Value(v, q) => {
-            if s.len() <= q {
-                return Field::Stop(q);
-            }
-            if s[q] != b {
-                return Field::Stop(q);
-            }
-            Field::Got(v, q + 1)
-        }
-    }
+    Num::Value(v, at + n)
 }
 
 // The byte b at a position.
@@ -124,6 +83,40 @@ pub fn byte_is(s: &[u8], at: usize, b: u8) -> Step
         return Step::Refused(at);
     }
     Step::Next(at + 1)
+}
+
+// A number at a position, with the byte b after it.
+pub fn number_then(s: &[u8], at: usize, b: u8) -> Field
+    ensures { λ r. ⌜ fieldWalk r ≡ walk (num ∷ byte b ∷ []) (now (s .entry)) at ⌝ }
+{
+    let found = number(s, at);
+    match found {
+        Num::Bad => Field::Stop(at),
+        Num::Value(v, q) => {
+            let end = byte_is(s, q, b);
+            match end {
+                Step::Refused(place) => Field::Stop(place),
+                Step::Next(e) => Field::Got(v, e),
+            }
+        }
+    }
+}
+
+// The fixed bytes pat at a position.
+pub fn literal(s: &[u8], at: usize, pat: &[u8]) -> Step
+    ensures { λ r. ⌜ stepWalk r ≡ walk (lits (now (pat .entry))) (now (s .entry)) at ⌝ }
+{
+    let mut q = at;
+    let mut i = 0;
+    while i < pat.len() {
+        let step = byte_is(s, q, pat[i]);
+        let Step::Next(e) = step else {
+            return step;
+        };
+        q = e;
+        i += 1;
+    }
+    Step::Next(q)
 }
 
 // n bit characters at a position.

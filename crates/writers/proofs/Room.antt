@@ -1,4 +1,7 @@
--- A text where there is room for it, and where there is not: what the test of the room tells, and what is then answered and left.
+-- A text where there is room for it, and where there is not.
+--   no-fit, last-fits                  `has_room`
+--   puts-room .. after-none            what is left, and what is answered
+--   told-room, told-put, told-kept     the same, by what the test of the room told
 -- Assumes nothing.
 use Prim.Native.Nat.{ℕ, _+_, _-_, _≤_, _<_}
 use mathlib.Core.Path.{_≡_, sym, _∙_}
@@ -43,14 +46,14 @@ after-none o at t h = rw (lt-leb (at + length t) (length o) h)
 pub told-room : (o : List ℕ) (at n : ℕ) {b : Bool} → b ≡ leb (at + n) (length o) → b ≡ true → at + n ≤ length o
 told-room o at n e h = leb-true (at + n) (length o) (sym e ∙ h)
 
-pub told-put : (o : List ℕ) (at : ℕ) (t : List ℕ) (n : ℕ) {b : Bool} {o₁ : List ℕ} {r : ℕ} → b ≡ leb (at + n) (length o) → b ≡ true → length t ≡ n
+pub told-put : (o : List ℕ) (at : ℕ) (t : List ℕ) {n : ℕ} {b : Bool} {o₁ : List ℕ} {r : ℕ} → b ≡ leb (at + n) (length o) → b ≡ true → length t ≡ n
     → (r ≡ at + length t) × (o₁ ≡ sets o at t) → (r ≡ after o at t) × (o₁ ≡ puts o at t)
-told-put o at t n e h l p =
+told-put o at t {n} e h l p =
     let room : at + length t ≤ length o = omega (arith, told-room o at n e h, l) in
     (p .0 ∙ sym (after-room o at t room), p .1 ∙ sym (puts-room o at t room))
 
-pub told-kept : (o : List ℕ) (at : ℕ) (t : List ℕ) (n : ℕ) {b : Bool} → b ≡ leb (at + n) (length o) → b ≡ false → length t ≡ n
+pub told-kept : (o : List ℕ) (at : ℕ) (t : List ℕ) {n : ℕ} {b : Bool} → b ≡ leb (at + n) (length o) → b ≡ false → length t ≡ n
     → (at ≡ after o at t) × (o ≡ puts o at t)
-told-kept o at t n e h l =
+told-kept o at t {n} e h l =
     let none : length o < at + length t = omega (arith, leb-false (at + n) (length o) (sym e ∙ h), l) in
     (sym (after-none o at t none), sym (puts-none o at t none))

@@ -1,13 +1,7 @@
 -- The line is right, so its number is, and its bits stand behind the space.
 -- Assumes nothing.
 use native.Mathlib.Omega.{arith}
-use mathlib.Core.Path.{ap, _∙_}
-use mathlib.Core.List.{List}
-use Prim.Native.Nat.{ℕ}
-use lib.Seq.{sets}
-use Rattle.staircase.specs.System.{rowBytes}
-use Rattle.kitfill.specs.Bytes.{pack}
-use Rattle.kitfill.proofs.RowFilling.{row-not, row-parts, row-next, row-values}
+use Rattle.kitfill.proofs.RowFilling.{row-not, row-parts, row-next, row-packed}
 use borrow.Author.Needs.{needs}
 use Rattle.kitfill.proofs.fill_row.Statement.{statement}
 use Rattle.kitfill.proofs.fill_row.Tie as tie
@@ -49,12 +43,10 @@ same-length c = search needs
 
 returns-2 : tie.Need-returns-2
 returns-2 c =
-    let a = c .before .before .before .before .before .before .before .before .before .before .args in (
-      row-next _ _ _ _ _ (c .before .before .before .before .before .before .before .number-is .ensures) _ (c .before .before .before .before .before .number .given .1) (c .before .before .before .before .before .before .before .before .before .before .pre .1 .0),
-      c .before .before .pack-row .ensures
-          ∙ ap (λ (l : List ℕ). sets (a .out .now) (a .from) (pack (rowBytes (a .n)) l))
-          (row-values _ _ _ _ _ (c .before .before .before .before .before .before .before .number-is .ensures) _ (c .before .before .before .before .before .number .given .1) (c .before .before .before .before .before .before .before .before .before .before .pre .1 .0)),
-    )
+    let e = c .before .before .before .before .before .before .before .number-is .ensures in
+    let f = c .before .before .before .before .before .number .given .1 in
+    let h = c .before .before .before .before .before .before .before .before .before .before .pre .1 .0 in
+    (row-next _ _ _ _ _ e _ f h, row-packed _ _ _ _ _ e _ f h _ _ _ (c .before .before .pack-row .ensures))
 
 pub fill-row-spec : {M : Type 1} → statement M
 fill-row-spec =

@@ -1,6 +1,6 @@
 -- The names, the first number and the two after it.
 -- Assumes nothing.
-use Rattle.kitscan.proofs.TwoLines.{lines-names, lines-first, lines-rest}
+use Rattle.kitscan.proofs.TwoLines.{lines-names, lines-first, lines-others, lines-read}
 use borrow.Author.Needs.{needs}
 use Rattle.kitscan.proofs.read_head.Statement.{statement}
 use Rattle.kitscan.proofs.read_head.Tie as tie
@@ -26,8 +26,14 @@ enum-known-first c = search needs
 enum-known-first-2 : tie.Need-enum-known-first-2
 enum-known-first-2 c = search needs
 
-last-two-requires : tie.Need-last-two-requires
-last-two-requires c κs = search needs
+two-numbers-requires : tie.Need-two-numbers-requires
+two-numbers-requires c κs = search needs
+
+enum-known-others : tie.Need-enum-known-others
+enum-known-others c = search needs
+
+enum-known-others-2 : tie.Need-enum-known-others-2
+enum-known-others-2 c = search needs
 
 returns : tie.Need-returns
 returns c = lines-names _ _ (c .before .before .before .literal .ensures) _ (c .before .names .given .1)
@@ -36,7 +42,10 @@ returns-2 : tie.Need-returns-2
 returns-2 c = lines-first _ _ (c .before .before .before .before .before .before .before .literal .ensures) _ (c .before .before .before .before .before .names2 .given .1) _ (c .before .before .before .number-then .ensures) _ (c .before .first .given .1)
 
 returns-3 : tie.Need-returns-3
-returns-3 c = lines-rest _ _ (c .before .before .before .before .before .before .before .before .literal .ensures) _ (c .before .before .before .before .before .before .names2 .given .1) _ (c .before .before .before .before .number-then .ensures) _ _ (c .before .before .first2 .given .1) _ (c .last-two .ensures)
+returns-3 c = lines-others _ _ (c .before .before .before .before .before .before .before .before .before .before .before .literal .ensures) _ (c .before .before .before .before .before .before .before .before .before .names2 .given .1) _ (c .before .before .before .before .before .before .before .number-then .ensures) _ _ (c .before .before .before .before .before .first2 .given .1) _ (c .before .before .before .two-numbers .ensures) _ (c .before .others .given .1)
+
+returns-4 : tie.Need-returns-4
+returns-4 c = lines-read _ _ (c .before .before .before .before .before .before .before .before .before .before .before .literal .ensures) _ (c .before .before .before .before .before .before .before .before .before .names2 .given .1) _ (c .before .before .before .before .before .before .before .number-then .ensures) _ _ (c .before .before .before .before .before .first2 .given .1) _ (c .before .before .before .two-numbers .ensures) _ _ _ (c .before .others2 .given .1)
 
 pub read-head-spec : {M : Type 1} → statement M
 read-head-spec =
@@ -49,7 +58,10 @@ read-head-spec =
     number-then-requires
     enum-known-first
     enum-known-first-2
-    last-two-requires
+    two-numbers-requires
+    enum-known-others
+    enum-known-others-2
     returns
     returns-2
-    returns-3)
+    returns-3
+    returns-4)

@@ -1,25 +1,23 @@
--- What is left of the characters, written behind those that stand there, gives the bytes that the contract names.
+-- `Copied` of proofs/Storing.antt of the characters.
 -- Assumes nothing.
 use native.Mathlib.Omega.{arith}
-use mathlib.Core.Path.{_≡_, refl, sym, ap, _∙_}
-use Prim.Native.Nat.{ℕ, _+_, _-_, _%_, _≤_, _<_}
-use lib.ListN.{length, set, drop, getD, length-set}
-use lib.Seq.{sets}
+use mathlib.Core.Path.{_≡_, refl, sym}
+use Prim.Native.Nat.{_-_, _≤_, _<_}
+use lib.ListN.{length}
 use Rattle.lines.specs.Written.{chars}
 use Rattle.lines.proofs.Chars.{length-chars, chars-at}
-use Rattle.lines.proofs.Storing.{copy-more, copy-start, copy-end}
+use Rattle.lines.proofs.Storing.{Copied, copied-none, copied-more, copied-all}
 use Rattle.lines.proofs.put_bits.Statement.{statement}
 use Rattle.lines.proofs.put_bits.Tie as tie
 
 abbrev Inv-loop : tie.InvT-loop
-Inv-loop out₀ at bits i₀ i-end out i = (i-end ≡ length bits) × (i ≤ length bits) × (length out ≡ length out₀) ×
-    (sets out (at + i) (drop i (chars bits)) ≡ sets out₀ at (chars bits))
+Inv-loop out₀ at bits i₀ i-end out i = (i-end ≡ length bits) × (i ≤ length bits) × Copied out₀ (chars bits) at out i
 
 abbrev μ-loop : tie.MeasureT-loop
 μ-loop out₀ at bits i₀ i-end out i = length bits - i
 
 loop-holds : tie.Need-loop-holds Inv-loop μ-loop
-loop-holds c = let a = c .args in (refl, omega arith, refl, copy-start (a .out .now) (chars (a .bits .now)) (a .at))
+loop-holds c = (refl, omega arith, copied-none _ _ _)
 
 shared-slice-read-out : tie.Need-shared-slice-read-out Inv-loop μ-loop
 shared-slice-read-out c = omega arith
@@ -31,7 +29,7 @@ add-out-2 : tie.Need-add-out-2 Inv-loop μ-loop
 add-out-2 c = omega arith
 
 slice-write-out : tie.Need-slice-write-out Inv-loop μ-loop
-slice-write-out c = omega arith
+slice-write-out c = omega (arith, c .before .before .loop .inv .2 .same)
 
 add-i : tie.Need-add-i Inv-loop μ-loop
 add-i c = omega arith
@@ -41,30 +39,19 @@ loop-less c = omega arith
 
 loop-again : tie.Need-loop-again Inv-loop μ-loop
 loop-again c =
-    let a = c .before .before .before .args in
+    let bits = c .before .before .before .args .bits .now in
     let l = c .before .before .loop in
-    let h : l .i < length (a .bits .now) = omega arith in
-    let v : ℕ = 48 + getD (a .bits .now) (l .i) 0 % 2 in (
-      l .inv .0,
-      omega arith,
-      length-set (l .out) (a .at + l .i) v ∙ l .inv .2,
-      ap (λ (x : ℕ). sets (set (l .out) (a .at + l .i) x) (a .at + (l .i + 1)) (drop (l .i + 1) (chars (a .bits .now))))
-          (sym (chars-at (a .bits .now) (l .i) h))
-          ∙ sym (copy-more (l .out) (chars (a .bits .now)) (a .at) (l .i) (omega (arith, length-chars (a .bits .now))))
-          ∙ l .inv .3,
-    )
+    let h : l .i < length bits = omega arith in
+    (l .inv .0, omega arith, copied-more _ _ _ _ _ (l .inv .2) _ (omega (arith, length-chars bits)) (sym (chars-at bits (l .i) h)))
 
 add-result : tie.Need-add-result Inv-loop μ-loop
 add-result c = omega arith
 
 same-length : tie.Need-same-length Inv-loop μ-loop
-same-length c = c .before .loop .inv .2
+same-length c = c .before .loop .inv .2 .same
 
 returns : tie.Need-returns Inv-loop μ-loop
-returns c =
-    let a = c .before .before .args in
-    let l = c .before .loop in
-    (refl, sym (copy-end (l .out) (chars (a .bits .now)) (a .at) (l .i) (omega (arith, length-chars (a .bits .now)))) ∙ l .inv .3)
+returns c = (refl, copied-all _ _ _ _ _ (c .before .loop .inv .2) (omega (arith, length-chars (c .before .before .args .bits .now))))
 
 pub put-bits-spec : {M : Type 1} → statement M
 put-bits-spec =

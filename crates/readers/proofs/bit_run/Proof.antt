@@ -1,14 +1,13 @@
+-- After i bits: what the others say at q is what all of them say.
+-- Assumes nothing.
 use Rattle.readers.proofs.Lines.{bits-done, bits-end, bits-low, bits-high, bits-step, bits-all}
 use Rattle.readers.specs.Answers.{stepOf}
-use Rattle.formats.specs.Items.{bits}
-use Rattle.formats.specs.Items.{walk}
+use Rattle.formats.specs.Items.{bits, walk}
 use native.Mathlib.Omega.{arith}
-use mathlib.Core.Path.{_≡_, refl, sym, ap, _∙_}
+use mathlib.Core.Path.{_≡_, sym, ap, _∙_}
 use Prim.Native.Nat.{_≤_, _-_}
 use Rattle.readers.proofs.bit_run.Statement.{statement}
 use Rattle.readers.proofs.bit_run.Tie as tie
-use Rattle.readers.proofs.bit_run.Reads as reads
-use Rattle.readers.proofs.bit_run.Lts as lts
 
 abbrev Inv-loop : tie.InvT-loop
 Inv-loop s at n q₀ i₀ q i = (i ≤ n) × (stepOf (walk (bits n) s at) ≡ stepOf (walk (bits (n - i)) s q))
@@ -16,43 +15,33 @@ Inv-loop s at n q₀ i₀ q i = (i ≤ n) × (stepOf (walk (bits n) s at) ≡ st
 abbrev μ-loop : tie.MeasureT-loop
 μ-loop s at n q₀ i₀ q i = n - i
 
--- src/lib.rt:295:5
 loop-holds : tie.Need-loop-holds Inv-loop μ-loop
 loop-holds c = (omega arith, bits-all (c .args .s .now) (c .args .n) (c .args .at))
 
--- src/lib.rt:297:13
 returns : tie.Need-returns Inv-loop μ-loop
 returns c = sym (c .before .before .loop .inv .1 ∙ ap stepOf (bits-end _ _ _ _ (c .before .loop-test .taken) (c .if1 .taken)))
 
--- src/lib.rt:299:17
 shared-slice-read-c : tie.Need-shared-slice-read-c Inv-loop μ-loop
 shared-slice-read-c c = omega arith
 
--- src/lib.rt:301:13
 returns-2 : tie.Need-returns-2 Inv-loop μ-loop
 returns-2 c = sym (c .before .before .before .before .loop .inv .1 ∙ ap stepOf (bits-low _ _ _ _ (c .before .before .before .loop-test .taken) (c .before .before .if1 .left) (c .if2 .taken)))
 
--- src/lib.rt:304:13
 returns-3 : tie.Need-returns-3 Inv-loop μ-loop
 returns-3 c = sym (c .before .before .before .before .before .loop .inv .1 ∙ ap stepOf (bits-high _ _ _ _ (c .before .before .before .before .loop-test .taken) (c .before .before .before .if1 .left) (c .if3 .taken)))
 
--- src/lib.rt:306:9
 add-q : tie.Need-add-q Inv-loop μ-loop
 add-q c = omega arith
 
--- src/lib.rt:307:9
 add-i : tie.Need-add-i Inv-loop μ-loop
 add-i c = omega arith
 
--- src/lib.rt:295:5
 loop-less : tie.Need-loop-less Inv-loop μ-loop
 loop-less c = omega arith
 
--- src/lib.rt:295:5
 loop-again : tie.Need-loop-again Inv-loop μ-loop
 loop-again c = (omega arith, c .before .before .before .before .before .loop .inv .1 ∙ bits-step _ _ _ _ (c .before .before .before .before .loop-test .taken) (c .before .before .before .if1 .left) (c .before .if2 .left) (c .if3 .left))
 
--- src/lib.rt:290:1
 returns-4 : tie.Need-returns-4 Inv-loop μ-loop
 returns-4 c = sym (c .before .loop .inv .1 ∙ ap stepOf (bits-done _ _ _ _ (c .loop-test .left)))
 

@@ -1,33 +1,25 @@
+-- The space, and then the bits.
+-- Assumes nothing.
 use Rattle.readers.proofs.Lines.{part-space, part-bits}
 use borrow.Author.Needs.{needs}
 use Rattle.readers.proofs.bits_part.Statement.{statement}
 use Rattle.readers.proofs.bits_part.Tie as tie
-use Rattle.readers.proofs.bits_part.Reads as reads
-use Rattle.readers.proofs.bits_part.Lts as lts
-use Rattle.readers.proofs.bit_run.Reads as bit-run-reads
-use Rattle.readers.proofs.byte_is.Reads as byte-is-reads
 
--- src/lib.rt:450:9
 byte-is-requires : tie.Need-byte-is-requires
 byte-is-requires c κs = search needs
 
--- src/lib.rt:451:20
 enum-known-space : tie.Need-enum-known-space
 enum-known-space c = search needs
 
--- src/lib.rt:452:9
 enum-told : tie.Need-enum-told
 enum-told c = search needs
 
--- src/lib.rt:452:9
 returns : tie.Need-returns
 returns c = part-space (c .before .before .before .before .args .n) (c .before .before .before .before .args .s .now) (c .before .before .before .before .args .at) _ (c .before .before .byte-is .ensures) _ (c .enum-told .given .1)
 
--- src/lib.rt:454:5
 bit-run-requires : tie.Need-bit-run-requires
 bit-run-requires c κs = search needs
 
--- src/lib.rt:447:1
 returns-2 : tie.Need-returns-2
 returns-2 c = part-bits (c .before .before .before .before .before .before .args .n) (c .before .before .before .before .before .before .args .s .now) (c .before .before .before .before .before .before .args .at) _ (c .before .before .before .before .byte-is .ensures) _ (c .before .before .space .given .1) _ (c .bit-run .ensures)
 

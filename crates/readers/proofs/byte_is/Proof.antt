@@ -1,30 +1,24 @@
+-- No byte at the position, another byte, and the byte.
+-- Assumes nothing.
 use Rattle.formats.proofs.Walking.{walk-end, walk-other, this-byte}
-use Rattle.formats.specs.Items.{walk}
 use mathlib.Core.List.{[]}
-use mathlib.Core.Path.{_≡_, refl, sym, ap, _∙_}
+use mathlib.Core.Path.{sym}
 use borrow.Author.Needs.{needs}
 use Rattle.readers.proofs.byte_is.Statement.{statement}
 use Rattle.readers.proofs.byte_is.Tie as tie
-use Rattle.readers.proofs.byte_is.Reads as reads
-use Rattle.readers.proofs.byte_is.Lts as lts
 
--- src/lib.rt:271:9
 returns : tie.Need-returns
 returns c = sym (walk-end _ [] _ _ (search needs) (c .if1 .taken))
 
--- src/lib.rt:273:8
 shared-slice-read-if2 : tie.Need-shared-slice-read-if2
 shared-slice-read-if2 c = search needs
 
--- src/lib.rt:274:9
 returns-2 : tie.Need-returns-2
 returns-2 c = sym (walk-other _ [] _ _ (c .before .before .if1 .left) (c .if2 .taken))
 
--- src/lib.rt:276:16
 add-t4 : tie.Need-add-t4
 add-t4 c = search needs
 
--- src/lib.rt:267:1
 returns-3 : tie.Need-returns-3
 returns-3 c = sym (this-byte _ _ _ (c .before .before .if1 .left) (c .if2 .left))
 

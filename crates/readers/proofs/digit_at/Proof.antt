@@ -1,15 +1,12 @@
--- `text::digit_at` meets its contract.
+-- No byte at the position, a byte below the digits, a byte above them, and a digit.
+-- Assumes nothing.
 use borrow.Author.Needs.{needs}
-use native.Mathlib.Omega.{arith}
-use mathlib.Core.Path.{sym, _∙_, ap}
 use Rattle.readers.proofs.Numbers.{digitAt-out, low-read, high-read, digit-read}
 use Rattle.readers.proofs.digit_at.Statement.{statement}
 use Rattle.readers.proofs.digit_at.Tie as tie
-use Rattle.readers.proofs.digit_at.Reads as reads
-use Rattle.readers.proofs.digit_at.Lts as lts
 
 returns : tie.Need-returns
-returns c = sym (digitAt-out _ _ (c .if1 .taken))
+returns c = digitAt-out _ _ (c .if1 .taken)
 
 shared-slice-read-c : tie.Need-shared-slice-read-c
 shared-slice-read-c c = search needs

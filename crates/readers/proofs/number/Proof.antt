@@ -1,163 +1,85 @@
-use Rattle.readers.proofs.Numbers.{inside, none-read, zero-read, one-read, two-read, three-read, four-read}
+-- No number, a number that starts with 0, and digit after digit: `Leading` of proofs/Numbers.antt.
+-- Assumes nothing.
 use native.Mathlib.Omega.{arith}
+use Prim.Native.Nat.{_-_}
 use borrow.Author.Needs.{needs}
+use Rattle.readers.proofs.Numbers.{digitAt-small, none-read, zero-read, Leading, leading-first, leading-small, leading-stop, leading-next, leading-full}
 use Rattle.readers.proofs.number.Statement.{statement}
 use Rattle.readers.proofs.number.Tie as tie
-use Rattle.readers.proofs.number.Reads as reads
-use Rattle.readers.proofs.number.Lts as lts
-use Rattle.readers.proofs.digit_at.Reads as digit-at-reads
 
--- src/lib.rt:49:9
-digit-at-requires : tie.Need-digit-at-requires
+abbrev Inv-loop : tie.InvT-loop
+Inv-loop s at first v₀ n₀ v n = Leading s at n v
+
+abbrev μ-loop : tie.MeasureT-loop
+μ-loop s at first v₀ n₀ v n = 4 - n
+
+digit-at-requires : tie.Need-digit-at-requires Inv-loop μ-loop
 digit-at-requires c κs = search needs
 
--- src/lib.rt:51:9
-returns : tie.Need-returns
+returns : tie.Need-returns Inv-loop μ-loop
 returns c = none-read _ _ _ (c .before .digit-at .ensures) (c .if1 .taken)
 
--- src/lib.rt:54:30
-add-t8 : tie.Need-add-t8
-add-t8 c = omega (arith, inside _ _ _ (c .before .before .digit-at .ensures) (c .before .if1 .left))
+add-t8 : tie.Need-add-t8 Inv-loop μ-loop
+add-t8 c = omega (arith, digitAt-small _ _ _ (c .before .before .digit-at .ensures) (c .before .if1 .left) .within)
 
--- src/lib.rt:54:9
-returns-2 : tie.Need-returns-2
+returns-2 : tie.Need-returns-2 Inv-loop μ-loop
 returns-2 c = zero-read _ _ _ (c .before .before .digit-at .ensures) (c .if2 .taken)
 
--- src/lib.rt:56:25
-add-digit-at : tie.Need-add-digit-at
-add-digit-at c = omega (arith, inside _ _ _ (c .before .before .digit-at .ensures) (c .before .if1 .left))
+loop-holds : tie.Need-loop-holds Inv-loop μ-loop
+loop-holds c = leading-first _ _ _ (c .before .before .digit-at .ensures) (c .before .if1 .left) (c .if2 .left)
 
--- src/lib.rt:56:9
-digit-at-requires-2 : tie.Need-digit-at-requires-2
+add-digit-at : tie.Need-add-digit-at Inv-loop μ-loop
+add-digit-at c = omega (arith, c .before .loop .inv .room)
+
+digit-at-requires-2 : tie.Need-digit-at-requires-2 Inv-loop μ-loop
 digit-at-requires-2 c κs = search needs
 
--- src/lib.rt:58:30
-add-t10 : tie.Need-add-t10
-add-t10 c = omega (arith, inside _ _ _ (c .before .before .before .before .digit-at .ensures) (c .before .before .before .if1 .left))
+add-t11 : tie.Need-add-t11 Inv-loop μ-loop
+add-t11 c = omega (arith, c .before .before .before .loop .inv .room)
 
--- src/lib.rt:58:9
-returns-3 : tie.Need-returns-3
-returns-3 c = one-read _ _ _ (c .before .before .before .before .digit-at .ensures) (c .before .before .before .if1 .left) (c .before .before .if2 .left) _ (c .before .digit-at2 .ensures) (c .if3 .taken)
+returns-3 : tie.Need-returns-3 Inv-loop μ-loop
+returns-3 c = leading-stop _ _ _ _ (c .before .before .before .loop .inv) (c .before .before .loop-test .taken) _ (c .before .digit-at2 .ensures) (c .if3 .taken)
 
--- src/lib.rt:60:25
-add-digit-at-2 : tie.Need-add-digit-at-2
-add-digit-at-2 c = omega (arith, inside _ _ _ (c .before .digit-at2 .ensures) (c .if3 .left))
+mul-v : tie.Need-mul-v Inv-loop μ-loop
+mul-v c = omega (arith, leading-small _ _ _ _ (c .before .before .before .loop .inv))
 
--- src/lib.rt:60:9
-digit-at-requires-3 : tie.Need-digit-at-requires-3
-digit-at-requires-3 c κs = search needs
+add-v : tie.Need-add-v Inv-loop μ-loop
+add-v c = omega (arith, leading-small _ _ _ _ (c .before .before .before .loop .inv))
 
--- src/lib.rt:62:27
-mul-t11 : tie.Need-mul-t11
-mul-t11 c = search needs
+add-n : tie.Need-add-n Inv-loop μ-loop
+add-n c = omega arith
 
--- src/lib.rt:62:27
-add-t12 : tie.Need-add-t12
-add-t12 c = search needs
+loop-less : tie.Need-loop-less Inv-loop μ-loop
+loop-less c = omega arith
 
--- src/lib.rt:62:39
-add-t13 : tie.Need-add-t13
-add-t13 c = omega (arith, inside _ _ _ (c .before .before .before .digit-at2 .ensures) (c .before .before .if3 .left))
+loop-again : tie.Need-loop-again Inv-loop μ-loop
+loop-again c = leading-next _ _ _ _ (c .before .before .before .loop .inv) (c .before .before .loop-test .taken) _ (c .before .digit-at2 .ensures) (c .if3 .left)
 
--- src/lib.rt:62:9
-returns-4 : tie.Need-returns-4
-returns-4 c = two-read _ _ _ (c .before .before .before .before .before .before .digit-at .ensures) (c .before .before .before .before .before .if1 .left) (c .before .before .before .before .if2 .left) _ (c .before .before .before .digit-at2 .ensures) (c .before .before .if3 .left) _ (c .before .digit-at3 .ensures) (c .if4 .taken)
+add-t12 : tie.Need-add-t12 Inv-loop μ-loop
+add-t12 c = omega (arith, c .before .loop .inv .room)
 
--- src/lib.rt:64:25
-add-digit-at-3 : tie.Need-add-digit-at-3
-add-digit-at-3 c = omega (arith, inside _ _ _ (c .before .digit-at3 .ensures) (c .if4 .left))
-
--- src/lib.rt:64:9
-digit-at-requires-4 : tie.Need-digit-at-requires-4
-digit-at-requires-4 c κs = search needs
-
--- src/lib.rt:66:28
-mul-t14 : tie.Need-mul-t14
-mul-t14 c = search needs
-
--- src/lib.rt:66:28
-add-t15 : tie.Need-add-t15
-add-t15 c = search needs
-
--- src/lib.rt:66:27
-mul-t16 : tie.Need-mul-t16
-mul-t16 c = search needs
-
--- src/lib.rt:66:27
-add-t17 : tie.Need-add-t17
-add-t17 c = search needs
-
--- src/lib.rt:66:50
-add-t18 : tie.Need-add-t18
-add-t18 c = omega (arith, inside _ _ _ (c .before .before .before .digit-at3 .ensures) (c .before .before .if4 .left))
-
--- src/lib.rt:66:9
-returns-5 : tie.Need-returns-5
-returns-5 c = three-read _ _ _ (c .before .before .before .before .before .before .before .before .digit-at .ensures) (c .before .before .before .before .before .before .before .if1 .left) (c .before .before .before .before .before .before .if2 .left) _ (c .before .before .before .before .before .digit-at2 .ensures) (c .before .before .before .before .if3 .left) _ (c .before .before .before .digit-at3 .ensures) (c .before .before .if4 .left) _ (c .before .digit-at4 .ensures) (c .if5 .taken)
-
--- src/lib.rt:68:18
-mul-t9 : tie.Need-mul-t9
-mul-t9 c = search needs
-
--- src/lib.rt:68:18
-add-t19 : tie.Need-add-t19
-add-t19 c = search needs
-
--- src/lib.rt:68:17
-mul-t20 : tie.Need-mul-t20
-mul-t20 c = search needs
-
--- src/lib.rt:68:17
-add-t21 : tie.Need-add-t21
-add-t21 c = search needs
-
--- src/lib.rt:68:16
-mul-t22 : tie.Need-mul-t22
-mul-t22 c = search needs
-
--- src/lib.rt:68:16
-add-t23 : tie.Need-add-t23
-add-t23 c = search needs
-
--- src/lib.rt:68:50
-add-t24 : tie.Need-add-t24
-add-t24 c = omega (arith, inside _ _ _ (c .before .digit-at4 .ensures) (c .if5 .left))
-
--- src/lib.rt:46:1
-returns-6 : tie.Need-returns-6
-returns-6 c = four-read _ _ _ (c .before .before .before .before .before .before .before .before .digit-at .ensures) (c .before .before .before .before .before .before .before .if1 .left) (c .before .before .before .before .before .before .if2 .left) _ (c .before .before .before .before .before .digit-at2 .ensures) (c .before .before .before .before .if3 .left) _ (c .before .before .before .digit-at3 .ensures) (c .before .before .if4 .left) _ (c .before .digit-at4 .ensures) (c .if5 .left)
+returns-4 : tie.Need-returns-4 Inv-loop μ-loop
+returns-4 c = leading-full _ _ _ _ (c .before .loop .inv) (c .loop-test .left)
 
 pub number-spec : {M : Type 1} → statement M
 number-spec =
     tie.close
     (tie.spec
+    Inv-loop
+    μ-loop
     digit-at-requires
     returns
     add-t8
     returns-2
+    loop-holds
     add-digit-at
     digit-at-requires-2
-    add-t10
+    add-t11
     returns-3
-    add-digit-at-2
-    digit-at-requires-3
-    mul-t11
+    mul-v
+    add-v
+    add-n
+    loop-less
+    loop-again
     add-t12
-    add-t13
-    returns-4
-    add-digit-at-3
-    digit-at-requires-4
-    mul-t14
-    add-t15
-    mul-t16
-    add-t17
-    add-t18
-    returns-5
-    mul-t9
-    add-t19
-    mul-t20
-    add-t21
-    mul-t22
-    add-t23
-    add-t24
-    returns-6)
+    returns-4)

@@ -11,32 +11,22 @@ use Rattle.readers.proofs.Fields.{written-front}
 use borrow.Author.Needs.{needs}
 use Rattle.readers.proofs.number_is.Statement.{statement}
 use Rattle.readers.proofs.number_is.Tie as tie
-use Rattle.readers.proofs.number_is.Reads as reads
-use Rattle.readers.proofs.number_is.Lts as lts
-use Rattle.readers.proofs.literal.Reads as literal-reads
-use Rattle.lines.proofs.put_number.Reads as put-number-reads
 
--- src/lib.rt:169:33
 slice-aggregate-put-number : tie.Need-slice-aggregate-put-number
 slice-aggregate-put-number c = search needs
 
--- src/lib.rt:169:9
 put-number-requires : tie.Need-put-number-requires
 put-number-requires c κs = search needs
 
--- src/lib.rt:170:20
 array-share-prefix-text : tie.Need-array-share-prefix-text
 array-share-prefix-text c = omega (arith, c .before .put-number .ensures .0, c .before .put-number .kept .0, dec-short (c .before .before .before .before .args .p))
 
--- src/lib.rt:170:20
 slice-aggregate-literal : tie.Need-slice-aggregate-literal
 slice-aggregate-literal c = sym (length-take-le _ _ (omega (arith, c .before .before .put-number .ensures .0, c .before .before .put-number .kept .0, dec-short (c .before .before .before .before .before .args .p))))
 
--- src/lib.rt:170:5
 literal-requires : tie.Need-literal-requires
 literal-requires c κs = search needs
 
--- src/lib.rt:164:1
 returns : tie.Need-returns
 returns c = c .literal .ensures ∙ ap (λ (l : List ℕ). walk (lits l) (c .before .before .before .before .before .before .args .s .now) (c .before .before .before .before .before .before .args .at)) (written-front _ _ _ (c .before .before .before .before .before .before .args .p) (c .before .before .before .put-number .ensures .0) (c .before .before .before .put-number .ensures .1) (omega arith))
 

@@ -1,10 +1,8 @@
 -- The test is that of the room for the line: digits, space, bits and line feed.
 -- Assumes nothing.
-use Prim.Native.Nat.{_+_}
 use Rattle.lines.proofs.Placing.{bits-length}
 use Rattle.writers.proofs.Room.{told-room, told-put, told-kept}
 use native.Mathlib.Omega.{arith}
-use lib.ListN.{length}
 use Rattle.lines.proofs.Decimal.{dec-short}
 use Rattle.lines.specs.Written.{bitsText}
 use borrow.Author.Needs.{needs}
@@ -24,7 +22,7 @@ put-block-requires : tie.Need-put-block-requires
 put-block-requires c κs =
     let a = c .before .before .before .before .before .before .args in
     let d = c .before .before .before .digits in
-    let room = told-room (a .out .now) (a .at) (d .result + 2 + (length (a .bits .now) + 0)) (c .before .before .has-room .ensures) (c .before .if1 .taken) in
+    let room = told-room (a .out .now) (a .at) _ (c .before .before .has-room .ensures) (c .before .if1 .taken) in
     omega (arith, room, d .ensures)
 
 same-length : tie.Need-same-length
@@ -34,7 +32,7 @@ returns : tie.Need-returns
 returns c =
     let a = c .before .before .before .before .before .before .before .before .before .args in
     let d = c .before .before .before .before .before .before .digits in
-    told-put (a .out .now) (a .at) (bitsText (a .number) (a .bits .now)) (d .result + 2 + (length (a .bits .now) + 0)) (c .before .before .before .before .before .has-room .ensures)
+    told-put (a .out .now) (a .at) (bitsText (a .number) (a .bits .now)) (c .before .before .before .before .before .has-room .ensures)
     (c .before .before .before .before .if1 .taken)
     (omega (arith, bits-length (a .number) (a .bits .now), d .ensures))
     (c .before .before .put-block .ensures)
@@ -43,7 +41,7 @@ returns-2 : tie.Need-returns-2
 returns-2 c =
     let a = c .before .before .before .before .before .args in
     let d = c .before .before .digits in
-    told-kept (a .out .now) (a .at) (bitsText (a .number) (a .bits .now)) (d .result + 2 + (length (a .bits .now) + 0)) (c .before .has-room .ensures)
+    told-kept (a .out .now) (a .at) (bitsText (a .number) (a .bits .now)) (c .before .has-room .ensures)
     (c .if1 .left)
     (omega (arith, bits-length (a .number) (a .bits .now), d .ensures))
 

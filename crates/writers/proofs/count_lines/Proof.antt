@@ -1,6 +1,5 @@
 -- The test is that of the room for the two lines: 22 bytes of names, the digits, two spaces and the line feed.
 -- Assumes nothing.
-use Prim.Native.Nat.{_+_}
 use Rattle.lines.proofs.Placing.{counts-length}
 use Rattle.writers.proofs.Room.{told-room, told-put, told-kept}
 use native.Mathlib.Omega.{arith}
@@ -31,7 +30,7 @@ put-counts-requires c κs =
     let d = c .before .before .before .before .before .digits in
     let e = c .before .before .before .before .digits2 in
     let f = c .before .before .before .digits3 in
-    let room = told-room (a .out .now) (a .at) (d .result + 25 + (e .result + f .result)) (c .before .before .has-room .ensures) (c .before .if1 .taken) in
+    let room = told-room (a .out .now) (a .at) _ (c .before .before .has-room .ensures) (c .before .if1 .taken) in
     omega (arith, room, d .ensures, e .ensures, f .ensures)
 
 same-length : tie.Need-same-length
@@ -43,7 +42,7 @@ returns c =
     let d = c .before .before .before .before .before .before .before .before .digits in
     let e = c .before .before .before .before .before .before .before .digits2 in
     let f = c .before .before .before .before .before .before .digits3 in
-    told-put (a .out .now) (a .at) (countsText (a .rounds) (a .turned) (a .outside)) (d .result + 25 + (e .result + f .result)) (c .before .before .before .before .before .has-room .ensures)
+    told-put (a .out .now) (a .at) (countsText (a .rounds) (a .turned) (a .outside)) (c .before .before .before .before .before .has-room .ensures)
     (c .before .before .before .before .if1 .taken)
     (omega (arith, counts-length (a .rounds) (a .turned) (a .outside), d .ensures, e .ensures, f .ensures))
     (c .before .before .put-counts .ensures)
@@ -54,7 +53,7 @@ returns-2 c =
     let d = c .before .before .before .before .digits in
     let e = c .before .before .before .digits2 in
     let f = c .before .before .digits3 in
-    told-kept (a .out .now) (a .at) (countsText (a .rounds) (a .turned) (a .outside)) (d .result + 25 + (e .result + f .result)) (c .before .has-room .ensures)
+    told-kept (a .out .now) (a .at) (countsText (a .rounds) (a .turned) (a .outside)) (c .before .has-room .ensures)
     (c .if1 .left)
     (omega (arith, counts-length (a .rounds) (a .turned) (a .outside), d .ensures, e .ensures, f .ensures))
 

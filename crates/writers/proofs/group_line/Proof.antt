@@ -1,10 +1,8 @@
 -- The test is that of the room for the line: digits, Y, P, two spaces and the line feed.
 -- Assumes nothing.
-use Prim.Native.Nat.{_+_}
 use Rattle.lines.proofs.Placing.{group-length}
 use Rattle.writers.proofs.Room.{told-room, told-put, told-kept}
 use native.Mathlib.Omega.{arith}
-use lib.ListN.{length}
 use Rattle.lines.proofs.Decimal.{dec-short}
 use Rattle.lines.specs.Written.{groupLineText}
 use borrow.Author.Needs.{needs}
@@ -24,7 +22,7 @@ put-group-requires : tie.Need-put-group-requires
 put-group-requires c κs =
     let a = c .before .before .before .before .before .before .before .args in
     let d = c .before .before .before .digits in
-    let room = told-room (a .out .now) (a .at) (d .result + 3 + (length (a .own .now) + length (a .parity .now))) (c .before .before .has-room .ensures) (c .before .if1 .taken) in
+    let room = told-room (a .out .now) (a .at) _ (c .before .before .has-room .ensures) (c .before .if1 .taken) in
     omega (arith, room, d .ensures)
 
 same-length : tie.Need-same-length
@@ -34,7 +32,7 @@ returns : tie.Need-returns
 returns c =
     let a = c .before .before .before .before .before .before .before .before .before .before .args in
     let d = c .before .before .before .before .before .before .digits in
-    told-put (a .out .now) (a .at) (groupLineText (a .number) (a .own .now) (a .parity .now)) (d .result + 3 + (length (a .own .now) + length (a .parity .now))) (c .before .before .before .before .before .has-room .ensures)
+    told-put (a .out .now) (a .at) (groupLineText (a .number) (a .own .now) (a .parity .now)) (c .before .before .before .before .before .has-room .ensures)
     (c .before .before .before .before .if1 .taken)
     (omega (arith, group-length (a .number) (a .own .now) (a .parity .now), d .ensures))
     (c .before .before .put-group .ensures)
@@ -43,7 +41,7 @@ returns-2 : tie.Need-returns-2
 returns-2 c =
     let a = c .before .before .before .before .before .before .args in
     let d = c .before .before .digits in
-    told-kept (a .out .now) (a .at) (groupLineText (a .number) (a .own .now) (a .parity .now)) (d .result + 3 + (length (a .own .now) + length (a .parity .now))) (c .before .has-room .ensures)
+    told-kept (a .out .now) (a .at) (groupLineText (a .number) (a .own .now) (a .parity .now)) (c .before .has-room .ensures)
     (c .if1 .left)
     (omega (arith, group-length (a .number) (a .own .now) (a .parity .now), d .ensures))
 

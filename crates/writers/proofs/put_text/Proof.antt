@@ -1,9 +1,7 @@
 -- The test is that of the room for the text.
 -- Assumes nothing.
-use Prim.Native.Nat.{_+_}
 use Rattle.writers.proofs.Room.{told-room, told-put, told-kept}
 use native.Mathlib.Omega.{arith}
-use lib.ListN.{length}
 use borrow.Author.Needs.{needs}
 use Rattle.writers.proofs.put_text.Statement.{statement}
 use Rattle.writers.proofs.put_text.Tie as tie
@@ -14,7 +12,7 @@ has-room-requires c κs = search needs
 put-bytes-requires : tie.Need-put-bytes-requires
 put-bytes-requires c κs =
     let a = c .before .before .before .before .before .args in
-    omega (arith, told-room (a .out .now) (a .at) (length (a .text .now) + (0 + 0)) (c .before .before .has-room .ensures) (c .before .if1 .taken))
+    omega (arith, told-room (a .out .now) (a .at) _ (c .before .before .has-room .ensures) (c .before .if1 .taken))
 
 same-length : tie.Need-same-length
 same-length c = search needs
@@ -22,13 +20,13 @@ same-length c = search needs
 returns : tie.Need-returns
 returns c =
     let a = c .before .before .before .before .before .before .before .before .args in
-    told-put (a .out .now) (a .at) (a .text .now) (length (a .text .now) + (0 + 0)) (c .before .before .before .before .before .has-room .ensures)
+    told-put (a .out .now) (a .at) (a .text .now) (c .before .before .before .before .before .has-room .ensures)
     (c .before .before .before .before .if1 .taken) (omega arith) (c .before .before .put-bytes .ensures)
 
 returns-2 : tie.Need-returns-2
 returns-2 c =
     let a = c .before .before .before .before .args in
-    told-kept (a .out .now) (a .at) (a .text .now) (length (a .text .now) + (0 + 0)) (c .before .has-room .ensures) (c .if1 .left) (omega arith)
+    told-kept (a .out .now) (a .at) (a .text .now) (c .before .has-room .ensures) (c .if1 .left) (omega arith)
 
 pub put-text-spec : {M : Type 1} → statement M
 put-text-spec =

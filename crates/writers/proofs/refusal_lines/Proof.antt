@@ -1,6 +1,5 @@
 -- The test is that of the room for the two lines: fourteen bytes of names, the digits, the space and the line feed.
 -- Assumes nothing.
-use Prim.Native.Nat.{_+_}
 use Rattle.lines.proofs.Placing.{refusal-length}
 use Rattle.writers.proofs.Room.{told-room, told-put, told-kept}
 use native.Mathlib.Omega.{arith}
@@ -23,7 +22,7 @@ put-refusal-requires c κs =
     let a = c .before .before .before .before .before .before .args in
     let d = c .before .before .before .before .digits in
     let e = c .before .before .before .digits2 in
-    let room = told-room (a .out .now) (a .at) (16 + (d .result + e .result)) (c .before .before .has-room .ensures) (c .before .if1 .taken) in
+    let room = told-room (a .out .now) (a .at) _ (c .before .before .has-room .ensures) (c .before .if1 .taken) in
     omega (arith, room, d .ensures, e .ensures)
 
 same-length : tie.Need-same-length
@@ -34,7 +33,7 @@ returns c =
     let a = c .before .before .before .before .before .before .before .before .before .args in
     let d = c .before .before .before .before .before .before .before .digits in
     let e = c .before .before .before .before .before .before .digits2 in
-    told-put (a .out .now) (a .at) (refusalText (a .rule) (a .place)) (16 + (d .result + e .result)) (c .before .before .before .before .before .has-room .ensures)
+    told-put (a .out .now) (a .at) (refusalText (a .rule) (a .place)) (c .before .before .before .before .before .has-room .ensures)
     (c .before .before .before .before .if1 .taken)
     (omega (arith, refusal-length (a .rule) (a .place), d .ensures, e .ensures))
     (c .before .before .put-refusal .ensures)
@@ -44,7 +43,7 @@ returns-2 c =
     let a = c .before .before .before .before .before .args in
     let d = c .before .before .before .digits in
     let e = c .before .before .digits2 in
-    told-kept (a .out .now) (a .at) (refusalText (a .rule) (a .place)) (16 + (d .result + e .result)) (c .before .has-room .ensures)
+    told-kept (a .out .now) (a .at) (refusalText (a .rule) (a .place)) (c .before .has-room .ensures)
     (c .if1 .left)
     (omega (arith, refusal-length (a .rule) (a .place), d .ensures, e .ensures))
 
