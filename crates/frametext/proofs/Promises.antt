@@ -22,7 +22,7 @@ use Rattle.staircase.specs.Rules.{Verdict, _then_, lengthRule}
 use Rattle.staircase.specs.Rules.Verdict.{accepted, refused}
 use Rattle.staircase.proofs.Rules.{then-accepted, length-accepted}
 use Rattle.readers.specs.Verdicts.{scanRule, mark, valuesOf, kept}
-use Rattle.framescan.specs.FrameText.{blockNames, groupNames, blockFormat, frameFormat, groupLines, BlockText, FrameText}
+use Rattle.framescan.specs.FrameText.{blockNames, groupNamesTail, blockFormat, frameFormat, groupLines, BlockText, FrameText}
 use Rattle.frametext.specs.Reader.{blockScan, blockRule, blockCount, blockInfo, readBlocksCall, frameScan, frameRule, frameCount, frameInfo, frameRed, readFrameCall}
 use Rattle.frametext.proofs.Texts.{clear-blocks, clear-frame, blocks-union, union-blocks, frame-union, union-frame, blocks-read, frame-read}
 use Rattle.framefill.proofs.Takes.{fit-length}
@@ -179,7 +179,7 @@ frame-holds M r s e = go (mark (frameScan M r s)) (valuesOf (frameScan M r s)) (
         let is : List Item = bitsLines (M * M) 1 L in
         let js : List Item = groupLines (M * r) 1 (groups L) in
         let first : List Item = lits blockNames ++ is in
-        let second : List Item = byte 103 ∷ (lits groupNames ++ js) in
+        let second : List Item = byte 103 ∷ (lits groupNamesTail ++ js) in
         let bits : Bits vs = fit-bits (is ++ second) vs (bare-append is second (lines-bare (M * M) 1 L) (groups-bare (M * r) 1 (groups L))) (b .spells .0) in
         let info : take (L * (M * M)) vs ≡ p .info = ap (λ (l : List ℕ). take (L * (M * M)) l) (p .whole) ∙ take-at (p .info) (p .red) (L * (M * M)) (p .info-size) in
         let red : drop (L * (M * M)) vs ≡ p .red = ap (λ (l : List ℕ). drop (L * (M * M)) l) (p .whole) ∙ drop-at (p .info) (p .red) (L * (M * M)) (p .info-size) in
@@ -193,7 +193,7 @@ frame-holds M r s e = go (mark (frameScan M r s)) (valuesOf (frameScan M r s)) (
           info-bits = bits-take (L * (M * M)) vs bits;
           red-bits = bits-drop (L * (M * M)) vs bits;
           text-length =
-              omega (arith, length-append first second, length-append (lits blockNames) is, length-append (lits groupNames) js, lines-long (M * M) 1 L, groups-long (M * r) 1 (groups L));
+              omega (arith, length-append first second, length-append (lits blockNames) is, length-append (lits groupNamesTail) js, lines-long (M * M) 1 L, groups-long (M * r) 1 (groups L));
         }
 
 -- An accepted text fills slices that fit with its information and its redundancy.
