@@ -66,14 +66,14 @@ fn frame_call(
         d.t as u64,
         d.size as u64,
         blocks,
-        &own[..],
-        &parity[..],
-        &inverse[..],
-        &info[..],
+        own,
+        parity,
+        inverse,
+        info,
         red,
         work,
     );
-    put_encoded(out, d, blocks, &red[..], made)
+    put_encoded(out, d, blocks, red, made)
 }
 
 // The arrays that the call is lent.

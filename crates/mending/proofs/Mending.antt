@@ -174,6 +174,6 @@ module _ (d : Design) (L : ℕ) (kit text o₀ p₀ w₀ i₀ q₀ : List ℕ) (
       (F .red-length ∙ ap (λ (j : ℕ). groups j * (2 * (d .size * r))) c) in
       rw (eo ∙ k .0, ep ∙ k .1, ei ∙ f .0, eq ∙ f .1, F .work-length, c, S .m-is, S .t-is, S .M-is)
 
-  pub mend-printed : (x : Decoding) (f : Frame) → correctedOf x f ≡ decodeCall (d .m) (d .t) (d .size) L 0 o p i q work
-      → mendOutput kit text ≡ printed (correctedOf x f .verdict) (mendText (d .size) (orderOf d) L (correctedOf x f))
-  mend-printed x f e = called-by d L kit text (F .scanned) ∙ ap (shown d L) (sym (e ∙ whole))
+  pub mend-printed : (x : Decoding) (i′ q′ : List ℕ) → correctedOf x (frameOf i′ q′) ≡ decodeCall (d .m) (d .t) (d .size) L 0 o p i q work
+      → mendOutput kit text ≡ printed (correctedOf x (frameOf i′ q′) .verdict) (mendText (d .size) (orderOf d) L (correctedOf x (frameOf i′ q′)))
+  mend-printed x i′ q′ e = called-by d L kit text (F .scanned) ∙ ap (shown d L) (sym (e ∙ whole))

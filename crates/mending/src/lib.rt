@@ -94,13 +94,13 @@ fn mend_call(
         d.size as u64,
         blocks,
         0,
-        &own[..],
-        &parity[..],
+        own,
+        parity,
         info,
         red,
         work,
     );
-    put_decoded(out, d, blocks, &info[..], &red[..], made)
+    put_decoded(out, d, blocks, info, red, made)
 }
 
 // The arrays that the call is lent.

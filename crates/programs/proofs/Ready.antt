@@ -13,7 +13,7 @@ use mathlib.Core.List.{List}
 use Prim.Native.Nat.{ℕ, _+_, _*_, _/_, _≤_}
 use native.Mathlib.Omega.{arith}
 use native.Mathlib.Nat.{mul-le-mul, mul-add}
-use lib.ListN.{length}
+use lib.ListN.{length, replicate, length-replicate}
 use lib.Seq.{length-take-le}
 use Rattle.staircase.specs.Design.{order, most-blocks}
 use Rattle.staircase.specs.Frame.{groups}
@@ -118,9 +118,9 @@ module _ (framed : Bool) (d : Design) (L : ℕ) (kit text : List ℕ) (B : Scann
           work-length = ek;
         }
 
--- the parts of an array
-pub room-for : (n N : ℕ) (a : List ℕ) → n ≤ N → N ≡ length a → RoomFor n a
-room-for n N a h e = let l : n ≤ length a = omega arith in (l, sym (length-take-le n a l))
+-- a new array
+pub room-for : (n N x : ℕ) → n ≤ N → RoomFor n (replicate N x)
+room-for n N x h = let l : n ≤ length (replicate N x) = omega (arith, length-replicate N x) in (l, sym (length-take-le n (replicate N x) l))
 
 -- the sizes as the code has them
 pub sizes-are : (d : Design) (L n b a G : ℕ) → n ≡ orderOf d → b ≡ rowBytes (orderOf d) → a ≡ d .size * d .size → G ≡ groups L

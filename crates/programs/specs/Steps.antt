@@ -1,4 +1,5 @@
--- What the steps of a program hand on. A text is framed where group text follows the block text: that of `mend`, and not that of `frame`.
+-- What the steps of a program hand on. A text that is framed is frame text, block text followed by group text, which `mend` reads; one that is not
+-- is block text, which `frame` reads.
 --   textRule, textCount       rule 12 and the number of blocks, of a text that is framed or not
 --   startRule                 the rules before a program's call
 --   Started                   both inputs are short enough and the kit text is accepted, with the design d
@@ -101,7 +102,7 @@ pub record GroupsFit (d : Design) (L red : ℕ) : Type 0 where
   pub red-length : red ≡ groups L * (2 * orderOf d)
   pub short : red ≤ 245941
 
--- a frame whose framed text has at most 32,768 bytes
+-- a frame whose frame text has at most 32,768 bytes
 pub record FrameFits (d : Design) (L info red : ℕ) : Type 0 where
   pub few : L ≤ most-blocks
   pub info-length : info ≡ L * (d .size * d .size)

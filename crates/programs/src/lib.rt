@@ -43,7 +43,7 @@ pub struct Sizes {
     pub red: usize,
 }
 
-// Rule 12 for the text: for block text, or, where it is framed, for block text followed by group text.
+// Rule 12 for a text: frame text where it is framed, else block text.
 fn scan_text(text: &[u8], d: Design, framed: bool) -> Blocks
     ensures { λ a. ⌜ blocksVerdict a ≡ textRule framed (d .size) (d .m * d .t) (now (text .entry)) ⌝ }
     ensures { λ a. ⌜ CountIs a (textCount framed (d .size) (d .m * d .t) (now (text .entry))) ⌝ }
