@@ -29,7 +29,7 @@ use Rattle.kittext.specs.Reader.{headNumber, readKitCall}
 use Rattle.frametext.specs.Reader.{blockRule, blockInfo, readBlocksCall}
 use Rattle.frametext.proofs.Promises.{blocks-left}
 use Rattle.programs.specs.Output.{printed, frameCall, frameOutput, Printed}
-use Rattle.programs.specs.Steps.{textRule, startRule, Started, Scanned, SizesAre, FrameReady, GroupsFit}
+use Rattle.programs.specs.Steps.{textRule, startRule, Started, Scanned, FrameReady, GroupsFit}
 use Rattle.programs.proofs.Judged.{stopped, called}
 use Rattle.programs.proofs.Printing.{printed-refused}
 use Rattle.programs.proofs.Starting.{behind-kit}

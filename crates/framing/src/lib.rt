@@ -1,6 +1,5 @@
 // What `frame` prints, as bytes.
 //   frame_output(kit, text, out)   for the bytes of kit.txt and a block text
-ghost use mathlib.Core.Path.{_≡_};
 ghost use mathlib.Core.Bool.{false};
 ghost use Prim.Native.Nat.{_≤_};
 ghost use lib.ListN.{length};

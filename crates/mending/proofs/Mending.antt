@@ -39,7 +39,7 @@ use Rattle.kittext.specs.Reader.{headNumber, readKitCall}
 use Rattle.frametext.specs.Reader.{frameRule, readFrameCall}
 use Rattle.frametext.proofs.Promises.{frame-holds, frame-left}
 use Rattle.programs.specs.Output.{printed, mendCall, mendText, mendOutput, Printed}
-use Rattle.programs.specs.Steps.{textRule, startRule, Started, Scanned, SizesAre, MendReady, FrameFits}
+use Rattle.programs.specs.Steps.{textRule, startRule, Scanned, SizesAre, MendReady, FrameFits}
 use Rattle.programs.specs.declared.Sizes.{Sizes}
 use Rattle.programs.proofs.Judged.{stopped, called}
 use Rattle.programs.proofs.Printing.{printed-as, printed-refused}

@@ -1,6 +1,5 @@
 // What `mend` prints, as bytes.
 //   mend_output(kit, text, out)   for the bytes of kit.txt and block text followed by group text
-ghost use mathlib.Core.Path.{_≡_};
 ghost use mathlib.Core.Bool.{true};
 ghost use Prim.Native.Nat.{_≤_};
 ghost use lib.ListN.{length};

@@ -2,7 +2,6 @@
 --   long-kit, long-text, short-inputs   rule 13
 --   then-refused, then-on               one rule after another
 --   stopped, called                     what is printed where a rule before the call refuses, and where none does
---   printed-same                        what is printed of an input that is refused does not ask for a text
 -- Assumes nothing.
 use mathlib.Core.Path.{_≡_, refl, ap, _∙_}
 use mathlib.Core.List.{List}
@@ -57,9 +56,3 @@ module _ (kit text : List ℕ) (rule call : Verdict) (out : List ℕ) where
 
   pub called : (inputRule kit text then scanKit kit then rule) ≡ accepted → judged kit text rule call out ≡ printed call out
   called e = before-call accepted e
-
--- only an accepted input prints a text
-pub printed-same : (v : Verdict) (s t : List ℕ) → (v ≡ accepted → s ≡ t) → printed v s ≡ printed v t
-unfolding printed
-printed-same accepted s t f = f refl
-printed-same (refused n p) s t f = refl

@@ -11,7 +11,7 @@ use mathlib.Core.List.{List}
 use Prim.Native.Nat.{ℕ, _*_, _≤_, _<_}
 use lib.ListN.{length}
 use Rattle.staircase.specs.Rules.{Verdict, _then_}
-use Rattle.staircase.specs.Rules.Verdict.{accepted, refused}
+use Rattle.staircase.specs.Rules.Verdict.{refused}
 use Rattle.design.specs.declared.Design.{Design}
 use Rattle.design.specs.declared.Refusal.{Refusal}
 use Rattle.design.specs.Answers.{refusalVerdict}

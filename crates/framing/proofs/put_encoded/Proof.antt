@@ -1,6 +1,6 @@
 -- The groups have room, and so has a refusal.
 -- Assumes nothing.
-use Rattle.programs.proofs.Printing.{printed-text, printed-as, printed-refused}
+use Rattle.programs.proofs.Printing.{printed-text}
 use Rattle.framing.proofs.Framing.{group-bits, few-groups, groups-room, passed-groups, refused-prints}
 use borrow.Author.Needs.{needs}
 use Rattle.framing.proofs.put_encoded.Statement.{statement}

@@ -1,7 +1,6 @@
 -- The sizes of the design, and that their products fit.
 -- Assumes nothing.
-use mathlib.Core.Path.{ap}
-use Prim.Native.Nat.{ℕ, _*_}
+use Prim.Native.Nat.{_*_}
 use native.Mathlib.Omega.{arith}
 use Rattle.staircase.specs.Design.{most-blocks}
 use Rattle.staircase.proofs.Fill.{small-product}
