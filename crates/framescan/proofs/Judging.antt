@@ -30,7 +30,7 @@ use Rattle.readers.specs.declared.Step.{Step}
 use Rattle.readers.specs.declared.Step.the-variants.{Next, Refused}
 use Rattle.readers.proofs.Lines.{step-of, stops-first, goes-on}
 use Rattle.staircase.specs.Frame.{groups}
-use Rattle.framescan.specs.FrameText.{blockNames, blockTail, groupNames, groupLine, groupLines, groupTail, frameTail}
+use Rattle.framescan.specs.FrameText.{blockNames, blockTail, groupNamesTail, groupLine, groupLines, groupTail, frameTail}
 
 -- ---- items before a format
 
@@ -186,29 +186,29 @@ module _ (n p : ℕ) (s : List ℕ) (at : ℕ) (x : Step) (ex : stepWalk x ≡ w
 
 -- ---- the group text of L blocks, behind its first byte
 
-module _ (n L : ℕ) (s : List ℕ) (at : ℕ) (x : Step) (ex : stepWalk x ≡ walk (lits groupNames) s at) where
+module _ (n L : ℕ) (s : List ℕ) (at : ℕ) (x : Step) (ex : stepWalk x ≡ walk (lits groupNamesTail) s at) where
   abbrev Lines : List Item
   Lines = groupLines n 1 (groups L)
 
   pub names-wrong : (q : ℕ) → x ≡ Refused q → refused q ≡ verdict (scanAt (groupTail n L) s at)
   unfolding groupTail
-  names-wrong q f = sym (ap verdict (then-wrong (lits groupNames ++ Lines) (end L) s at x (stops-first (lits groupNames) Lines s at x (step-of x _ ex) q f) q f))
+  names-wrong q f = sym (ap verdict (then-wrong (lits groupNamesTail ++ Lines) (end L) s at x (stops-first (lits groupNamesTail) Lines s at x (step-of x _ ex) q f) q f))
 
   module _ (i : ℕ) (fx : x ≡ Next i) (y : Step) (ey : y ≡ stepOf (walk (groupLines n 1 (groups L)) s i)) where
-    both : y ≡ stepOf (walk (lits groupNames ++ Lines) s at)
-    both = goes-on (lits groupNames) Lines s at x (step-of x _ ex) i fx y ey
+    both : y ≡ stepOf (walk (lits groupNamesTail ++ Lines) s at)
+    both = goes-on (lits groupNamesTail) Lines s at x (step-of x _ ex) i fx y ey
 
     pub groups-wrong : (q : ℕ) → y ≡ Refused q → refused q ≡ verdict (scanAt (groupTail n L) s at)
     unfolding groupTail
-    groups-wrong q f = sym (ap verdict (then-wrong (lits groupNames ++ Lines) (end L) s at y both q f))
+    groups-wrong q f = sym (ap verdict (then-wrong (lits groupNamesTail ++ Lines) (end L) s at y both q f))
 
     pub groups-there : (e : ℕ) → y ≡ Next e → length s ≤ e → read L [] ≡ verdict (scanAt (groupTail n L) s at)
     unfolding groupTail
-    groups-there e f l = sym (then-next (lits groupNames ++ Lines) (end L) s at y both e f ∙ ap verdict (end-there L s e l))
+    groups-there e f l = sym (then-next (lits groupNamesTail ++ Lines) (end L) s at y both e f ∙ ap verdict (end-there L s e l))
 
     pub groups-over : (e : ℕ) → y ≡ Next e → e < length s → refused e ≡ verdict (scanAt (groupTail n L) s at)
     unfolding groupTail
-    groups-over e f l = sym (then-next (lits groupNames ++ Lines) (end L) s at y both e f ∙ ap verdict (end-over L s e l))
+    groups-over e f l = sym (then-next (lits groupNamesTail ++ Lines) (end L) s at y both e f ∙ ap verdict (end-over L s e l))
 
 -- ---- a byte that decides
 

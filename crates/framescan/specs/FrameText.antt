@@ -1,4 +1,4 @@
--- Document 01, "Programs": block text, and `mend`'s text, which is block text followed by group text.
+-- Document 01, "Programs": block text, and frame text, which is block text followed by group text and which `mend` reads.
 --   blockFormat area most          "`block bits`, then number and M × M bits, for 1 to 4,096 blocks numbered from 1 in order"
 --   frameFormat area n most        block text "followed by group text in that form, with exactly G groups"
 --   BlockText, FrameText           the same texts, said by the number of blocks
@@ -24,11 +24,11 @@ blockTail area (suc k) i = opt i (seq (bitsLine area (suc i)) (blockTail area k 
 unfoldable pub blockFormat : ℕ → ℕ → Format
 blockFormat area most = seq (lits blockNames) (seq (bitsLine area 1) (blockTail area (most - 1) 1))
 
--- ---- block text followed by group text
+-- ---- frame text
 
--- `group self parity` and a line feed, behind the first byte
-abbrev pub groupNames : List ℕ
-groupNames = 114 ∷ 111 ∷ 117 ∷ 112 ∷ 32 ∷ 115 ∷ 101 ∷ 108 ∷ 102 ∷ 32 ∷ 112 ∷ 97 ∷ 114 ∷ 105 ∷ 116 ∷ 121 ∷ 10 ∷ []
+-- `group self parity` and a line feed, behind the first byte, which tells it from a block's line
+abbrev pub groupNamesTail : List ℕ
+groupNamesTail = 114 ∷ 111 ∷ 117 ∷ 112 ∷ 32 ∷ 115 ∷ 101 ∷ 108 ∷ 102 ∷ 32 ∷ 112 ∷ 97 ∷ 114 ∷ 105 ∷ 116 ∷ 121 ∷ 10 ∷ []
 
 -- "number, Y, P"
 unfoldable pub groupLine : ℕ → ℕ → List Item
@@ -40,7 +40,7 @@ groupLines n p (suc k) = groupLine n p ++ groupLines n (suc p) k
 
 -- the group text of L blocks, behind its first byte
 unfoldable pub groupTail : ℕ → ℕ → Format
-groupTail n L = seq (lits groupNames ++ groupLines n 1 (groups L)) (end L)
+groupTail n L = seq (lits groupNamesTail ++ groupLines n 1 (groups L)) (end L)
 
 -- after i block lines, at most k more: `g` begins the group text, anything else the next block
 unfoldable pub frameTail : ℕ → ℕ → ℕ → ℕ → Format
@@ -56,7 +56,7 @@ abbrev pub blockItems : ℕ → ℕ → List Item
 blockItems area L = lits blockNames ++ bitsLines area 1 L
 
 abbrev pub groupItems : ℕ → ℕ → List Item
-groupItems n G = byte 103 ∷ (lits groupNames ++ groupLines n 1 G)
+groupItems n G = byte 103 ∷ (lits groupNamesTail ++ groupLines n 1 G)
 
 pub record BlockText (area most L : ℕ) (vs s : List ℕ) : Type 0 where
   pub some : 1 ≤ L

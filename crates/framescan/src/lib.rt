@@ -170,7 +170,7 @@ fn more_frame(s: &[u8], at: usize, area: usize, n: usize) -> Found
     }
 }
 
-// The same for frame text.
+// Frame text: its number of blocks, or the place where it goes wrong. Writes nothing.
 pub fn judge_frame(s: &[u8], area: usize, n: usize) -> Found
     ensures { λ r. ⌜ foundScan r ≡ verdict (scan (frameFormat area n most-blocks) (now (s .entry))) ⌝ }
 {

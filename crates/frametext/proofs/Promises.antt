@@ -2,6 +2,7 @@
 --   blocks-accepted, frame-accepted   accepted are exactly the texts of the format, with the bits that the reader gives
 --   blocks-place, frame-place         a refusal's place is the longest start that some text of the format shares
 --   blocks-hold, frame-holds          of an accepted text: the number of blocks, the lengths, bits alone, and how long it is at least
+--   blocks-left, frame-left           what the readers leave in slices of the right lengths
 -- Assumes nothing.
 use Prim.Native.Nat.{ℕ, _+_, _*_, _≤_, _<_}
 use mathlib.Core.Path.{_≡_, refl, sym, ap, subst, _∙_}
@@ -17,10 +18,12 @@ use Rattle.formats.specs.Items.{lits, bitsLines, spell}
 use Rattle.formats.proofs.Scan.{scan-complete, scan-longest, longest-same}
 use Rattle.staircase.specs.Design.{most-blocks}
 use Rattle.staircase.specs.Frame.{groups}
+use Rattle.staircase.specs.Rules.{Verdict, _then_, lengthRule}
 use Rattle.staircase.specs.Rules.Verdict.{accepted, refused}
-use Rattle.readers.specs.Verdicts.{scanRule, mark, valuesOf}
-use Rattle.framescan.specs.FrameText.{blockNames, groupNames, blockFormat, frameFormat, groupLines, BlockText, FrameText}
-use Rattle.frametext.specs.Reader.{blockScan, blockRule, blockCount, blockInfo, frameScan, frameRule, frameCount, frameInfo, frameRed}
+use Rattle.staircase.proofs.Rules.{then-accepted, length-accepted}
+use Rattle.readers.specs.Verdicts.{scanRule, mark, valuesOf, kept}
+use Rattle.framescan.specs.FrameText.{blockNames, groupNamesTail, blockFormat, frameFormat, groupLines, BlockText, FrameText}
+use Rattle.frametext.specs.Reader.{blockScan, blockRule, blockCount, blockInfo, readBlocksCall, frameScan, frameRule, frameCount, frameInfo, frameRed, readFrameCall}
 use Rattle.frametext.proofs.Texts.{clear-blocks, clear-frame, blocks-union, union-blocks, frame-union, union-frame, blocks-read, frame-read}
 use Rattle.framefill.proofs.Takes.{fit-length}
 use Rattle.frametext.proofs.Lengths.{lines-take, fit-bits, bare-append, lines-bare, groups-bare, spell-long, lines-long, groups-long}
@@ -95,6 +98,17 @@ blocks-hold M s e = go (blockCount M s) (blockInfo M s) (blocks-accepted M s .0 
           text-length = omega (arith, length-append names is, lines-long (M * M) 1 L);
         }
 
+kept-new : (v : Verdict) (new old : List ℕ) → v ≡ accepted → kept v new old ≡ new
+unfolding kept
+kept-new v new old e = rw e
+
+-- An accepted text fills a slice that fits with its information.
+pub blocks-left : (M : ℕ) (s old : List ℕ) → blockRule M s ≡ accepted → length old ≡ blockCount M s * (M * M) → readBlocksCall M s old .info ≡ blockInfo M s
+unfolding readBlocksCall
+blocks-left M s old e l =
+    let due : ℕ = blockCount M s * (M * M) in
+    kept-new (blockRule M s then lengthRule 4 (length old) due) (blockInfo M s) old (then-accepted e (length-accepted 4 (length old) due l))
+
 -- ---- frame text
 
 -- s is a frame text for this M and r
@@ -165,7 +179,7 @@ frame-holds M r s e = go (mark (frameScan M r s)) (valuesOf (frameScan M r s)) (
         let is : List Item = bitsLines (M * M) 1 L in
         let js : List Item = groupLines (M * r) 1 (groups L) in
         let first : List Item = lits blockNames ++ is in
-        let second : List Item = byte 103 ∷ (lits groupNames ++ js) in
+        let second : List Item = byte 103 ∷ (lits groupNamesTail ++ js) in
         let bits : Bits vs = fit-bits (is ++ second) vs (bare-append is second (lines-bare (M * M) 1 L) (groups-bare (M * r) 1 (groups L))) (b .spells .0) in
         let info : take (L * (M * M)) vs ≡ p .info = ap (λ (l : List ℕ). take (L * (M * M)) l) (p .whole) ∙ take-at (p .info) (p .red) (L * (M * M)) (p .info-size) in
         let red : drop (L * (M * M)) vs ≡ p .red = ap (λ (l : List ℕ). drop (L * (M * M)) l) (p .whole) ∙ drop-at (p .info) (p .red) (L * (M * M)) (p .info-size) in
@@ -179,5 +193,18 @@ frame-holds M r s e = go (mark (frameScan M r s)) (valuesOf (frameScan M r s)) (
           info-bits = bits-take (L * (M * M)) vs bits;
           red-bits = bits-drop (L * (M * M)) vs bits;
           text-length =
-              omega (arith, length-append first second, length-append (lits blockNames) is, length-append (lits groupNames) js, lines-long (M * M) 1 L, groups-long (M * r) 1 (groups L));
+              omega (arith, length-append first second, length-append (lits blockNames) is, length-append (lits groupNamesTail) js, lines-long (M * M) 1 L, groups-long (M * r) 1 (groups L));
         }
+
+-- An accepted text fills slices that fit with its information and its redundancy.
+pub frame-left : (M r : ℕ) (s info red : List ℕ) → frameRule M r s ≡ accepted → length info ≡ frameCount M r s * (M * M)
+    → length red ≡ groups (frameCount M r s) * (2 * (M * r))
+    → (readFrameCall M r s info red .info ≡ frameInfo M r s) × (readFrameCall M r s info red .red ≡ frameRed M r s)
+unfolding readFrameCall
+frame-left M r s info red e l k =
+    let L : ℕ = frameCount M r s in
+    let lengths : Verdict = lengthRule 4 (length info) (L * (M * M)) then lengthRule 5 (length red) (groups L * (2 * (M * r))) in
+    let v : (frameRule M r s then lengths) ≡ accepted =
+    then-accepted e
+    (then-accepted (length-accepted 4 (length info) (L * (M * M)) l) (length-accepted 5 (length red) (groups L * (2 * (M * r))) k)) in
+    (kept-new (frameRule M r s then lengths) (frameInfo M r s) info v, kept-new (frameRule M r s then lengths) (frameRed M r s) red v)

@@ -17,7 +17,7 @@ use Rattle.formats.proofs.Parts.{fit-append, fit-split}
 use Rattle.formats.proofs.Scan.{dec-head, scan-sound}
 use Rattle.formats.proofs.Spelling.{seq-renders, renders-seq, Spelt, Tidy, clear-seq, tidy-append, tidy-bitsLine}
 use Rattle.staircase.specs.Frame.{groups}
-use Rattle.framescan.specs.FrameText.{blockNames, blockTail, blockFormat, groupNames, groupLine, groupLines, groupTail, frameTail, frameFormat}
+use Rattle.framescan.specs.FrameText.{blockNames, blockTail, blockFormat, groupNamesTail, groupLine, groupLines, groupTail, frameTail, frameFormat}
 use Rattle.framescan.specs.FrameText.{blockItems, groupItems, BlockText, FrameText}
 use Rattle.framefill.proofs.Takes.{tidy-groupLine}
 
@@ -52,8 +52,8 @@ tidy-groupLines n (suc k) p h = tidy-append (groupLine n p) (groupLines n (suc p
 clear-groups : (area L : ℕ) → L < 10000 → Clear (groupTail area L)
 unfolding groupTail
 clear-groups area L h =
-    clear-seq (lits groupNames ++ groupLines area 1 (groups L)) (end L)
-    (tidy-append (lits groupNames) (groupLines area 1 (groups L)) (omega arith) (tidy-groupLines area (groups L) 1 (omega arith))) tt
+    clear-seq (lits groupNamesTail ++ groupLines area 1 (groups L)) (end L)
+    (tidy-append (lits groupNamesTail) (groupLines area 1 (groups L)) (omega arith) (tidy-groupLines area (groups L) 1 (omega arith))) tt
 
 clear-frameTail : (area order k i : ℕ) → i + k < 10000 → Clear (frameTail area order k i)
 unfolding frameTail
@@ -185,7 +185,7 @@ frame-lines area order (suc k) i L vs s (inr r) = go (renders-seq (bitsLine area
 open-group : (order i L : ℕ) (vs s : List ℕ) → L ≡ i → Spells (Groups order L) vs s → (t : List ℕ) × (s ≡ 103 ∷ t) × Renders (groupTail order i) L vs t
 unfolding groupTail
 open-group order i L vs s a (f, g) =
-    let is : List Item = lits groupNames ++ groupLines order 1 (groups i) in
+    let is : List Item = lits groupNamesTail ++ groupLines order 1 (groups i) in
     let f′ : Fit is vs = rw a at f in
     let g′ : s ≡ 103 ∷ spell is vs = rw a at g in
     (spell is vs, g′, rw (← append-nil (spell is vs)) (subst (λ (v : List ℕ). Renders (seq is (end i)) L v (spell is vs ++ [])) (append-nil vs) (seq-renders is (end i) L vs [] [] f′ (a, refl, refl))))

@@ -1,9 +1,9 @@
--- What the readers of block text and of `mend`'s text answer and leave, for every text and every lent slice. They are lent a design, whose M and r
+-- What the readers of block text and of frame text answer and leave, for every text and every lent slice. They are lent a design, whose M and r
 -- say how many bits a line has.
 --   blockScan, blockRule      rule 12 for block text
 --   frameScan, frameRule      "For `mend`, 12 covers both texts."
 --   blockCount, blockInfo     the number of blocks and the information that a block text shows
---   frameCount, frameInfo, frameRed   those of a `mend` text, and its redundancy
+--   frameCount, frameInfo, frameRed   those of a frame text, and its redundancy
 --   readBlocksCall, readFrameCall     the readers: rule 12, then rule 6 for the lent slices, whose lengths the number of blocks decides
 -- Assumes nothing.
 use mathlib.Core.Path.{_≡_}
@@ -21,7 +21,7 @@ use Rattle.framescan.specs.FrameText.{blockFormat, frameFormat}
 use Rattle.frametext.specs.declared.Blocks.{Blocks}
 use Rattle.frametext.specs.declared.Blocks.the-variants.{Read, Refused, Broken}
 
--- ---- block text, for M = M
+-- ---- block text
 
 unfoldable pub blockScan : ℕ → List ℕ → Scan
 blockScan M s = scan (blockFormat (M * M) most-blocks) s
@@ -45,7 +45,7 @@ readBlocksCall M s info =
     let v : Verdict = blockRule M s then lengthRule 4 (length info) (blockCount M s * (M * M)) in
     record { verdict = v; info = kept v (blockInfo M s) info }
 
--- ---- `mend`'s text, for M = M and r = r
+-- ---- frame text
 
 unfoldable pub frameScan : ℕ → ℕ → List ℕ → Scan
 frameScan M r s = scan (frameFormat (M * M) (M * r) most-blocks) s

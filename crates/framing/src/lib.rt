@@ -1,20 +1,42 @@
 // What `frame` prints, as bytes.
 //   frame_output(kit, text, out)   for the bytes of kit.txt and a block text
-ghost use mathlib.Core.Path.{_≡_};
+ghost use mathlib.Core.Bool.{false};
 ghost use Prim.Native.Nat.{_≤_};
 ghost use lib.ListN.{length};
-ghost use Rattle.programs.specs.Output.{frameOutput, Printed, Output};
-ghost use Rattle.programs.specs.Steps.{Started, BlocksScanned, FrameReady};
+ghost use Rattle.staircase.specs.Frame.{groups};
+ghost use Rattle.design.specs.Answers.{verdictOf};
+ghost use Rattle.design.specs.Sizes.{orderOf};
+ghost use Rattle.lines.specs.Written.{groupText};
+ghost use Rattle.programs.specs.Output.{printed, frameOutput, Printed, Output};
+ghost use Rattle.programs.specs.Steps.{Scanned, RoomFor, FrameReady, GroupsFit};
 use design::Check;
 use design::Design;
-use frametext::Blocks;
 use programs::Start;
 
-// Redundancy of as many groups as the longest block text has. Only its length is told.
-fn group_bits() -> [u8; 245941]
-    ensures { λ a. ⌜ 245941 ≡ length a ⌝ }
+// Redundancy of as many groups as the longest block text has. Only its room is told.
+fn group_bits(n: usize) -> [u8; 245941]
+    requires { ⌜ n ≤ 245941 ⌝ }
+    ensures { λ a. ⌜ RoomFor n a ⌝ }
 {
     [0; 245941]
+}
+
+// Writes the groups that the encoder made, or its refusal.
+fn put_encoded(out: &mut [u8], d: Design, blocks: u64, red: &[u8], made: Check) -> usize
+    requires { ⌜ GroupsFit d blocks (length (now red)) ⌝ }
+    requires { ⌜ 262144 ≤ length (now out) ⌝ }
+    ensures { λ a. ⌜ Printed (printed (verdictOf made) (groupText (orderOf d) (groups blocks) (now (red .entry)))) a (now (out .entry)) (now (out .exit)) ⌝ }
+{
+    match made {
+        Check::Refused(r) => {
+            let judged = answers::of_refusal(r);
+            programs::put_refusal(out, judged.rule, judged.place)
+        }
+        Check::Passed => {
+            let groups = design::group_count(blocks);
+            texts::put_groups(out, 0, d.order(), groups as usize, red)
+        }
+    }
 }
 
 // Reads kit and blocks into slices that fit, encodes, and writes the groups or the refusal.
@@ -43,72 +65,42 @@ fn frame_call(
         d.t as u64,
         d.size as u64,
         blocks,
-        &own[..],
-        &parity[..],
-        &inverse[..],
-        &info[..],
+        own,
+        parity,
+        inverse,
+        info,
         red,
         work,
     );
-    match made {
-        Check::Refused(r) => {
-            let judged = answers::of_refusal(r);
-            writers::refusal_lines(out, 0, judged.rule, judged.place)
-        }
-        Check::Passed => {
-            let groups = design::group_count(blocks);
-            texts::put_groups(out, 0, d.order(), groups as usize, &red[..])
-        }
-    }
+    put_encoded(out, d, blocks, red, made)
 }
 
 // The arrays that the call is lent.
 fn frame_arrays(kit: &[u8], text: &[u8], d: Design, blocks: u64, out: &mut [u8]) -> usize
-    requires { ⌜ BlocksScanned d blocks (now kit) (now text) ⌝ }
+    requires { ⌜ Scanned false d blocks (now kit) (now text) ⌝ }
     requires { ⌜ 262144 ≤ length (now out) ⌝ }
     ensures { λ a. ⌜ Printed (frameOutput (now (kit .entry)) (now (text .entry))) a (now (out .entry)) (now (out .exit)) ⌝ }
 {
-    let n = d.order();
-    let packed = n * d.row_bytes();
-    let bits = (blocks as usize) * d.area();
-    let groups = design::group_count(blocks);
-    let made = (groups as usize) * (2 * n);
-    let mut own = programs::list_bytes();
-    let mut parity = programs::list_bytes();
-    let mut inverse = programs::matrix_bytes();
-    let mut work = programs::matrix_bytes();
-    let mut info = programs::text_bits();
-    let mut red = group_bits();
+    let s = programs::sizes_of(d, blocks);
+    let mut own = programs::list_bytes(s.list);
+    let mut parity = programs::list_bytes(s.list);
+    let mut inverse = programs::matrix_bytes(s.inverse);
+    let mut work = programs::matrix_bytes(s.inverse);
+    let mut info = programs::text_bits(s.info);
+    let mut red = group_bits(s.red);
     frame_call(
         kit,
         text,
         d,
         blocks,
-        &mut own[..2 * n],
-        &mut parity[..2 * n],
-        &mut inverse[..packed],
-        &mut info[..bits],
-        &mut red[..made],
-        &mut work[..packed],
+        &mut own[..s.list],
+        &mut parity[..s.list],
+        &mut inverse[..s.inverse],
+        &mut info[..s.info],
+        &mut red[..s.red],
+        &mut work[..s.inverse],
         out,
     )
-}
-
-// The blocks, behind a kit that was scanned.
-fn frame_blocks(kit: &[u8], text: &[u8], d: Design, out: &mut [u8]) -> usize
-    requires { ⌜ Started d (now kit) (now text) ⌝ }
-    requires { ⌜ 262144 ≤ length (now out) ⌝ }
-    ensures { λ a. ⌜ Printed (frameOutput (now (kit .entry)) (now (text .entry))) a (now (out .entry)) (now (out .exit)) ⌝ }
-{
-    let scan = frametext::scan_blocks(text, d);
-    match scan {
-        Blocks::Read(blocks) => frame_arrays(kit, text, d, blocks, out),
-        Blocks::Refused(r) => {
-            let judged = answers::of_refusal(r);
-            writers::refusal_lines(out, 0, judged.rule, judged.place)
-        }
-        Blocks::Broken(p) => writers::refusal_lines(out, 0, 12, p),
-    }
 }
 
 // Both inputs, and what `frame` prints of them, for which there is room.
@@ -116,10 +108,10 @@ fn frame_inputs(kit: &[u8], text: &[u8], out: &mut [u8]) -> usize
     requires { ⌜ 262144 ≤ length (now out) ⌝ }
     ensures { λ a. ⌜ Printed (frameOutput (now (kit .entry)) (now (text .entry))) a (now (out .entry)) (now (out .exit)) ⌝ }
 {
-    let begun = programs::begin(kit, text);
+    let begun = programs::begin(kit, text, false);
     match begun {
-        Start::Kit(d) => frame_blocks(kit, text, d, out),
-        Start::Stop(rule, place) => writers::refusal_lines(out, 0, rule, place),
+        Start::Go(d, blocks) => frame_arrays(kit, text, d, blocks, out),
+        Start::Stop(rule, place) => programs::put_refusal(out, rule, place),
     }
 }
 

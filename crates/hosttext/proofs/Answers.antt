@@ -3,8 +3,9 @@
 --   kit-made, kit-refused, kit-broken               a kit reader's answer
 --   blocks-counted, blocks-refused, blocks-broken   the answer of a reader of blocks or of a frame
 --   Fits, made-fits, refused-design                 what a new design says of m, t and M
---   scan-blocks-*, read-blocks-*                    the readers of block text, behind a design that is refused and behind one that is made
---   scan-frame-*, read-frame-*                      those of `mend`'s text
+--   behind-refused, behind-made, kept-old, kept-on  any reader behind a design that is refused and behind one that is made
+--   scan-blocks-*, read-blocks-*                    the readers of block text
+--   scan-frame-*, read-frame-*                      those of frame text
 -- Assumes nothing.
 use mathlib.Core.Path.{_≡_, sym, ap, _∙_, subst}
 use mathlib.Core.List.{List, [], _∷_}
@@ -24,7 +25,7 @@ use Rattle.kittext.specs.declared.KitScan.the-variants as scan
 use Rattle.kittext.specs.Reader.{headNumber, kitScanVerdict, KitDesign}
 use Rattle.frametext.specs.declared.Blocks.{Blocks}
 use Rattle.frametext.specs.declared.Blocks.the-variants as blocks
-use Rattle.frametext.specs.Reader.{blockRule, blockCount, blockInfo, BlocksRead, readBlocksCall, frameRule, frameCount, frameInfo, frameRed, FrameRead, readFrameCall, blocksVerdict, CountIs}
+use Rattle.frametext.specs.Reader.{blockRule, blockCount, blockInfo, readBlocksCall, frameRule, frameCount, frameInfo, frameRed, readFrameCall, blocksVerdict, CountIs}
 use Rattle.readers.specs.Verdicts.{kept}
 use Rattle.hosttext.specs.Answers.{kitAnswer, blocksAnswer, scanBlocksFor, readBlocksFor, scanFrameFor, readFrameFor}
 
@@ -61,7 +62,7 @@ pub kit-broken : (l : List ℕ) {a : KitScan} (p : ℕ) {n : ℕ} {k : List ℕ}
 unfolding kitScanVerdict
 kit-broken l {a = a} p e h s = kit-rule l (kitScanVerdict a) (ap kitScanVerdict e) h s
 
--- ---- block text and `mend`'s text
+-- ---- block text and frame text
 
 pub blocks-counted : (l : List ℕ) {a : Blocks} (b : ℕ) {n : ℕ} {k : List ℕ} → a ≡ blocks.Read b → (n ≡ 0) × (k ≡ told (0 ∷ b ∷ []) l)
     → (L : ℕ) → CountIs a L → (n ≡ number (blocksVerdict a)) × (k ≡ told (blocksAnswer (blocksVerdict a) L) l)
@@ -106,108 +107,116 @@ pub refused-design : {x : Designed} (r : Refusal) (j : Judged) (m t M : ℕ) →
 unfolding designVerdict
 refused-design r j m t M e v i = sym v ∙ ap designVerdict e ∙ refusal-judged r j i
 
--- ---- block text, behind rules 1 to 3
+-- ---- a reader behind rules 1 to 3: u is their verdict, v the reader's
 
 -- what tell_blocks ensures
 abbrev pub Tells : Blocks → ℕ → List ℕ → List ℕ → Type 0
 Tells b n k l = (L : ℕ) → CountIs b L → (n ≡ number (blocksVerdict b)) × (k ≡ told (blocksAnswer (blocksVerdict b) L) l)
 
-pub scan-blocks-refused : (l s : List ℕ) (m t M : ℕ) {rule place n : ℕ} {k : List ℕ} → designRules m t M ≡ refused rule place
-    → (n ≡ rule) × (k ≡ told (place ∷ 0 ∷ []) l)
-    → (n ≡ number (scanBlocksFor m t M s)) × (k ≡ told (blocksAnswer (scanBlocksFor m t M s) (blockCount M s)) l)
-unfolding scanBlocksFor
-scan-blocks-refused l s m t M e h = blocks-rule l (scanBlocksFor m t M s) (ap (λ (v : Verdict). v then blockRule M s) e) h (blockCount M s)
+module _ (l : List ℕ) (u v : Verdict) (L : ℕ) {n : ℕ} {k : List ℕ} where
+  behind-refused : {rule place : ℕ} → u ≡ refused rule place → (n ≡ rule) × (k ≡ told (place ∷ 0 ∷ []) l)
+      → (n ≡ number (u then v)) × (k ≡ told (blocksAnswer (u then v) L) l)
+  behind-refused e h = blocks-rule l (u then v) (ap (λ (x : Verdict). x then v) e) h L
 
-pub scan-blocks-made : (l s : List ℕ) (b : Blocks) {d : Design} {m t M : ℕ} {n : ℕ} {k : List ℕ} → Fits d m t M → blocksVerdict b ≡ blockRule (d .size) s
-    → CountIs b (blockCount (d .size) s) → Tells b n k l
-    → (n ≡ number (scanBlocksFor m t M s)) × (k ≡ told (blocksAnswer (scanBlocksFor m t M s) (blockCount M s)) l)
-unfolding scanBlocksFor
-scan-blocks-made l s b {M = M} f v is tell =
-    let w = sym (ap (λ (x : Verdict). x then blockRule M s) (f .allowed)) in
-    told-by (λ (x : Verdict). blocksAnswer x (blockCount M s)) l (v ∙ ap (λ (z : ℕ). blockRule z s) (f .size) ∙ w)
-    (tell (blockCount M s) (subst (λ (z : ℕ). CountIs b (blockCount z s)) (f .size) is))
+  behind-made : (b : Blocks) → u ≡ accepted → blocksVerdict b ≡ v → CountIs b L → Tells b n k l
+      → (n ≡ number (u then v)) × (k ≡ told (blocksAnswer (u then v) L) l)
+  behind-made b e f is tell = told-by (λ (x : Verdict). blocksAnswer x L) l (f ∙ sym (ap (λ (x : Verdict). x then v) e)) (tell L is)
 
--- the call behind any verdict u of rules 1 to 3
-unfoldable blocks-behind : Verdict → ℕ → List ℕ → List ℕ → BlocksRead
-blocks-behind u M s info =
-    let v : Verdict = u then (readBlocksCall M s info .verdict) in
-    record { verdict = v; info = kept v (blockInfo M s) info }
+-- and what is left in a slice
+kept-old : (u v : Verdict) (new old : List ℕ) {rule place : ℕ} → u ≡ refused rule place → old ≡ kept (u then v) new old
+unfolding kept
+kept-old u v new old e = sym (ap (λ (x : Verdict). kept (x then v) new old) e)
 
-pub read-blocks-refused : (l s info : List ℕ) (m t M : ℕ) {rule place n : ℕ} {k : List ℕ} → designRules m t M ≡ refused rule place
-    → (n ≡ rule) × (k ≡ told (place ∷ 0 ∷ []) l)
-    → (n ≡ number (readBlocksFor m t M s info .verdict)) × (info ≡ readBlocksFor m t M s info .info)
-    × (k ≡ told (blocksAnswer (readBlocksFor m t M s info .verdict) (blockCount M s)) l)
-unfolding readBlocksFor blocks-behind kept
-read-blocks-refused l s info m t M {rule = rule} {place = place} e h =
-    let w : readBlocksFor m t M s info ≡ record { verdict = refused rule place; info = info } = ap (λ (u : Verdict). blocks-behind u M s info) e in
-    let q = blocks-rule l (readBlocksFor m t M s info .verdict) (ap (λ (x : BlocksRead). x .verdict) w) h (blockCount M s) in
-    (q .0, sym (ap (λ (x : BlocksRead). x .info) w), q .1)
-
-pub read-blocks-made : (l s info : List ℕ) (b : Blocks) {left : List ℕ} {d : Design} {m t M : ℕ} {n : ℕ} {k : List ℕ} → Fits d m t M
-    → blocksVerdict b ≡ readBlocksCall (d .size) s info .verdict → CountIs b (blockCount (d .size) s) → left ≡ readBlocksCall (d .size) s info .info
-    → Tells b n k l
-    → (n ≡ number (readBlocksFor m t M s info .verdict)) × (left ≡ readBlocksFor m t M s info .info)
-    × (k ≡ told (blocksAnswer (readBlocksFor m t M s info .verdict) (blockCount M s)) l)
-unfolding readBlocksFor blocks-behind readBlocksCall
-read-blocks-made l s info b {d = d} {m = m} {t = t} {M = M} f v is h tell =
-    let w : readBlocksCall (d .size) s info ≡ readBlocksFor m t M s info =
-    ap (λ (z : ℕ). readBlocksCall z s info) (f .size) ∙ sym (ap (λ (u : Verdict). blocks-behind u M s info) (f .allowed)) in
-    let q = told-by (λ (x : Verdict). blocksAnswer x (blockCount M s)) l (v ∙ ap (λ (x : BlocksRead). x .verdict) w)
-    (tell (blockCount M s) (subst (λ (z : ℕ). CountIs b (blockCount z s)) (f .size) is)) in
-    (q .0, h ∙ ap (λ (x : BlocksRead). x .info) w, q .1)
-
--- ---- `mend`'s text, behind rules 1 to 3
-
-pub scan-frame-refused : (l s : List ℕ) (m t M : ℕ) {rule place n : ℕ} {k : List ℕ} → designRules m t M ≡ refused rule place
-    → (n ≡ rule) × (k ≡ told (place ∷ 0 ∷ []) l)
-    → (n ≡ number (scanFrameFor m t M s)) × (k ≡ told (blocksAnswer (scanFrameFor m t M s) (frameCount M (m * t) s)) l)
-unfolding scanFrameFor
-scan-frame-refused l s m t M e h =
-    blocks-rule l (scanFrameFor m t M s) (ap (λ (v : Verdict). v then frameRule M (m * t) s) e) h (frameCount M (m * t) s)
+kept-on : (u v : Verdict) (new old : List ℕ) → u ≡ accepted → kept v new old ≡ kept (u then v) new old
+kept-on u v new old e = sym (ap (λ (x : Verdict). kept (x then v) new old) e)
 
 -- M and r of a design that was made
-fits-frame : {A : Type 0} (g : ℕ → ℕ → A) {d : Design} {m t M : ℕ} → Fits d m t M → g (d .size) (d .m * d .t) ≡ g M (m * t)
-fits-frame g {d = d} {m = m} {t = t} f = ap (λ (z : ℕ). g z (d .m * d .t)) (f .size) ∙ ap (g _) (f .r)
+fits : {A : Type 0} (g : ℕ → ℕ → A) {d : Design} {m t M : ℕ} → Fits d m t M → g (d .size) (d .m * d .t) ≡ g M (m * t)
+fits g {d = d} {m = m} {t = t} f = ap (λ (z : ℕ). g z (d .m * d .t)) (f .size) ∙ ap (g _) (f .r)
 
-counts-frame : (s : List ℕ) (b : Blocks) {d : Design} {m t M : ℕ} → Fits d m t M → CountIs b (frameCount (d .size) (d .m * d .t) s)
-    → CountIs b (frameCount M (m * t) s)
-counts-frame s b f is = subst (λ (z : ℕ). CountIs b z) (fits-frame (λ (x y : ℕ). frameCount x y s) f) is
+-- ---- block text
 
-pub scan-frame-made : (l s : List ℕ) (b : Blocks) {d : Design} {m t M : ℕ} {n : ℕ} {k : List ℕ} → Fits d m t M
-    → blocksVerdict b ≡ frameRule (d .size) (d .m * d .t) s → CountIs b (frameCount (d .size) (d .m * d .t) s) → Tells b n k l
-    → (n ≡ number (scanFrameFor m t M s)) × (k ≡ told (blocksAnswer (scanFrameFor m t M s) (frameCount M (m * t) s)) l)
-unfolding scanFrameFor
-scan-frame-made l s b {m = m} {t = t} {M = M} f v is tell =
-    let w = sym (ap (λ (x : Verdict). x then frameRule M (m * t) s) (f .allowed)) in
-    told-by (λ (x : Verdict). blocksAnswer x (frameCount M (m * t) s)) l (v ∙ fits-frame (λ (x y : ℕ). frameRule x y s) f ∙ w)
-    (tell (frameCount M (m * t) s) (counts-frame s b f is))
+module _ (l s : List ℕ) where
+  pub scan-blocks-refused : (m t M : ℕ) {rule place n : ℕ} {k : List ℕ} → designRules m t M ≡ refused rule place
+      → (n ≡ rule) × (k ≡ told (place ∷ 0 ∷ []) l)
+      → (n ≡ number (scanBlocksFor m t M s)) × (k ≡ told (blocksAnswer (scanBlocksFor m t M s) (blockCount M s)) l)
+  unfolding scanBlocksFor
+  scan-blocks-refused m t M e h = behind-refused l (designRules m t M) (blockRule M s) (blockCount M s) e h
 
-unfoldable frame-behind : Verdict → ℕ → ℕ → List ℕ → List ℕ → List ℕ → FrameRead
-frame-behind u M r s info red =
-    let v : Verdict = u then (readFrameCall M r s info red .verdict) in
-    record { verdict = v; info = kept v (frameInfo M r s) info; red = kept v (frameRed M r s) red }
+  pub scan-blocks-made : (b : Blocks) {d : Design} {m t M : ℕ} {n : ℕ} {k : List ℕ} → Fits d m t M → blocksVerdict b ≡ blockRule (d .size) s
+      → CountIs b (blockCount (d .size) s) → Tells b n k l
+      → (n ≡ number (scanBlocksFor m t M s)) × (k ≡ told (blocksAnswer (scanBlocksFor m t M s) (blockCount M s)) l)
+  unfolding scanBlocksFor
+  scan-blocks-made b {m = m} {t = t} {M = M} f v is tell =
+      behind-made l (designRules m t M) (blockRule M s) (blockCount M s) b (f .allowed) (v ∙ fits (λ (x y : ℕ). blockRule x s) f)
+      (subst (CountIs b) (fits (λ (x y : ℕ). blockCount x s) f) is) tell
 
-pub read-frame-refused : (l s info red : List ℕ) (m t M : ℕ) {rule place n : ℕ} {k : List ℕ} → designRules m t M ≡ refused rule place
-    → (n ≡ rule) × (k ≡ told (place ∷ 0 ∷ []) l)
-    → (n ≡ number (readFrameFor m t M s info red .verdict)) × (info ≡ readFrameFor m t M s info red .info) × (red ≡ readFrameFor m t M s info red .red)
-    × (k ≡ told (blocksAnswer (readFrameFor m t M s info red .verdict) (frameCount M (m * t) s)) l)
-unfolding readFrameFor frame-behind kept
-read-frame-refused l s info red m t M {rule = rule} {place = place} e h =
-    let w : readFrameFor m t M s info red ≡ record { verdict = refused rule place; info = info; red = red } =
-    ap (λ (u : Verdict). frame-behind u M (m * t) s info red) e in
-    let q = blocks-rule l (readFrameFor m t M s info red .verdict) (ap (λ (x : FrameRead). x .verdict) w) h (frameCount M (m * t) s) in
-    (q .0, sym (ap (λ (x : FrameRead). x .info) w), sym (ap (λ (x : FrameRead). x .red) w), q .1)
+  module _ (info : List ℕ) where
+    pub read-blocks-refused : (m t M : ℕ) {rule place n : ℕ} {k : List ℕ} → designRules m t M ≡ refused rule place
+        → (n ≡ rule) × (k ≡ told (place ∷ 0 ∷ []) l)
+        → (n ≡ number (readBlocksFor m t M s info .verdict)) × (info ≡ readBlocksFor m t M s info .info)
+        × (k ≡ told (blocksAnswer (readBlocksFor m t M s info .verdict) (blockCount M s)) l)
+    unfolding readBlocksFor
+    read-blocks-refused m t M e h =
+        let v : Verdict = readBlocksCall M s info .verdict in
+        let q = behind-refused l (designRules m t M) v (blockCount M s) e h in
+        (q .0, kept-old (designRules m t M) v (blockInfo M s) info e, q .1)
 
-pub read-frame-made : (l s info red : List ℕ) (b : Blocks) {info' red' : List ℕ} {d : Design} {m t M : ℕ} {n : ℕ} {k : List ℕ} → Fits d m t M
-    → blocksVerdict b ≡ readFrameCall (d .size) (d .m * d .t) s info red .verdict → CountIs b (frameCount (d .size) (d .m * d .t) s)
-    → info' ≡ readFrameCall (d .size) (d .m * d .t) s info red .info → red' ≡ readFrameCall (d .size) (d .m * d .t) s info red .red → Tells b n k l
-    → (n ≡ number (readFrameFor m t M s info red .verdict)) × (info' ≡ readFrameFor m t M s info red .info)
-    × (red' ≡ readFrameFor m t M s info red .red)
-    × (k ≡ told (blocksAnswer (readFrameFor m t M s info red .verdict) (frameCount M (m * t) s)) l)
-unfolding readFrameFor frame-behind readFrameCall
-read-frame-made l s info red b {d = d} {m = m} {t = t} {M = M} f v is hi hr tell =
-    let w : readFrameCall (d .size) (d .m * d .t) s info red ≡ readFrameFor m t M s info red =
-    fits-frame (λ (x y : ℕ). readFrameCall x y s info red) f ∙ sym (ap (λ (u : Verdict). frame-behind u M (m * t) s info red) (f .allowed)) in
-    let q = told-by (λ (x : Verdict). blocksAnswer x (frameCount M (m * t) s)) l (v ∙ ap (λ (x : FrameRead). x .verdict) w)
-    (tell (frameCount M (m * t) s) (counts-frame s b f is)) in
-    (q .0, hi ∙ ap (λ (x : FrameRead). x .info) w, hr ∙ ap (λ (x : FrameRead). x .red) w, q .1)
+    pub read-blocks-made : (b : Blocks) {left : List ℕ} {d : Design} {m t M : ℕ} {n : ℕ} {k : List ℕ} → Fits d m t M
+        → blocksVerdict b ≡ readBlocksCall (d .size) s info .verdict → CountIs b (blockCount (d .size) s)
+        → left ≡ readBlocksCall (d .size) s info .info → Tells b n k l
+        → (n ≡ number (readBlocksFor m t M s info .verdict)) × (left ≡ readBlocksFor m t M s info .info)
+        × (k ≡ told (blocksAnswer (readBlocksFor m t M s info .verdict) (blockCount M s)) l)
+    unfolding readBlocksFor readBlocksCall
+    read-blocks-made b {m = m} {t = t} {M = M} f v is h tell =
+        let w : Verdict = readBlocksCall M s info .verdict in
+        let q = behind-made l (designRules m t M) w (blockCount M s) b (f .allowed) (v ∙ fits (λ (x y : ℕ). readBlocksCall x s info .verdict) f)
+        (subst (CountIs b) (fits (λ (x y : ℕ). blockCount x s) f) is) tell in
+        (q .0, h ∙ fits (λ (x y : ℕ). readBlocksCall x s info .info) f ∙ kept-on (designRules m t M) w (blockInfo M s) info (f .allowed), q .1)
+
+  -- ---- frame text
+
+  pub scan-frame-refused : (m t M : ℕ) {rule place n : ℕ} {k : List ℕ} → designRules m t M ≡ refused rule place
+      → (n ≡ rule) × (k ≡ told (place ∷ 0 ∷ []) l)
+      → (n ≡ number (scanFrameFor m t M s)) × (k ≡ told (blocksAnswer (scanFrameFor m t M s) (frameCount M (m * t) s)) l)
+  unfolding scanFrameFor
+  scan-frame-refused m t M e h = behind-refused l (designRules m t M) (frameRule M (m * t) s) (frameCount M (m * t) s) e h
+
+  pub scan-frame-made : (b : Blocks) {d : Design} {m t M : ℕ} {n : ℕ} {k : List ℕ} → Fits d m t M
+      → blocksVerdict b ≡ frameRule (d .size) (d .m * d .t) s → CountIs b (frameCount (d .size) (d .m * d .t) s) → Tells b n k l
+      → (n ≡ number (scanFrameFor m t M s)) × (k ≡ told (blocksAnswer (scanFrameFor m t M s) (frameCount M (m * t) s)) l)
+  unfolding scanFrameFor
+  scan-frame-made b {m = m} {t = t} {M = M} f v is tell =
+      behind-made l (designRules m t M) (frameRule M (m * t) s) (frameCount M (m * t) s) b (f .allowed) (v ∙ fits (λ (x y : ℕ). frameRule x y s) f)
+      (subst (CountIs b) (fits (λ (x y : ℕ). frameCount x y s) f) is) tell
+
+  module _ (info red : List ℕ) where
+    pub read-frame-refused : (m t M : ℕ) {rule place n : ℕ} {k : List ℕ} → designRules m t M ≡ refused rule place
+        → (n ≡ rule) × (k ≡ told (place ∷ 0 ∷ []) l)
+        → (n ≡ number (readFrameFor m t M s info red .verdict)) × (info ≡ readFrameFor m t M s info red .info) × (red ≡ readFrameFor m t M s info red .red)
+        × (k ≡ told (blocksAnswer (readFrameFor m t M s info red .verdict) (frameCount M (m * t) s)) l)
+    unfolding readFrameFor
+    read-frame-refused m t M e h =
+        let u : Verdict = designRules m t M in
+        let v : Verdict = readFrameCall M (m * t) s info red .verdict in
+        let q = behind-refused l u v (frameCount M (m * t) s) e h in
+        (q .0, kept-old u v (frameInfo M (m * t) s) info e, kept-old u v (frameRed M (m * t) s) red e, q .1)
+
+    pub read-frame-made : (b : Blocks) {info' red' : List ℕ} {d : Design} {m t M : ℕ} {n : ℕ} {k : List ℕ} → Fits d m t M
+        → blocksVerdict b ≡ readFrameCall (d .size) (d .m * d .t) s info red .verdict → CountIs b (frameCount (d .size) (d .m * d .t) s)
+        → info' ≡ readFrameCall (d .size) (d .m * d .t) s info red .info → red' ≡ readFrameCall (d .size) (d .m * d .t) s info red .red → Tells b n k l
+        → (n ≡ number (readFrameFor m t M s info red .verdict)) × (info' ≡ readFrameFor m t M s info red .info)
+        × (red' ≡ readFrameFor m t M s info red .red)
+        × (k ≡ told (blocksAnswer (readFrameFor m t M s info red .verdict) (frameCount M (m * t) s)) l)
+    unfolding readFrameFor readFrameCall
+    read-frame-made b {m = m} {t = t} {M = M} f v is hi hr tell =
+        let u : Verdict = designRules m t M in
+        let w : Verdict = readFrameCall M (m * t) s info red .verdict in
+        let a : u ≡ accepted = f .allowed in
+        let q = behind-made l u w (frameCount M (m * t) s) b a (v ∙ fits (λ (x y : ℕ). readFrameCall x y s info red .verdict) f)
+        (subst (CountIs b) (fits (λ (x y : ℕ). frameCount x y s) f) is) tell in (
+          q .0,
+          hi ∙ fits (λ (x y : ℕ). readFrameCall x y s info red .info) f ∙ kept-on u w (frameInfo M (m * t) s) info a,
+          hr ∙ fits (λ (x y : ℕ). readFrameCall x y s info red .red) f ∙ kept-on u w (frameRed M (m * t) s) red a,
+          q .1,
+        )

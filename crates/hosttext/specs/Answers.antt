@@ -2,7 +2,7 @@
 --   kitAnswer              of a kit's reader: its place, m, t and M
 --   blocksAnswer           of a reader of blocks or of a frame: its place and the number of blocks
 --   scanBlocksFor, readBlocksFor   the readers of block text for any m, t and M: rules 1 to 3 come first
---   scanFrameFor, readFrameFor     those of `mend`'s text
+--   scanFrameFor, readFrameFor     those of frame text
 -- Assumes nothing.
 use mathlib.Core.List.{List, [], _∷_}
 use Prim.Native.Nat.{ℕ, _*_}
@@ -32,7 +32,7 @@ readBlocksFor m t M s info =
     let v : Verdict = designRules m t M then (readBlocksCall M s info .verdict) in
     record { verdict = v; info = kept v (blockInfo M s) info }
 
--- the same for `mend`'s text, where "12 covers both texts"
+-- the same for frame text, where "12 covers both texts"
 unfoldable pub scanFrameFor : ℕ → ℕ → ℕ → List ℕ → Verdict
 scanFrameFor m t M s = designRules m t M then frameRule M (m * t) s
 

@@ -1,25 +1,29 @@
 // What `mend` prints, as bytes.
 //   mend_output(kit, text, out)   for the bytes of kit.txt and block text followed by group text
-ghost use mathlib.Core.Path.{_≡_};
+ghost use mathlib.Core.Bool.{true};
 ghost use Prim.Native.Nat.{_≤_};
 ghost use lib.ListN.{length};
-ghost use Rattle.programs.specs.Output.{mendOutput, Printed, Output};
-ghost use Rattle.programs.specs.Steps.{Started, FrameScanned, MendReady, FrameFitsText, mendLines};
+ghost use Rattle.staircase.specs.Frame.{frameOf};
+ghost use Rattle.design.specs.Sizes.{orderOf};
+ghost use Rattle.decoder.specs.declared.Decoding.the-variants.{Decoded};
+ghost use Rattle.decoder.specs.Answers.{correctedOf};
+ghost use Rattle.programs.specs.Output.{printed, mendText, mendOutput, Printed, Output};
+ghost use Rattle.programs.specs.Steps.{Scanned, RoomFor, MendReady, FrameFits};
 use decoder::Counts;
 use decoder::Decoding;
 use design::Design;
-use frametext::Blocks;
 use programs::Start;
 
-// The entries of a list. Only their number is told.
-fn entry_bytes() -> [u8; 181]
-    ensures { λ a. ⌜ 181 ≡ length a ⌝ }
+// The entries of a list. Only their room is told.
+fn entry_bytes(n: usize) -> [u8; 181]
+    requires { ⌜ n ≤ 181 ⌝ }
+    ensures { λ a. ⌜ RoomFor n a ⌝ }
 {
     [0; 181]
 }
 
 // Writes both texts of a corrected frame and the three counts.
-fn mend_lines(
+fn put_corrected(
     out: &mut [u8],
     d: Design,
     blocks: u64,
@@ -27,14 +31,39 @@ fn mend_lines(
     red: &[u8],
     counts: Counts,
 ) -> usize
-    requires { ⌜ FrameFitsText d blocks (length (now info)) (length (now red)) ⌝ }
+    requires { ⌜ FrameFits d blocks (length (now info)) (length (now red)) ⌝ }
     requires { ⌜ 262144 ≤ length (now out) ⌝ }
-    ensures { λ a. ⌜ Printed (mendLines d blocks (now (info .entry)) (now (red .entry)) counts) a (now (out .entry)) (now (out .exit)) ⌝ }
+    ensures { λ a. ⌜ Printed (mendText (d .size) (orderOf d) blocks (correctedOf (Decoded counts) (frameOf (now (info .entry)) (now (red .entry)))))
+        a (now (out .entry)) (now (out .exit)) ⌝ }
 {
     let groups = design::group_count(blocks);
     let i = texts::put_blocks(out, 0, d.area(), blocks as usize, info);
     let j = texts::put_groups(out, i, d.order(), groups as usize, red);
     writers::count_lines(out, j, counts.rounds, counts.flips, counts.outside)
+}
+
+// Writes the frame that the decoder corrected, or its refusal.
+fn put_decoded(
+    out: &mut [u8],
+    d: Design,
+    blocks: u64,
+    info: &[u8],
+    red: &[u8],
+    made: Decoding,
+) -> usize
+    requires { ⌜ FrameFits d blocks (length (now info)) (length (now red)) ⌝ }
+    requires { ⌜ 262144 ≤ length (now out) ⌝ }
+    ensures { λ a.
+        let c = correctedOf made (frameOf (now (info .entry)) (now (red .entry))) in
+        ⌜ Printed (printed (c .verdict) (mendText (d .size) (orderOf d) blocks c)) a (now (out .entry)) (now (out .exit)) ⌝ }
+{
+    match made {
+        Decoding::Refused(r) => {
+            let judged = answers::of_refusal(r);
+            programs::put_refusal(out, judged.rule, judged.place)
+        }
+        Decoding::Decoded(c) => put_corrected(out, d, blocks, info, red, c),
+    }
 }
 
 // Reads kit and frame into slices that fit, decodes, and writes the corrected frame or the refusal.
@@ -64,68 +93,41 @@ fn mend_call(
         d.size as u64,
         blocks,
         0,
-        &own[..],
-        &parity[..],
+        own,
+        parity,
         info,
         red,
         work,
     );
-    match made {
-        Decoding::Refused(r) => {
-            let judged = answers::of_refusal(r);
-            writers::refusal_lines(out, 0, judged.rule, judged.place)
-        }
-        Decoding::Decoded(c) => mend_lines(out, d, blocks, &info[..], &red[..], c),
-    }
+    put_decoded(out, d, blocks, info, red, made)
 }
 
 // The arrays that the call is lent.
 fn mend_arrays(kit: &[u8], text: &[u8], d: Design, blocks: u64, out: &mut [u8]) -> usize
-    requires { ⌜ FrameScanned d blocks (now kit) (now text) ⌝ }
+    requires { ⌜ Scanned true d blocks (now kit) (now text) ⌝ }
     requires { ⌜ 262144 ≤ length (now out) ⌝ }
     ensures { λ a. ⌜ Printed (mendOutput (now (kit .entry)) (now (text .entry))) a (now (out .entry)) (now (out .exit)) ⌝ }
 {
-    let n = d.order();
-    let packed = n * d.row_bytes();
-    let bits = (blocks as usize) * d.area();
-    let groups = design::group_count(blocks);
-    let made = (groups as usize) * (2 * n);
-    let mut own = programs::list_bytes();
-    let mut parity = programs::list_bytes();
-    let mut inverse = programs::matrix_bytes();
-    let mut work = entry_bytes();
-    let mut info = programs::text_bits();
-    let mut red = programs::text_bits();
+    let s = programs::sizes_of(d, blocks);
+    let mut own = programs::list_bytes(s.list);
+    let mut parity = programs::list_bytes(s.list);
+    let mut inverse = programs::matrix_bytes(s.inverse);
+    let mut work = entry_bytes(s.order);
+    let mut info = programs::text_bits(s.info);
+    let mut red = programs::text_bits(s.red);
     mend_call(
         kit,
         text,
         d,
         blocks,
-        &mut own[..2 * n],
-        &mut parity[..2 * n],
-        &mut inverse[..packed],
-        &mut info[..bits],
-        &mut red[..made],
-        &mut work[..n],
+        &mut own[..s.list],
+        &mut parity[..s.list],
+        &mut inverse[..s.inverse],
+        &mut info[..s.info],
+        &mut red[..s.red],
+        &mut work[..s.order],
         out,
     )
-}
-
-// The blocks and groups, behind a kit that was scanned.
-fn mend_frame(kit: &[u8], text: &[u8], d: Design, out: &mut [u8]) -> usize
-    requires { ⌜ Started d (now kit) (now text) ⌝ }
-    requires { ⌜ 262144 ≤ length (now out) ⌝ }
-    ensures { λ a. ⌜ Printed (mendOutput (now (kit .entry)) (now (text .entry))) a (now (out .entry)) (now (out .exit)) ⌝ }
-{
-    let scan = frametext::scan_frame(text, d);
-    match scan {
-        Blocks::Read(blocks) => mend_arrays(kit, text, d, blocks, out),
-        Blocks::Refused(r) => {
-            let judged = answers::of_refusal(r);
-            writers::refusal_lines(out, 0, judged.rule, judged.place)
-        }
-        Blocks::Broken(p) => writers::refusal_lines(out, 0, 12, p),
-    }
 }
 
 // Both inputs, and what `mend` prints of them, for which there is room.
@@ -133,10 +135,10 @@ fn mend_inputs(kit: &[u8], text: &[u8], out: &mut [u8]) -> usize
     requires { ⌜ 262144 ≤ length (now out) ⌝ }
     ensures { λ a. ⌜ Printed (mendOutput (now (kit .entry)) (now (text .entry))) a (now (out .entry)) (now (out .exit)) ⌝ }
 {
-    let begun = programs::begin(kit, text);
+    let begun = programs::begin(kit, text, true);
     match begun {
-        Start::Kit(d) => mend_frame(kit, text, d, out),
-        Start::Stop(rule, place) => writers::refusal_lines(out, 0, rule, place),
+        Start::Go(d, blocks) => mend_arrays(kit, text, d, blocks, out),
+        Start::Stop(rule, place) => programs::put_refusal(out, rule, place),
     }
 }
 

@@ -3,5 +3,3 @@ pub mod Bounds
 pub mod Printing
 pub mod Starting
 pub mod Ready
-pub mod Outputs
-pub mod Room

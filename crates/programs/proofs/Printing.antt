@@ -1,6 +1,7 @@
 -- Texts at the start of a lent buffer.
---   printed-text, printed-refusal   a text that has room
---   output-printed, output-none     what a program prints, where the buffer is long enough and where it is not
+--   printed-text, printed-as            a text that has room
+--   printed-refusal, printed-refused    the lines of a refusal
+--   output-printed, output-none         what a program prints, where the buffer is long enough and where it is not
 -- Assumes nothing.
 use mathlib.Core.Path.{_≡_, refl, sym, _∙_}
 use mathlib.Core.List.{List}
@@ -9,25 +10,39 @@ use native.Mathlib.Omega.{arith}
 use lib.ListN.{length}
 use lib.Seq.{sets, length-sets, length-take-le}
 use borrow.Author.Tests.{lt-leb, le-leb}
+use Rattle.design.specs.declared.Refusal.{Refusal}
+use Rattle.design.specs.Answers.{refusalVerdict}
+use Rattle.answers.specs.declared.Judged.{Judged}
+use Rattle.answers.specs.Number.{judgedOf}
+use Rattle.answers.proofs.Refused.{refusal-judged}
 use Rattle.lines.specs.Written.{refusalText}
 use Rattle.lines.proofs.Decimal.{dec-short}
 use Rattle.lines.proofs.Placing.{refusal-length}
 use Rattle.writers.specs.Room.{puts, after}
 use Rattle.writers.proofs.Room.{puts-room, after-room}
-use Rattle.programs.specs.Output.{Printed, Output, outputIn, outputLength}
+use Rattle.programs.specs.Output.{printed, Printed, Output, outputIn, outputLength}
 
 -- a text that was written where there is room
 pub printed-text : (text t o new : List ℕ) (r : ℕ) → text ≡ t → 0 + length t ≤ length o → r ≡ 0 + length t → new ≡ sets o 0 t → Printed text r o new
 printed-text text t o new r e h a b = let z : r ≡ length t = omega arith in record { count = rw e z; within = omega arith; bytes = rw e b }
 
+pub printed-as : (text t o new : List ℕ) (r : ℕ) → text ≡ t → Printed t r o new → Printed text r o new
+printed-as text t o new r e p = rw e p
+
 -- a refusal's two lines have at most 56 bytes
-pub printed-refusal : (text : List ℕ) (rule place : ℕ) (o new : List ℕ) (r : ℕ) → text ≡ refusalText rule place → 262144 ≤ length o
-    → r ≡ after o 0 (refusalText rule place) → new ≡ puts o 0 (refusalText rule place) → Printed text r o new
-printed-refusal text rule place o new r e h a b =
+pub printed-refusal : (rule place : ℕ) (o new : List ℕ) (r : ℕ) → 262144 ≤ length o
+    → r ≡ after o 0 (refusalText rule place) → new ≡ puts o 0 (refusalText rule place) → Printed (refusalText rule place) r o new
+printed-refusal rule place o new r h a b =
+    let t : List ℕ = refusalText rule place in
     let l = refusal-length rule place in
-    let room : 0 + length (refusalText rule place) ≤ length o = omega (arith, dec-short rule, dec-short place) in
-    printed-text text (refusalText rule place) o new r e room (a ∙ after-room o 0 (refusalText rule place) room)
-    (b ∙ puts-room o 0 (refusalText rule place) room)
+    let room : 0 + length t ≤ length o = omega (arith, dec-short rule, dec-short place) in
+    printed-text t t o new r refl room (a ∙ after-room o 0 t room) (b ∙ puts-room o 0 t room)
+
+-- the lines of a refusal r, where a text would be printed
+pub printed-refused : (r : Refusal) (j : Judged) (t o new : List ℕ) (n : ℕ) → j ≡ judgedOf (refusalVerdict r) → Printed (refusalText (j .rule) (j .place)) n o new
+    → Printed (printed (refusalVerdict r) t) n o new
+unfolding printed
+printed-refused r j t o new n e p = rw (refusal-judged r j e) p
 
 pub output-printed : (t : List ℕ) (n : ℕ) (old new : List ℕ) → 262144 ≤ length old → Printed t n old new → Output t n old new
 unfolding outputIn outputLength

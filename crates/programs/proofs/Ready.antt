@@ -1,46 +1,43 @@
--- What the steps of a program know: the design's sizes, and that the readers accept what was scanned and leave what the texts show.
+-- What the steps of a program know of a kit and a text that were scanned.
+--   order-is, few-entries            the design's order, by the kit and at most 181
+--   kit-left                         the kit's reader leaves what the text shows
+--   blocks-scanned, frame-scanned    what was scanned, as rule 12 of the one text or the other
+--   few-blocks, red-short            a text has at most 4,096 blocks, and their redundancy at most 245,941 bits
+--   list-room .. red-room            the sizes have room in the arrays
+--   ready                            the arrays' parts are what readers and call want
+--   room-for, sizes-are              arrays and sizes as the code has them
 -- Assumes nothing.
-use mathlib.Core.Path.{_≡_, refl, sym, ap, _∙_}
+use mathlib.Core.Path.{_≡_, sym, ap, _∙_}
+use mathlib.Core.Bool.{Bool, true, false}
 use mathlib.Core.List.{List}
-use Prim.Native.Nat.{ℕ, _*_, _≤_}
+use Prim.Native.Nat.{ℕ, _+_, _*_, _/_, _≤_}
 use native.Mathlib.Omega.{arith}
+use native.Mathlib.Nat.{mul-le-mul, mul-add}
 use lib.ListN.{length, replicate, length-replicate}
-use Rattle.staircase.specs.Design.{order}
+use lib.Seq.{length-take-le}
+use Rattle.staircase.specs.Design.{order, most-blocks}
 use Rattle.staircase.specs.Frame.{groups}
 use Rattle.staircase.specs.System.{rowBytes}
-use Rattle.staircase.specs.Rules.{Verdict, _then_, lengthRule, frameLengths, kitWork, wordWork}
-use Rattle.staircase.specs.Rules.Verdict.{accepted, refused}
-use Rattle.staircase.specs.Calls.{Encoded, encodeVerdict, encodedBy, encodeCall, decodeCall}
-use Rattle.staircase.proofs.Rules.{then-accepted, length-accepted}
+use Rattle.staircase.specs.Rules.Verdict.{accepted}
 use Rattle.design.specs.declared.Design.{Design}
-use Rattle.design.specs.Sizes.{paramsOf, orderOf}
-use Rattle.readers.specs.Verdicts.{kept}
-use Rattle.kittext.specs.Reader.{kitParams, scanKit, selfOf, parityOf, inverseOf, readKitCall}
+use Rattle.design.specs.Sizes.{orderOf}
+use Rattle.kittext.specs.Reader.{kitParams, selfOf, parityOf, inverseOf, readKitCall}
 use Rattle.kittext.proofs.Promises.{kit-order-small, kit-read}
-use Rattle.frametext.specs.Reader.{blockRule, blockCount, blockInfo, readBlocksCall, frameRule, frameCount, frameInfo, frameRed, readFrameCall}
-use Rattle.programs.specs.Output.{inputRule, frameCall, mendCall}
-use Rattle.programs.specs.Steps.{Started, FrameReady, MendReady}
-use Rattle.programs.proofs.Judged.{short-inputs}
-use Rattle.programs.proofs.Bounds.{few-rows}
+use Rattle.frametext.specs.Reader.{blockRule, blockCount, frameRule, frameCount}
+use Rattle.frametext.proofs.Promises.{blocks-hold, frame-holds}
+use Rattle.programs.specs.Steps.{textRule, textCount, Started, Scanned, SizesAre, RoomFor, Ready}
+use Rattle.programs.specs.declared.Sizes.{Sizes}
+use Rattle.programs.proofs.Bounds.{few-rows, few-red, small-r}
 
-pub kept-new : (v : Verdict) (new old : List ℕ) → v ≡ accepted → kept v new old ≡ new
-unfolding kept
-kept-new v new old e = rw e
+-- ---- the kit
 
 module _ (d : Design) (kit text : List ℕ) (S : Started d kit text) where
-  pub params-are : paramsOf d ≡ kitParams kit
-  params-are = rw (S .m-is, S .t-is, S .M-is)
-
   pub order-is : orderOf d ≡ order (kitParams kit)
   order-is = rw (S .m-is, S .t-is, S .M-is)
-
-  pub started : (inputRule kit text then scanKit kit) ≡ accepted
-  started = then-accepted (short-inputs kit text (S .kit-short) (S .text-short)) (S .read)
 
   pub few-entries : orderOf d ≤ 181
   few-entries = rw order-is (few-rows (order (kitParams kit)) (omega (arith, S .kit-short, kit-order-small kit (S .read))))
 
-  -- the kit's reader leaves what the text shows
   pub kit-left : (own parity w : List ℕ) → length own ≡ 2 * orderOf d → length parity ≡ 2 * orderOf d → length w ≡ orderOf d * rowBytes (orderOf d)
       → (readKitCall kit own parity w .self ≡ selfOf kit) × (readKitCall kit own parity w .parity ≡ parityOf kit)
       × (readKitCall kit own parity w .inverse ≡ inverseOf kit)
@@ -51,97 +48,82 @@ module _ (d : Design) (kit text : List ℕ) (S : Started d kit text) where
       in
       (k .1, k .2, k .3)
 
--- the encoder's call by its verdict
-measured : (m t M L k : ℕ) (o p w i a b : List ℕ) → length a ≡ length b → encodeVerdict m t M L o p w i a k ≡ encodeVerdict m t M L o p w i b k
-unfolding encodeVerdict frameLengths
-measured m t M L k o p w i a b e = rw e
+-- ---- the text
 
-encoded-verdict : (v : Verdict) (old new : List ℕ) → encodedBy v old new .verdict ≡ v
-encoded-verdict accepted old new = refl
-encoded-verdict (refused n p) old new = refl
+pub blocks-scanned : (d : Design) (L : ℕ) (kit text : List ℕ) → Scanned false d L kit text
+    → (blockRule (d .size) text ≡ accepted) × (L ≡ blockCount (d .size) text)
+unfolding textRule textCount
+blocks-scanned d L kit text B = (B .accepts, B .count)
 
-encoded-red : (v : Verdict) (old new : List ℕ) → v ≡ accepted → encodedBy v old new .red ≡ new
-encoded-red v old new e = rw e
+pub frame-scanned : (d : Design) (L : ℕ) (kit text : List ℕ) → Scanned true d L kit text
+    → (frameRule (d .size) (d .m * d .t) text ≡ accepted) × (L ≡ frameCount (d .size) (d .m * d .t) text)
+unfolding textRule textCount
+frame-scanned d L kit text B = (B .accepts, B .count)
 
--- the block reader, and the call that `frame` makes
-module _ (d : Design) (L : ℕ) (kit text : List ℕ) (own parity inverse info red work : ℕ)
-    (F : FrameReady d L kit text own parity inverse info red work) where
-  S : Started d kit text
-  S = F .scanned .started
+-- a line has a digit, a space, the block's bits and a line feed at least
+lines-fit : (framed : Bool) (d : Design) (L : ℕ) (kit text : List ℕ) → Scanned framed d L kit text
+    → (L ≤ most-blocks) × (L * (d .size * d .size + 3) ≤ length text)
+lines-fit false d L kit text B =
+    let (a, c) = blocks-scanned d L kit text B in
+    let h = blocks-hold (d .size) text a in
+    (rw c (h .few), rw c (h .text-length))
+lines-fit true d L kit text B =
+    let (a, c) = frame-scanned d L kit text B in
+    let h = frame-holds (d .size) (d .m * d .t) text a in
+    (rw c (h .few), rw c (omega (arith, h .text-length)))
 
-  pub blocks-read : (old : List ℕ) → length old ≡ info → readBlocksCall (d .size) text old .info ≡ blockInfo (d .size) text
-  unfolding readBlocksCall
-  blocks-read old e =
-      let c = F .scanned .count in
-      let l : length old ≡ blockCount (d .size) text * (d .size * d .size) = e ∙ F .info-length ∙ ap (λ (k : ℕ). k * (d .size * d .size)) c in
-      kept-new (blockRule (d .size) text then lengthRule 4 (length old) (blockCount (d .size) text * (d .size * d .size))) (blockInfo (d .size) text) old
-      (then-accepted (F .scanned .accepts) (length-accepted 4 (length old) (blockCount (d .size) text * (d .size * d .size)) l))
+module _ (framed : Bool) (d : Design) (L : ℕ) (kit text : List ℕ) (B : Scanned framed d L kit text) where
+  pub few-blocks : L ≤ most-blocks
+  few-blocks = lines-fit framed d L kit text B .0
 
-  module _ (o p w i old : List ℕ) (eo : o ≡ selfOf kit) (ep : p ≡ parityOf kit) (ew : w ≡ inverseOf kit) (ei : i ≡ blockInfo (d .size) text)
-      (el : length old ≡ red) where
-    -- the old redundancy is measured and not looked at
-    same : encodeVerdict (d .m) (d .t) (d .size) L o p w i old work
-        ≡ encodeVerdict (d .m) (d .t) (d .size) L o p w i (replicate (groups L * (2 * orderOf d)) 0) work
-    same = measured (d .m) (d .t) (d .size) L work o p w i old (replicate (groups L * (2 * orderOf d)) 0)
-        (el ∙ F .red-length ∙ sym (length-replicate (groups L * (2 * orderOf d)) 0))
+  bytes : L * (d .size * d .size + 3) ≤ 32768
+  bytes = omega (arith, lines-fit framed d L kit text B .1, B .started .text-short)
 
-    whole : encodeCall (d .m) (d .t) (d .size) L o p w i (replicate (groups L * (2 * orderOf d)) 0) work ≡ frameCall kit text
-    unfolding frameCall kitWork
-    whole =
-        let c = F .scanned .count in
-        rw (eo, ep, ew, ei, F .work-length, c, S .m-is, S .t-is, S .M-is)
+  -- the redundancy of a frame of so many blocks
+  pub red-short : groups L * (2 * orderOf d) ≤ 245941
+  red-short = few-red L (d .size) (d .m * d .t) few-blocks bytes (small-r d (B .started .allowed)) (few-entries d kit text (B .started))
 
-    pub frame-verdict : encodeCall (d .m) (d .t) (d .size) L o p w i old work .verdict ≡ frameCall kit text .verdict
-    unfolding encodeCall
-    frame-verdict =
-        encoded-verdict (encodeVerdict (d .m) (d .t) (d .size) L o p w i old work) old _ ∙ same
-        ∙ sym (encoded-verdict (encodeVerdict (d .m) (d .t) (d .size) L o p w i (replicate (groups L * (2 * orderOf d)) 0) work)
-        (replicate (groups L * (2 * orderOf d)) 0) _)
-        ∙ ap (λ (x : Encoded). x .verdict) whole
+  -- ---- the arrays
 
-    pub frame-red : encodeCall (d .m) (d .t) (d .size) L o p w i old work .verdict ≡ accepted
-        → encodeCall (d .m) (d .t) (d .size) L o p w i old work .red ≡ frameCall kit text .red
-    unfolding encodeCall
-    frame-red e =
-        let v : Verdict = encodeVerdict (d .m) (d .t) (d .size) L o p w i old work in
-        let f : v ≡ accepted = sym (encoded-verdict v old _) ∙ e in
-        encoded-red v old _ f
-        ∙ sym (encoded-red (encodeVerdict (d .m) (d .t) (d .size) L o p w i (replicate (groups L * (2 * orderOf d)) 0) work)
-        (replicate (groups L * (2 * orderOf d)) 0) _ (sym same ∙ f))
-        ∙ ap (λ (x : Encoded). x .red) whole
+  module _ (s : Sizes) (z : SizesAre s d L) where
+    pub order-room : s .order ≤ 181
+    order-room = omega (arith, z .order-is, few-entries d kit text (B .started))
 
--- the frame reader, and the call that `mend` makes
-module _ (d : Design) (L : ℕ) (kit text : List ℕ) (own parity inverse info red work : ℕ)
-    (F : MendReady d L kit text own parity inverse info red work) where
-  T : Started d kit text
-  T = F .scanned .started
+    pub list-room : s .list ≤ 362
+    list-room = omega (arith, z .list-is, few-entries d kit text (B .started))
 
-  abbrev r : ℕ
-  r = d .m * d .t
+    pub inverse-room : s .inverse ≤ 4163
+    inverse-room =
+        let x : orderOf d ≤ 181 = few-entries d kit text (B .started) in
+        let y : (orderOf d + 7) / 8 ≤ 23 = omega arith in
+        let w : orderOf d * ((orderOf d + 7) / 8) ≤ 181 * 23 = mul-le-mul x y in
+        omega (arith, z .inverse-is)
 
-  read-verdict : (i p : List ℕ) → length i ≡ info → length p ≡ red
-      → (frameRule (d .size) r text then lengthRule 4 (length i) (frameCount (d .size) r text * (d .size * d .size))
-      then lengthRule 5 (length p) (groups (frameCount (d .size) r text) * (2 * (d .size * r)))) ≡ accepted
-  read-verdict i p e f =
-      let c = F .scanned .count in
-      then-accepted (F .scanned .accepts)
-      (then-accepted
-      (length-accepted 4 (length i) (frameCount (d .size) r text * (d .size * d .size)) (e ∙ F .info-length ∙ ap (λ (k : ℕ). k * (d .size * d .size)) c))
-      (length-accepted 5 (length p) (groups (frameCount (d .size) r text) * (2 * (d .size * r))) (f ∙ F .red-length ∙ ap (λ (k : ℕ). groups k * (2 * (d .size * r))) c)))
+    pub info-room : s .info ≤ 32768
+    info-room = omega (arith, z .info-is, bytes, mul-add L (d .size * d .size) 3)
 
-  pub frame-read : (i p : List ℕ) → length i ≡ info → length p ≡ red
-      → (readFrameCall (d .size) r text i p .info ≡ frameInfo (d .size) r text) × (readFrameCall (d .size) r text i p .red ≡ frameRed (d .size) r text)
-  unfolding readFrameCall
-  frame-read i p e f =
-      let v : Verdict =
-      frameRule (d .size) r text then lengthRule 4 (length i) (frameCount (d .size) r text * (d .size * d .size))
-      then lengthRule 5 (length p) (groups (frameCount (d .size) r text) * (2 * (d .size * r)))
-      in
-      (kept-new v (frameInfo (d .size) r text) i (read-verdict i p e f), kept-new v (frameRed (d .size) r text) p (read-verdict i p e f))
+    pub red-room : s .red ≤ 245941
+    red-room = omega (arith, z .red-is, red-short)
 
-  pub mend-call : (o p i q : List ℕ) → o ≡ selfOf kit → p ≡ parityOf kit → i ≡ frameInfo (d .size) r text → q ≡ frameRed (d .size) r text
-      → decodeCall (d .m) (d .t) (d .size) L 0 o p i q work ≡ mendCall kit text
-  unfolding mendCall wordWork
-  mend-call o p i q eo ep ei eq =
-      let c = F .scanned .count in
-      rw (eo, ep, ei, eq, F .work-length, c, T .m-is, T .t-is, T .M-is)
+    pub ready : (due own parity inverse info red work : ℕ) → s .list ≡ own → s .list ≡ parity → s .inverse ≡ inverse → s .info ≡ info → s .red ≡ red
+        → work ≡ due → Ready framed due d L kit text own parity inverse info red work
+    ready due own parity inverse info red work eo ep ew ei er ek =
+        record {
+          scanned = B;
+          own-length = sym eo ∙ z .list-is;
+          parity-length = sym ep ∙ z .list-is;
+          inverse-length = sym ew ∙ z .inverse-is;
+          info-length = sym ei ∙ z .info-is;
+          red-length = sym er ∙ z .red-is;
+          work-length = ek;
+        }
+
+-- a new array
+pub room-for : (n N x : ℕ) → n ≤ N → RoomFor n (replicate N x)
+room-for n N x h = let l : n ≤ length (replicate N x) = omega (arith, length-replicate N x) in (l, sym (length-take-le n (replicate N x) l))
+
+-- the sizes as the code has them
+pub sizes-are : (d : Design) (L n b a G : ℕ) → n ≡ orderOf d → b ≡ rowBytes (orderOf d) → a ≡ d .size * d .size → G ≡ groups L
+    → SizesAre (record { order = n; list = 2 * n; inverse = n * b; info = L * a; red = G * (2 * n) }) d L
+sizes-are d L n b a G en eb ea eg =
+    record { order-is = en; list-is = ap (λ (k : ℕ). 2 * k) en; inverse-is = rw (en, eb); info-is = ap (λ (k : ℕ). L * k) ea; red-is = rw (en, eg) }

@@ -1,4 +1,10 @@
--- The lines of block text and group text one after another: what is left of a text to be written, line by line; and how long the texts are.
+-- The lines of block text and group text one after another.
+--   Rest, rest-start, rest-end                    what is left of a text to be written
+--   block-room, block-written, blocks-none        the line of the next block
+--   group-room, group-written, groups-none        the line of the next group
+--   one-less                                      the bits of one line fewer
+--   block-text-parts, block-text-put, group-..    the line of names before the others
+--   block-text-length, group-text-length          how long the texts are at most
 -- Assumes nothing.
 use Prim.Native.Nat.{ℕ, zero, suc, _+_, _-_, _*_, _≤_, _<_}
 use mathlib.Core.Path.{_≡_, refl, sym, ap, _∙_}

@@ -1,8 +1,8 @@
--- The start's refusal is printed; behind it the text is read.
+-- What the start refuses is printed; behind it the call is made.
 -- Assumes nothing.
-use Rattle.programs.proofs.Starting.{begun-started, begun-stopped}
-use Rattle.programs.proofs.Printing.{printed-refusal}
-use Rattle.programs.proofs.Outputs.{mend-stopped}
+use Rattle.programs.proofs.Starting.{begun-goes, begun-stops}
+use Rattle.programs.proofs.Printing.{printed-as}
+use Rattle.mending.proofs.Mending.{mend-stopped}
 use borrow.Author.Needs.{needs}
 use Rattle.mending.proofs.mend_inputs.Statement.{statement}
 use Rattle.mending.proofs.mend_inputs.Tie as tie
@@ -13,14 +13,14 @@ begin-requires c κs = search needs
 enum-known-begun : tie.Need-enum-known-begun
 enum-known-begun c = search needs
 
-mend-frame-requires : tie.Need-mend-frame-requires
-mend-frame-requires c κs = (begun-started _ _ _ _ (c .before .before .begun .given .1) (c .before .before .before .before .begin .ensures), c .before .before .before .before .before .before .before .before .pre)
+mend-arrays-requires : tie.Need-mend-arrays-requires
+mend-arrays-requires c κs = (begun-goes _ _ _ _ (c .before .before .before .before .begin .ensures) _ _ (c .before .before .begun .given .1), c .before .before .before .before .before .before .before .before .pre)
 
 enum-known-begun-2 : tie.Need-enum-known-begun-2
 enum-known-begun-2 c = search needs
 
-refusal-lines-requires : tie.Need-refusal-lines-requires
-refusal-lines-requires c κs = search needs
+put-refusal-requires : tie.Need-put-refusal-requires
+put-refusal-requires c κs = search needs
 
 same-length : tie.Need-same-length
 same-length c = search needs
@@ -32,7 +32,7 @@ same-length-2 : tie.Need-same-length-2
 same-length-2 c = search needs
 
 returns-2 : tie.Need-returns-2
-returns-2 c = printed-refusal _ _ _ _ _ _ (mend-stopped _ _ _ _ (begun-stopped _ _ _ _ _ (c .before .before .before .before .before .begun2 .given .1) (c .before .before .before .before .before .before .before .begin .ensures))) (c .before .before .before .before .before .before .before .before .before .before .before .pre) (c .before .before .refusal-lines .ensures .0) (c .before .before .refusal-lines .ensures .1)
+returns-2 c = printed-as _ _ _ _ _ (mend-stopped _ _ _ _ (begun-stops _ _ _ _ (c .before .before .before .before .before .before .before .begin .ensures) _ _ (c .before .before .before .before .before .begun2 .given .1))) (c .before .before .put-refusal .ensures)
 
 pub mend-inputs-spec : {M : Type 1} → statement M
 mend-inputs-spec =
@@ -40,9 +40,9 @@ mend-inputs-spec =
     (tie.spec
     begin-requires
     enum-known-begun
-    mend-frame-requires
+    mend-arrays-requires
     enum-known-begun-2
-    refusal-lines-requires
+    put-refusal-requires
     same-length
     returns
     same-length-2

@@ -3,8 +3,8 @@
 use native.Mathlib.Omega.{arith}
 use Rattle.mending.proofs.Mending.{block-bits, block-room, group-bits, few-groups, groups-room, lines-printed}
 use borrow.Author.Needs.{needs}
-use Rattle.mending.proofs.mend_lines.Statement.{statement}
-use Rattle.mending.proofs.mend_lines.Tie as tie
+use Rattle.mending.proofs.put_corrected.Statement.{statement}
+use Rattle.mending.proofs.put_corrected.Tie as tie
 
 group-count-requires : tie.Need-group-count-requires
 group-count-requires c κs = search needs
@@ -30,8 +30,8 @@ same-length c = search needs
 returns : tie.Need-returns
 returns c = lines-printed _ _ (c .before .before .before .before .before .before .before .before .before .before .before .before .before .before .before .before .before .before .args .info .now) (c .before .before .before .before .before .before .before .before .before .before .before .before .before .before .before .before .before .before .args .red .now) (c .before .before .before .before .before .before .before .before .before .before .before .before .before .before .before .before .before .before .pre .0) _ _ (c .before .before .before .before .before .before .before .before .before .before .before .before .before .before .group-count .ensures) (c .before .before .before .before .before .before .before .order .ensures .0) _ _ _ _ _ _ _ _ _ (c .before .before .before .before .before .before .before .before .before .before .before .before .area .ensures .0) (c .before .before .before .before .before .before .before .before .before .before .before .before .before .before .before .before .before .before .pre .1) (c .before .before .before .before .before .before .before .before .before .before .before .put-blocks .ensures .0) (c .before .before .before .before .before .before .before .before .before .before .before .put-blocks .ensures .1) (c .before .before .before .before .before .before .put-groups .ensures .0) (c .before .before .before .before .before .before .put-groups .ensures .1) (c .before .before .count-lines .ensures .0) (c .before .before .count-lines .ensures .1)
 
-pub mend-lines-spec : {M : Type 1} → statement M
-mend-lines-spec =
+pub put-corrected-spec : {M : Type 1} → statement M
+put-corrected-spec =
     tie.close
     (tie.spec
     group-count-requires
