@@ -22,7 +22,7 @@ use Rattle.bch.proofs.Sum.{⊕-zero-left, ⊕-zero-right}
 use Rattle.bch.proofs.PowerSum.{xorSum-same, xorSum-zero}
 use Rattle.staircase.specs.Lists.{tabulate}
 use Rattle.staircase.specs.System.{Contents}
-use Rattle.staircase.proofs.System.{tabulate-length, tabulate-at, tabulate-same}
+use Rattle.staircase.proofs.Tables.{tabulate-length, tabulate-at, tabulate-same}
 use Rattle.remainders.proofs.Rows.{row-length, row-at}
 use Rattle.blocks.specs.Blocks.{sentBit, partSum, bitPlace, blockSum, PartAdded}
 

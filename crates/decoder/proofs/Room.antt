@@ -15,7 +15,7 @@ use Rattle.design.specs.declared.Design.{Design}
 use Rattle.design.specs.Answers.{Allowed}
 use Rattle.design.specs.Sizes.{paramsOf}
 use Rattle.design.proofs.Sizes.{shl-one}
-use Rattle.positions.proofs.Sizes.{bits-small}
+use Rattle.design.proofs.Allowed.{bits-small}
 
 pub lent : (k N : ℕ) (l : List ℕ) → N ≡ length l → k ≤ N → (k ≤ length l) × (length (take k l) ≡ k)
 lent k N l e h = let r : k ≤ length l = omega arith in (r, length-take-le k l r)

@@ -21,9 +21,6 @@ use Rattle.design.specs.declared.Designed.the-variants as designed
 use Rattle.design.specs.Sizes.{paramsOf, listsOf}
 use Rattle.design.specs.Answers.{verdictOf, designVerdict, DesignIs, Allowed}
 use Rattle.design.proofs.Answers.{refused-then, check-refused, check-passed, design-refused, design-made, made-params}
-use Rattle.design.proofs.Accepted.{count-limits, frame-lengths}
-use Rattle.rules.proofs.Accepted.{lists-permute, bytes-bits}
-use Rattle.lengths.proofs.Fit.{lengths-fit}
 use Rattle.frames.specs.Groups.{Encodable}
 use Rattle.encoder.specs.Checks.{contentRules, lengthRules, frameRules}
 

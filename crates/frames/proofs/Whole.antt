@@ -18,8 +18,7 @@ use Rattle.staircase.proofs.System.{Proper}
 use Rattle.staircase.proofs.Permutation.{preimage-sent}
 use Rattle.design.specs.declared.Design.{Design}
 use Rattle.design.specs.Sizes.{paramsOf, orderOf, listsOf}
-use Rattle.design.proofs.Generator.{proper-of}
-use Rattle.positions.proofs.Sizes.{r-small}
+use Rattle.design.proofs.Allowed.{proper-of, r-small}
 use Rattle.frames.specs.Groups.{groupFrom, Ready, Encodable}
 use Rattle.frames.proofs.Groups.{groups-are}
 

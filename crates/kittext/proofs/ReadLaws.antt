@@ -23,7 +23,7 @@ use Rattle.design.specs.declared.Check.the-variants as check
 use Rattle.design.specs.Answers.{refusalVerdict, verdictOf}
 use Rattle.design.specs.Sizes.{paramsOf}
 use Rattle.design.proofs.Answers.{refused-then, passed-then, check-refused}
-use Rattle.lengths.proofs.Fit.{lengths-fit}
+use Rattle.staircase.proofs.Rules.{lengths-fit}
 use Rattle.kitscan.specs.KitText.{pairLines}
 use Rattle.kitfill.specs.Bytes.{firsts, seconds, packs, packRows}
 use Rattle.kittext.specs.Reader.{kitParams, bodyScan, bodyRule, selfOf, parityOf, inverseOf, readVerdict, readKitCall, kitScanVerdict, KitDesign}

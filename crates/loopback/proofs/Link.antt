@@ -23,16 +23,15 @@ use Rattle.staircase.specs.Frame.{Frame, frameOf}
 use Rattle.staircase.specs.Rules.{Verdict, _then_, designRules, countRule, lengthRule, kitLengths, frameLengths, kitWork, wordWork, interleavers, kitRules, bitRule}
 use Rattle.staircase.specs.Rules.Verdict.{accepted, refused}
 use Rattle.staircase.specs.Calls.{encodedBy, encodeVerdict, encodeCall, decodeCall}
-use Rattle.staircase.proofs.Fill.{filled, small-product}
-use Rattle.staircase.proofs.System.{tabulate-length, tabulate-at}
-use Rattle.staircase.proofs.Rules.{then-first, then-rest}
+use Rattle.staircase.proofs.Fill.{filled}
+use Rattle.staircase.proofs.Bounds.{small-product}
+use Rattle.staircase.proofs.Tables.{tabulate-length, tabulate-at}
+use Rattle.staircase.proofs.Rules.{then-first, then-rest, length-equal, lengths-fit}
 use Rattle.staircase.proofs.Demand3.{proper-of}
 use Rattle.design.specs.declared.Refusal.{Refusal}
 use Rattle.design.specs.declared.Check.the-variants as check
 use Rattle.design.specs.Answers.{refusalVerdict, verdictOf}
 use Rattle.design.proofs.Answers.{check-refused}
-use Rattle.design.proofs.Accepted.{length-equal}
-use Rattle.lengths.proofs.Fit.{lengths-fit}
 use Rattle.decoder.specs.declared.Counts.{Counts}
 use Rattle.decoder.specs.declared.Decoding.the-variants as decoding
 use Rattle.decoder.specs.Answers.{correctedOf}

@@ -20,7 +20,7 @@ use Rattle.staircase.specs.Lists.{tabulate, concat}
 use Rattle.staircase.specs.Design.{Params, Interleavers}
 use Rattle.staircase.specs.Frame.{Frame, Site, groups, rowSites, columnSites, outsideAmong, outside}
 use Rattle.staircase.specs.Decoder.{correction, flipAll, Progress, correctWord, correctWords, round}
-use Rattle.staircase.proofs.Redundancy.{concat-last}
+use Rattle.staircase.proofs.Tables.{concat-last}
 use Rattle.staircase.proofs.Rounds.{correctWords-append, correctWords-from}
 use Rattle.design.specs.declared.Design.{Design}
 use Rattle.rules.specs.Received.{Received, FrameFits}

@@ -16,7 +16,7 @@ use lib.ListN.{length, getD}
 use Rattle.bch.specs.Polynomial.{Bits}
 use Rattle.bch.proofs.Sum.{mod2-bit}
 use Rattle.staircase.specs.Lists.{bitSum, tabulate}
-use Rattle.staircase.proofs.System.{tabulate-at, tabulate-bits, tabulate-same}
+use Rattle.staircase.proofs.Tables.{tabulate-at, tabulate-bits, tabulate-same}
 use Rattle.solution.specs.Bits.{digit, constantBit}
 
 -- place p of a matrix of n columns and m rows, and where it lies in the transposed one

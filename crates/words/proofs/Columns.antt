@@ -12,7 +12,7 @@ use lib.Arith.{digits-lt}
 use lib.ListN.{length, getD, take, drop}
 use Rattle.bch.specs.Polynomial.{Bits, _⊕_}
 use Rattle.staircase.specs.Lists.{tabulate}
-use Rattle.staircase.proofs.System.{tabulate-length, tabulate-at, tabulate-bits}
+use Rattle.staircase.proofs.Tables.{tabulate-length, tabulate-at, tabulate-bits}
 use Rattle.remainders.proofs.Rows.{row-at}
 use Rattle.blocks.specs.Blocks.{PartAdded}
 use Rattle.blocks.proofs.Sums.{part-same, Adds, adds-part}

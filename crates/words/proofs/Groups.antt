@@ -20,11 +20,12 @@ use Rattle.staircase.specs.Design.{Params, Interleavers}
 use Rattle.staircase.specs.System.{Contents}
 use Rattle.staircase.specs.Frame.{groups, rowSites, columnSites, read, frameOf}
 use Rattle.staircase.specs.Rules.{entries}
-use Rattle.staircase.proofs.Fill.{stretch-end}
-use Rattle.staircase.proofs.System.{Proper, tabulate-same}
+use Rattle.staircase.proofs.Bounds.{stretch-end}
+use Rattle.staircase.proofs.System.{Proper}
+use Rattle.staircase.proofs.Tables.{tabulate-same}
 use Rattle.design.specs.declared.Design.{Design}
 use Rattle.design.specs.Sizes.{paramsOf, orderOf, listsOf}
-use Rattle.design.proofs.Generator.{proper-of}
+use Rattle.design.proofs.Allowed.{proper-of}
 use Rattle.blocks.specs.Blocks.{sent, blockBytes, sentBit, partSum, columnSum, rowSum, PartAdded}
 use Rattle.blocks.proofs.Blocks.{sent-odd, block-fits, block-is, odd-is}
 use Rattle.blocks.proofs.Sums.{added-twice}

@@ -8,7 +8,7 @@ use Prim.Native.Nat.{ℕ, _+_, _*_, _<_}
 use Rattle.staircase.specs.Frame.{groups}
 use Rattle.staircase.specs.Frame.Site.{inRed}
 use lib.Arith.{digits-lt}
-use Rattle.staircase.proofs.Fill.{small-product}
+use Rattle.staircase.proofs.Bounds.{small-product}
 use Rattle.design.specs.Sizes.{orderOf}
 use Rattle.correct.specs.Sites.{sitesOf, Inside}
 use borrow.Author.Needs.{needs}

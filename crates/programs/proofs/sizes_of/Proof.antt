@@ -3,7 +3,7 @@
 use Prim.Native.Nat.{_*_}
 use native.Mathlib.Omega.{arith}
 use Rattle.staircase.specs.Design.{most-blocks}
-use Rattle.staircase.proofs.Fill.{small-product}
+use Rattle.staircase.proofs.Bounds.{small-product}
 use Rattle.programs.proofs.Ready.{sizes-are}
 use borrow.Author.Needs.{needs}
 use Rattle.programs.proofs.sizes_of.Statement.{statement}
