@@ -14,7 +14,7 @@ use Rattle.staircase.specs.Rules.{Part, _then_, designRules, countRule, partRul
 use Rattle.staircase.specs.Rules.Verdict.{accepted}
 use Rattle.staircase.specs.Rules.Part.{block, group}
 use Rattle.staircase.specs.Calls.{showVerdict}
-use Rattle.staircase.proofs.Rules.{then-first, then-rest, Limits, design-limits, number-in, frame-lengths}
+use Rattle.staircase.proofs.Rules.{then-first, then-rest, design-limits, number-in, frame-lengths}
 use Rattle.show.specs.Show.{frameRules, HasPart}
 use Rattle.show.proofs.Stretch.{stretch-of}
 

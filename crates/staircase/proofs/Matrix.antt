@@ -59,7 +59,7 @@ unfolding sumBits
 sumBits-same zero f g h = refl
 sumBits-same (suc n) f g h = ap₂ bitSum (h zero (suc-le-suc zero-le)) (sumBits-same n (λ k. f (suc k)) (λ k. g (suc k)) (λ k l. h (suc k) (suc-le-suc l)))
 
-sumBits-sum : (n : ℕ) (f g : ℕ → ℕ) → sumBits n (λ k. bitSum (f k) (g k)) ≡ bitSum (sumBits n f) (sumBits n g)
+pub sumBits-sum : (n : ℕ) (f g : ℕ → ℕ) → sumBits n (λ k. bitSum (f k) (g k)) ≡ bitSum (sumBits n f) (sumBits n g)
 unfolding sumBits
 sumBits-sum zero f g = refl
 sumBits-sum (suc n) f g =
