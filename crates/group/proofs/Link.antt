@@ -49,7 +49,7 @@ module _ (s : Params) (ok : Proper s) (table : List ℕ) (P : Powers s table) wh
     column-digit k h =
         let q : ℕ = unstack s k in
         let c : k / s .r < s .M = div-lt-iff-lt-mul (ok .rpos) .1 h in
-        sym (columnParity-powers s ok odd even zeros ho he zeros-binary q (unstack-lt s l ok k h)
+        sym (columnParity-powers s ok odd even zeros ho he zeros-binary q (unstack-lt s ok k h)
         ∙ ap (λ (x : ℕ). digit x (s .r) (q / s .M)) (no-y (columnRemainder s odd even (q % s .M)) (λ b. b * s .M + q % s .M))
         ∙ ap₂ (λ (a d : ℕ). digit (columnRemainder s odd even a) (s .r) d) (digits-mod (k % s .r) c) (digits-div (k % s .r) c)
         ∙ ap (λ (x : ℕ). digit x (s .r) (k % s .r)) (sym (tabulate-at (s .M) (columnSum table (s .M) o e) 0 (k / s .r) c ∙ columnSum-is s table P o e odd even so se (k / s .r) c)))
@@ -66,7 +66,7 @@ module _ (s : Params) (ok : Proper s) (table : List ℕ) (P : Powers s table) wh
     unfolding constantBit constantEntry residual
     constantBit-is k h =
         let q : ℕ = unstack s k in
-        let hq : q < order s = unstack-lt s l ok k h in
+        let hq : q < order s = unstack-lt s ok k h in
         ap₂ bitSum (column-digit k h)
         (ap (λ (p : ℕ). digit (getD rows (p % s .M) 0) (s .r) (p / s .M)) (sent q hq)
         ∙ row-digit (preimage (l .parity) (order s) q) (preimage-sent (l .parity) (order s) pp q hq .0))

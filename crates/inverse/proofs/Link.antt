@@ -53,7 +53,7 @@ module _ (s : Params) (ok : Proper s) (l : Interleavers)
       let he : e < n = div-lt-iff-lt-mul pos .1 h in
       let hx : x < n = mod-lt i pos in
       let p : getD places (unstackOf (s .M) (length part) e) 0 ≡ preimage (l .parity) n (unstack s e) =
-      ap (λ (r : ℕ). getD places (unstackOf (s .M) r e) 0) (P .long) ∙ places-are (unstack s e) (unstack-lt s l ok e he) in
+      ap (λ (r : ℕ). getD places (unstackOf (s .M) r e) 0) (P .long) ∙ places-are (unstack s e) (unstack-lt s ok e he) in
       ap (λ (v : ℕ). not (eqb v (identity e x)))
       (ap (λ (q : ℕ). sumBits n (λ k. rowEntry part (l .self) (s .M) q e k * planeBit t n k x)) p
       ∙ sumBits-same n (λ k. rowEntry part (l .self) (s .M) (preimage (l .parity) n (unstack s e)) e k * planeBit t n k x) (λ k. systemEntry s l e k * inverseEntry w n k x)
@@ -70,7 +70,7 @@ module _ (s : Params) (ok : Proper s) (l : Interleavers)
       let he : e < n = div-lt-iff-lt-mul pos .1 h in
       let hj : j < n = mod-lt i pos in
       let p : getD places (unstackOf (s .M) (length part) j) 0 ≡ preimage (l .self) n (unstack s j) =
-      ap (λ (r : ℕ). getD places (unstackOf (s .M) r j) 0) (P .long) ∙ places-are (unstack s j) (unstack-lt s l ok j hj) in
+      ap (λ (r : ℕ). getD places (unstackOf (s .M) r j) 0) (P .long) ∙ places-are (unstack s j) (unstack-lt s ok j hj) in
       ap₂ (λ (v u : ℕ). not (eqb v u))
       (ap (λ (q : ℕ). sumBits n (λ k. columnEntry part (l .parity) (s .M) q j k * planeBit t n k e)) p
       ∙ sumBits-same n (λ k. columnEntry part (l .parity) (s .M) (preimage (l .self) n (unstack s j)) j k * planeBit t n k e) (λ k. inverseEntry w n e k * systemEntry s l k j)

@@ -7,8 +7,8 @@
 -- Assumes nothing.
 use mathlib.Core.Path.{_≡_, refl, sym, ap, _∙_, subst}
 use mathlib.Core.Bool.{Bool, true, cond, true≢false}
-use mathlib.Core.Logic.{_≢_, _⊎_, inl, inr}
-use mathlib.Core.List.{List, [], _∷_, _++_, map}
+use mathlib.Core.Logic.{_≢_, inl, inr}
+use mathlib.Core.List.{List, [], _∷_, map}
 use Prim.Native.Nat.{ℕ, _+_, _-_, _*_, _/_, _%_, _≤_, _<_}
 use native.Mathlib.Nat.{add-sub-cancel-left}
 use native.Mathlib.Omega.{arith}
@@ -24,9 +24,11 @@ use Rattle.staircase.specs.Frame.{Frame, Site, blockAt, selfAt, parityAt
 use Rattle.staircase.specs.Frame.Site.{unsent, inInfo, inRed}
 use Rattle.staircase.specs.Decoder.{errorPositions, allSent, correction, flipAll, Progress, correctWord, correctWords}
 use Rattle.staircase.specs.Demand2.{Permutes}
-use Rattle.staircase.proofs.Member.{In, in-cases, tabulate-in, map-in}
+use Rattle.staircase.proofs.Search.{cond-ind}
+use Rattle.staircase.proofs.Member.{In, tabulate-in, map-in}
+use Rattle.staircase.proofs.Stretches.{four-all}
 use Rattle.staircase.proofs.Flip.{Sent, flipAll-other, read-same, read-length, site-in}
-use Rattle.staircase.proofs.Errors.{cond-ind, positions-below, errorPositions-positions}
+use Rattle.staircase.proofs.Errors.{positions-below, errorPositions-positions}
 use Rattle.staircase.proofs.Permutation.{preimage-of}
 use Rattle.staircase.proofs.System.{Proper, place-lt}
 use Rattle.staircase.proofs.Sites.{block-sent}
@@ -44,7 +46,7 @@ all-sent (inInfo k ∷ c) h y (inr i) = all-sent c h y i
 all-sent (inRed k ∷ c) h y (inl e) = subst Sent (sym e) tt
 all-sent (inRed k ∷ c) h y (inr i) = all-sent c h y i
 
-pub correction-in : (s : Params) (f : Frame) (w : List Site) (y : Site) → In y (correction s f w) → Sent y × In y w
+correction-in : (s : Params) (f : Frame) (w : List Site) (y : Site) → In y (correction s f w) → Sent y × In y w
 unfolding correction
 correction-in s f w y =
     let e : List ℕ = errorPositions s (read f w) in
@@ -56,7 +58,7 @@ correction-in s f w y =
     (all-sent c h y i, subst (λ (x : Site). In x w) (sym (q .2)) (site-in w (q .0) below)))
     (λ h i. absurd i)
 
-pub correction-apart : (s : Params) (f : Frame) (w v : List Site) → Apart w v → read (flipAll (correction s f w) f) v ≡ read f v
+correction-apart : (s : Params) (f : Frame) (w v : List Site) → Apart w v → read (flipAll (correction s f w) f) v ≡ read f v
 correction-apart s f w v apart =
     read-same v (flipAll (correction s f w) f) f
     (λ y i. flipAll-other (correction s f w) f y (λ k. let q = correction-in s f w y k in apart y (q .0) (q .1) i))
@@ -93,26 +95,6 @@ module _ (s : Params) (L i : ℕ) (ofBlock ofSelf ofParity : ℕ → ℕ) where
       ap (λ (z : Bool). cond z (ofSelf (k - start)) (ofParity (k - (start + order s)))) (le-ltb (k - start) (order s) (omega arith))
       ∙ ap ofParity (add-sub-cancel-left (start + order s) q)
 
--- a fact of all sites of the four stretches of a word
-four : (F : Site → Type 0) (m r : ℕ) (A B X Q : ℕ → Site) → ((j : ℕ) → j < m → F (A j)) → ((j : ℕ) → j < m → F (B j)) → ((b : ℕ) → b < r → F (X b))
-    → ((b : ℕ) → b < r → F (Q b)) → (y : Site) → In y (tabulate m A ++ tabulate m B ++ tabulate r X ++ tabulate r Q) → F y
-four F m r A B X Q a b x q y i = last (in-cases y (tabulate m A ++ tabulate m B ++ tabulate r X) (tabulate r Q) i)
-  where
-    each : (n : ℕ) (f : ℕ → Site) → ((j : ℕ) → j < n → F (f j)) → In y (tabulate n f) → F y
-    each n f h i = let t = tabulate-in n f y i in subst F (sym (t .2)) (h (t .0) (t .1))
-
-    first : In y (tabulate m A) ⊎ In y (tabulate m B) → F y
-    first (inl i) = each m A a i
-    first (inr i) = each m B b i
-
-    middle : In y (tabulate m A ++ tabulate m B) ⊎ In y (tabulate r X) → F y
-    middle (inl i) = first (in-cases y (tabulate m A) (tabulate m B) i)
-    middle (inr i) = each r X x i
-
-    last : In y (tabulate m A ++ tabulate m B ++ tabulate r X) ⊎ In y (tabulate r Q) → F y
-    last (inl i) = middle (in-cases y (tabulate m A ++ tabulate m B) (tabulate r X) i)
-    last (inr i) = each r Q q i
-
 -- words that a line tells apart, and a word and those before it
 lines-apart : (line : Site → ℕ) (word : ℕ → List Site) (m : ℕ) → ((a : ℕ) → a < m → (y : Site) → In y (word a) → Sent y → line y ≡ a)
     → (a b : ℕ) → a < m → b < m → a ≢ b → Apart (word a) (word b)
@@ -133,15 +115,14 @@ module _ (s : Params) (L : ℕ) (l : Interleavers) (ok : Proper s) where
   unfolding columnSites columnWord columnInfo
   column-line i a ha =
       let f : ℕ → ℕ = λ k. k % s .M in
-      four (λ (y : Site). Sent y → columnOf i y ≡ a) (s .M) (s .r)
-      (λ j. blockAt s L (2 * i + 1) (j * s .M + a)) (λ j. blockAt s L (2 * i + 2) (j * s .M + a))
-      (λ b. selfAt s i (b * s .M + a)) (λ b. parityAt s i (b * s .M + a))
+      four-all (s .M) (s .r) (λ j. blockAt s L (2 * i + 1) (j * s .M + a)) (λ j. blockAt s L (2 * i + 2) (j * s .M + a))
+      (λ b. selfAt s i (b * s .M + a)) (λ b. parityAt s i (b * s .M + a)) (λ (y : Site). Sent y → columnOf i y ≡ a)
       (λ j hj sent. block-line s L i f f f (2 * i + 1) (j * s .M + a) (digits-lt hj ha) sent ∙ digits-mod j ha)
       (λ j hj sent. block-line s L i f f f (2 * i + 2) (j * s .M + a) (digits-lt hj ha) sent ∙ digits-mod j ha)
-      (λ b hb sent. self-line s L i f f f (b * s .M + a) (place-lt s l ok b a hb ha) ∙ digits-mod b ha)
+      (λ b hb sent. self-line s L i f f f (b * s .M + a) (place-lt s ok b a hb ha) ∙ digits-mod b ha)
       (λ b hb sent. parity-line s L i f f f (b * s .M + a) ∙ digits-mod b ha)
 
-  pub columns-apart : (i a b : ℕ) → a < s .M → b < s .M → a ≢ b → Apart (columnSites s L i a) (columnSites s L i b)
+  columns-apart : (i a b : ℕ) → a < s .M → b < s .M → a ≢ b → Apart (columnSites s L i a) (columnSites s L i b)
   columns-apart i = lines-apart (columnOf i) (columnSites s L i) (s .M) (column-line i)
 
   pub columns-before-apart : (i n a : ℕ) → n ≤ a → a < s .M → (w : List Site) → In w (tabulate n (columnSites s L i)) → Apart w (columnSites s L i a)
@@ -163,10 +144,9 @@ module _ (s : Params) (L : ℕ) (l : Interleavers) (ok : Proper s) where
     row-line i a ha =
         let f : ℕ → ℕ = λ k. k / s .M in
         let source : ℕ → ℕ = λ b. b * s .M + a in
-        let below : (b : ℕ) → b < s .r → source b < order s = λ b hb. place-lt s l ok b a hb ha in
-        four (λ (y : Site). Sent y → rowOf i y ≡ a) (s .M) (s .r)
-        (λ j. blockAt s L (2 * i) (a * s .M + j)) (λ j. blockAt s L (2 * i + 1) (a * s .M + j))
-        (λ b. selfAt s i (getD (l .self) (b * s .M + a) 0)) (λ b. parityAt s i (getD (l .parity) (b * s .M + a) 0))
+        let below : (b : ℕ) → b < s .r → source b < order s = λ b hb. place-lt s ok b a hb ha in
+        four-all (s .M) (s .r) (λ j. blockAt s L (2 * i) (a * s .M + j)) (λ j. blockAt s L (2 * i + 1) (a * s .M + j))
+        (λ b. selfAt s i (getD (l .self) (b * s .M + a) 0)) (λ b. parityAt s i (getD (l .parity) (b * s .M + a) 0)) (λ (y : Site). Sent y → rowOf i y ≡ a)
         (λ j hj sent. block-line s L i f ofSelf ofParity (2 * i) (a * s .M + j) (digits-lt ha hj) sent ∙ digits-div a hj)
         (λ j hj sent. block-line s L i f ofSelf ofParity (2 * i + 1) (a * s .M + j) (digits-lt ha hj) sent ∙ digits-div a hj)
         (λ b hb sent. self-line s L i f ofSelf ofParity (getD (l .self) (source b) 0) (ps .below (source b) (below b hb))
@@ -174,7 +154,7 @@ module _ (s : Params) (L : ℕ) (l : Interleavers) (ok : Proper s) where
         (λ b hb sent. parity-line s L i f ofSelf ofParity (getD (l .parity) (source b) 0)
         ∙ ap (λ (z : ℕ). z % s .M) (preimage-of (l .parity) (order s) pp (source b) (below b hb)) ∙ digits-mod b ha)
 
-    pub rows-apart : (i a b : ℕ) → a < s .M → b < s .M → a ≢ b → Apart (rowSites s l L i a) (rowSites s l L i b)
+    rows-apart : (i a b : ℕ) → a < s .M → b < s .M → a ≢ b → Apart (rowSites s l L i a) (rowSites s l L i b)
     rows-apart i = lines-apart (rowOf i) (rowSites s l L i) (s .M) (row-line i)
 
     pub rows-before-apart : (i n a : ℕ) → n ≤ a → a < s .M → (w : List Site) → In w (tabulate n (rowSites s l L i)) → Apart w (rowSites s l L i a)

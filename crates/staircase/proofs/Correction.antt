@@ -8,7 +8,7 @@
 --   round-restores, runRounds-restore, outside-none   any number of rounds but none leaves the frame, with no word outside
 -- Assumes of the code, as a parameter, that its distance is at least 2t + 1.
 use mathlib.Core.Path.{_≡_, refl, sym, ap, ap₂, _∙_, subst}
-use mathlib.Core.Bool.{Bool, true, false, cond}
+use mathlib.Core.Bool.{Bool, true, cond}
 use mathlib.Core.Logic.{_⊎_, inl, inr}
 use mathlib.Core.List.{List, [], _∷_, map}
 use Prim.Native.Nat.{ℕ, zero, suc, _+_, _-_, _*_, _≤_, _<_, zero-le}
@@ -24,6 +24,7 @@ use Rattle.staircase.specs.Design.{Params}
 use Rattle.staircase.specs.Frame.{Frame, Site, bitAt, read, inCode, outsideAmong}
 use Rattle.staircase.specs.Frame.Site.{unsent, inInfo, inRed}
 use Rattle.staircase.specs.Decoder.{flipBits, errorPositions, allSent, correction, flipAll, Progress, correctWord, correctWords, round, Decoded, runRounds}
+use Rattle.staircase.proofs.Search.{cond-ind}
 use Rattle.staircase.proofs.Member.{In, map-in}
 use Rattle.staircase.proofs.Flip.{Sent, Within, Received, flipAll-received, flipAll-other, error-within, read-same, same-read, read-bits, read-length, Distinct, site-in, in?, read-flipAll}
 use Rattle.staircase.proofs.Errors.{flipBits-length, flipBits-bits, flipBits-distance, flipBits-here, Positions, positions-once, positions-below, errors, errors-positions, errors-flipped, errorPositions-found}
@@ -50,7 +51,7 @@ pub record Sound (s : Params) (n : ℕ) (f : Frame) (w : List Site) : Type 0 whe
   pub coded : inCode s f w ≡ true
 
 -- b has the frame's bit or a's bit at each site
-abbrev pub Nearer : Frame → Frame → Frame → Type 0
+abbrev Nearer : Frame → Frame → Frame → Type 0
 Nearer f a b = (y : Site) → (bitAt b y ≡ bitAt f y) ⊎ (bitAt b y ≡ bitAt a y)
 
 nearer-trans : (f a b c : Frame) → Nearer f a b → Nearer f b c → Nearer f a c
@@ -150,7 +151,7 @@ module _ (s : Params) (n : ℕ) (apart : CodeDistance s n) (f : Frame) (ff : Rec
     pub correct-word : read (flipAll (correction s a w) a) w ≡ read f w
     correct-word = ap (λ (c : List Site). read (flipAll c a) w) correction-sites ∙ read-flipAll a itself w (ok .distinct) found inside ∙ found-sent
 
-    pub correct-nearer : Nearer f a (flipAll (correction s a w) a)
+    correct-nearer : Nearer f a (flipAll (correction s a w) a)
     correct-nearer y = go (in? y (correction s a w))
       where
         among : In y (correction s a w) → In y w
@@ -162,14 +163,14 @@ module _ (s : Params) (n : ℕ) (apart : CodeDistance s n) (f : Frame) (ff : Rec
         go (inl i) = inl (same-read w (flipAll (correction s a w) a) f correct-word y (among i))
         go (inr d) = inr (flipAll-other (correction s a w) a y d)
 
-  abbrev pub Few : Frame → List (List Site) → Type 0
+  abbrev Few : Frame → List (List Site) → Type 0
   Few a ws = (w : List Site) → In w ws → distance (read f w) (read a w) ≤ s .t
 
-  abbrev pub AllSound : List (List Site) → Type 0
+  abbrev AllSound : List (List Site) → Type 0
   AllSound ws = (w : List Site) → In w ws → Sound s n f w
 
   -- after a pass over some words these are the frame's, and nothing has moved away from the frame
-  pub correctWords-restore : (ws : List (List Site)) → AllSound ws → (x : Progress) → Received f (x .frame) → Few (x .frame) ws
+  correctWords-restore : (ws : List (List Site)) → AllSound ws → (x : Progress) → Received f (x .frame) → Few (x .frame) ws
       → Received f ((correctWords s x ws) .frame) × Nearer f (x .frame) ((correctWords s x ws) .frame)
       × ((w : List Site) → In w ws → read ((correctWords s x ws) .frame) w ≡ read f w)
   unfolding correctWords correctWord
@@ -194,13 +195,13 @@ module _ (s : Params) (n : ℕ) (apart : CodeDistance s n) (f : Frame) (ff : Rec
       go word near rest w (inr i) = rest w i
 
   -- every byte of the buffers is in some word
-  abbrev pub Covered : List (List Site) → Type 0
+  abbrev Covered : List (List Site) → Type 0
   Covered ws =
       ((k : ℕ) → k < length (f .info) → (w : List Site) × In w ws × In (inInfo k) w)
       × ((k : ℕ) → k < length (f .red) → (w : List Site) × In w ws × In (inRed k) w)
 
   module _ (ws : List (List Site)) (ok : AllSound ws) (all : Covered ws) where
-    pub round-restores : (a : Frame) → Received f a → Few a ws → (round s ws a) .frame ≡ f
+    round-restores : (a : Frame) → Received f a → Few a ws → (round s ws a) .frame ≡ f
     unfolding round
     round-restores a g few =
         let x : Progress = record { frame = a; flips = 0 } in
@@ -217,23 +218,19 @@ module _ (s : Params) (n : ℕ) (apart : CodeDistance s n) (f : Frame) (ff : Rec
     none-wrong : Few f ws
     none-wrong w i = subst (λ (z : ℕ). z ≤ s .t) (sym (distance-self (read f w))) zero-le
 
-    frame-pick : (z : Bool) (p q : Decoded) → p .frame ≡ f → q .frame ≡ f → (cond z p q) .frame ≡ f
-    frame-pick true p q h k = h
-    frame-pick false p q h k = k
-
-    pub runRounds-keep : (k : ℕ) (a : Frame) → a ≡ f → (runRounds s ws k a) .frame ≡ f
+    runRounds-keep : (k : ℕ) (a : Frame) → a ≡ f → (runRounds s ws k a) .frame ≡ f
     unfolding runRounds
     runRounds-keep zero a e = e
     runRounds-keep (suc k) a e =
         let one : (round s ws a) .frame ≡ f = ap (λ (z : Frame). (round s ws z) .frame) e ∙ round-restores f ff none-wrong in
-        frame-pick (eqb ((round s ws a) .flips) 0) _ _ one (runRounds-keep k ((round s ws a) .frame) one)
+        cond-ind (λ (d : Decoded). d .frame ≡ f) (eqb ((round s ws a) .flips) 0) _ _ (λ q. one) (λ q. runRounds-keep k ((round s ws a) .frame) one)
 
     -- any number of rounds but none leaves the frame
     pub runRounds-restore : (k : ℕ) (a : Frame) → Received f a → Few a ws → (runRounds s ws (suc k) a) .frame ≡ f
     unfolding runRounds
     runRounds-restore k a g few =
         let one : (round s ws a) .frame ≡ f = round-restores a g few in
-        frame-pick (eqb ((round s ws a) .flips) 0) _ _ one (runRounds-keep k ((round s ws a) .frame) one)
+        cond-ind (λ (d : Decoded). d .frame ≡ f) (eqb ((round s ws a) .flips) 0) _ _ (λ q. one) (λ q. runRounds-keep k ((round s ws a) .frame) one)
 
   pub outside-none : (ws : List (List Site)) → AllSound ws → outsideAmong s f ws ≡ 0
   unfolding outsideAmong

@@ -5,11 +5,11 @@
 --   system-row         the entries of a row of A, by the places of Y that its words read
 --   system-column      the entries of a column of A, by the places of P that its bit of Y reaches
 -- Assumes nothing.
-use mathlib.Core.Path.{_≡_, sym, ap, ap₂, _∙_, subst}
+use mathlib.Core.Path.{_≡_, sym, ap, ap₂, _∙_}
 use mathlib.Core.Bool.{Bool, true, false, cond}
 use mathlib.Core.List.{List, _++_}
 use Prim.Native.Nat.{ℕ, zero, suc, _+_, _-_, _*_, _/_, _%_, _^_, _<_}
-use native.Mathlib.Nat.{zero-div, zero-mul, one-mul, mul-comm, mod-lt, div-add-mod', div-lt-iff-lt-mul}
+use native.Mathlib.Nat.{zero-div, zero-mul, one-mul, mod-lt, div-add-mod', div-lt-iff-lt-mul}
 use native.Mathlib.Decide.{ℕ-discrete}
 use native.Mathlib.Omega.{arith}
 use lib.Arith.{digits-div, digits-mod}
@@ -21,7 +21,6 @@ use Rattle.bch.specs.Polynomial.{Bits, _⊕_, remainder}
 use Rattle.bch.specs.Code.{parity}
 use Rattle.bch.specs.Powers.{powerMod, xorSum}
 use Rattle.bch.proofs.Sum.{bit-ind, mod2-bit, ⊕-shift, ⊕-mod, ⊕-zero-left}
-use Rattle.bch.proofs.Systematic.{append-bits}
 use Rattle.bch.proofs.PowerSum.{xorSum-same, xorSum-zero, xorSum-append, shifted-powers, parity-at}
 use Rattle.staircase.specs.Lists.{bitSum, sumBits, tabulate}
 use Rattle.staircase.specs.Design.{Params, Interleavers, wordLength, order}
@@ -29,9 +28,11 @@ use Rattle.staircase.specs.Word.{rowInfo, columnInfo}
 use Rattle.staircase.specs.System.{Contents, zeros, unit, stack, unstack, preimage, columnParity, rowParity, residual, systemEntry}
 use Rattle.staircase.specs.Demand2.{Permutes}
 use Rattle.staircase.proofs.Matrix.{bitSum-assoc, sumBits-same, sumBits-one}
+use Rattle.staircase.proofs.Tables.{Binary, tabulate-length, tabulate-at}
+use Rattle.staircase.proofs.Stretches.{three, three-bits}
 use Rattle.staircase.proofs.Parity.{bit-⊕}
 use Rattle.staircase.proofs.Permutation.{preimage-sent, preimage-of}
-use Rattle.staircase.proofs.System.{Proper, Binary, tabulate-length, tabulate-at, tabulate-bits, unstack-lt, stack-unstack, unstack-stack, place-lt}
+use Rattle.staircase.proofs.System.{Proper, place-lt, row-of, unstack-lt, stack-unstack, unstack-stack}
 
 -- ---- sums of bits and sums of numbers
 
@@ -41,7 +42,7 @@ sumBits-last zero f = omega arith
 sumBits-last (suc n) f = ap (bitSum (f zero)) (sumBits-last n (λ k. f (suc k))) ∙ sym (bitSum-assoc (f zero) (sumBits n (λ k. f (suc k))) (f (suc n)))
 
 -- a digit of a sum of numbers is the sum of their digits
-pub xorSum-digit : (n k : ℕ) (f : ℕ → ℕ) → xorSum n f / 2 ^ k % 2 ≡ sumBits n (λ j. f j / 2 ^ k % 2)
+xorSum-digit : (n k : ℕ) (f : ℕ → ℕ) → xorSum n f / 2 ^ k % 2 ≡ sumBits n (λ j. f j / 2 ^ k % 2)
 unfolding xorSum sumBits
 xorSum-digit zero k f = ap (λ (z : ℕ). z % 2) (zero-div (2 ^ k))
 xorSum-digit (suc n) k f =
@@ -69,7 +70,7 @@ eqb-iff a b c d f g = go (ℕ-discrete a b)
 
 module _ (s : Params) where
   -- three stretches of a word: M, M and r bits
-  pub info-powers : (f h k : ℕ → ℕ) → Binary f → Binary h → Binary k
+  info-powers : (f h k : ℕ → ℕ) → Binary f → Binary h → Binary k
       → remainder (s .g) (s .r) (tabulate (s .M) f ++ tabulate (s .M) h ++ tabulate (s .r) k ++ replicate (s .r) 0)
       ≡ xorSum (s .M) (λ j. f j * powerMod (s .g) (s .r) (wordLength s - 1 - j))
       ⊕ xorSum (s .M) (λ j. h j * powerMod (s .g) (s .r) (wordLength s - 1 - (s .M + j)))
@@ -86,7 +87,7 @@ module _ (s : Params) where
       let lAB : length (A ++ B) ≡ s .M + s .M = length-append A B ∙ ap₂ _+_ lA lB in
       let lu : length u ≡ s .M + s .M + s .r = length-append (A ++ B) C ∙ ap₂ _+_ lAB lC in
       let F : ℕ → ℕ = λ j. getD u j 0 * X (s .M + s .M + s .r + s .r - suc j) in
-      let bits : Bits u = append-bits (A ++ B) C (append-bits A B (tabulate-bits (s .M) f hf) (tabulate-bits (s .M) h hh)) (tabulate-bits (s .r) k hk) in
+      let bits : Bits u = three-bits (s .M) (s .r) f h k hf hh hk in
       shifted-powers (s .g) (s .r) u bits
       ∙ ap (λ (n : ℕ). xorSum n (λ j. getD u j 0 * X (n + s .r - suc j))) lu
       ∙ xorSum-append (s .M + s .M) (s .r) F
@@ -108,92 +109,77 @@ module _ (s : Params) where
 unfoldable pub coefficient : Params → ℕ → ℕ → ℕ
 coefficient s b a = powerMod (s .g) (s .r) (2 * s .r - 1 - b) / 2 ^ (s .r - 1 - a) % 2
 
-pub coefficient-bit : (s : Params) (b a : ℕ) → coefficient s b a < 2
+coefficient-bit : (s : Params) (b a : ℕ) → coefficient s b a < 2
 unfolding coefficient
 coefficient-bit s b a = mod2-bit (powerMod (s .g) (s .r) (2 * s .r - 1 - b) / 2 ^ (s .r - 1 - a))
 
--- the remainder of a column word's blocks, and of a row word's
+-- The remainder of the blocks of a word, by their bits in the word's order; of a column word's, and of a row word's.
+abbrev pub blocksRemainder : Params → (ℕ → ℕ) → (ℕ → ℕ) → ℕ
+blocksRemainder s f h =
+    xorSum (s .M) (λ j. f j * powerMod (s .g) (s .r) (wordLength s - 1 - j)) ⊕ xorSum (s .M) (λ j. h j * powerMod (s .g) (s .r) (wordLength s - 1 - (s .M + j)))
+
 unfoldable pub columnRemainder : Params → Contents → Contents → ℕ → ℕ
-columnRemainder s odd even a =
-    xorSum (s .M) (λ j. odd (j * s .M + a) * powerMod (s .g) (s .r) (wordLength s - 1 - j))
-    ⊕ xorSum (s .M) (λ j. even (j * s .M + a) * powerMod (s .g) (s .r) (wordLength s - 1 - (s .M + j)))
+columnRemainder s odd even a = blocksRemainder s (λ j. odd (j * s .M + a)) (λ j. even (j * s .M + a))
 
 unfoldable pub rowRemainder : Params → Contents → Contents → ℕ → ℕ
-rowRemainder s before odd a =
-    xorSum (s .M) (λ j. before (a * s .M + j) * powerMod (s .g) (s .r) (wordLength s - 1 - j))
-    ⊕ xorSum (s .M) (λ j. odd (a * s .M + j) * powerMod (s .g) (s .r) (wordLength s - 1 - (s .M + j)))
+rowRemainder s before odd a = blocksRemainder s (λ j. before (a * s .M + j)) (λ j. odd (a * s .M + j))
+
+module _ (s : Params) where
+  -- the sum over X or Y
+  abbrev terms : (ℕ → ℕ) → ℕ
+  terms k = xorSum (s .r) (λ b. k b * powerMod (s .g) (s .r) (2 * s .r - 1 - b))
+
+  parity-powers : (f h k : ℕ → ℕ) → Binary f → Binary h → Binary k → (a : ℕ) → a < s .r
+      → getD (parity (s .g) (s .r) (three (s .M) (s .r) f h k)) a 0 ≡ (blocksRemainder s f h ⊕ terms k) / 2 ^ (s .r - 1 - a) % 2
+  parity-powers f h k hf hh hk a l =
+      parity-at (s .g) (s .r) (three (s .M) (s .r) f h k) a l ∙ ap (λ (R : ℕ). R / 2 ^ (s .r - 1 - a) % 2) (info-powers s f h k hf hh hk)
+
+  -- for zero blocks
+  parity-terms : (k : ℕ → ℕ) → Binary k → (a : ℕ) → a < s .r
+      → getD (parity (s .g) (s .r) (three (s .M) (s .r) zeros zeros k)) a 0 ≡ sumBits (s .r) (λ b. k b * coefficient s b a)
+  unfolding coefficient
+  parity-terms k hk a l =
+      parity-powers zeros zeros k (λ j. omega arith) (λ j. omega arith) hk a l
+      ∙ ap (λ (z : ℕ). z / 2 ^ (s .r - 1 - a) % 2)
+      (ap (λ (z : ℕ). z ⊕ terms k)
+      (ap₂ _⊕_ (none (λ j. powerMod (s .g) (s .r) (wordLength s - 1 - j))) (none (λ j. powerMod (s .g) (s .r) (wordLength s - 1 - (s .M + j)))) ∙ ⊕-zero-left 0)
+      ∙ ⊕-zero-left (terms k))
+      ∙ xorSum-digit (s .r) (s .r - 1 - a) (λ b. k b * powerMod (s .g) (s .r) (2 * s .r - 1 - b))
+      ∙ sumBits-same (s .r) (λ b. k b * powerMod (s .g) (s .r) (2 * s .r - 1 - b) / 2 ^ (s .r - 1 - a) % 2)
+      (λ b. k b * (powerMod (s .g) (s .r) (2 * s .r - 1 - b) / 2 ^ (s .r - 1 - a) % 2))
+      (λ b m. bit-digit (k b) (powerMod (s .g) (s .r) (2 * s .r - 1 - b)) (s .r - 1 - a) (hk b))
+    where
+      none : (X : ℕ → ℕ) → xorSum (s .M) (λ j. 0 * X j) ≡ 0
+      none X = xorSum-zero (s .M) (λ j. 0 * X j) (λ k l. zero-mul (X k))
 
 module _ (s : Params) (ok : Proper s) where
-  row-below : (q : ℕ) → q < order s → q / s .M < s .r
-  row-below q h = div-lt-iff-lt-mul (ok .mpos) .1 (subst (λ (z : ℕ). q < z) (mul-comm (s .M) (s .r)) h)
-
   pub columnParity-powers : (o e y : Contents) → Binary o → Binary e → Binary y → (q : ℕ) → q < order s
       → columnParity s o e y q
       ≡ (columnRemainder s o e (q % s .M) ⊕ xorSum (s .r) (λ b. y (b * s .M + q % s .M) * powerMod (s .g) (s .r) (2 * s .r - 1 - b))) / 2 ^ (s .r - 1 - q / s .M) % 2
   unfolding columnParity columnInfo columnRemainder
   columnParity-powers o e y ho he hy q h =
-      let a : ℕ = q % s .M in
-      parity-at (s .g) (s .r) (columnInfo s o e y a) (q / s .M) (row-below q h)
-      ∙ ap (λ (R : ℕ). R / 2 ^ (s .r - 1 - q / s .M) % 2)
-      (info-powers s (λ j. o (j * s .M + a)) (λ j. e (j * s .M + a)) (λ b. y (b * s .M + a)) (λ j. ho (j * s .M + a)) (λ j. he (j * s .M + a)) (λ b. hy (b * s .M + a)))
+      let at : ℕ → ℕ = λ j. j * s .M + q % s .M in
+      parity-powers s (λ j. o (at j)) (λ j. e (at j)) (λ b. y (at b)) (λ j. ho (at j)) (λ j. he (at j)) (λ b. hy (at b)) (q / s .M) (row-of s ok q h)
 
   pub rowParity-powers : (l : Interleavers) (f o y : Contents) → Binary f → Binary o → Binary y → (p : ℕ) → p < order s
       → rowParity s l f o y p
       ≡ (rowRemainder s f o (p % s .M) ⊕ xorSum (s .r) (λ b. y (getD (l .self) (b * s .M + p % s .M) 0) * powerMod (s .g) (s .r) (2 * s .r - 1 - b))) / 2 ^ (s .r - 1 - p / s .M) % 2
   unfolding rowParity rowInfo rowRemainder
   rowParity-powers l f o y hf ho hy p h =
-      let a : ℕ = p % s .M in
-      parity-at (s .g) (s .r) (rowInfo s l f o y a) (p / s .M) (row-below p h)
-      ∙ ap (λ (R : ℕ). R / 2 ^ (s .r - 1 - p / s .M) % 2)
-      (info-powers s (λ j. f (a * s .M + j)) (λ j. o (a * s .M + j)) (λ b. y (getD (l .self) (b * s .M + a) 0))
-      (λ j. hf (a * s .M + j)) (λ j. ho (a * s .M + j)) (λ b. hy (getD (l .self) (b * s .M + a) 0)))
-
-  -- ---- zero blocks
-
-  zero-terms : (n : ℕ) (X : ℕ → ℕ) → xorSum n (λ j. 0 * X j) ≡ 0
-  zero-terms n X = xorSum-zero n (λ j. 0 * X j) (λ k l. zero-mul (X k))
-
-  column-zero : (a : ℕ) → columnRemainder s zeros zeros a ≡ 0
-  unfolding columnRemainder
-  column-zero a =
-      ap₂ _⊕_ (zero-terms (s .M) (λ j. powerMod (s .g) (s .r) (wordLength s - 1 - j))) (zero-terms (s .M) (λ j. powerMod (s .g) (s .r) (wordLength s - 1 - (s .M + j))))
-      ∙ ⊕-zero-left 0
-
-  row-zero : (a : ℕ) → rowRemainder s zeros zeros a ≡ 0
-  unfolding rowRemainder
-  row-zero a =
-      ap₂ _⊕_ (zero-terms (s .M) (λ j. powerMod (s .g) (s .r) (wordLength s - 1 - j))) (zero-terms (s .M) (λ j. powerMod (s .g) (s .r) (wordLength s - 1 - (s .M + j))))
-      ∙ ⊕-zero-left 0
-
-  zeros-binary : Binary zeros
-  zeros-binary k = omega arith
-
-  -- the digit of the sum over X or Y
-  terms-digit : (y : ℕ → ℕ) → ((b : ℕ) → y b < 2) → (a : ℕ)
-      → xorSum (s .r) (λ b. y b * powerMod (s .g) (s .r) (2 * s .r - 1 - b)) / 2 ^ (s .r - 1 - a) % 2 ≡ sumBits (s .r) (λ b. y b * coefficient s b a)
-  unfolding coefficient
-  terms-digit y hy a =
-      xorSum-digit (s .r) (s .r - 1 - a) (λ b. y b * powerMod (s .g) (s .r) (2 * s .r - 1 - b))
-      ∙ sumBits-same (s .r) (λ b. y b * powerMod (s .g) (s .r) (2 * s .r - 1 - b) / 2 ^ (s .r - 1 - a) % 2)
-      (λ b. y b * (powerMod (s .g) (s .r) (2 * s .r - 1 - b) / 2 ^ (s .r - 1 - a) % 2))
-      (λ b l. bit-digit (y b) (powerMod (s .g) (s .r) (2 * s .r - 1 - b)) (s .r - 1 - a) (hy b))
+      let at : ℕ → ℕ = λ j. p % s .M * s .M + j in
+      let to : ℕ → ℕ = λ b. getD (l .self) (b * s .M + p % s .M) 0 in
+      parity-powers s (λ j. f (at j)) (λ j. o (at j)) (λ b. y (to b)) (λ j. hf (at j)) (λ j. ho (at j)) (λ b. hy (to b)) (p / s .M) (row-of s ok p h)
 
   column-terms : (y : Contents) → Binary y → (q : ℕ) → q < order s
       → columnParity s zeros zeros y q ≡ sumBits (s .r) (λ b. y (b * s .M + q % s .M) * coefficient s b (q / s .M))
-  column-terms y hy q h =
-      columnParity-powers zeros zeros y zeros-binary zeros-binary hy q h
-      ∙ ap (λ (z : ℕ). (z ⊕ xorSum (s .r) (λ b. y (b * s .M + q % s .M) * powerMod (s .g) (s .r) (2 * s .r - 1 - b))) / 2 ^ (s .r - 1 - q / s .M) % 2) (column-zero (q % s .M))
-      ∙ ap (λ (z : ℕ). z / 2 ^ (s .r - 1 - q / s .M) % 2) (⊕-zero-left (xorSum (s .r) (λ b. y (b * s .M + q % s .M) * powerMod (s .g) (s .r) (2 * s .r - 1 - b))))
-      ∙ terms-digit (λ b. y (b * s .M + q % s .M)) (λ b. hy (b * s .M + q % s .M)) (q / s .M)
+  unfolding columnParity columnInfo
+  column-terms y hy q h = parity-terms s (λ b. y (b * s .M + q % s .M)) (λ b. hy (b * s .M + q % s .M)) (q / s .M) (row-of s ok q h)
 
   row-terms : (l : Interleavers) (y : Contents) → Binary y → (p : ℕ) → p < order s
       → rowParity s l zeros zeros y p ≡ sumBits (s .r) (λ b. y (getD (l .self) (b * s .M + p % s .M) 0) * coefficient s b (p / s .M))
+  unfolding rowParity rowInfo
   row-terms l y hy p h =
-      let Y : ℕ → ℕ = λ b. y (getD (l .self) (b * s .M + p % s .M) 0) in
-      rowParity-powers l zeros zeros y zeros-binary zeros-binary hy p h
-      ∙ ap (λ (z : ℕ). (z ⊕ xorSum (s .r) (λ b. Y b * powerMod (s .g) (s .r) (2 * s .r - 1 - b))) / 2 ^ (s .r - 1 - p / s .M) % 2) (row-zero (p % s .M))
-      ∙ ap (λ (z : ℕ). z / 2 ^ (s .r - 1 - p / s .M) % 2) (⊕-zero-left (xorSum (s .r) (λ b. Y b * powerMod (s .g) (s .r) (2 * s .r - 1 - b))))
-      ∙ terms-digit Y (λ b. hy (getD (l .self) (b * s .M + p % s .M) 0)) (p / s .M)
+      let to : ℕ → ℕ = λ b. getD (l .self) (b * s .M + p % s .M) 0 in parity-terms s (λ b. y (to b)) (λ b. hy (to b)) (p / s .M) (row-of s ok p h)
 
 -- ---- rows and columns of A
 
@@ -222,15 +208,12 @@ module _ (s : Params) (ok : Proper s) (l : Interleavers)
   sourceOf e = preimage (l .parity) (order s) (unstack s e)
 
   source-below : (e : ℕ) → e < order s → sourceOf e < order s
-  source-below e h = preimage-sent (l .parity) (order s) pp (unstack s e) (unstack-lt s l ok e h) .0
-
-  column-of : (e : ℕ) → e < order s → e / s .r < s .M
-  column-of e h = div-lt-iff-lt-mul (ok .rpos) .1 h
+  source-below e h = preimage-sent (l .parity) (order s) pp (unstack s e) (unstack-lt s ok e h) .0
 
   -- a place of Y, and its entry in the stack
   stacked-test : (x j : ℕ) → x < order s → j < order s → eqb x (unstack s j) ≡ eqb (stack s x) j
   stacked-test x j hx hj =
-      eqb-iff x (unstack s j) (stack s x) j (λ e. ap (stack s) e ∙ stack-unstack s l ok j hj) (λ e. sym (unstack-stack s l ok x hx) ∙ ap (unstack s) e)
+      eqb-iff x (unstack s j) (stack s x) j (λ e. ap (stack s) e ∙ stack-unstack s ok j hj) (λ e. sym (unstack-stack s ok x hx) ∙ ap (unstack s) e)
 
   stack-place : (b c : ℕ) → c < s .M → stack s (b * s .M + c) ≡ c * s .r + b
   stack-place b c h = ap₂ (λ (x y : ℕ). x * s .r + y) (digits-mod b h) (digits-div b h)
@@ -239,7 +222,7 @@ module _ (s : Params) (ok : Proper s) (l : Interleavers)
   row-term j x v hx hj = unit-term (eqb x (unstack s j)) v ∙ ap (λ (z : Bool). cond z v 0) (stacked-test x j hx hj)
 
   self-place : (b a : ℕ) → b < s .r → a < s .M → getD (l .self) (b * s .M + a) 0 < order s
-  self-place b a hb ha = ps .below (b * s .M + a) (place-lt s l ok b a hb ha)
+  self-place b a hb ha = ps .below (b * s .M + a) (place-lt s ok b a hb ha)
 
   pub system-row : (e j : ℕ) → e < order s → j < order s
       → systemEntry s l e j
@@ -250,15 +233,15 @@ module _ (s : Params) (ok : Proper s) (l : Interleavers)
       let q : ℕ = unstack s e in
       let p : ℕ = sourceOf e in
       let c : ℕ = e / s .r in
-      let hc : c < s .M = column-of e he in
+      let hc : c < s .M = div-lt-iff-lt-mul (ok .rpos) .1 he in
       let qc : q % s .M ≡ c = digits-mod (e % s .r) hc in
       let qa : q / s .M ≡ e % s .r = digits-div (e % s .r) hc in
       let y : Contents = unit (unstack s j) in
       ap₂ bitSum
-      (column-terms s ok y (unit-binary (unstack s j)) q (unstack-lt s l ok e he)
+      (column-terms s ok y (unit-binary (unstack s j)) q (unstack-lt s ok e he)
       ∙ sumBits-same (s .r) (λ b. y (b * s .M + q % s .M) * coefficient s b (q / s .M)) (λ b. cond (eqb (c * s .r + b) j) (coefficient s b (e % s .r)) 0)
       (λ b m. ap₂ (λ (x z : ℕ). y (b * s .M + x) * coefficient s b z) qc qa
-      ∙ row-term j (b * s .M + c) (coefficient s b (e % s .r)) (place-lt s l ok b c m hc) hj
+      ∙ row-term j (b * s .M + c) (coefficient s b (e % s .r)) (place-lt s ok b c m hc) hj
       ∙ ap (λ (x : ℕ). cond (eqb x j) (coefficient s b (e % s .r)) 0) (stack-place b c hc)))
       (row-terms s ok l y (unit-binary (unstack s j)) p (source-below e he)
       ∙ sumBits-same (s .r) (λ b. y (getD (l .self) (b * s .M + p % s .M) 0) * coefficient s b (p / s .M))
@@ -268,9 +251,6 @@ module _ (s : Params) (ok : Proper s) (l : Interleavers)
   -- the place in X that the self list sends to column j of A
   abbrev pub originOf : ℕ → ℕ
   originOf j = preimage (l .self) (order s) (unstack s j)
-
-  row-index : (p : ℕ) → p < order s → p / s .M < s .r
-  row-index p h = div-lt-iff-lt-mul (ok .mpos) .1 (subst (λ (z : ℕ). p < z) (mul-comm (s .M) (s .r)) h)
 
   module _ (e j : ℕ) (he : e < order s) (hj : j < order s) where
     column-half : sumBits (s .r) (λ b. cond (eqb (e / s .r * s .r + b) j) (coefficient s b (e % s .r)) 0)
@@ -295,32 +275,32 @@ module _ (s : Params) (ok : Proper s) (l : Interleavers)
         let p : ℕ = sourceOf e in
         let x : ℕ = originOf j in
         let hp : p < order s = source-below e he in
-        let sx = preimage-sent (l .self) (order s) ps (unstack s j) (unstack-lt s l ok j hj) in
-        let sp = preimage-sent (l .parity) (order s) pp (unstack s e) (unstack-lt s l ok e he) in
+        let sx = preimage-sent (l .self) (order s) ps (unstack s j) (unstack-lt s ok j hj) in
+        let sp = preimage-sent (l .parity) (order s) pp (unstack s e) (unstack-lt s ok e he) in
         let hx : x < order s = sx .0 in
         let pm : p % s .M < s .M = mod-lt p (ok .mpos) in
         let xm : x % s .M < s .M = mod-lt x (ok .mpos) in
-        let xr : x / s .M < s .r = row-index x hx in
-        let pr : p / s .M < s .r = row-index p hp in
+        let xr : x / s .M < s .r = row-of s ok x hx in
+        let pr : p / s .M < s .r = row-of s ok p hp in
         let toX : (b : ℕ) → b < s .r → stack s (getD (l .self) (b * s .M + p % s .M) 0) ≡ j → b * s .M + p % s .M ≡ x =
         λ b m q.
-        sym (preimage-of (l .self) (order s) ps (b * s .M + p % s .M) (place-lt s l ok b (p % s .M) m pm))
-        ∙ ap (preimage (l .self) (order s)) (sym (unstack-stack s l ok (getD (l .self) (b * s .M + p % s .M) 0) (self-place b (p % s .M) m pm)) ∙ ap (unstack s) q) in
+        sym (preimage-of (l .self) (order s) ps (b * s .M + p % s .M) (place-lt s ok b (p % s .M) m pm))
+        ∙ ap (preimage (l .self) (order s)) (sym (unstack-stack s ok (getD (l .self) (b * s .M + p % s .M) 0) (self-place b (p % s .M) m pm)) ∙ ap (unstack s) q) in
         let toP : (b : ℕ) → b < s .r → stack s (getD (l .parity) (b * s .M + x % s .M) 0) ≡ e → b * s .M + x % s .M ≡ p =
         λ b m q.
-        sym (preimage-of (l .parity) (order s) pp (b * s .M + x % s .M) (place-lt s l ok b (x % s .M) m xm))
+        sym (preimage-of (l .parity) (order s) pp (b * s .M + x % s .M) (place-lt s ok b (x % s .M) m xm))
         ∙ ap (preimage (l .parity) (order s))
-        (sym (unstack-stack s l ok (getD (l .parity) (b * s .M + x % s .M) 0) (pp .below (b * s .M + x % s .M) (place-lt s l ok b (x % s .M) m xm))) ∙ ap (unstack s) q) in
+        (sym (unstack-stack s ok (getD (l .parity) (b * s .M + x % s .M) 0) (pp .below (b * s .M + x % s .M) (place-lt s ok b (x % s .M) m xm))) ∙ ap (unstack s) q) in
         pick-one (s .r) (λ b. stack s (getD (l .self) (b * s .M + p % s .M) 0)) j (λ b. coefficient s b (p / s .M)) (x / s .M) xr (coefficient-bit s (x / s .M) (p / s .M))
         (λ b m q. sym (digits-div b pm) ∙ ap (λ (z : ℕ). z / s .M) (toX b m q))
         ∙ ap (λ (z : Bool). cond z (coefficient s (x / s .M) (p / s .M)) 0)
         (eqb-iff (stack s (getD (l .self) (x / s .M * s .M + p % s .M) 0)) j (stack s (getD (l .parity) (p / s .M * s .M + x % s .M) 0)) e
         (λ q.
         let same : p % s .M ≡ x % s .M = sym (digits-mod (x / s .M) pm) ∙ ap (λ (z : ℕ). z % s .M) (toX (x / s .M) xr q) in
-        ap (λ (z : ℕ). stack s (getD (l .parity) z 0)) (ap (λ (z : ℕ). p / s .M * s .M + z) (sym same) ∙ div-add-mod' p (s .M)) ∙ ap (stack s) (sp .1) ∙ stack-unstack s l ok e he)
+        ap (λ (z : ℕ). stack s (getD (l .parity) z 0)) (ap (λ (z : ℕ). p / s .M * s .M + z) (sym same) ∙ div-add-mod' p (s .M)) ∙ ap (stack s) (sp .1) ∙ stack-unstack s ok e he)
         (λ q.
         let same : x % s .M ≡ p % s .M = sym (digits-mod (p / s .M) xm) ∙ ap (λ (z : ℕ). z % s .M) (toP (p / s .M) pr q) in
-        ap (λ (z : ℕ). stack s (getD (l .self) z 0)) (ap (λ (z : ℕ). x / s .M * s .M + z) (sym same) ∙ div-add-mod' x (s .M)) ∙ ap (stack s) (sx .1) ∙ stack-unstack s l ok j hj))
+        ap (λ (z : ℕ). stack s (getD (l .self) z 0)) (ap (λ (z : ℕ). x / s .M * s .M + z) (sym same) ∙ div-add-mod' x (s .M)) ∙ ap (stack s) (sx .1) ∙ stack-unstack s ok j hj))
         ∙ sym (pick-one (s .r) (λ b. stack s (getD (l .parity) (b * s .M + x % s .M) 0)) e (λ b. coefficient s (x / s .M) b) (p / s .M) pr (coefficient-bit s (x / s .M) (p / s .M))
         (λ b m q. sym (digits-div b xm) ∙ ap (λ (z : ℕ). z / s .M) (toP b m q)))
 

@@ -23,11 +23,8 @@ use Rattle.bch.proofs.Distance.{unlike-same, unlike-le, unlike-other, distance-
 use Rattle.staircase.specs.Lists.{tabulate}
 use Rattle.staircase.specs.Design.{Params}
 use Rattle.staircase.specs.Decoder.{choices, flipBits, firstCorrecting, errorPositions}
+use Rattle.staircase.proofs.Search.{cond-ind}
 use Rattle.staircase.proofs.Member.{In, Sub, done, skip, keep, sub-nil, sub-in, tabulate-in, choices-sub, sub-choices}
-
-pub cond-ind : {A : Type 0} (P : A → Type 0) (z : Bool) (a b : A) → (z ≡ true → P a) → (z ≡ false → P b) → P (cond z a b)
-cond-ind P true a b h k = h refl
-cond-ind P false a b h k = k refl
 
 -- ---- flipped bits
 
@@ -56,7 +53,7 @@ flipBits-other (j ∷ c) u k d =
     getD-set-other (flipBits c u) j k (1 - getD (flipBits c u) j 0) 0 (λ e. d (inl e)) ∙ flipBits-other c u k (λ i. d (inr i))
 
 -- no position stands twice in a choice
-abbrev pub Once : List ℕ → Type 0
+abbrev Once : List ℕ → Type 0
 Once [] = Unit {0}
 Once (j ∷ c) = (¬ In j c) × Once c
 
@@ -83,7 +80,7 @@ flipBits-distance (j ∷ c) u = omega (arith, set-distance u (flipBits c u) j (1
 
 -- ---- choices of positions
 
-pub once-sub : {c l : List ℕ} → Sub c l → Once l → Once c
+once-sub : {c l : List ℕ} → Sub c l → Once l → Once c
 once-sub done h = h
 once-sub (skip s) h = once-sub s (h .1)
 once-sub (keep {x = x} s) h = (λ i. h .0 (sub-in x s i), once-sub s (h .1))

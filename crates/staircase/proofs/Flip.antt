@@ -1,6 +1,6 @@
 -- Flipping bits of a frame: what is flipped and what stays.
 --   Sent, Within            a site of a sent block; a byte of the buffers
---   site?                   sites can be told apart
+--   place, buffer, site?    sites can be told apart
 --   flip-same, flip-other   a flipped bit is the other bit, and no other site is touched
 --   Received f x            x has the lengths of the frame f and holds bits
 --   flipAll-received, flipAll-other   some sites flipped
@@ -28,17 +28,18 @@ Sent unsent = ⊥
 Sent (inInfo k) = Unit {0}
 Sent (inRed k) = Unit {0}
 
-abbrev place : Site → ℕ
+-- the place of a site in its buffer, and the buffer
+abbrev pub place : Site → ℕ
 place unsent = 0
 place (inInfo k) = k
 place (inRed k) = k
 
-abbrev buffer : Site → ℕ
+abbrev pub buffer : Site → ℕ
 buffer unsent = 0
 buffer (inInfo k) = 1
 buffer (inRed k) = 2
 
-pub site? : (x y : Site) → (x ≡ y) ⊎ (x ≢ y)
+site? : (x y : Site) → (x ≡ y) ⊎ (x ≢ y)
 site? unsent unsent = inl refl
 site? unsent (inInfo k) = inr (λ e. let z : _≡_ {A = ℕ} 0 1 = ap buffer e in omega arith)
 site? unsent (inRed k) = inr (λ e. let z : _≡_ {A = ℕ} 0 2 = ap buffer e in omega arith)
@@ -57,8 +58,7 @@ site? (inRed k) (inRed j) = go (ℕ-discrete k j)
     go (yes e) = inl (ap inRed e)
     go (no d) = inr (λ e. d (ap place e))
 
--- a turned bit is another bit; no other site is touched
-pub flip-other : (x y : Site) (f : Frame) → x ≢ y → bitAt (flip x f) y ≡ bitAt f y
+flip-other : (x y : Site) (f : Frame) → x ≢ y → bitAt (flip x f) y ≡ bitAt f y
 flip-other unsent y f d = refl
 flip-other (inInfo k) unsent f d = refl
 flip-other (inInfo k) (inInfo j) f d = getD-set-other (f .info) k j (1 - getD (f .info) k 0) 0 (λ e. d (ap inInfo (sym e)))
@@ -72,7 +72,7 @@ Within unsent f = ⊥
 Within (inInfo k) f = k < length (f .info)
 Within (inRed k) f = k < length (f .red)
 
-pub flip-same : (x : Site) (f : Frame) → Within x f → bitAt (flip x f) x ≡ 1 - bitAt f x
+flip-same : (x : Site) (f : Frame) → Within x f → bitAt (flip x f) x ≡ 1 - bitAt f x
 flip-same unsent f h = absurd h
 flip-same (inInfo k) f h = getD-set-same (f .info) k (1 - getD (f .info) k 0) 0 h
 flip-same (inRed k) f h = getD-set-same (f .red) k (1 - getD (f .red) k 0) 0 h
@@ -101,7 +101,7 @@ within? (inRed k) f = go (decLt k (length (f .red)))
     go (yes h) = inl h
     go (no h) = inr (λ i. record { info = f .info; red = set-out (f .red) k (1 - getD (f .red) k 0) (omega arith) i })
 
-pub flip-received : (x : Site) (f a : Frame) → Received f a → Received f (flip x a)
+flip-received : (x : Site) (f a : Frame) → Received f a → Received f (flip x a)
 flip-received x f a g =
     record {
       infoLength = flip-lengths x a .0 ∙ g .infoLength;
@@ -135,7 +135,7 @@ error-within f a g (inRed k) d = go (decLt k (length (a .red)))
     go (no h) =
         absurd (d (List·getD-eq-default (f .red) 0 {n = k} (omega (arith, g .redLength)) ∙ sym (List·getD-eq-default (a .red) 0 {n = k} (omega arith))))
 
-pub received-within : (f a b : Frame) → Received f a → Received f b → (x : Site) → Within x a → Within x b
+received-within : (f a b : Frame) → Received f a → Received f b → (x : Site) → Within x a → Within x b
 received-within f a b g h unsent w = w
 received-within f a b g h (inInfo k) w = omega (arith, g .infoLength, h .infoLength)
 received-within f a b g h (inRed k) w = omega (arith, g .redLength, h .redLength)
@@ -158,7 +158,7 @@ abbrev pub Distinct : List Site → Type 0
 Distinct [] = Unit {0}
 Distinct (x ∷ w) = (Sent x → ¬ In x w) × Distinct w
 
-pub flip-tail : (x : Site) (w : List Site) (f : Frame) → (Sent x → ¬ In x w) → read (flip x f) w ≡ read f w
+flip-tail : (x : Site) (w : List Site) (f : Frame) → (Sent x → ¬ In x w) → read (flip x f) w ≡ read f w
 flip-tail unsent w f d = refl
 flip-tail (inInfo k) w f d = read-same w (flip (inInfo k) f) f (λ y i. flip-other (inInfo k) y f (λ e. d tt (subst (λ (z : Site). In z w) (sym e) i)))
 flip-tail (inRed k) w f d = read-same w (flip (inRed k) f) f (λ y i. flip-other (inRed k) y f (λ e. d tt (subst (λ (z : Site). In z w) (sym e) i)))
@@ -193,7 +193,7 @@ head-kept f unsent z w n i = refl
 head-kept f (inInfo k) z w n i = flip-other z (inInfo k) f (λ e. n tt (subst (λ (v : Site). In v w) e i))
 head-kept f (inRed k) z w n i = flip-other z (inRed k) f (λ e. n tt (subst (λ (v : Site). In v w) e i))
 
-pub read-flip : (f : Frame) (w : List Site) → Distinct w → (j : ℕ) → j < length w → Within (getD w j unsent) f
+read-flip : (f : Frame) (w : List Site) → Distinct w → (j : ℕ) → j < length w → Within (getD w j unsent) f
     → read (flip (getD w j unsent) f) w ≡ set (read f w) j (1 - getD (read f w) j 0)
 read-flip f [] d j l h = absurd (not-suc-le-zero l)
 read-flip f (y ∷ w) d zero l h = ap₂ (λ (p : ℕ) (q : List ℕ). p ∷ q) (flip-same y f h) (flip-tail y w f (d .0))

@@ -1,11 +1,9 @@
 -- Laws of correcting words one after the other and of the rounds.
---   tabulate-last           a table by its last entry
---   correctWords-append, correctWords-last, correctWords-next   the words of two lists, one more word, one more list of words
---   correctWords-from       flips counted from another number
---   correction-few, correctWords-few, runRounds-few   at most t flips a word
+--   correctWords-append, correctWords-last      the words of two lists, and one more word
+--   correctWords-from                           flips counted from another number
+--   correctWords-few                            at most t flips a word
 --   correctWords-received, runRounds-received   the lengths stay, and bits stay bits
---   words-length            how many words a frame has
---   runRounds-idle, runRounds-more   a round that flips nothing, and one that flips something
+--   runRounds-idle, runRounds-more              a round that flips nothing, and one that flips something
 -- Assumes nothing.
 use mathlib.Core.Path.{_≡_, refl, sym, ap, _∙_}
 use mathlib.Core.Bool.{Bool, cond}
@@ -15,25 +13,17 @@ use Prim.Native.Nat.{ℕ, zero, suc, _+_, _*_, _≤_, zero-le}
 use native.Mathlib.Nat.{add-assoc, add-zero}
 use native.Mathlib.Omega.{arith}
 use lib.Dec.{eqb}
-use lib.ListN.{length, getD, length-append, length-map}
+use lib.ListN.{length, getD, length-map}
 use borrow.Author.Tests.{eq-eqb, ne-eqb}
-use Rattle.staircase.specs.Lists.{tabulate, concat}
-use Rattle.staircase.specs.Design.{Params, Interleavers}
-use Rattle.staircase.specs.Frame.{Frame, Site, groups, rowSites, columnSites, words, read}
+use Rattle.staircase.specs.Lists.{tabulate}
+use Rattle.staircase.specs.Design.{Params}
+use Rattle.staircase.specs.Frame.{Frame, Site, read}
 use Rattle.staircase.specs.Frame.Site.{unsent}
 use Rattle.staircase.specs.Decoder.{errorPositions, allSent, correction, flipAll, Progress, correctWord, correctWords, round, Decoded, runRounds}
+use Rattle.staircase.proofs.Search.{cond-ind}
+use Rattle.staircase.proofs.Tables.{tabulate-last}
 use Rattle.staircase.proofs.Flip.{Received, flipAll-received}
-use Rattle.staircase.proofs.Errors.{cond-ind, errorPositions-positions}
-use Rattle.staircase.proofs.System.{tabulate-length}
-use Rattle.staircase.proofs.Redundancy.{concat-last, concat-length}
-
--- ---- tables and their last entry
-
-module _ {A : Type 0} where
-  pub tabulate-last : (n : ℕ) (f : ℕ → A) → tabulate (suc n) f ≡ tabulate n f ++ f n ∷ []
-  unfolding tabulate
-  tabulate-last zero f = refl
-  tabulate-last (suc n) f = ap (λ (t : List A). f zero ∷ t) (tabulate-last n (λ k. f (suc k)))
+use Rattle.staircase.proofs.Errors.{errorPositions-positions}
 
 -- ---- words, one after the other
 
@@ -46,10 +36,6 @@ pub correctWords-last : (s : Params) (x : Progress) (n : ℕ) (f : ℕ → List 
     → correctWords s x (tabulate (suc n) f) ≡ correctWord s (correctWords s x (tabulate n f)) (f n)
 unfolding correctWords
 correctWords-last s x n f = ap (correctWords s x) (tabulate-last n f) ∙ correctWords-append s x (tabulate n f) (f n ∷ [])
-
-pub correctWords-next : (s : Params) (x : Progress) (n : ℕ) (f : ℕ → List (List Site))
-    → correctWords s x (concat (suc n) f) ≡ correctWords s (correctWords s x (concat n f)) (f n)
-correctWords-next s x n f = ap (correctWords s x) (concat-last n f) ∙ correctWords-append s x (concat n f) (f n)
 
 -- the progress whose flips are counted from k
 abbrev from : ℕ → Progress → Progress
@@ -74,7 +60,7 @@ correctWords-from s f k ws =
 
 -- ---- how many flips
 
-pub correction-few : (s : Params) (f : Frame) (w : List Site) → length (correction s f w) ≤ s .t
+correction-few : (s : Params) (f : Frame) (w : List Site) → length (correction s f w) ≤ s .t
 unfolding correction
 correction-few s f w =
     let e : List ℕ = errorPositions s (read f w) in
@@ -94,15 +80,6 @@ pub correctWords-received : (s : Params) (f : Frame) (x : Progress) (ws : List (
 unfolding correctWords correctWord
 correctWords-received s f x [] g = g
 correctWords-received s f x (w ∷ ws) g = correctWords-received s f (correctWord s x w) ws (flipAll-received (correction s (x .frame) w) f (x .frame) g)
-
-pub words-length : (s : Params) (l : Interleavers) (L : ℕ) → length (words s l L) ≡ groups L * (2 * s .M)
-unfolding words
-words-length s l L =
-    concat-length (groups L) (2 * s .M) (λ i. tabulate (s .M) (rowSites s l L i) ++ tabulate (s .M) (columnSites s L i))
-    (λ i.
-    let rows = tabulate-length (s .M) (rowSites s l L i) in
-    let columns = tabulate-length (s .M) (columnSites s L i) in
-    omega (arith, length-append (tabulate (s .M) (rowSites s l L i)) (tabulate (s .M) (columnSites s L i)), rows, columns))
 
 -- ---- rounds
 
@@ -133,33 +110,15 @@ module _ (s : Params) (ws : List (List Site)) where
       let x : Progress = round s ws f in
       ap (λ (z : Bool). cond z (idle x) (followed x (runRounds s ws k (x .frame)))) (ne-eqb (x .flips) 0 d)
 
-  -- a fact of the rounds: of none, of one that is idle, and of one more that is not
-  runRounds-ind : (F : ℕ → Frame → Decoded → Type 0)
-      → ((f : Frame) → F zero f (record { frame = f; rounds = 0; flips = 0 }))
-      → ((k : ℕ) (f : Frame) → F (suc k) f (idle (round s ws f)))
-      → ((k : ℕ) (f : Frame) (d : Decoded) → F k ((round s ws f) .frame) d → F (suc k) f (followed (round s ws f) d))
-      → (k : ℕ) (f : Frame) → F k f (runRounds s ws k f)
-  unfolding runRounds
-  runRounds-ind F none one more zero f = none f
-  runRounds-ind F none one more (suc k) f =
-      let x : Progress = round s ws f in
-      let rest : Decoded = runRounds s ws k (x .frame) in
-      cond-ind (F (suc k) f) (eqb (x .flips) 0) (idle x) (followed x rest) (λ e. one k f) (λ e. more k f rest (runRounds-ind F none one more k (x .frame)))
-
-  round-few : (f : Frame) → (round s ws f) .flips ≤ s .t * length ws
-  unfolding round
-  round-few f = omega (arith, correctWords-few s (record { frame = f; flips = 0 }) ws)
-
   round-received : (f a : Frame) → Received f a → Received f ((round s ws a) .frame)
   unfolding round
   round-received f a g = correctWords-received s f (record { frame = a; flips = 0 }) ws g
 
-  pub runRounds-few : (k : ℕ) (f : Frame) → ((runRounds s ws k f) .flips ≤ k * (s .t * length ws)) × ((runRounds s ws k f) .rounds ≤ k)
-  runRounds-few =
-      runRounds-ind (λ (k : ℕ) (f : Frame) (d : Decoded). (d .flips ≤ k * (s .t * length ws)) × (d .rounds ≤ k)) (λ f. (zero-le, zero-le))
-      (λ k f. (zero-le, omega arith)) (λ k f d h. (omega (arith, h .0, round-few f), omega (arith, h .1)))
-
   pub runRounds-received : (f : Frame) (k : ℕ) (a : Frame) → Received f a → Received f ((runRounds s ws k a) .frame)
-  runRounds-received f =
-      runRounds-ind (λ (k : ℕ) (a : Frame) (d : Decoded). Received f a → Received f (d .frame)) (λ a g. g)
-      (λ k a g. round-received f a g) (λ k a d h g. h (round-received f a g))
+  unfolding runRounds
+  runRounds-received f zero a g = g
+  runRounds-received f (suc k) a g =
+      let x : Progress = round s ws a in
+      let like : Received f (x .frame) = round-received f a g in
+      cond-ind (λ (d : Decoded). Received f (d .frame)) (eqb (x .flips) 0) (idle x) (followed x (runRounds s ws k (x .frame)))
+      (λ e. like) (λ e. runRounds-received f k (x .frame) like)

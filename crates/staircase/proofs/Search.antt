@@ -1,4 +1,5 @@
--- The first place that passes a test.
+-- Tests, and the first place that passes one.
+--   bool?, cond-ind     the two cases of a test
 --   firstWhere-le       at most n
 --   firstWhere-found    a place that passes is found, at it or before it
 --   firstWhere-none     n where no place passes
@@ -13,6 +14,10 @@ use native.Mathlib.Nat.{le-of-suc-le-suc, not-suc-le-zero, le-antisymm}
 use native.Mathlib.Decide.{decLt}
 use native.Mathlib.Omega.{arith}
 use Rattle.staircase.specs.Lists.{firstWhere}
+
+pub cond-ind : {A : Type 0} (P : A → Type 0) (z : Bool) (a b : A) → (z ≡ true → P a) → (z ≡ false → P b) → P (cond z a b)
+cond-ind P true a b h k = h refl
+cond-ind P false a b h k = k refl
 
 pub bool? : (z : Bool) → (z ≡ true) ⊎ (z ≡ false)
 bool? true = inl refl

@@ -107,4 +107,4 @@ module _ (s : Params) (ok : Proper s) (l : Interleavers)
       ∙ sym (system-column s ok l ps pp k j hk hj)
     where
       below-of : (j : ℕ) → j < order s → preimage (l .self) (order s) (unstack s j) < order s
-      below-of j hj = preimage-sent (l .self) (order s) ps (unstack s j) (unstack-lt s l ok j hj) .0
+      below-of j hj = preimage-sent (l .self) (order s) ps (unstack s j) (unstack-lt s ok j hj) .0

@@ -162,8 +162,8 @@ module _ (d : Design) (L : ℕ) (own parity info red : List ℕ) (R : Received d
         ∙ row-is s l L ok (R .lists .ownPermutes) (R .lists .parityPermutes) table T info red (R .frame .infoBits) (R .frame .redBits) i a la before odd
         (λ k b. block-is s L info (R .frame .infoLength) k b (2 * i)) (λ k b. odd-is s L info (R .frame .infoLength) k b (2 * i + 1) (sent-odd L i h))
         (u M (s .r) a) (v M (s .r) a)
-        (λ j b. byte-at (i * (2 * n)) (omega (arith, end)) (getD (entries n own) (j * M + a) 0) (R .lists .ownPermutes .below (j * M + a) (place-lt s l ok j a b la)))
-        (λ j b. byte-at (i * (2 * n) + n) (omega (arith, end)) (getD (entries n parity) (j * M + a) 0) (R .lists .parityPermutes .below (j * M + a) (place-lt s l ok j a b la)))
+        (λ j b. byte-at (i * (2 * n)) (omega (arith, end)) (getD (entries n own) (j * M + a) 0) (R .lists .ownPermutes .below (j * M + a) (place-lt s ok j a b la)))
+        (λ j b. byte-at (i * (2 * n) + n) (omega (arith, end)) (getD (entries n parity) (j * M + a) 0) (R .lists .parityPermutes .below (j * M + a) (place-lt s ok j a b la)))
         ∙ sym (tabulate-at M f 0 a la))
 
     pub rows-made : (size r n k : ℕ) → size ≡ d .size → r ≡ d .m * d .t → n ≡ orderOf d → k ≡ orderOf d → RowsMade size r n k
@@ -198,8 +198,8 @@ module _ (d : Design) (L : ℕ) (own parity info red : List ℕ) (R : Received d
         ∙ column-is s l L ok (R .lists .ownPermutes) (R .lists .parityPermutes) table T info red (R .frame .infoBits) (R .frame .redBits) i a la odd even
         (λ k b. odd-is s L info (R .frame .infoLength) k b (2 * i + 1) (sent-odd L i h)) (λ k b. block-is s L info (R .frame .infoLength) k b (2 * i + 2))
         (u M (s .r) a) (v M (s .r) a)
-        (λ j b. byte-at (i * (2 * n)) (omega (arith, end)) (j * M + a) (place-lt s l ok j a b la))
-        (λ j b. byte-at (i * (2 * n) + n) (omega (arith, end)) (j * M + a) (place-lt s l ok j a b la))
+        (λ j b. byte-at (i * (2 * n)) (omega (arith, end)) (j * M + a) (place-lt s ok j a b la))
+        (λ j b. byte-at (i * (2 * n) + n) (omega (arith, end)) (j * M + a) (place-lt s ok j a b la))
         ∙ sym (tabulate-at M f 0 a la))
 
     pub columns-made : (size r n : ℕ) → size ≡ d .size → r ≡ d .m * d .t → n ≡ orderOf d → ColumnsMade size r n
