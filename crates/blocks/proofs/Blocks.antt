@@ -18,7 +18,7 @@ use Rattle.bch.specs.Polynomial.{Bits}
 use Rattle.staircase.specs.Design.{Params}
 use Rattle.staircase.specs.Frame.{groups, bitAt, block}
 use Rattle.staircase.specs.Frame.Site.{unsent, inInfo}
-use Rattle.staircase.proofs.Fill.{stretch-end}
+use Rattle.staircase.proofs.Bounds.{stretch-end}
 use Rattle.remainders.proofs.Rows.{row-bits}
 use Rattle.blocks.specs.Blocks.{sentBit, sent, blockBytes}
 

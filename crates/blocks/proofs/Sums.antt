@@ -19,7 +19,7 @@ use Rattle.bch.specs.Powers.{xorSum}
 use Rattle.bch.proofs.Sum.{⊕-zero-left, ⊕-zero-right}
 use Rattle.bch.proofs.PowerSum.{xorSum-same, xorSum-zero}
 use Rattle.staircase.specs.Lists.{tabulate}
-use Rattle.staircase.proofs.System.{tabulate-length, tabulate-at}
+use Rattle.staircase.proofs.Tables.{tabulate-length, tabulate-at}
 use Rattle.remainders.proofs.Rows.{row-length, row-at}
 use Rattle.blocks.specs.Blocks.{sentBit, partSum}
 

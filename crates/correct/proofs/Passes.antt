@@ -20,14 +20,15 @@ use Rattle.staircase.specs.Frame.{Frame, Site, frameOf}
 use Rattle.staircase.specs.Frame.Site.{inInfo, inRed}
 use Rattle.staircase.specs.Decoder.{correction, flipAll, Progress, correctWord, correctWords, round}
 use Rattle.staircase.proofs.Member.{In}
-use Rattle.staircase.proofs.System.{Proper, tabulate-length, tabulate-at}
+use Rattle.staircase.proofs.System.{Proper}
+use Rattle.staircase.proofs.Tables.{tabulate-length, tabulate-at}
 use Rattle.staircase.proofs.Flip.{Received}
-use Rattle.staircase.proofs.Fill.{small-product}
+use Rattle.staircase.proofs.Bounds.{small-product}
 use Rattle.staircase.proofs.Rounds.{correctWords-last, correctWords-few, correctWords-received}
 use Rattle.staircase.proofs.Apart.{Apart, correctWords-apart, rows-before-apart, columns-before-apart}
 use Rattle.design.specs.declared.Design.{Design}
 use Rattle.design.specs.Sizes.{paramsOf, listsOf}
-use Rattle.design.proofs.Generator.{proper-of}
+use Rattle.design.proofs.Allowed.{proper-of}
 use Rattle.correct.specs.Sites.{wordSites}
 use Rattle.rules.specs.Received.{FrameFits}
 use Rattle.correct.specs.Ready.{GroupReady, remainderOf, wordRemainders}

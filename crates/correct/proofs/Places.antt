@@ -18,8 +18,8 @@ use Rattle.staircase.specs.Design.{Params, Interleavers, order, wordLength}
 use Rattle.staircase.specs.Frame.{Site, blockAt, rowSites, columnSites}
 use Rattle.staircase.specs.Frame.Site.{unsent, inInfo, inRed}
 use Rattle.staircase.specs.Rules.{entries}
-use Rattle.staircase.proofs.Fill.{small-product}
-use Rattle.staircase.proofs.System.{tabulate-at}
+use Rattle.staircase.proofs.Bounds.{small-product}
+use Rattle.staircase.proofs.Tables.{tabulate-at}
 use Rattle.staircase.proofs.Positions.{row-at-before, row-at-odd, row-at-self, row-at-parity, column-at-odd, column-at-even, column-at-self, column-at-parity}
 use Rattle.design.specs.declared.Design.{Design}
 use Rattle.design.specs.Answers.{Allowed}

@@ -23,7 +23,7 @@ use Rattle.staircase.proofs.Errors.{errorPositions-positions, positions-below}
 use Rattle.staircase.proofs.Sites.{rowSites-length, columnSites-length}
 use Rattle.design.specs.declared.Design.{Design}
 use Rattle.design.specs.Sizes.{paramsOf, listsOf}
-use Rattle.design.proofs.Generator.{proper-of}
+use Rattle.design.proofs.Allowed.{proper-of}
 use Rattle.locator.specs.declared.Located.{Located}
 use Rattle.locator.specs.declared.Located.the-variants.{Nowhere, One, Two, Three}
 use Rattle.locator.specs.Located.{located, positionsOf}

@@ -1,4 +1,3 @@
 pub mod Answers
-pub mod Accepted
 pub mod Sizes
-pub mod Generator
+pub mod Allowed

@@ -5,26 +5,26 @@
 --   product-fits                    a product of two numbers of 16 bits
 --   shl-one                         a shift of one is a power of 2
 -- Assumes nothing.
-use mathlib.Core.Path.{_≡_}
+use mathlib.Core.Path.{_≡_, _∙_}
 use mathlib.Core.Bool.{true, false}
 use Prim.Native.Nat.{ℕ, _-_, _*_, _%_, _^_, _≤_, _<_}
-use native.Mathlib.Nat.{one-mul, mod-eq-of-lt}
+use native.Mathlib.Nat.{one-mul}
 use native.Mathlib.Omega.{arith}
-use lib.Pow.{pow-pos, pow-mono}
+use lib.Pow.{pow-pos, shl-exact}
 use mir.Syntax.{w64}
 use mir.Val.{Fits}
 use borrow.Author.Tests.{lt-ltb, le-ltb}
 use Rattle.staircase.specs.Design.{params, wordLength, order, least-m, most-m, most-t, most-M, most-order}
 use Rattle.staircase.specs.Rules.{outOfRange, sizeRule, longRule, largeRule, designRules}
 use Rattle.staircase.specs.Rules.Verdict.{accepted, refused}
-use Rattle.staircase.proofs.Fill.{small-product}
+use Rattle.staircase.proofs.Bounds.{small-product}
 use Rattle.staircase.proofs.Rules.{outOfRange-false}
 
 pub product-fits : (a b : ℕ) → a < 65536 → b < 65536 → Fits w64 (a * b)
 product-fits a b h g = omega (arith, small-product a b 65535 65535 (omega arith) (omega arith))
 
 pub shl-one : (k : ℕ) → k ≤ 10 → (1 * 2 ^ k) % 2 ^ 64 ≡ 2 ^ k
-shl-one k h = rw (one-mul (2 ^ k)) (mod-eq-of-lt (omega (arith, pow-mono {i = k} {j = 10} h)))
+shl-one k h = shl-exact {a = 1} 1 k 64 (omega arith) (omega arith) ∙ one-mul (2 ^ k)
 
 pub record Sizes (m t M : ℕ) : Type 0 where
   pub m-in : outOfRange least-m most-m m ≡ false

@@ -3,12 +3,12 @@
 --   verdictOf        of a check's answer
 --   designVerdict    of a new design's answer
 --   DesignIs         a design that was made has the three numbers that it was made from
---   Allowed          what rules 1 to 3 leave of a design
+--   Allowed          a design keeps to the limits, which is what rules 1 to 3 leave
 --   DesignAllowed    a design that was made is allowed
 -- Assumes nothing.
 use mathlib.Core.Path.{_≡_}
-use Prim.Native.Nat.{ℕ, _-_, _^_, _≤_}
-use Rattle.staircase.specs.Design.{params, wordLength, order, least-m, most-m, most-t, most-M, most-order}
+use Prim.Native.Nat.{ℕ}
+use Rattle.staircase.specs.Design.{Limits}
 use Rattle.staircase.specs.Rules.{Verdict}
 use Rattle.staircase.specs.Rules.Verdict.{accepted, refused}
 use Rattle.design.specs.declared.Design.{Design}
@@ -43,15 +43,8 @@ unfoldable pub DesignIs : Designed → ℕ → ℕ → ℕ → Type 0
 DesignIs (designed.Made d) m t M = (d .m ≡ m) × (d .t ≡ t) × (d .size ≡ M)
 DesignIs (designed.Refused r) m t M = Unit
 
-pub record Allowed (d : Design) : Type 0 where
-  pub m-low : least-m ≤ d .m
-  pub m-high : d .m ≤ most-m
-  pub t-low : 1 ≤ d .t
-  pub t-high : d .t ≤ most-t
-  pub M-low : 1 ≤ d .size
-  pub M-high : d .size ≤ most-M
-  pub n-high : wordLength (params (d .m) (d .t) (d .size)) ≤ 2 ^ (d .m) - 1
-  pub order-high : order (params (d .m) (d .t) (d .size)) ≤ most-order
+abbrev pub Allowed : Design → Type 0
+Allowed d = Limits (d .m) (d .t) (d .size)
 
 unfoldable pub DesignAllowed : Designed → Type 0
 DesignAllowed (designed.Made d) = Allowed d

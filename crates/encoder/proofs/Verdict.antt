@@ -7,11 +7,11 @@ use mathlib.Core.Logic.{_≢_}
 use mathlib.Core.List.{List}
 use Prim.Native.Nat.{ℕ}
 use Rattle.staircase.specs.Design.{Params, params}
-use Rattle.staircase.specs.Frame.{redundancy}
+use Rattle.staircase.specs.System.{redundancy}
 use Rattle.staircase.specs.Rules.{Verdict, _then_, designRules, countRule, lengthRule, frameLengths, kitLengths, kitWork, interleavers, listRule, spareRule, inverseRule, kitRules, bitRule}
 use Rattle.staircase.specs.Rules.Verdict.{accepted, refused}
 use Rattle.staircase.specs.Calls.{encodeVerdict, encodedBy, encodeCall}
-use Rattle.staircase.proofs.Rules.{then-first, then-rest}
+use Rattle.staircase.proofs.Rules.{then-first, then-rest, count-limits, frame-lengths, lists-permute, bytes-bits, lengths-fit}
 use Rattle.design.specs.declared.Refusal.{Refusal}
 use Rattle.design.specs.declared.Check.{Check}
 use Rattle.design.specs.declared.Check.the-variants as check
@@ -21,9 +21,6 @@ use Rattle.design.specs.declared.Designed.the-variants as designed
 use Rattle.design.specs.Sizes.{paramsOf, listsOf}
 use Rattle.design.specs.Answers.{verdictOf, designVerdict, DesignIs, Allowed}
 use Rattle.design.proofs.Answers.{refused-then, check-refused, check-passed, design-refused, design-made, made-params}
-use Rattle.design.proofs.Accepted.{count-limits, frame-lengths}
-use Rattle.rules.proofs.Accepted.{lists-permute, bytes-bits}
-use Rattle.lengths.proofs.Fit.{lengths-fit}
 use Rattle.frames.specs.Groups.{FrameFits}
 use Rattle.encoder.specs.Checks.{contentRules, lengthRules, frameRules}
 

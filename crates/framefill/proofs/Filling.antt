@@ -27,7 +27,7 @@ use Rattle.readers.specs.declared.Step.{Step}
 use Rattle.readers.specs.declared.Step.the-variants.{Next, Refused}
 use Rattle.readers.proofs.Lines.{bits-end, bits-low, bits-high}
 use Rattle.formats.proofs.Spelling.{tidy-bits, tidy-bitsLine}
-use Rattle.staircase.proofs.Fill.{stretch-end}
+use Rattle.staircase.proofs.Bounds.{stretch-end}
 use Rattle.framescan.specs.FrameText.{groupLine, groupLines}
 use Rattle.framescan.proofs.Judging.{groups-suc}
 use Rattle.framefill.proofs.Takes.{passed-length, part-takes, line-takes, group-takes, tidy-groupLine}

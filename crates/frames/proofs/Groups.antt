@@ -14,11 +14,12 @@ use lib.Seq.{take-at, drop-at, drop-drop, drop-length}
 use Rattle.bch.specs.Polynomial.{Bits}
 use Rattle.staircase.specs.Lists.{tabulate, concat}
 use Rattle.staircase.specs.Design.{Params, Interleavers, order}
-use Rattle.staircase.specs.System.{Contents, preimage}
-use Rattle.staircase.specs.Frame.{groups, block, groupRedundancy, redundancy}
+use Rattle.staircase.specs.System.{Contents, preimage, groupRedundancy, redundancy}
+use Rattle.staircase.specs.Frame.{groups, block}
 use Rattle.staircase.specs.Demand2.{Permutes}
-use Rattle.staircase.proofs.System.{Proper, tabulate-length}
-use Rattle.staircase.proofs.Redundancy.{concat-last, concat-length, block-binary}
+use Rattle.staircase.proofs.System.{Proper}
+use Rattle.staircase.proofs.Tables.{tabulate-length, concat-last, concat-length}
+use Rattle.staircase.proofs.Redundancy.{block-binary}
 use Rattle.blocks.specs.Blocks.{sent, blockBytes, sentBit, Powers}
 use Rattle.blocks.proofs.Blocks.{sent-odd, block-is, odd-is}
 use Rattle.group.specs.Group.{selfBit, parityBit, groupOf}

@@ -10,15 +10,14 @@ use lib.ListN.{length, getD}
 use Rattle.bch.specs.Powers.{PositionPowers}
 use Rattle.staircase.specs.Lists.{concat}
 use Rattle.staircase.specs.Design.{wordLength}
-use Rattle.staircase.specs.System.{preimage}
-use Rattle.staircase.specs.Frame.{groups, redundancy}
+use Rattle.staircase.specs.System.{preimage, redundancy}
+use Rattle.staircase.specs.Frame.{groups}
 use Rattle.staircase.specs.Rules.{entries}
 use Rattle.staircase.proofs.System.{Proper}
 use Rattle.staircase.proofs.Permutation.{preimage-sent}
 use Rattle.design.specs.declared.Design.{Design}
 use Rattle.design.specs.Sizes.{paramsOf, orderOf, listsOf}
-use Rattle.design.proofs.Generator.{proper-of}
-use Rattle.positions.proofs.Sizes.{r-small}
+use Rattle.design.proofs.Allowed.{proper-of, r-small}
 use Rattle.frames.specs.Groups.{groupFrom, Ready, FrameFits}
 use Rattle.frames.proofs.Groups.{groups-are}
 

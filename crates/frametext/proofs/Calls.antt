@@ -22,7 +22,7 @@ use Rattle.design.specs.declared.Check.the-variants as check
 use Rattle.design.specs.declared.Refusal.{Refusal}
 use Rattle.design.specs.Answers.{refusalVerdict, verdictOf}
 use Rattle.design.proofs.Answers.{check-refused, check-passed}
-use Rattle.design.proofs.Accepted.{length-equal, frame-lengths}
+use Rattle.staircase.proofs.Rules.{length-equal, frame-lengths}
 use Rattle.readers.specs.Verdicts.{scanRule, mark, valuesOf, kept}
 use Rattle.framescan.specs.FrameText.{blockFormat, frameFormat, groupLines}
 use Rattle.framescan.specs.Judged.{foundScan}

@@ -17,7 +17,7 @@ use Rattle.bch.proofs.PowerSum.{xorSum-same}
 use Rattle.staircase.specs.Lists.{tabulate}
 use Rattle.staircase.specs.System.{Contents, rowBytes, inverseEntry}
 use Rattle.staircase.proofs.Matrix.{sumBits-lt, sumBits-same}
-use Rattle.staircase.proofs.System.{tabulate-length, tabulate-at, tabulate-bits, tabulate-same}
+use Rattle.staircase.proofs.Tables.{tabulate-length, tabulate-at, tabulate-bits, tabulate-same}
 use Rattle.matrix.specs.Packed.{packedBit}
 use Rattle.matrix.proofs.Product.{sum-spare}
 use Rattle.blocks.specs.Blocks.{partSum, columnSum, rowSum}

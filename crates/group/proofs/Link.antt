@@ -19,7 +19,8 @@ use Rattle.staircase.specs.System.{Contents, zeros, stack, unstack, preimage, c
 use Rattle.staircase.specs.Demand2.{Permutes}
 use Rattle.staircase.proofs.Matrix.{sumBits-lt, sumBits-same}
 use Rattle.staircase.proofs.Permutation.{preimage-sent}
-use Rattle.staircase.proofs.System.{Proper, Binary, tabulate-at, tabulate-same, unstack-lt}
+use Rattle.staircase.proofs.System.{Proper, unstack-lt}
+use Rattle.staircase.proofs.Tables.{Binary, tabulate-at, tabulate-same}
 use Rattle.staircase.proofs.Entries.{columnRemainder, rowRemainder, columnParity-powers, rowParity-powers}
 use Rattle.blocks.specs.Blocks.{columnSum, rowSum, Powers}
 use Rattle.blocks.proofs.Link.{SameBlock, part-powers, columnSum-is, rowSum-is}

@@ -12,10 +12,9 @@ use Rattle.staircase.specs.System.{preimage, systemEntry, inverseEntry}
 use Rattle.staircase.specs.Rules.{entries, wrongEntry}
 use Rattle.design.specs.declared.Design.{Design}
 use Rattle.design.specs.Sizes.{paramsOf, orderOf, listsOf}
-use Rattle.design.proofs.Generator.{proper-of}
+use Rattle.design.proofs.Allowed.{proper-of, order-positive}
 use Rattle.matrix.specs.Packed.{Planes}
 use Rattle.system.proofs.Link.{PartOf}
-use Rattle.positions.proofs.Sizes.{order-positive}
 use Rattle.products.specs.Products.{leftWrong, rightWrong, unstackOf}
 use Rattle.products.proofs.Search.{firstWhere-same}
 use Rattle.inverse.specs.Fits.{KitFits}

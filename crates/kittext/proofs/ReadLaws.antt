@@ -17,7 +17,7 @@ use Rattle.staircase.specs.Rules.{Verdict, _then_, designRules, lengthRule, lis
 use Rattle.staircase.specs.Rules.Verdict.{accepted, refused}
 use Rattle.staircase.specs.Design.{Params, order}
 use Rattle.staircase.specs.System.{rowBytes}
-use Rattle.staircase.proofs.Rules.{then-first, then-rest}
+use Rattle.staircase.proofs.Rules.{then-first, then-rest, length-equal, list-lengths}
 use Rattle.design.specs.declared.Design.{Design}
 use Rattle.design.specs.declared.Refusal.{Refusal}
 use Rattle.design.specs.declared.Check.{Check}
@@ -25,7 +25,6 @@ use Rattle.design.specs.declared.Check.the-variants as check
 use Rattle.design.specs.Answers.{refusalVerdict, verdictOf}
 use Rattle.design.specs.Sizes.{paramsOf}
 use Rattle.design.proofs.Answers.{refused-then, passed-then, check-refused}
-use Rattle.design.proofs.Accepted.{length-equal, list-lengths}
 use Rattle.kitscan.specs.KitText.{pairLines}
 use Rattle.kitfill.specs.Bytes.{firsts, seconds, packs, packRows}
 use Rattle.kittext.specs.Reader.{headNumber, kitParams, headRule, bodyScan, bodyRule, selfOf, parityOf, inverseOf, readVerdict, readKitCall, kitScanVerdict, KitDesign}

@@ -17,7 +17,7 @@ use Rattle.formats.proofs.Parts.{Split, fit-split, lits-first}
 use Rattle.staircase.specs.Lists.{tabulate, concat}
 use Rattle.staircase.specs.System.{rowBytes, inverseEntry}
 use Rattle.staircase.specs.Rules.{entries}
-use Rattle.staircase.proofs.System.{tabulate-same}
+use Rattle.staircase.proofs.Tables.{tabulate-same}
 use Rattle.rules.proofs.Entries.{entry-at}
 use Rattle.kitscan.specs.KitText.{pairLine, pairLines}
 use Rattle.kitfill.specs.Bytes.{firsts, seconds, packs, binary, pack, packRows}

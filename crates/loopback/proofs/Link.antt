@@ -23,17 +23,16 @@ use Rattle.staircase.specs.Frame.{Frame, frameOf}
 use Rattle.staircase.specs.Rules.{Verdict, _then_, designRules, countRule, lengthRule, kitLengths, frameLengths, kitWork, wordWork, interleavers, kitRules, bitRule}
 use Rattle.staircase.specs.Rules.Verdict.{accepted, refused}
 use Rattle.staircase.specs.Calls.{encodedBy, encodeVerdict, encodeCall, decodeCall}
-use Rattle.staircase.proofs.Fill.{filled, small-product}
-use Rattle.staircase.proofs.System.{tabulate-length, tabulate-at}
-use Rattle.staircase.proofs.Rules.{then-first, then-rest}
-use Rattle.staircase.proofs.Demand3.{proper-of}
+use Rattle.staircase.proofs.Fill.{filled}
+use Rattle.staircase.proofs.Bounds.{small-product}
+use Rattle.staircase.proofs.Tables.{tabulate-length, tabulate-at}
+use Rattle.staircase.proofs.Rules.{then-first, then-rest, design-limits, length-equal, lengths-fit}
+use Rattle.staircase.proofs.BchCode.{proper-of}
 use Rattle.blocks.proofs.Sums.{part-length}
 use Rattle.design.specs.declared.Refusal.{Refusal}
 use Rattle.design.specs.declared.Refusal.the-variants.{Size, Long, Large, Count, Rounds, Length, Spare, Inverse, Bit}
 use Rattle.design.specs.declared.Refusal.the-variants as refusal
 use Rattle.design.specs.Answers.{refusalVerdict}
-use Rattle.design.proofs.Accepted.{length-equal}
-use Rattle.lengths.proofs.Fit.{lengths-fit}
 use Rattle.decoder.specs.declared.Counts.{Counts}
 use Rattle.decoder.specs.declared.Decoding.the-variants as decoding
 use Rattle.decoder.specs.Answers.{correctedOf}
@@ -150,7 +149,7 @@ module _ (m t M L k : ℕ) (own parity w infoErrors redErrors info red : List �
         let e : work ≡ order s * rowBytes (order s) =
         length-equal 6 work (kitWork s)
         (then-first (lengthRule 6 work (kitWork s)) rest (then-rest (frameLengths s L info red) _ (then-rest (kitLengths s own parity w) _ lengths))) in
-        let ok = proper-of m t M design in
+        let ok = proper-of (design-limits m t M design) in
         let p = small-product 1 1 M (m * t) (ok .mpos) (ok .rpos) in
         let one : 1 ≤ rowBytes (order s) = omega (arith, p) in
         omega (arith, e, small-product (order s) 1 (order s) (rowBytes (order s)) (omega arith) one)

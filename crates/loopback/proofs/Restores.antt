@@ -8,14 +8,17 @@ use lib.ListN.{length}
 use Rattle.bch.specs.Polynomial.{Bits}
 use Rattle.bch.specs.Code.{distance}
 use Rattle.staircase.specs.Design.{Params, Interleavers, params, order, most-blocks}
-use Rattle.staircase.specs.Frame.{frameOf, read, redundancy}
+use Rattle.staircase.specs.Frame.{frameOf, read}
+use Rattle.staircase.specs.System.{redundancy}
 use Rattle.staircase.specs.Rules.{Verdict, designRules, infoLength, redLength, interleavers, kitWork, wordWork}
 use Rattle.staircase.specs.Rules.Verdict.{accepted, refused}
 use Rattle.staircase.specs.Calls.{Encoded, encodedBy, encodeVerdict, encodeCall, decodeCall}
 use Rattle.staircase.specs.Demand2.{KitPasses, FitsOrder}
 use Rattle.staircase.specs.Demand3.{EachWord, Demand3}
 use Rattle.staircase.proofs.Redundancy.{redundancy-bits}
-use Rattle.staircase.proofs.Demand3.{proper-of, demand3}
+use Rattle.staircase.proofs.Rules.{design-limits}
+use Rattle.staircase.proofs.Demand3.{demand3}
+use Rattle.staircase.proofs.BchCode.{proper-of}
 use Rattle.loopback.specs.Link.{turned, Result, unlessAccepted, afterDecoding, loopbackCall}
 use Rattle.loopback.specs.Link.Outcome.{notEncoded, done}
 use Rattle.loopback.proofs.Link.{turned-length, turned-bits}
@@ -45,7 +48,7 @@ module _ (m t M : ℕ) (self parity w : List ℕ) (design : designRules m t M �
   made-is = accepted-red (encodeVerdict m t M L self parity w info old (kitWork s)) (D .made) (D .encodes)
 
   madeBits : Bits made
-  madeBits = redundancy-bits s l L (proper-of m t M design) (kit .self) (kit .parity) w (kit .rightInverse) (kit .leftInverse) info infoBits
+  madeBits = redundancy-bits s l L (proper-of (design-limits m t M design)) (kit .self) (kit .parity) w (kit .rightInverse) (kit .leftInverse) info infoBits
 
   pub loopback-restores : (infoErrors redErrors : List ℕ)
       → EachWord (params m t M) (interleavers (params m t M) self parity) L

@@ -21,7 +21,7 @@ use borrow.Rule.Slice.PartMut.{mid-len}
 use Rattle.staircase.specs.Lists.{bitSum}
 use Rattle.staircase.specs.System.{rowBytes, inverseEntry}
 use Rattle.staircase.proofs.Matrix.{bitSum-zero}
-use Rattle.staircase.proofs.Fill.{stretch-end}
+use Rattle.staircase.proofs.Bounds.{stretch-end}
 use Rattle.staircase.proofs.Entries.{eqb-iff}
 use Rattle.matrix.specs.Packed.{packedBit, planeBit, Planes, paddedEntry}
 use Rattle.matrix.proofs.Bits.{bit, bit-lt, bit-zero, bit-added}

@@ -6,7 +6,7 @@ use mathlib.Core.Path.{_≡_}
 use Prim.Native.Nat.{ℕ, _+_, _*_, _/_, _%_, _≤_, _<_}
 use native.Mathlib.Nat.{div-lt-iff-lt-mul}
 use native.Mathlib.Omega.{arith}
-use Rattle.staircase.proofs.Fill.{small-product}
+use Rattle.staircase.proofs.Bounds.{small-product}
 use Rattle.system.proofs.Terms.{Sized, sized, place-below}
 
 pub record Unstacked (size r n e : ℕ) : Type 0 where

@@ -16,7 +16,7 @@ use Rattle.staircase.specs.Design.{wordLength}
 use Rattle.design.specs.declared.Design.{Design}
 use Rattle.design.specs.Answers.{Allowed}
 use Rattle.design.specs.Sizes.{paramsOf}
-use Rattle.design.proofs.Generator.{code-of}
+use Rattle.design.proofs.Allowed.{code-of}
 use Rattle.locator.specs.Located.{SumTable, Tables}
 
 -- the values of the positions, written before 128 other entries

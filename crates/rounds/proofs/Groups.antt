@@ -22,9 +22,8 @@ use Rattle.staircase.specs.Lists.{tabulate, concat}
 use Rattle.staircase.specs.Design.{Params, Interleavers, most-blocks}
 use Rattle.staircase.specs.Frame.{Frame, Site, groups, read, rowSites, columnSites, words, outsideAmong, outside}
 use Rattle.staircase.specs.Decoder.{correction, flipAll, Progress, correctWord, correctWords, round}
-use Rattle.staircase.proofs.System.{tabulate-length}
-use Rattle.staircase.proofs.Fill.{small-product}
-use Rattle.staircase.proofs.Redundancy.{concat-last, concat-length}
+use Rattle.staircase.proofs.Tables.{tabulate-length, concat-last, concat-length}
+use Rattle.staircase.proofs.Bounds.{small-product}
 use Rattle.staircase.proofs.Rounds.{correctWords-append, correctWords-from, correctWords-few}
 use Rattle.design.specs.declared.Design.{Design}
 use Rattle.rules.specs.Received.{Received, FrameFits}

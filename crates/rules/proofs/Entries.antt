@@ -17,8 +17,8 @@ use lib.Seq.{getD-set-same, getD-set-other}
 use borrow.Author.Tests.{le-leb, lt-leb, eqb-true, eqb-false}
 use Rattle.staircase.specs.Lists.{firstWhere}
 use Rattle.staircase.specs.Rules.{entries, badEntry}
-use Rattle.staircase.proofs.System.{tabulate-at}
-use Rattle.rules.proofs.FirstPlace.{some-last}
+use Rattle.staircase.proofs.Tables.{tabulate-at}
+use Rattle.staircase.proofs.Search.{firstWhere-last}
 
 pub entry-at : (n : ℕ) (b : List ℕ) (p : ℕ) → p < n → getD b (2 * p) 0 + 256 * getD b (2 * p + 1) 0 ≡ getD (entries n b) p 0
 unfolding entries
@@ -30,7 +30,7 @@ module _ (l : List ℕ) where
 
   seen-more : (x p : ℕ) → seen x (suc p) ≡ (seen x p || eqb (getD l p 0) x)
   unfolding seen
-  seen-more x p = some-last p (λ q. eqb (getD l q 0) x)
+  seen-more x p = firstWhere-last p (λ q. eqb (getD l q 0) x)
 
   module _ (n : ℕ) where
     unfoldable pub Marked : List ℕ → ℕ → Type 0

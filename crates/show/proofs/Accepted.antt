@@ -8,14 +8,13 @@ use Prim.Native.Nat.{ℕ, _*_, _<_}
 use native.Mathlib.Nat.{mul-pos}
 use native.Mathlib.Omega.{arith}
 use lib.ListN.{length}
-use Rattle.staircase.specs.Design.{params, order}
+use Rattle.staircase.specs.Design.{params, order, Limits}
 use Rattle.staircase.specs.Frame.{groups}
 use Rattle.staircase.specs.Rules.{Part, _then_, designRules, countRule, partRule, infoLength, redLength, frameLengths}
 use Rattle.staircase.specs.Rules.Verdict.{accepted}
 use Rattle.staircase.specs.Rules.Part.{block, group}
 use Rattle.staircase.specs.Calls.{showVerdict}
-use Rattle.staircase.proofs.Rules.{then-first, then-rest, Limits, design-limits}
-use Rattle.design.proofs.Accepted.{number-in, frame-lengths}
+use Rattle.staircase.proofs.Rules.{then-first, then-rest, design-limits, number-in, frame-lengths}
 use Rattle.show.specs.Show.{frameVerdict, HasPart}
 use Rattle.show.proofs.Stretch.{stretch-of}
 

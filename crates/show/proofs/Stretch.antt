@@ -10,7 +10,7 @@ use native.Mathlib.Nat.{mul-le-mul-right}
 use native.Mathlib.Omega.{arith}
 use lib.ListN.{length, take, drop, length-drop}
 use lib.Seq.{length-take-le}
-use Rattle.staircase.proofs.Fill.{stretch-end}
+use Rattle.staircase.proofs.Bounds.{stretch-end}
 use Rattle.show.specs.Show.{HasStretch}
 
 pub stretch-of : {n k c : ℕ} {l : List ℕ} → (1 ≤ k) × (k ≤ c) → length l ≡ c * n → HasStretch n k l

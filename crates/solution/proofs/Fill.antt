@@ -13,7 +13,7 @@ use lib.ListN.{length, getD, set, take, drop}
 use lib.Seq.{take-at, drop-at, drop-drop, getD-set-same, getD-set-other, ext-getD}
 use Rattle.staircase.specs.Lists.{tabulate}
 use Rattle.staircase.proofs.Fill.{filled}
-use Rattle.staircase.proofs.System.{tabulate-length, tabulate-at, tabulate-same}
+use Rattle.staircase.proofs.Tables.{tabulate-length, tabulate-at, tabulate-same}
 
 -- ---- from the front
 

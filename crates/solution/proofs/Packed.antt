@@ -19,7 +19,7 @@ use Rattle.bch.proofs.Sum.{mod2-bit}
 use Rattle.staircase.specs.Lists.{bitSum, sumBits}
 use Rattle.staircase.specs.System.{rowBytes, inverseEntry}
 use Rattle.staircase.proofs.Matrix.{bitSum-zero, zero-bitSum, sumBits-same}
-use Rattle.staircase.proofs.Fill.{stretch-end, small-product}
+use Rattle.staircase.proofs.Bounds.{stretch-end, small-product}
 use Rattle.matrix.specs.Packed.{packedBit}
 use Rattle.remainders.proofs.Rows.{row-length, row-at}
 

@@ -15,7 +15,7 @@ use lib.Arith.{digits-lt, digits-div, digits-mod}
 use lib.ListN.{length, getD}
 use Rattle.bch.proofs.Sum.{mod2-bit}
 use Rattle.staircase.specs.Lists.{bitSum, tabulate}
-use Rattle.staircase.proofs.System.{tabulate-at, tabulate-same}
+use Rattle.staircase.proofs.Tables.{tabulate-at, tabulate-same}
 use Rattle.solution.specs.Bits.{digit, constantBit}
 
 -- the row and the column of place p of a matrix of n columns and m rows, and where it lies in the transposed one

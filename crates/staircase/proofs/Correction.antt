@@ -1,6 +1,7 @@
 -- Correcting the words of a received frame: where all words of the sent frame are in the code and the received frame has at most t wrong bits
 -- in each word, a corrected word is the sent word, and a round leaves the sent frame. For any list of words over sites.
 --   CodeDistance s n      codewords of n bits that differ in at most 2t places are equal
+--   nearest-errors        the error positions of a word are those at which it differs from the codeword within t changes
 --   Sound s n f w         a word of the frame: n sites, no sent one twice, in the code
 --   Nearer f a b          b has the frame's bit or a's bit at each site
 --   correct-word          a corrected word is the sent word
@@ -25,9 +26,9 @@ use Rattle.staircase.specs.Frame.{Frame, Site, bitAt, read, inCode, outs
 use Rattle.staircase.specs.Frame.Site.{unsent, inInfo, inRed}
 use Rattle.staircase.specs.Decoder.{flipBits, errorPositions, allSent, correction, flipAll, Progress, correctWord, correctWords, round, Decoded, runRounds}
 use Rattle.staircase.proofs.Search.{cond-ind}
-use Rattle.staircase.proofs.Member.{In, map-in}
-use Rattle.staircase.proofs.Flip.{Sent, Within, Received, flipAll-received, flipAll-other, error-within, read-same, same-read, read-bits, read-length, Distinct, site-in, in?, read-flipAll}
-use Rattle.staircase.proofs.Errors.{flipBits-length, flipBits-bits, flipBits-distance, flipBits-here, Positions, positions-once, positions-below, errors, errors-positions, errors-flipped, errorPositions-found}
+use Rattle.staircase.proofs.Member.{In, in?, map-in}
+use Rattle.staircase.proofs.Flip.{Sent, Within, Received, flipAll-received, flipAll-other, error-within, read-same, same-read, read-bits, read-length, Distinct, site?, site-in, read-flipAll}
+use Rattle.staircase.proofs.Errors.{flipBits-length, flipBits-bits, flipBits-distance, flipBits-here, Positions, positions-once, positions-below, errors, errors-positions, errors-flipped, errorPositions-found, flips-once}
 
 all-sent : (w : List Site) (c : List ℕ) → ((j : ℕ) → In j c → Sent (getD w j unsent)) → allSent (map (λ j. getD w j unsent) c) ≡ true
 all-sent w [] h = refl
@@ -43,6 +44,26 @@ abbrev pub CodeDistance : Params → ℕ → Type 0
 CodeDistance s n =
     (u v : List ℕ) → length u ≡ n → length v ≡ n → Bits u → Bits v
     → isCodeword (s .g) (s .r) u ≡ true → isCodeword (s .g) (s .r) v ≡ true → distance u v ≤ 2 * s .t → u ≡ v
+
+-- The codeword v within t changes of u is the one that the definition finds: the order of its search plays no part.
+module _ (s : Params) (n : ℕ) (apart : CodeDistance s n) (u v : List ℕ) (lu : length u ≡ n) (lv : length v ≡ n) (hu : Bits u) (hv : Bits v)
+    (code : isCodeword (s .g) (s .r) v ≡ true) (near : distance u v ≤ s .t) where
+  nearest-found : Positions (length u) (s .t) (errorPositions s u) × (isCodeword (s .g) (s .r) (flipBits (errorPositions s u) u) ≡ true)
+  nearest-found =
+      errorPositions-found s u (errors u v) (errors-positions u v (lu ∙ sym lv) (s .t) near)
+      (ap (isCodeword (s .g) (s .r)) (errors-flipped u v hu hv (lu ∙ sym lv)) ∙ code)
+
+  nearest-flipped : flipBits (errorPositions s u) u ≡ v
+  nearest-flipped =
+      let b : List ℕ = flipBits (errorPositions s u) u in
+      let lb : length b ≡ length u = flipBits-length (errorPositions s u) u in
+      apart b v (lb ∙ lu) lv (flipBits-bits (errorPositions s u) u hu) hv (nearest-found .1) code
+      (omega (arith, flipBits-distance (errorPositions s u) u, nearest-found .0 .few, distance-triangle b u v lb (lu ∙ sym lv), distance-comm b u, near))
+
+  pub nearest-errors : errorPositions s u ≡ errors u v
+  nearest-errors =
+      flips-once (length u) (s .t) (errorPositions s u) (errors u v) u refl (nearest-found .0) (errors-positions u v (lu ∙ sym lv) (s .t) near) hu
+      (nearest-flipped ∙ sym (errors-flipped u v hu hv (lu ∙ sym lv)))
 
 -- a word of the frame: n sites, none of them twice, in the code
 pub record Sound (s : Params) (n : ℕ) (f : Frame) (w : List Site) : Type 0 where
@@ -103,22 +124,12 @@ module _ (s : Params) (n : ℕ) (apart : CodeDistance s n) (f : Frame) (ff : Rec
     near : distance got sent ≤ s .t
     near = omega (arith, distance-comm got sent, few)
 
-    good : Positions (length got) (s .t) found × (isCodeword (s .g) (s .r) (flipBits found got) ≡ true)
-    good =
-        errorPositions-found s got (errors got sent) (errors-positions got sent same-length (s .t) near)
-        (ap (isCodeword (s .g) (s .r)) (errors-flipped got sent (read-bits f a g w) (read-bits f f ff w) same-length) ∙ ok .coded)
+    good : Positions (length got) (s .t) found
+    good = nearest-found s n apart got sent long (sym same-length ∙ long) (read-bits f a g w) (read-bits f f ff w) (ok .coded) near .0
 
     -- the codeword that was found is the sent word
     found-sent : flipBits found got ≡ sent
-    found-sent =
-        let b : List ℕ = flipBits found got in
-        let lb : length b ≡ length got = flipBits-length found got in
-        let far = flipBits-distance found got in
-        let size : length found ≤ s .t = good .0 .few in
-        let sum = distance-triangle b got sent lb same-length in
-        let swap = distance-comm b got in
-        apart b sent (lb ∙ long) (sym same-length ∙ long) (flipBits-bits found got (read-bits f a g w)) (read-bits f f ff w) (good .1) (ok .coded)
-        (omega (arith, far, size, sum, swap, near))
+    found-sent = nearest-flipped s n apart got sent long (sym same-length ∙ long) (read-bits f a g w) (read-bits f f ff w) (ok .coded) near
 
     -- a position that was found is one at which the sent bit is the other one
     at-position : (k : ℕ) (x : Frame) → getD (read x w) k 0 ≡ bitAt x (getD w k unsent)
@@ -127,11 +138,11 @@ module _ (s : Params) (n : ℕ) (apart : CodeDistance s n) (f : Frame) (ff : Rec
     flipped : (j : ℕ) → In j found → bitAt f (getD w j unsent) ≡ 1 - bitAt a (getD w j unsent)
     flipped j i =
         sym (at-position j f) ∙ ap (λ (u : List ℕ). getD u j 0) (sym found-sent)
-        ∙ flipBits-here found got (positions-once (good .0)) j i (positions-below (good .0) j i) ∙ ap (λ (z : ℕ). 1 - z) (at-position j a)
+        ∙ flipBits-here found got (positions-once good) j i (positions-below good j i) ∙ ap (λ (z : ℕ). 1 - z) (at-position j a)
 
     inside : (j : ℕ) → In j found → (j < length w) × Within (getD w j unsent) a
     inside j i = (
-      subst (λ (z : ℕ). j < z) (read-length a w) (positions-below (good .0) j i),
+      subst (λ (z : ℕ). j < z) (read-length a w) (positions-below good j i),
       error-within f a g (getD w j unsent) (λ e. let d = flipped j i in let b = g .binary (getD w j unsent) in omega (arith, e, d, b)),
     )
 
@@ -152,7 +163,7 @@ module _ (s : Params) (n : ℕ) (apart : CodeDistance s n) (f : Frame) (ff : Rec
     correct-word = ap (λ (c : List Site). read (flipAll c a) w) correction-sites ∙ read-flipAll a itself w (ok .distinct) found inside ∙ found-sent
 
     correct-nearer : Nearer f a (flipAll (correction s a w) a)
-    correct-nearer y = go (in? y (correction s a w))
+    correct-nearer y = go (in? site? y (correction s a w))
       where
         among : In y (correction s a w) → In y w
         among i =

@@ -6,48 +6,42 @@ use mathlib.Core.Path.{_≡_, refl}
 use mathlib.Core.Logic.{_↔_}
 use mathlib.Core.List.{List}
 use Prim.Native.Nat.{ℕ, _*_, _<_}
-use native.Mathlib.Nat.{mul-pos, le-trans, zero-lt-suc}
-use lib.ListN.{length}
 use Rattle.staircase.specs.Design.{Params, Interleavers, params, order}
-use Rattle.staircase.specs.System.{systemEntry, inverseEntry, rowBytes}
-use Rattle.staircase.specs.Rules.{Verdict, _then_, refuseFirst, designRules, lengthRule, listLengths, kitLengths, kitWork, interleavers, badEntry, listRule, spareRow, spareRule, wrongEntry, inverseRule, kitRules}
+use Rattle.staircase.specs.System.{systemEntry, inverseEntry}
+use Rattle.staircase.specs.Rules.{Verdict, _then_, refuseFirst, designRules, lengthRule, kitLengths, kitWork, interleavers, badEntry, listRule, spareRow, spareRule, wrongEntry, inverseRule, kitRules}
 use Rattle.staircase.specs.Rules.Verdict.{accepted}
 use Rattle.staircase.specs.Calls.{kitVerdict}
 use Rattle.staircase.specs.Demand2.{KitPasses, FitsOrder}
-use Rattle.staircase.proofs.Rules.{then-first, then-rest, then-accepted, refuseFirst-false, refuseFirst-accepted, length-accepted, Limits, design-limits, entries-permute, permute-entries, spare-zero, zero-spare, product-identity, identity-product}
+use Rattle.staircase.proofs.System.{order-positive}
+use Rattle.staircase.proofs.BchCode.{proper-of}
+use Rattle.staircase.proofs.Rules.{then-first, then-rest, then-accepted, refuseFirst-false, refuseFirst-accepted, length-accepted, design-limits, lengths-accepted, lists-permute, permute-entries, spare-zero, zero-spare, product-identity, identity-product}
 
 module _ (s : Params) (l : Interleavers) (w : List ℕ) where
   abbrev n : ℕ
   n = order s
 
-  abbrev selfRule : Verdict
-  selfRule = refuseFirst 7 0 n (badEntry n (l .self))
+  abbrev ruleAW : Verdict
+  ruleAW = refuseFirst 9 0 (n * n) (wrongEntry n (systemEntry s l) (inverseEntry w n))
 
-  abbrev parityRule : Verdict
-  parityRule = refuseFirst 7 n n (badEntry n (l .parity))
-
-  abbrev leftRule : Verdict
-  leftRule = refuseFirst 9 0 (n * n) (wrongEntry n (systemEntry s l) (inverseEntry w n))
-
-  abbrev rightRule : Verdict
-  rightRule = refuseFirst 9 (n * n) (n * n) (wrongEntry n (inverseEntry w n) (systemEntry s l))
+  abbrev ruleWA : Verdict
+  ruleWA = refuseFirst 9 (n * n) (n * n) (wrongEntry n (inverseEntry w n) (systemEntry s l))
 
   passes : kitRules s l w ≡ accepted → KitPasses s l w
-  unfolding kitRules listRule spareRule inverseRule
+  unfolding kitRules spareRule inverseRule
   passes e =
-      let lists : (selfRule then parityRule) ≡ accepted = then-first (selfRule then parityRule) (spareRule s w then inverseRule s l w) e in
-      let rest : (spareRule s w then inverseRule s l w) ≡ accepted = then-rest (selfRule then parityRule) (spareRule s w then inverseRule s l w) e in
-      let products : (leftRule then rightRule) ≡ accepted = then-rest (spareRule s w) (inverseRule s l w) rest in
+      let lists = lists-permute s l (then-first (listRule s l) (spareRule s w then inverseRule s l w) e) in
+      let rest : (spareRule s w then inverseRule s l w) ≡ accepted = then-rest (listRule s l) (spareRule s w then inverseRule s l w) e in
+      let products : (ruleAW then ruleWA) ≡ accepted = then-rest (spareRule s w) (inverseRule s l w) rest in
       record {
-        self = entries-permute n (l .self) (refuseFirst-false 7 0 n (badEntry n (l .self)) (then-first selfRule parityRule lists));
-        parity = entries-permute n (l .parity) (refuseFirst-false 7 n n (badEntry n (l .parity)) (then-rest selfRule parityRule lists));
+        self = lists .0;
+        parity = lists .1;
         spare = λ i j hi. spare-zero w n i (refuseFirst-false 8 0 n (spareRow w n) (then-first (spareRule s w) (inverseRule s l w) rest) i hi) j;
         rightInverse =
             product-identity n (systemEntry s l) (inverseEntry w n)
-            (refuseFirst-false 9 0 (n * n) (wrongEntry n (systemEntry s l) (inverseEntry w n)) (then-first leftRule rightRule products));
+            (refuseFirst-false 9 0 (n * n) (wrongEntry n (systemEntry s l) (inverseEntry w n)) (then-first ruleAW ruleWA products));
         leftInverse =
             product-identity n (inverseEntry w n) (systemEntry s l)
-            (refuseFirst-false 9 (n * n) (n * n) (wrongEntry n (inverseEntry w n) (systemEntry s l)) (then-rest leftRule rightRule products));
+            (refuseFirst-false 9 (n * n) (n * n) (wrongEntry n (inverseEntry w n) (systemEntry s l)) (then-rest ruleAW ruleWA products));
       }
 
   accepts : 0 < n → KitPasses s l w → kitRules s l w ≡ accepted
@@ -66,18 +60,6 @@ module _ (s : Params) (l : Interleavers) (w : List ℕ) where
   pub kit-passes : 0 < order s → (kitRules s l w ≡ accepted) ↔ KitPasses s l w
   kit-passes pos = (passes, accepts pos)
 
-pub order-positive : (m t M : ℕ) → designRules m t M ≡ accepted → 0 < order (params m t M)
-order-positive m t M d =
-    let z : Limits m t M = design-limits m t M d in
-    mul-pos (z .M-low) (mul-pos (le-trans (zero-lt-suc 3) (z .m-low)) (z .t-low))
-
-pub lengths-accepted : (s : Params) (self parity w : List ℕ) → FitsOrder (order s) self parity w → kitLengths s self parity w ≡ accepted
-unfolding kitLengths listLengths
-lengths-accepted s self parity w k =
-    then-accepted
-    (then-accepted (length-accepted 1 (length self) (2 * order s) (k .selfLength)) (length-accepted 2 (length parity) (2 * order s) (k .parityLength)))
-    (length-accepted 3 (length w) (order s * rowBytes (order s)) (k .inverseLength))
-
 module _ (m t M : ℕ) (self parity w : List ℕ) where
   abbrev s : Params
   s = params m t M
@@ -88,7 +70,7 @@ module _ (m t M : ℕ) (self parity w : List ℕ) where
   demand2 d k =
       let l : Interleavers = interleavers s self parity in
       let v6 : Verdict = lengthRule 6 (kitWork s) (kitWork s) in
-      let both = kit-passes s l w (order-positive m t M d) in (
+      let both = kit-passes s l w (order-positive s (proper-of (design-limits m t M d))) in (
         λ e. both .0
             (then-rest v6 (kitRules s l w)
             (then-rest (kitLengths s self parity w) (v6 then kitRules s l w) (then-rest (designRules m t M) (kitLengths s self parity w then v6 then kitRules s l w) e))),

@@ -1,23 +1,21 @@
 -- Demand 3, whole: for any kit that passes by demand 2's rule, any allowed number of blocks, any information and whatever the redundancy buffer
 -- held, over what the encoder's call and the decoder's call leave.
---   code-of, proper-of, apart-of   the BCH code of an allowed design: its limits, the generator's degree, its distance
---   demand3                        the theorem
+--   demand3   the theorem
 -- Assumes nothing.
 use mathlib.Core.Path.{_≡_, refl, sym, ap, _∙_, subst}
 use mathlib.Core.Bool.{Bool, true, false, cond}
 use mathlib.Core.Logic.{_≢_, inl, inr}
 use mathlib.Core.List.{List, _∷_}
-use Prim.Native.Nat.{ℕ, zero, suc, _+_, _-_, _*_, _/_, _^_, _≤_, _<_}
+use Prim.Native.Nat.{ℕ, zero, suc, _+_, _-_, _*_, _/_, _≤_, _<_}
 use native.Mathlib.Decide.{decLt}
 use native.Mathlib.Omega.{arith}
 use lib.ListN.{length, getD}
-use lib.Pow.{pow-pos}
 use borrow.Author.Tests.{le-ltb}
 use Rattle.bch.specs.Polynomial.{Bits}
 use Rattle.bch.specs.Code.{distance}
-use Rattle.bch.proofs.Bch.{Code, degree, degree-positive, bch-bound}
-use Rattle.staircase.specs.Design.{Params, Interleavers, params, wordLength, order, most-blocks}
-use Rattle.staircase.specs.Frame.{Frame, Site, bitAt, groups, rowSites, columnSites, words, read, inCode, outsideAmong, outside, redundancy}
+use Rattle.staircase.specs.Design.{Params, Interleavers, params, wordLength, order, Limits, most-blocks}
+use Rattle.staircase.specs.Frame.{Frame, Site, bitAt, groups, rowSites, columnSites, words, read, inCode, outsideAmong, outside}
+use Rattle.staircase.specs.System.{redundancy}
 use Rattle.staircase.specs.Frame.Site.{unsent, inInfo, inRed}
 use Rattle.staircase.specs.Decoder.{Decoded, runRounds, roundsAllowed, decoded}
 use Rattle.staircase.specs.Rules.{Verdict, designRules, countRule, roundsRule, listLengths, infoLength, redLength, frameLengths, kitWork, wordWork, interleavers, listRule, kitRules, frameBits}
@@ -25,30 +23,16 @@ use Rattle.staircase.specs.Rules.Verdict.{accepted}
 use Rattle.staircase.specs.Calls.{encodeVerdict, Encoded, encodedBy, encodeCall, decodeVerdict, correctedBy, decodeCall}
 use Rattle.staircase.specs.Demand2.{KitPasses, FitsOrder}
 use Rattle.staircase.specs.Demand3.{EachWord, SameBut, Demand3}
-use Rattle.staircase.proofs.Rules.{then-first, then-accepted, refuse-accepted, inRange, length-accepted, Limits, design-limits, bits-accepted}
+use Rattle.staircase.proofs.Rules.{then-first, then-accepted, refuse-accepted, inRange, length-accepted, design-limits, lengths-accepted, bits-accepted}
 use Rattle.staircase.proofs.Member.{In}
 use Rattle.staircase.proofs.Flip.{Received}
-use Rattle.staircase.proofs.Correction.{Sound, CodeDistance, outside-none, runRounds-restore}
-use Rattle.staircase.proofs.System.{Proper}
+use Rattle.staircase.proofs.Correction.{Sound, outside-none, runRounds-restore}
+use Rattle.staircase.proofs.System.{Proper, order-positive}
+use Rattle.staircase.proofs.BchCode.{proper-of, apart-of}
 use Rattle.staircase.proofs.Sites.{rowSites-distinct, columnSites-distinct, rowSites-length, columnSites-length, row-among-words, column-among-words, each-word, info-covered, red-covered}
 use Rattle.staircase.proofs.Redundancy.{redundancy-length, redundancy-bits, rows-in-code, columns-in-code, redundancy-only}
 use Rattle.staircase.proofs.Reach.{reach}
-use Rattle.staircase.proofs.Demand2.{kit-passes, order-positive, lengths-accepted}
-
--- ---- the code of an allowed design
-
-module _ (m t M : ℕ) (d : designRules m t M ≡ accepted) where
-  pub code-of : Code m t
-  code-of =
-      let z : Limits m t M = design-limits m t M d in
-      record { m-low = z .m-low; m-high = z .m-high; t-low = z .t-low; t-high = z .t-high; fits = omega (arith, z .fits, z .M-low, pow-pos m) }
-
-  pub proper-of : Proper (params m t M)
-  proper-of = record { mpos = design-limits m t M d .M-low; rpos = degree-positive m t code-of; degree = degree m t code-of }
-
-  pub apart-of : CodeDistance (params m t M) (wordLength (params m t M))
-  apart-of u v lu lv hu hv =
-      bch-bound m t code-of u v hu hv (lu ∙ sym lv) (subst (λ (z : ℕ). z ≤ 2 ^ m - 1) (sym lu) (design-limits m t M d .fits))
+use Rattle.staircase.proofs.Demand2.{kit-passes}
 
 -- ---- counts and bits
 
@@ -85,13 +69,16 @@ module _ (m t M : ℕ) (self parity w : List ℕ) (design : designRules m t M �
   abbrev frame : Frame
   frame = record { info = info; red = made }
 
+  limits : Limits m t M
+  limits = design-limits m t M design
+
   ok : Proper s
-  ok = proper-of m t M design
+  ok = proper-of limits
 
   -- the calls are accepted
 
   rules : kitRules s l w ≡ accepted
-  rules = kit-passes s l w (order-positive m t M design) .1 kit
+  rules = kit-passes s l w (order-positive s ok) .1 kit
 
   counted : countRule L ≡ accepted
   unfolding countRule
@@ -183,8 +170,8 @@ module _ (m t M : ℕ) (self parity w : List ℕ) (design : designRules m t M �
 
   restored : (k : ℕ) (received : Frame) → Received frame received
       → ((v : List Site) → In v (words s l L) → distance (read frame v) (read received v) ≤ t) → (runRounds s (words s l L) (roundsAllowed k) received) .frame ≡ frame
-  restored zero received like few = runRounds-restore s (wordLength s) (apart-of m t M design) frame frame-itself (words s l L) sound covered 6 received like few
-  restored (suc k) received like few = runRounds-restore s (wordLength s) (apart-of m t M design) frame frame-itself (words s l L) sound covered k received like few
+  restored zero received like few = runRounds-restore s (wordLength s) (apart-of limits) frame frame-itself (words s l L) sound covered 6 received like few
+  restored (suc k) received like few = runRounds-restore s (wordLength s) (apart-of limits) frame frame-itself (words s l L) sound covered k received like few
 
   restores : (received : Frame) → length (received .info) ≡ length info → length (received .red) ≡ length made → Bits (received .info) → Bits (received .red)
       → EachWord s l L (λ x. distance (read frame x) (read received x) ≤ t) → (k : ℕ) → k ≤ 64 → (rounds : ℕ) × (flips : ℕ)
@@ -197,7 +184,7 @@ module _ (m t M : ℕ) (self parity w : List ℕ) (design : designRules m t M �
       restored k received (record { infoLength = li; redLength = lr; binary = frame-bits received hi hr })
       (each-word s L l ok (kit .self) (kit .parity) (λ x. distance (read frame x) (read received x) ≤ t) (few .rows) (few .columns)) in
       let none : outsideAmong s (d .frame) (words s l L) ≡ 0 =
-      ap (λ (x : Frame). outsideAmong s x (words s l L)) same ∙ outside-none s (wordLength s) (apart-of m t M design) frame frame-itself (words s l L) sound in (
+      ap (λ (x : Frame). outsideAmong s x (words s l L)) same ∙ outside-none s (wordLength s) (apart-of limits) frame frame-itself (words s l L) sound in (
         d .rounds,
         d .flips,
         ap (λ (v : Verdict). correctedBy v received d (outsideAmong s (d .frame) (words s l L)))

@@ -1,6 +1,8 @@
 -- Entries of the system and of its constant by sums of powers of x, as code takes them.
---   info-powers        the remainder of a word's information, with r zeros behind it
+--   sumBits-last       a sum by its last term
+--   eqb-iff            tests of equations that hold together
 --   coefficient        what bit b of X or Y adds to bit a of the parity
+--   columnRemainder, rowRemainder           the remainder of the blocks of a word
 --   columnParity-powers, rowParity-powers   P and Q by remainders
 --   system-row         the entries of a row of A, by the places of Y that its words read
 --   system-column      the entries of a column of A, by the places of P that its bit of Y reaches

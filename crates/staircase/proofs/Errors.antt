@@ -1,13 +1,14 @@
 -- The error positions of a word: which choice of positions the definition finds.
 --   flipBits-length, flipBits-bits, flipBits-distance   a word with some bits flipped
 --   flipBits-here, flipBits-other   a position that is flipped once, and one that is not flipped
+--   flips-once        positions that make the same word are the same
 --   errors            the positions at which two words differ; flipping them turns one into the other
 --   errorPositions-found      where a codeword lies within t changes, the definition finds a choice that makes a codeword
 --   errorPositions-positions  in each case it gives at most t positions of the word
 -- Assumes nothing.
 use mathlib.Core.Path.{_≡_, refl, sym, ap, _∙_, subst}
 use mathlib.Core.Bool.{Bool, true, false, cond, true≢false}
-use mathlib.Core.Logic.{_≢_, inl, inr}
+use mathlib.Core.Logic.{_≢_, _⊎_, inl, inr}
 use mathlib.Core.List.{List, [], _∷_}
 use Prim.Native.Nat.{ℕ, zero, suc, _+_, _-_, _≤_, _<_, zero-le}
 use native.Mathlib.Nat.{suc-inj, suc-ne-zero, le-of-suc-le-suc, not-suc-le-zero}
@@ -24,7 +25,7 @@ use Rattle.staircase.specs.Lists.{tabulate}
 use Rattle.staircase.specs.Design.{Params}
 use Rattle.staircase.specs.Decoder.{choices, flipBits, firstCorrecting, errorPositions}
 use Rattle.staircase.proofs.Search.{cond-ind}
-use Rattle.staircase.proofs.Member.{In, Sub, done, skip, keep, sub-nil, sub-in, tabulate-in, choices-sub, sub-choices}
+use Rattle.staircase.proofs.Member.{In, in?, Sub, done, skip, keep, sub-nil, sub-in, tabulate-in, choices-sub, sub-choices}
 
 -- ---- flipped bits
 
@@ -93,6 +94,19 @@ once-tabulate (suc n) f h = (
   once-tabulate n (λ k. f (suc k)) (λ j k e. suc-inj (h (suc j) (suc k) e)),
 )
 
+-- two of a list's sublists that have the same entries are the same
+sub-same : {c d l : List ℕ} → Sub c l → Sub d l → Once l → ((x : ℕ) → In x c → In x d) → ((x : ℕ) → In x d → In x c) → c ≡ d
+sub-same done done h f g = refl
+sub-same (skip p) (skip q) h f g = sub-same p q (h .1) f g
+sub-same (skip p) (keep {x = x} q) h f g = absurd (h .0 (sub-in x p (g x (inl refl))))
+sub-same (keep {x = x} p) (skip q) h f g = absurd (h .0 (sub-in x q (f x (inl refl))))
+sub-same (keep {x = x} {c = c} {l = l} p) (keep {c = d} q) h f g =
+    ap (λ (z : List ℕ). x ∷ z) (sub-same p q (h .1) (λ y i. later y d (sub-in y p i) (f y (inr i))) (λ y i. later y c (sub-in y q i) (g y (inr i))))
+  where
+    later : (y : ℕ) (z : List ℕ) → In y l → In y (x ∷ z) → In y z
+    later y z i (inl e) = absurd (h .0 (subst (λ (k : ℕ). In k l) e i))
+    later y z i (inr j) = j
+
 -- positions of a word of n bits, at most t of them
 pub record Positions (n t : ℕ) (c : List ℕ) : Type 0 where
   pub sub : Sub c (tabulate n (λ j. j))
@@ -105,9 +119,33 @@ module _ {n t : ℕ} {c : List ℕ} (p : Positions n t c) where
   pub positions-below : (j : ℕ) → In j c → j < n
   positions-below j i = let q = tabulate-in n (λ k. k) j (sub-in j (p .sub) i) in subst (λ (z : ℕ). z < n) (sym (q .2)) (q .1)
 
+-- positions that make the same word are the same
+flips-in : (c d u : List ℕ) → Once c → ((k : ℕ) → In k c → k < length u) → Bits u → flipBits c u ≡ flipBits d u → (k : ℕ) → In k c → In k d
+flips-in c d u once below hu same k i = go (in? nat? k d)
+  where
+    nat? : (x y : ℕ) → (x ≡ y) ⊎ (x ≢ y)
+    nat? x y = pick (ℕ-discrete x y)
+      where
+        pick : Dec (x ≡ y) → (x ≡ y) ⊎ (x ≢ y)
+        pick (yes e) = inl e
+        pick (no n) = inr n
+
+    go : In k d ⊎ (¬ In k d) → In k d
+    go (inl j) = j
+    go (inr n) =
+        let b = hu k in
+        let e : 1 - getD u k 0 ≡ getD u k 0 = sym (flipBits-here c u once k i (below k i)) ∙ ap (λ (z : List ℕ). getD z k 0) same ∙ flipBits-other d u k n in
+        absurd (omega (arith, b, e))
+
+pub flips-once : (n t : ℕ) (c d u : List ℕ) → length u ≡ n → Positions n t c → Positions n t d → Bits u → flipBits c u ≡ flipBits d u → c ≡ d
+flips-once n t c d u e p q hu same =
+    sub-same (p .sub) (q .sub) (once-tabulate n (λ j. j) (λ j k z. z))
+    (flips-in c d u (positions-once p) (λ k i. subst (λ (z : ℕ). k < z) (sym e) (positions-below p k i)) hu same)
+    (flips-in d c u (positions-once q) (λ k i. subst (λ (z : ℕ). k < z) (sym e) (positions-below q k i)) hu (sym same))
+
 -- ---- the positions at which two words differ, position j as f j
 
-errorsAt : (ℕ → ℕ) → List ℕ → List ℕ → List ℕ
+unfoldable pub errorsAt : (ℕ → ℕ) → List ℕ → List ℕ → List ℕ
 errorsAt f [] v = []
 errorsAt f (a ∷ u) [] = []
 errorsAt f (a ∷ u) (b ∷ v) = cond (eqb a b) (errorsAt (λ k. f (suc k)) u v) (f zero ∷ errorsAt (λ k. f (suc k)) u v)
@@ -163,7 +201,7 @@ errorsAt-out f (a ∷ u) (b ∷ v) x i = go (ℕ-discrete a b) (errorsAt-out (λ
     go (yes e) rest = later (rest (subst (λ (z : Bool). In x (cond z (errorsAt (λ k. f (suc k)) u v) (f zero ∷ errorsAt (λ k. f (suc k)) u v))) (eq-eqb a b e) i))
     go (no d) rest = here d (subst (λ (z : Bool). In x (cond z (errorsAt (λ k. f (suc k)) u v) (f zero ∷ errorsAt (λ k. f (suc k)) u v))) (ne-eqb a b d) i) rest
 
-pub errors : List ℕ → List ℕ → List ℕ
+unfoldable pub errors : List ℕ → List ℕ → List ℕ
 errors u v = errorsAt (λ j. j) u v
 
 pub errors-positions : (u v : List ℕ) → length u ≡ length v → (t : ℕ) → distance u v ≤ t → Positions (length u) t (errors u v)

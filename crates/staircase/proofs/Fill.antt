@@ -1,18 +1,17 @@
 -- A loop that fills a list from the front by a rule: after i stores it is `filled f l i`.
 --   filled        the first i entries by the rule, the rest as it was
 --   filled-none, filled-more, filled-all, filled-length   the loop's start, its step, its end
---   small-product, stretch-end   products of sizes: bounds that `omega` cannot find
 -- Assumes nothing.
 use mathlib.Core.Path.{_≡_, refl, sym, ap, _∙_}
 use mathlib.Core.List.{List, [], _∷_, _++_, append-nil}
-use Prim.Native.Nat.{ℕ, zero, suc, _+_, _*_, _≤_, _<_}
-use native.Mathlib.Nat.{mul-le-mul, not-suc-le-zero, le-of-suc-le-suc, suc-mul, mul-le-mul-right}
+use Prim.Native.Nat.{ℕ, zero, suc, _+_, _≤_, _<_}
+use native.Mathlib.Nat.{not-suc-le-zero, le-of-suc-le-suc}
 use native.Mathlib.Numerals.{add-one}
 use native.Mathlib.Omega.{arith}
 use lib.ListN.{length, set, drop, length-append, length-drop}
 use lib.Seq.{drop-length}
 use Rattle.staircase.specs.Lists.{tabulate}
-use Rattle.staircase.proofs.System.{tabulate-length}
+use Rattle.staircase.proofs.Tables.{tabulate-length}
 
 unfoldable pub filled : (ℕ → ℕ) → List ℕ → ℕ → List ℕ
 filled f l i = tabulate i f ++ drop i l
@@ -38,10 +37,3 @@ filled-all f l i n e d = ap (λ (k : ℕ). tabulate k f ++ drop k l) (e ∙ sym 
 pub filled-length : (f : ℕ → ℕ) (l : List ℕ) (i : ℕ) → i ≤ length l → length (filled f l i) ≡ length l
 unfolding filled
 filled-length f l i h = omega (arith, length-append (tabulate i f) (drop i l), tabulate-length i f, length-drop i l)
-
-pub small-product : (a b k l : ℕ) → a ≤ k → b ≤ l → a * b ≤ k * l
-small-product a b k l h g = mul-le-mul h g
-
--- stretch i of n stretches of w ends within them
-pub stretch-end : (i n w : ℕ) → i < n → i * w + w ≤ n * w
-stretch-end i n w h = omega (arith, suc-mul i w, mul-le-mul-right w h)

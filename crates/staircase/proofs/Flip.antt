@@ -5,6 +5,7 @@
 --   Received f x            x has the lengths of the frame f and holds bits
 --   flipAll-received, flipAll-other   some sites flipped
 --   read-same, same-read    a word's bits are those of its sites
+--   read-bits, read-length, site-in   they are bits, one for each site; the site at a position
 --   Distinct w              no sent site stands twice in a word
 --   read-flip, read-flipAll flipping sites of a word flips the bits at their positions
 -- Assumes nothing.
@@ -39,7 +40,7 @@ buffer unsent = 0
 buffer (inInfo k) = 1
 buffer (inRed k) = 2
 
-site? : (x y : Site) → (x ≡ y) ⊎ (x ≢ y)
+pub site? : (x y : Site) → (x ≡ y) ⊎ (x ≢ y)
 site? unsent unsent = inl refl
 site? unsent (inInfo k) = inr (λ e. let z : _≡_ {A = ℕ} 0 1 = ap buffer e in omega arith)
 site? unsent (inRed k) = inr (λ e. let z : _≡_ {A = ℕ} 0 2 = ap buffer e in omega arith)
@@ -168,19 +169,6 @@ read-bits f a g w k = subst (λ (z : ℕ). z < 2) (sym (List·getD-map (bitAt a)
 
 pub read-length : (f : Frame) (w : List Site) → length (read f w) ≡ length w
 read-length f w = length-map w (bitAt f)
-
-pub in? : (y : Site) (c : List Site) → In y c ⊎ (¬ In y c)
-in? y [] = inr (λ h. h)
-in? y (x ∷ c) = go (site? y x) (in? y c)
-  where
-    go : (y ≡ x) ⊎ (y ≢ x) → In y c ⊎ (¬ In y c) → In y (x ∷ c) ⊎ (¬ In y (x ∷ c))
-    go (inl e) r = inl (inl e)
-    go (inr d) (inl i) = inl (inr i)
-    go (inr d) (inr n) = inr (λ h. split h)
-      where
-        split : In y (x ∷ c) → ⊥
-        split (inl e) = d e
-        split (inr i) = n i
 
 -- the site at a position of a word stands in it
 pub site-in : (w : List Site) (j : ℕ) → j < length w → In (getD w j unsent) w

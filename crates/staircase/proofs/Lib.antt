@@ -1,3 +1,4 @@
+pub mod Bounds
 pub mod Search
 pub mod Permutation
 pub mod Tables
@@ -19,5 +20,7 @@ pub mod Reach
 pub mod Rounds
 pub mod Outside
 pub mod Rules
+pub mod BchCode
 pub mod Demand2
 pub mod Demand3
+pub mod Vectors

@@ -6,19 +6,18 @@
 --   sum-of-units    a vector is the sum of unit vectors
 -- Assumes nothing.
 use mathlib.Core.Path.{_≡_, refl, sym, ap, ap₂, _∙_, subst, fun-ext}
-use mathlib.Core.Bool.{Bool, true, false}
+use mathlib.Core.Bool.{Bool, true, false, cond}
 use mathlib.Core.Logic.{_≢_}
 use Prim.Native.Nat.{ℕ, zero, suc, _*_, _<_, zero-le, suc-le-suc}
 use native.Mathlib.Nat.{le-of-suc-le-suc, not-suc-le-zero, zero-mul, mul-zero, one-mul, mul-one, mul-comm}
 use native.Mathlib.Omega.{arith}
 use lib.Dec.{eqb}
 use borrow.Author.Tests.{eq-eqb, ne-eqb}
-use mathlib.Core.Bool.{cond}
 use Rattle.bch.proofs.Sum.{bit-ind}
 use Rattle.staircase.specs.Lists.{bitSum, sumBits}
 use Rattle.staircase.specs.System.{Contents, zeros, unit, product, identity}
 
-pub bitSum-comm : (a b : ℕ) → bitSum a b ≡ bitSum b a
+bitSum-comm : (a b : ℕ) → bitSum a b ≡ bitSum b a
 bitSum-comm a b = omega arith
 
 pub bitSum-assoc : (a b c : ℕ) → bitSum (bitSum a b) c ≡ bitSum a (bitSum b c)
@@ -42,10 +41,10 @@ bitSum-self a = omega arith
 pub bitSum-equal : (a b : ℕ) → a < 2 → b < 2 → bitSum a b ≡ 0 → a ≡ b
 bitSum-equal a b h k e = omega arith
 
-pub bit-mul-lt : (a b : ℕ) → a < 2 → b < 2 → a * b < 2
+bit-mul-lt : (a b : ℕ) → a < 2 → b < 2 → a * b < 2
 bit-mul-lt a b h k = bit-ind (λ (z : ℕ). z * b < 2) (omega arith) (omega arith) a h
 
-pub mul-bitSum : (a b c : ℕ) → a < 2 → a * bitSum b c ≡ bitSum (a * b) (a * c)
+mul-bitSum : (a b c : ℕ) → a < 2 → a * bitSum b c ≡ bitSum (a * b) (a * c)
 mul-bitSum a b c h = bit-ind (λ (z : ℕ). z * bitSum b c ≡ bitSum (z * b) (z * c)) (omega arith) (omega arith) a h
 
 -- ---- sums
@@ -60,7 +59,7 @@ unfolding sumBits
 sumBits-same zero f g h = refl
 sumBits-same (suc n) f g h = ap₂ bitSum (h zero (suc-le-suc zero-le)) (sumBits-same n (λ k. f (suc k)) (λ k. g (suc k)) (λ k l. h (suc k) (suc-le-suc l)))
 
-pub sumBits-sum : (n : ℕ) (f g : ℕ → ℕ) → sumBits n (λ k. bitSum (f k) (g k)) ≡ bitSum (sumBits n f) (sumBits n g)
+sumBits-sum : (n : ℕ) (f g : ℕ → ℕ) → sumBits n (λ k. bitSum (f k) (g k)) ≡ bitSum (sumBits n f) (sumBits n g)
 unfolding sumBits
 sumBits-sum zero f g = refl
 sumBits-sum (suc n) f g =
@@ -83,12 +82,12 @@ sumBits-one (suc n) f (suc j) l b h =
     (sumBits-one n (λ k. f (suc k)) j (le-of-suc-le-suc l) b (λ k m d. h (suc k) (suc-le-suc m) (λ e. d (omega arith))))
     ∙ zero-bitSum (f (suc j)) b
 
-pub sumBits-mul : (n : ℕ) (a : ℕ) (f : ℕ → ℕ) → a < 2 → a * sumBits n f ≡ sumBits n (λ k. a * f k)
+sumBits-mul : (n : ℕ) (a : ℕ) (f : ℕ → ℕ) → a < 2 → a * sumBits n f ≡ sumBits n (λ k. a * f k)
 unfolding sumBits
 sumBits-mul zero a f h = mul-zero a
 sumBits-mul (suc n) a f h = mul-bitSum a (f zero) (sumBits n (λ k. f (suc k))) h ∙ ap (bitSum (a * f zero)) (sumBits-mul n a (λ k. f (suc k)) h)
 
-pub sumBits-swap : (n m : ℕ) (f : ℕ → ℕ → ℕ) → sumBits n (λ i. sumBits m (f i)) ≡ sumBits m (λ j. sumBits n (λ i. f i j))
+sumBits-swap : (n m : ℕ) (f : ℕ → ℕ → ℕ) → sumBits n (λ i. sumBits m (f i)) ≡ sumBits m (λ j. sumBits n (λ i. f i j))
 unfolding sumBits
 sumBits-swap zero m f = sym (sumBits-zero m (λ j. 0) (λ k l. refl))
 sumBits-swap (suc n) m f =
@@ -97,7 +96,7 @@ sumBits-swap (suc n) m f =
 
 -- ---- matrices of bits, n × n, at a vector of bits
 
-abbrev pub BitMatrix : (ℕ → ℕ → ℕ) → Type 0
+abbrev BitMatrix : (ℕ → ℕ → ℕ) → Type 0
 BitMatrix a = (i j : ℕ) → a i j < 2
 
 abbrev pub apply : ℕ → (ℕ → ℕ → ℕ) → Contents → Contents

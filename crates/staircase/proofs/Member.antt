@@ -1,11 +1,11 @@
 -- Membership and sublists.
---   In, in-left, in-right, in-cases      membership
---   in-tabulate, tabulate-in, in-concat, concat-in, map-in, in-map
---   Sub             what is left of a list when some entries are struck out
+--   In, in-left, in-right, in-cases, in?   membership
+--   in-tabulate, tabulate-in, in-concat, concat-in, in-map, map-in   in a table, in lists one after the other, under a function
+--   Sub                        what is left of a list when some entries are struck out
 --   choices-sub, sub-choices   the choices of at most t entries are the sublists of at most t entries
 -- Assumes nothing.
 use mathlib.Core.Path.{_≡_, refl, sym, ap, subst}
-use mathlib.Core.Logic.{_⊎_, inl, inr}
+use mathlib.Core.Logic.{_≢_, _⊎_, inl, inr}
 use mathlib.Core.List.{List, [], _∷_, _++_, map}
 use Prim.Native.Nat.{ℕ, zero, suc, _≤_, _<_, zero-le, suc-le-suc}
 use native.Mathlib.Nat.{le-of-suc-le-suc, not-suc-le-zero}
@@ -60,6 +60,19 @@ module _ {A : Type 0} where
           → (k : ℕ) × (k < suc n) × In a (f k)
       go (inl i) rest = (zero, suc-le-suc zero-le, i)
       go (inr i) rest = let t = rest i in (suc (t .0), suc-le-suc (t .1), t .2)
+
+  pub in? : ((x y : A) → (x ≡ y) ⊎ (x ≢ y)) → (a : A) (l : List A) → In a l ⊎ (¬ In a l)
+  in? same a [] = inr (λ h. h)
+  in? same a (x ∷ l) = go (same a x) (in? same a l)
+    where
+      go : (a ≡ x) ⊎ (a ≢ x) → In a l ⊎ (¬ In a l) → In a (x ∷ l) ⊎ (¬ In a (x ∷ l))
+      go (inl e) r = inl (inl e)
+      go (inr d) (inl i) = inl (inr i)
+      go (inr d) (inr n) = inr (λ h. split h)
+        where
+          split : In a (x ∷ l) → ⊥
+          split (inl e) = d e
+          split (inr i) = n i
 
   -- c is what is left of l when some entries are struck out
   pub data Sub : List A → List A → Type 0 where

@@ -13,7 +13,7 @@ use lib.ListN.{length}
 use Rattle.staircase.specs.Lists.{concat}
 use Rattle.staircase.specs.Design.{Params}
 use Rattle.staircase.specs.Frame.{Frame, Site, inCode, outsideAmong}
-use Rattle.staircase.proofs.Redundancy.{concat-last}
+use Rattle.staircase.proofs.Tables.{concat-last}
 
 module _ (s : Params) (f : Frame) where
   pub outside-append : (u v : List (List Site)) → outsideAmong s f (u ++ v) ≡ outsideAmong s f u + outsideAmong s f v

@@ -11,14 +11,13 @@ use native.Mathlib.Decide.{decLt}
 use native.Mathlib.Omega.{arith}
 use lib.ListN.{getD, List·getD-eq-default}
 use Rattle.staircase.specs.Design.{Params, Interleavers, order}
-use Rattle.staircase.specs.System.{Contents, zeros, stack, columnParity, constantEntry, inverseEntry, selfEntry, groupBits}
-use Rattle.staircase.specs.Frame.{groups, block, groupRedundancy, redundancy}
+use Rattle.staircase.specs.System.{Contents, zeros, stack, columnParity, constantEntry, inverseEntry, selfEntry, groupBits, groupRedundancy, redundancy}
+use Rattle.staircase.specs.Frame.{groups, block}
 use Rattle.staircase.specs.Demand2.{Permutes}
 use Rattle.staircase.specs.Demand3.{SameBut}
 use Rattle.staircase.proofs.Tables.{tabulate-same}
 use Rattle.staircase.proofs.Matrix.{sumBits-same}
-use Rattle.staircase.proofs.System.{Proper, Same, columnParity-same, residual-same}
-use Rattle.staircase.proofs.Sites.{order-positive}
+use Rattle.staircase.proofs.System.{Proper, Same, order-positive, columnParity-same, residual-same}
 use Rattle.staircase.proofs.Redundancy.{redundancy-length, redundancy-at, block-same}
 
 module _ (s : Params) (l : Interleavers) (L : ℕ) (ok : Proper s)
@@ -49,7 +48,7 @@ module _ (s : Params) (l : Interleavers) (L : ℕ) (ok : Proper s)
       i = k / (2 * order s)
 
       pos : 0 < 2 * order s
-      pos = let z = order-positive s L l ok ps pp in omega (arith, z)
+      pos = omega (arith, order-positive s ok)
 
       group : groupRedundancy s l w L info i ≡ groupRedundancy s l w L other i
       group =

@@ -21,15 +21,14 @@ use Rattle.bch.specs.Code.{isCodeword}
 use Rattle.staircase.specs.Lists.{tabulate}
 use Rattle.staircase.specs.Design.{Params, Interleavers, order}
 use Rattle.staircase.specs.Word.{rowInfo, rowWord, columnInfo, columnWord}
-use Rattle.staircase.specs.System.{Contents, columnParity, systemEntry, inverseEntry, product, identity, selfEntry, groupBits}
-use Rattle.staircase.specs.Frame.{Frame, Site, bitAt, groups, blockAt, selfAt, parityAt, rowSites, columnSites, read, inCode, block, groupRedundancy, redundancy}
+use Rattle.staircase.specs.System.{Contents, columnParity, systemEntry, inverseEntry, product, identity, selfEntry, groupBits, groupRedundancy, redundancy}
+use Rattle.staircase.specs.Frame.{Frame, Site, bitAt, groups, blockAt, selfAt, parityAt, rowSites, columnSites, read, inCode, block}
 use Rattle.staircase.specs.Demand2.{Permutes}
 use Rattle.staircase.specs.Demand3.{SameBut}
 use Rattle.staircase.proofs.Stretches.{four, four-map, four-same}
 use Rattle.staircase.proofs.System.{Proper, place-lt, columnParity-lt, self-bit, group-rows, group-columns, only-y, only-p}
 use Rattle.staircase.proofs.Sites.{block-ind, red-ind}
-use Rattle.staircase.proofs.Tables.{Binary, tabulate-length, tabulate-at, concat-at}
-pub use Rattle.staircase.proofs.Tables.{concat-last, concat-length}
+use Rattle.staircase.proofs.Tables.{Binary, tabulate-length, tabulate-at, concat-length, concat-at}
 
 -- ---- the blocks of a frame
 

@@ -1,18 +1,20 @@
 -- Laws of the rules of the table: what an accepted rule says, and when a rule accepts.
---   then-first, then-rest, then-accepted      one rule after another
---   refuse-false, refuse-accepted             a rule by its test
---   refuseFirst-false, refuseFirst-accepted   a rule by its first place
---   outOfRange-false, inRange                 a range
---   length-accepted                           rule 6
---   design-limits                             rules 1 to 3
---   entries-permute, permute-entries          rule 7
---   spare-zero, zero-spare                    rule 8
---   product-identity, identity-product        rule 9
---   bits-accepted                             rule 10
+--   then-first, then-rest, then-accepted            one rule after another
+--   refuse-false, refuse-accepted                   a rule by its test
+--   refuseFirst-false, refuseFirst-accepted, refuseFirst-refused   a rule by its first place
+--   outOfRange-false, inRange                       a range
+--   design-limits                                   rules 1 to 3
+--   number-in, count-limits                         rule 4
+--   length-equal, length-accepted                   rule 6, for one slice
+--   list-lengths, lengths-fit, lengths-accepted, frame-lengths   for lists, a kit's slices, a frame's buffers
+--   entries-permute, permute-entries, lists-permute rule 7
+--   spare-zero, zero-spare                          rule 8
+--   product-identity, identity-product              rule 9
+--   bytes-bits, bits-accepted, frame-bits           rule 10
 -- Assumes nothing.
 use mathlib.Core.Path.{_≡_, refl, sym, ap, ap₂, _∙_}
 use mathlib.Core.Bool.{Bool, true, false, not, _||_, true≢false}
-use mathlib.Core.Logic.{_≢_, _⊎_, inl, inr}
+use mathlib.Core.Logic.{_≢_}
 use mathlib.Core.List.{List}
 use Prim.Native.Nat.{ℕ, _+_, _-_, _*_, _/_, _%_, _^_, _≤_, _<_}
 use native.Mathlib.Nat.{mod-lt, div-lt-iff-lt-mul}
@@ -20,16 +22,16 @@ use native.Mathlib.Decide.{decLt}
 use native.Mathlib.Omega.{arith}
 use lib.Arith.{digits-lt, digits-div, digits-mod}
 use lib.Dec.{ltb, leb, eqb}
-use lib.ListN.{length, getD}
-use borrow.Author.Tests.{le-ltb, ltb-false, leb-false, lt-leb, eqb-true, eqb-false, eq-eqb, ne-eqb, not-false}
+use lib.ListN.{length, getD, List·getD-eq-default}
+use borrow.Author.Tests.{lt-ltb, le-ltb, ltb-false, leb-false, lt-leb, eqb-true, eqb-false, eq-eqb, ne-eqb, not-false}
 use Rattle.bch.specs.Polynomial.{Bits}
 use Rattle.staircase.specs.Lists.{firstWhere}
-use Rattle.staircase.specs.Design.{params, wordLength}
+use Rattle.staircase.specs.Design.{Params, Interleavers, params, wordLength, order, Limits, least-m, most-m, most-t, most-M, most-order, most-blocks}
 use Rattle.staircase.specs.System.{inverseEntry, rowBytes, product, identity}
-use Rattle.staircase.specs.Rules.{Verdict, _then_, refuse, refuseFirst, outOfRange, sizeRule, longRule, largeRule, designRules, lengthRule, badEntry, spareRow, wrongEntry, bitRule}
+use Rattle.staircase.specs.Rules.{Verdict, _then_, refuse, refuseFirst, outOfRange, sizeRule, longRule, largeRule, designRules, countRule, lengthRule, listLengths, kitLengths, infoLength, redLength, frameLengths, badEntry, listRule, spareRow, wrongEntry, bitRule, frameBits}
 use Rattle.staircase.specs.Rules.Verdict.{accepted, refused}
-use Rattle.staircase.specs.Demand2.{Permutes}
-use Rattle.staircase.proofs.Search.{bool?, firstWhere-found, firstWhere-none}
+use Rattle.staircase.specs.Demand2.{Permutes, FitsOrder}
+use Rattle.staircase.proofs.Search.{firstWhere-none, firstWhere-before, firstWhere-is}
 
 -- ---- one rule after another
 
@@ -54,11 +56,7 @@ refuse-accepted {z} n p e = ap (λ (y : Bool). refuse y n p) e
 -- ---- the first place
 
 none-before : (n : ℕ) (f : ℕ → Bool) → ltb (firstWhere n f) n ≡ false → (k : ℕ) → k < n → f k ≡ false
-none-before n f e k l = go (bool? (f k))
-  where
-    go : (f k ≡ true) ⊎ (f k ≡ false) → f k ≡ false
-    go (inr d) = d
-    go (inl d) = absurd (omega (arith, firstWhere-found n f k l d .0, ltb-false (firstWhere n f) n e))
+none-before n f e k l = firstWhere-before n f k (omega (arith, ltb-false (firstWhere n f) n e))
 
 none-found : (n : ℕ) (f : ℕ → Bool) → ((k : ℕ) → k < n → f k ≡ false) → ltb (firstWhere n f) n ≡ false
 none-found n f h = le-ltb (firstWhere n f) n (omega (arith, firstWhere-none n f h))
@@ -71,7 +69,12 @@ pub refuseFirst-accepted : (rule base n : ℕ) (f : ℕ → Bool) → ((k : ℕ)
 unfolding refuseFirst
 refuseFirst-accepted rule base n f h = refuse-accepted rule (base + firstWhere n f) (none-found n f h)
 
--- ---- rules 1 to 6
+pub refuseFirst-refused : (rule base n : ℕ) (f : ℕ → Bool) (i : ℕ) → i < n → ((k : ℕ) → k < i → f k ≡ false) → f i ≡ true
+    → refused rule (base + i) ≡ refuseFirst rule base n f
+unfolding refuseFirst
+refuseFirst-refused rule base n f i l h e = rw (firstWhere-is n f i l e h, lt-ltb i n l)
+
+-- ---- a range
 
 or-false : (y z : Bool) → (y || z) ≡ false → (y ≡ false) × (z ≡ false)
 or-false true z e = absurd (true≢false e)
@@ -86,34 +89,84 @@ outOfRange-false low high x e = let p = or-false (ltb x low) (ltb high x) e in (
 pub inRange : (low high x : ℕ) → low ≤ x → x ≤ high → outOfRange low high x ≡ false
 inRange low high x a b = or-both (le-ltb x low a) (le-ltb high x b)
 
+-- ---- rules 1 to 3
+
+pub design-limits : (m t M : ℕ) → designRules m t M ≡ accepted → Limits m t M
+unfolding designRules sizeRule longRule largeRule
+design-limits m t M e =
+    let rm : Verdict = refuse (outOfRange least-m most-m m) 1 1 in
+    let rt : Verdict = refuse (outOfRange 1 most-t t) 1 2 in
+    let rM : Verdict = refuse (outOfRange 1 most-M M) 1 3 in
+    let n : ℕ = wordLength (params m t M) in
+    let k : ℕ = order (params m t M) in
+    let rn : Verdict = refuse (ltb (2 ^ m - 1) n) 2 n in
+    let rk : Verdict = refuse (ltb most-order k) 3 k in
+    let sizes : (rm then rt then rM) ≡ accepted = then-first (rm then rt then rM) (rn then rk) e in
+    let rest : (rn then rk) ≡ accepted = then-rest (rm then rt then rM) (rn then rk) e in
+    let tM : (rt then rM) ≡ accepted = then-rest rm (rt then rM) sizes in
+    let a = outOfRange-false least-m most-m m (refuse-false (outOfRange least-m most-m m) 1 1 (then-first rm (rt then rM) sizes)) in
+    let b = outOfRange-false 1 most-t t (refuse-false (outOfRange 1 most-t t) 1 2 (then-first rt rM tM)) in
+    let c = outOfRange-false 1 most-M M (refuse-false (outOfRange 1 most-M M) 1 3 (then-rest rt rM tM)) in
+    record {
+      m-low = a .0;
+      m-high = a .1;
+      t-low = b .0;
+      t-high = b .1;
+      M-low = c .0;
+      M-high = c .1;
+      n-high = ltb-false (2 ^ m - 1) n (refuse-false (ltb (2 ^ m - 1) n) 2 n (then-first rn rk rest));
+      order-high = ltb-false most-order k (refuse-false (ltb most-order k) 3 k (then-rest rn rk rest));
+    }
+
+-- ---- rule 4
+
+pub number-in : (high k : ℕ) → refuse (outOfRange 1 high k) 4 k ≡ accepted → (1 ≤ k) × (k ≤ high)
+number-in high k e = outOfRange-false 1 high k (refuse-false (outOfRange 1 high k) 4 k e)
+
+pub count-limits : (L : ℕ) → countRule L ≡ accepted → (1 ≤ L) × (L ≤ most-blocks)
+unfolding countRule
+count-limits L e = number-in most-blocks L e
+
+-- ---- rule 6
+
+pub length-equal : (p a b : ℕ) → lengthRule p a b ≡ accepted → a ≡ b
+length-equal p a b e = eqb-true a b (not-false (eqb a b) (refuse-false (not (eqb a b)) 6 p e))
+
 pub length-accepted : (p a b : ℕ) → a ≡ b → lengthRule p a b ≡ accepted
 length-accepted p a b e = refuse-accepted 6 p (ap not (eq-eqb a b e))
 
--- the limits of an allowed design
-pub record Limits (m t M : ℕ) : Type 0 where
-  pub m-low : 4 ≤ m
-  pub m-high : m ≤ 10
-  pub t-low : 1 ≤ t
-  pub t-high : t ≤ 3
-  pub M-low : 1 ≤ M
-  pub fits : wordLength (params m t M) ≤ 2 ^ m - 1
+pub list-lengths : (s : Params) (self parity : List ℕ) → listLengths s self parity ≡ accepted → (length self ≡ 2 * order s) × (length parity ≡ 2 * order s)
+unfolding listLengths
+list-lengths s self parity e =
+    let a : Verdict = lengthRule 1 (length self) (2 * order s) in
+    let b : Verdict = lengthRule 2 (length parity) (2 * order s) in
+    (length-equal 1 (length self) (2 * order s) (then-first a b e), length-equal 2 (length parity) (2 * order s) (then-rest a b e))
 
-pub design-limits : (m t M : ℕ) → designRules m t M ≡ accepted → Limits m t M
-unfolding designRules sizeRule longRule
-design-limits m t M e =
-    let rm : Verdict = refuse (outOfRange 4 10 m) 1 1 in
-    let rt : Verdict = refuse (outOfRange 1 3 t) 1 2 in
-    let rM : Verdict = refuse (outOfRange 1 500 M) 1 3 in
-    let n : ℕ = wordLength (params m t M) in
-    let rn : Verdict = refuse (ltb (2 ^ m - 1) n) 2 n in
-    let rest : Verdict = rn then largeRule (params m t M) in
-    let sizes : (rm then rt then rM) ≡ accepted = then-first (rm then rt then rM) rest e in
-    let tM : (rt then rM) ≡ accepted = then-rest rm (rt then rM) sizes in
-    let a = outOfRange-false 4 10 m (refuse-false (outOfRange 4 10 m) 1 1 (then-first rm (rt then rM) sizes)) in
-    let b = outOfRange-false 1 3 t (refuse-false (outOfRange 1 3 t) 1 2 (then-first rt rM tM)) in
-    let c = outOfRange-false 1 500 M (refuse-false (outOfRange 1 500 M) 1 3 (then-rest rt rM tM)) in
-    let f = refuse-false (ltb (2 ^ m - 1) n) 2 n (then-first rn (largeRule (params m t M)) (then-rest (rm then rt then rM) rest e)) in
-    record { m-low = a .0; m-high = a .1; t-low = b .0; t-high = b .1; M-low = c .0; fits = ltb-false (2 ^ m - 1) n f }
+pub lengths-fit : (s : Params) (self parity w : List ℕ) → kitLengths s self parity w ≡ accepted → FitsOrder (order s) self parity w
+unfolding kitLengths
+lengths-fit s self parity w e =
+    let a : Verdict = listLengths s self parity in
+    let b : Verdict = lengthRule 3 (length w) (order s * rowBytes (order s)) in
+    let lists = list-lengths s self parity (then-first a b e) in
+    record {
+      selfLength = lists .0;
+      parityLength = lists .1;
+      inverseLength = length-equal 3 (length w) (order s * rowBytes (order s)) (then-rest a b e);
+    }
+
+pub lengths-accepted : (s : Params) (self parity w : List ℕ) → FitsOrder (order s) self parity w → kitLengths s self parity w ≡ accepted
+unfolding kitLengths listLengths
+lengths-accepted s self parity w k =
+    then-accepted
+    (then-accepted (length-accepted 1 (length self) (2 * order s) (k .selfLength)) (length-accepted 2 (length parity) (2 * order s) (k .parityLength)))
+    (length-accepted 3 (length w) (order s * rowBytes (order s)) (k .inverseLength))
+
+pub frame-lengths : (s : Params) (L : ℕ) (info red : List ℕ) → frameLengths s L info red ≡ accepted → (length info ≡ infoLength s L) × (length red ≡ redLength s L)
+unfolding frameLengths
+frame-lengths s L info red e =
+    let a : Verdict = lengthRule 4 (length info) (infoLength s L) in
+    let b : Verdict = lengthRule 5 (length red) (redLength s L) in
+    (length-equal 4 (length info) (infoLength s L) (then-first a b e), length-equal 5 (length red) (redLength s L) (then-rest a b e))
 
 -- ---- rule 7
 
@@ -140,6 +193,16 @@ module _ (n : ℕ) (l : List ℕ) where
 
   pub permute-entries : Permutes n (λ p. getD l p 0) → (p : ℕ) → p < n → badEntry n l p ≡ false
   permute-entries P p h = good-entry p (P .below p h) (λ q m e. omega (arith, P .once q p (omega arith) h e, m))
+
+pub lists-permute : (s : Params) (l : Interleavers) → listRule s l ≡ accepted → Permutes (order s) (λ p. getD (l .self) p 0) × Permutes (order s) (λ p. getD (l .parity) p 0)
+unfolding listRule
+lists-permute s l e =
+    let n : ℕ = order s in
+    let u : Verdict = refuseFirst 7 0 n (badEntry n (l .self)) in
+    let v : Verdict = refuseFirst 7 n n (badEntry n (l .parity)) in (
+      entries-permute n (l .self) (refuseFirst-false 7 0 n (badEntry n (l .self)) (then-first u v e)),
+      entries-permute n (l .parity) (refuseFirst-false 7 n n (badEntry n (l .parity)) (then-rest u v e)),
+    )
 
 -- ---- rule 8
 
@@ -181,6 +244,21 @@ module _ (n : ℕ) (a b : ℕ → ℕ → ℕ) where
 
 -- ---- rule 10
 
+pub bytes-bits : (base : ℕ) (bytes : List ℕ) → bitRule base bytes ≡ accepted → Bits bytes
+unfolding bitRule
+bytes-bits base bytes e k = go (decLt k (length bytes))
+  where
+    go : Dec (k < length bytes) → getD bytes k 0 < 2
+    go (yes h) = omega (arith, ltb-false 1 (getD bytes k 0) (refuseFirst-false 10 base (length bytes) (λ j. ltb 1 (getD bytes j 0)) e k h))
+    go (no h) = let z : getD bytes k 0 ≡ 0 = List·getD-eq-default bytes 0 (omega arith) in omega arith
+
 pub bits-accepted : (base : ℕ) (b : List ℕ) → Bits b → bitRule base b ≡ accepted
 unfolding bitRule
 bits-accepted base b h = refuseFirst-accepted 10 base (length b) (λ k. ltb 1 (getD b k 0)) (λ k l. le-ltb 1 (getD b k 0) (omega (arith, h k)))
+
+pub frame-bits : (info red : List ℕ) → frameBits info red ≡ accepted → Bits info × Bits red
+unfolding frameBits
+frame-bits info red e =
+    let a : Verdict = bitRule 0 info in
+    let b : Verdict = bitRule (length info) red in
+    (bytes-bits 0 info (then-first a b e), bytes-bits (length info) red (then-rest a b e))

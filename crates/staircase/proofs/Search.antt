@@ -5,14 +5,17 @@
 --   firstWhere-none     n where no place passes
 --   firstWhere-holds, firstWhere-before   what is found passes, and nothing before it does
 --   firstWhere-is       a place that passes, with none before it, is what is found
+--   firstWhere-last     whether one passes, of one place more
 -- Assumes nothing.
 use mathlib.Core.Path.{_≡_, refl, sym, ap, _∙_, subst}
-use mathlib.Core.Bool.{Bool, true, false, cond, true≢false}
+use mathlib.Core.Bool.{Bool, true, false, _||_, cond, true≢false}
 use mathlib.Core.Logic.{_⊎_, inl, inr}
 use Prim.Native.Nat.{ℕ, zero, suc, _≤_, _<_, zero-le, suc-le-suc}
 use native.Mathlib.Nat.{le-of-suc-le-suc, not-suc-le-zero, le-antisymm}
 use native.Mathlib.Decide.{decLt}
 use native.Mathlib.Omega.{arith}
+use lib.Dec.{ltb, leb·suc-suc}
+use borrow.Author.Tests.{lt-ltb}
 use Rattle.staircase.specs.Lists.{firstWhere}
 
 pub cond-ind : {A : Type 0} (P : A → Type 0) (z : Bool) (a b : A) → (z ≡ true → P a) → (z ≡ false → P b) → P (cond z a b)
@@ -85,3 +88,18 @@ firstWhere-is n f k l h none = le-antisymm (u .0) (at-least (decLt (firstWhere n
     at-least : Dec (firstWhere n f < k) → k ≤ firstWhere n f
     at-least (yes m) = absurd (true≢false (sym (u .1) ∙ none (firstWhere n f) m))
     at-least (no m) = omega arith
+
+-- of one place more, one passes exactly when one did or the new one does
+pub firstWhere-last : (n : ℕ) (f : ℕ → Bool) → ltb (firstWhere (suc n) f) (suc n) ≡ (ltb (firstWhere n f) n || f n)
+unfolding firstWhere
+firstWhere-last zero f = go (f zero)
+  where
+    go : (z : Bool) → ltb (cond z 0 1) 1 ≡ z
+    go true = refl
+    go false = refl
+firstWhere-last (suc n) f = go (f zero) (firstWhere (suc n) (λ k. f (suc k))) (firstWhere n (λ k. f (suc k))) (firstWhere-last n (λ k. f (suc k)))
+  where
+    go : (z : Bool) (x y : ℕ) → ltb x (suc n) ≡ (ltb y n || f (suc n))
+        → ltb (cond z 0 (suc x)) (suc (suc n)) ≡ (ltb (cond z 0 (suc y)) (suc n) || f (suc n))
+    go true x y e = rw (lt-ltb 0 (suc (suc n)) (omega arith), lt-ltb 0 (suc n) (omega arith))
+    go false x y e = rw (leb·suc-suc (suc x) (suc n), leb·suc-suc (suc y) n) e

@@ -7,7 +7,7 @@
 --   info-covered, red-covered                 every byte of the buffers is in a word
 -- Assumes nothing.
 use mathlib.Core.Path.{_≡_, refl, sym, ap, _∙_, subst}
-use mathlib.Core.Bool.{Bool}
+use mathlib.Core.Bool.{Bool, cond}
 use mathlib.Core.Logic.{_≢_, _⊎_, inl, inr}
 use mathlib.Core.List.{List, [], _∷_, _++_}
 use Prim.Native.Nat.{ℕ, zero, suc, _+_, _-_, _*_, _/_, _%_, _<_, zero-le, suc-le-suc}
@@ -19,7 +19,6 @@ use lib.Arith.{digits-lt, digits-div, digits-mod}
 use lib.Dec.{ltb}
 use lib.ListN.{length, getD}
 use borrow.Author.Tests.{lt-ltb, ltb-true}
-use mathlib.Core.Bool.{cond}
 use Rattle.staircase.specs.Lists.{tabulate}
 use Rattle.staircase.specs.Design.{Params, Interleavers, wordLength, order}
 use Rattle.staircase.specs.Word.{rowInfo, rowWord, columnInfo, columnWord}
@@ -30,7 +29,7 @@ use Rattle.staircase.proofs.Search.{cond-ind}
 use Rattle.staircase.proofs.Member.{In, in-left, in-right, in-cases, in-tabulate, in-concat, tabulate-in, concat-in}
 use Rattle.staircase.proofs.Stretches.{four, four-length, in-second, in-third, in-fourth}
 use Rattle.staircase.proofs.Flip.{buffer, place, Sent, Distinct}
-use Rattle.staircase.proofs.System.{Proper, place-lt, row-of, column-of}
+use Rattle.staircase.proofs.System.{Proper, order-positive, place-lt, row-of, column-of}
 
 -- ---- no site twice
 
@@ -269,16 +268,13 @@ module _ (s : Params) (L : ℕ) where
             ap (λ (z : ℕ). blockAt s L z (a * s .M + j)) d ∙ block-at b (a * s .M + j) hb ∙ ap inInfo whole in
             (columnSites s L i j, column-among-words i j (omega (arith, d, hb)) hj, subst (λ (z : Site). In z (columnSites s L i j)) site (even-in i j a ha))
 
-    pub order-positive : 0 < order s
-    order-positive = mul-pos (ok .mpos) (ok .rpos)
-
     -- a fact of every place of the redundancy, from the places of Y and of P in each group
     pub red-ind : (F : ℕ → Type 0) → ((i q : ℕ) → i < groups L → q < order s → F (i * (2 * order s) + q))
         → ((i q : ℕ) → i < groups L → q < order s → F (i * (2 * order s) + order s + q)) → (k : ℕ) → k < groups L * (2 * order s) → F k
     red-ind F own parity k h = go (decLt (k % (2 * order s)) (order s))
       where
         positive : 0 < 2 * order s
-        positive = omega (arith, order-positive)
+        positive = omega (arith, order-positive s ok)
 
         hi : k / (2 * order s) < groups L
         hi = div-lt-iff-lt-mul positive .1 h

@@ -1,7 +1,7 @@
 -- The system of a group: A y + c is linear in the blocks and in Y, so that with A W and W A the identity the Y of the encoder is the one Y for
 -- which the words of the group can all be in the code.
 --   Proper s                      sizes that are not 0, and a generator of degree r
---   place-lt, row-of, column-of   places of Y and of P, their rows and their columns
+--   order-positive .. column-of   places of Y and of P, their rows and their columns
 --   stack-lt .. unstack-stack     the order of the stack
 --   columnParity-same, rowParity-same   P and Q by the entries that their words read
 --   residual-matrix               A y + c is the matrix at the stacked Y, plus c
@@ -13,7 +13,7 @@ use mathlib.Core.Path.{_≡_, refl, sym, ap, ap₂, _∙_, subst, fun-ext}
 use mathlib.Core.Bool.{true}
 use mathlib.Core.List.{List}
 use Prim.Native.Nat.{ℕ, _+_, _*_, _/_, _%_, _^_, _<_}
-use native.Mathlib.Nat.{mod-lt, div-add-mod', div-lt-iff-lt-mul, mul-comm}
+use native.Mathlib.Nat.{mod-lt, div-add-mod', div-lt-iff-lt-mul, mul-comm, mul-pos}
 use native.Mathlib.Omega.{arith}
 use lib.Arith.{digits-lt, digits-div, digits-mod}
 use lib.ListN.{getD}
@@ -29,7 +29,7 @@ use Rattle.staircase.proofs.Matrix.{bitSum-swap, bitSum-zero, zero-bitS
 use Rattle.staircase.proofs.Stretches.{three-bits, three-same}
 use Rattle.staircase.proofs.Parity.{add, parity-sum-at, codeword-table, table-codeword}
 use Rattle.staircase.proofs.Permutation.{preimage-sent, preimage-of}
-pub use Rattle.staircase.proofs.Tables.{Binary, tabulate-length, tabulate-at, tabulate-bits, tabulate-same}
+use Rattle.staircase.proofs.Tables.{Binary}
 
 -- what is asked of a design: sizes that are not 0, and a generator of degree r
 pub record Proper (s : Params) : Type 0 where
@@ -44,6 +44,9 @@ Same n f g = (k : ℕ) → k < n → f k ≡ g k
 -- ---- places of Y and of P: row b, column a is place b × M + a; and the order of the stack
 
 module _ (s : Params) (ok : Proper s) where
+  pub order-positive : 0 < order s
+  order-positive = mul-pos (ok .mpos) (ok .rpos)
+
   pub place-lt : (b a : ℕ) → b < s .r → a < s .M → b * s .M + a < order s
   place-lt b a hb ha = subst (λ (z : ℕ). b * s .M + a < z) (mul-comm (s .r) (s .M)) (digits-lt {q = b} {m = s .r} {r = a} {c = s .M} hb ha)
 

@@ -10,7 +10,8 @@ use mathlib.Core.List.{List, []}
 use Prim.Native.Nat.{ℕ, _-_, _*_}
 use lib.ListN.{take, drop}
 use Rattle.staircase.specs.Design.{Params, Interleavers, params, order}
-use Rattle.staircase.specs.Frame.{Frame, outside, redundancy}
+use Rattle.staircase.specs.Frame.{Frame, outside}
+use Rattle.staircase.specs.System.{redundancy}
 use Rattle.staircase.specs.Decoder.{Decoded, decoded}
 use Rattle.staircase.specs.Rules.{Verdict, _then_, Part, designRules, countRule, partRule, roundsRule, lengthRule, listLengths, kitLengths, frameLengths, kitWork, wordWork, interleavers, listRule, kitRules, bitRule, frameBits}
 use Rattle.staircase.specs.Rules.Verdict.{accepted, refused}

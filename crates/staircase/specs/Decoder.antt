@@ -5,7 +5,7 @@
 --   flipAll                    a frame with the bits at some sites flipped
 --   correction                 the sites that correcting a word flips
 --   correctWord, correctWords  words corrected one after the other, with the number of flips
---   runRounds                  rounds until one is idle or all are made
+--   round, runRounds           a round, and rounds until one is idle or all are made
 --   decoded                    the rounds of a frame
 -- Assumes nothing.
 use mathlib.Core.Bool.{Bool, true, false, cond}
@@ -34,7 +34,8 @@ unfoldable pub firstCorrecting : Params → List ℕ → List (List ℕ) → Lis
 firstCorrecting s u [] = []
 firstCorrecting s u (c ∷ cs) = cond (isCodeword (s .g) (s .r) (flipBits c u)) c (firstCorrecting s u cs)
 
--- "a codeword lies within t changes": there is at most one (the BCH bound), so the order of the search plays no part
+-- "a codeword lies within t changes": there is at most one, by the BCH bound, so the order of the search plays no part (`nearest-errors` in
+-- proofs/Correction.antt)
 unfoldable pub errorPositions : Params → List ℕ → List ℕ
 errorPositions s u = firstCorrecting s u (choices (s .t) (tabulate (length u) (λ j. j)))
 
@@ -72,6 +73,7 @@ unfoldable pub correctWords : Params → Progress → List (List Site) → Progr
 correctWords s x [] = x
 correctWords s x (w ∷ ws) = correctWords s (correctWord s x w) ws
 
+-- "A round takes groups 1 to G, in each the row words 0 to M-1, then the column words", which is the order of `words`
 unfoldable pub round : Params → List (List Site) → Frame → Progress
 round s ws f = correctWords s (record { frame = f; flips = 0 }) ws
 

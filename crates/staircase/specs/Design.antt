@@ -1,12 +1,13 @@
 -- Document 01, "Design and BCH words": the limits and the sizes of a design.
---   leastM .. maxOrder   the limits of the table
---   Params, params       what the words of a design need
---   wordLength s         n
---   order s              M × r: entries of a list, of Y and of P, rows of the system
---   Interleavers         the two lists
+--   least-m .. most-blocks   the limits
+--   Params, params           what the words of a design need
+--   wordLength s             n
+--   order s                  M × r: entries of a list, of Y and of P, rows of the system
+--   Limits m t M             the design is an allowed one
+--   Interleavers             the two lists
 -- Assumes nothing.
 use mathlib.Core.List.{List}
-use Prim.Native.Nat.{ℕ, _+_, _*_}
+use Prim.Native.Nat.{ℕ, _+_, _-_, _*_, _^_, _≤_}
 use Rattle.bch.specs.Code.{generator}
 
 -- "m (4 to 10), t (1 to 3) and M (1 to 500)"
@@ -45,8 +46,20 @@ params m t M = record { M = M; r = m * t; t = t; g = generator m t }
 abbrev pub wordLength : Params → ℕ
 wordLength s = 2 * s .M + 2 * s .r
 
+-- "M × r"
 abbrev pub order : Params → ℕ
 order s = s .M * s .r
+
+-- "A design is m (4 to 10), t (1 to 3) and M (1 to 500) .. with n at most 2^m - 1 and M × r at most 4,096"
+pub record Limits (m t M : ℕ) : Type 0 where
+  pub m-low : least-m ≤ m
+  pub m-high : m ≤ most-m
+  pub t-low : 1 ≤ t
+  pub t-high : t ≤ most-t
+  pub M-low : 1 ≤ M
+  pub M-high : M ≤ most-M
+  pub n-high : wordLength (params m t M) ≤ 2 ^ m - 1
+  pub order-high : order (params m t M) ≤ most-order
 
 -- "A list sends the bit at place p to place list[p]": the entries of the self list and of the parity list.
 pub record Interleavers : Type 0 where

@@ -1,13 +1,14 @@
--- Document 01, "Frame": a frame in its two buffers, its words, and its redundancy. Groups are counted from 0 here and blocks from 1, as in
--- document 01: the group that i groups precede has blocks 2i, 2i + 1 and 2i + 2, and block 0 is B0.
+-- Document 01, "Frame": a frame in its two buffers, and its words. Blocks are counted from 1, as in document 01, and groups from 0: the group that
+-- i groups precede has blocks 2i, 2i + 1 and 2i + 2, and block 0 is B0.
 --   Frame, frameOf, Site      the buffers, and where a bit of a word stands in them
 --   bitAt, flip               the bit at a site, and the frame with it turned
+--   groups L                  G
 --   blockAt, selfAt, parityAt the sites of a block, of Y and of P
+--   block                     the bits of a block
 --   rowSites, columnSites     the sites of a row word and of a column word
 --   words                     all words in the order of a round
 --   read, inCode              the bits of a word, and the test whether it is a codeword
 --   outside                   how many words are outside the code
---   redundancy                the redundancy of the information
 -- Assumes nothing.
 use mathlib.Core.Bool.{Bool, cond}
 use mathlib.Core.List.{List, [], _∷_, _++_, map}
@@ -18,7 +19,6 @@ use Rattle.bch.specs.Code.{isCodeword}
 use Rattle.staircase.specs.Lists.{tabulate, concat}
 use Rattle.staircase.specs.Design.{Params, Interleavers, order}
 use Rattle.staircase.specs.Word.{rowWord, columnWord}
-use Rattle.staircase.specs.System.{Contents, groupBits}
 
 -- "Buffers are one bit a byte": information and redundancy
 pub record Frame : Type 0 where
@@ -54,6 +54,9 @@ abbrev pub blockAt : Params → ℕ → ℕ → ℕ → Site
 blockAt s L zero k = unsent
 blockAt s L (suc b) k = cond (ltb b L) (inInfo (b * (s .M * s .M) + k)) unsent
 
+abbrev pub block : Params → ℕ → List ℕ → ℕ → ℕ → ℕ
+block s L info b k = bitAt (record { info = info; red = [] }) (blockAt s L b k)
+
 -- "Group i is Y (r × M), then P (r × M)"
 abbrev pub selfAt : Params → ℕ → ℕ → Site
 selfAt s i q = inRed (i * (2 * order s) + q)
@@ -76,23 +79,14 @@ words s l L = concat (groups L) (λ i. tabulate (s .M) (rowSites s l L i) ++ tab
 abbrev pub read : Frame → List Site → List ℕ
 read f w = map (bitAt f) w
 
+-- "A codeword is a word that the generator divides"
 abbrev pub inCode : Params → Frame → List Site → Bool
 inCode s f w = isCodeword (s .g) (s .r) (read f w)
 
+-- "the words outside the code"
 unfoldable pub outsideAmong : Params → Frame → List (List Site) → ℕ
 outsideAmong s f [] = 0
 outsideAmong s f (w ∷ ws) = cond (inCode s f w) 0 1 + outsideAmong s f ws
 
 unfoldable pub outside : Params → Interleavers → ℕ → Frame → ℕ
 outside s l L f = outsideAmong s f (words s l L)
-
--- the bits of block b
-abbrev pub block : Params → ℕ → List ℕ → ℕ → Contents
-block s L info b k = bitAt (record { info = info; red = [] }) (blockAt s L b k)
-
-unfoldable pub groupRedundancy : Params → Interleavers → List ℕ → ℕ → List ℕ → ℕ → List ℕ
-groupRedundancy s l w L info i = groupBits s l w (block s L info (2 * i)) (block s L info (2 * i + 1)) (block s L info (2 * i + 2))
-
--- "in order of blocks or groups"
-unfoldable pub redundancy : Params → Interleavers → List ℕ → ℕ → List ℕ → List ℕ
-redundancy s l w L info = concat (groups L) (groupRedundancy s l w L info)

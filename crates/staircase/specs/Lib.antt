@@ -1,8 +1,8 @@
 pub mod Lists
 pub mod Design
 pub mod Word
-pub mod System
 pub mod Frame
+pub mod System
 pub mod Decoder
 pub mod Rules
 pub mod Calls

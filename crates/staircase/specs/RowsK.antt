@@ -6,24 +6,19 @@
 --   matrix n a                 the rows of an n × n matrix
 --   kitK                       the kit checker's verdict on the slices of a kit of this design
 --   encodedK, decodedK         the encoder's call and the decoder's call under K
---   RowsK, rowsK               the rows, and that they hold
+--   RowsK                      the rows; `rowsK` in proofs/Vectors.antt shows them
 -- Assumes nothing.
-use mathlib.Core.Path.{_≡_, refl}
+use mathlib.Core.Path.{_≡_}
 use mathlib.Core.List.{List, [], _∷_}
 use Prim.Native.Nat.{ℕ}
 use lib.ListN.{replicate}
-use Rattle.bch.specs.Polynomial.{_⊕_, _⊗_, timesX, iterate, polyAtDigits, polyAt, horner, remainder, bitsOf}
-use Rattle.bch.specs.Field.{fieldPoly, valueAt}
-use Rattle.bch.specs.Code.{leastFrom, minimalPoly, generator, isCodeword, parity}
-use Rattle.staircase.specs.Lists.{sumBits, tabulate, concat, firstWhere}
+use Rattle.bch.specs.Code.{generator, parity}
+use Rattle.staircase.specs.Lists.{tabulate}
 use Rattle.staircase.specs.Design.{Params, params}
-use Rattle.staircase.specs.Word.{rowInfo, rowWord, columnInfo, columnWord}
-use Rattle.staircase.specs.System.{preimage, columnParity, rowParity, residual, systemEntry, constantEntry, inverseEntry, product, identity, selfEntry, groupBits}
-use Rattle.staircase.specs.Frame.{rowSites, columnSites, words, outsideAmong, outside, groupRedundancy, redundancy}
-use Rattle.staircase.specs.Decoder.{choices, flipBits, firstCorrecting, errorPositions, correction, flipAll, correctWord, correctWords, round, runRounds, decoded}
-use Rattle.staircase.specs.Rules.{Verdict, refuseFirst, sizeRule, longRule, largeRule, designRules, countRule, roundsRule, listLengths, kitLengths, redLength, frameLengths, kitWork, wordWork, entries, interleavers, badEntry, listRule, spareRow, spareRule, wrongEntry, inverseRule, kitRules, bitRule, frameBits}
+use Rattle.staircase.specs.System.{systemEntry, inverseEntry, product, identity}
+use Rattle.staircase.specs.Rules.{Verdict, designRules, redLength, kitWork, wordWork, interleavers}
 use Rattle.staircase.specs.Rules.Verdict.{accepted, refused}
-use Rattle.staircase.specs.Calls.{kitVerdict, encodeVerdict, Encoded, encodeCall, decodeVerdict, Corrected, decodeCall}
+use Rattle.staircase.specs.Calls.{kitVerdict, Encoded, encodeCall, Corrected, decodeCall}
 
 abbrev pub paramsK : Params
 paramsK = params 4 1 1
@@ -109,30 +104,3 @@ pub record RowsK : Type 0 where
   pub long4 : designRules 4 1 4 ≡ refused 2 16
   pub fits204 : designRules 10 2 204 ≡ accepted
   pub large205 : designRules 10 2 205 ≡ refused 3 4100
-
-pub rowsK : RowsK
-unfolding _⊕_ _⊗_ timesX iterate polyAtDigits polyAt horner remainder bitsOf fieldPoly valueAt leastFrom minimalPoly generator isCodeword parity sumBits tabulate concat firstWhere rowInfo rowWord columnInfo columnWord preimage columnParity rowParity residual systemEntry constantEntry inverseEntry product selfEntry groupBits rowSites columnSites words outsideAmong outside groupRedundancy redundancy choices flipBits firstCorrecting errorPositions correction flipAll correctWord correctWords round runRounds decoded refuseFirst sizeRule longRule largeRule designRules countRule roundsRule listLengths kitLengths frameLengths kitWork wordWork entries badEntry listRule spareRow spareRule wrongEntry inverseRule kitRules bitRule frameBits kitVerdict encodeVerdict encodeCall decodeVerdict decodeCall
-rowsK =
-    record {
-      x9 = refl;
-      x8 = refl;
-      system = refl;
-      rightInverse = refl;
-      leftInverse = refl;
-      passes = refl;
-      blocks1 = refl;
-      blocks10 = refl;
-      blocks01 = refl;
-      blocks11 = refl;
-      blocks0100 = refl;
-      plainSystem = refl;
-      plainRefused = refl;
-      inverseRefused = refl;
-      corrected = refl;
-      correctedInOne = refl;
-      needsB0 = refl;
-      fits3 = refl;
-      long4 = refl;
-      fits204 = refl;
-      large205 = refl;
-    }

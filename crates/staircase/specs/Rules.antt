@@ -5,6 +5,9 @@
 --   sizeRule .. bitRule   the rules
 --   designRules           rules 1 to 3
 --   kitRules              rules 7 to 9 of a kit
+--   Part                  what is shown
+--   kitWork, wordWork     the working lengths
+--   entries, interleavers the lists, from their bytes
 -- Assumes nothing.
 use mathlib.Core.Bool.{Bool, true, false, not, _||_}
 use mathlib.Core.List.{List}
@@ -16,6 +19,7 @@ use Rattle.staircase.specs.Design.{Params, Interleavers, params, wordLen
 use Rattle.staircase.specs.System.{systemEntry, inverseEntry, rowBytes, product, identity}
 use Rattle.staircase.specs.Frame.{groups}
 
+-- "A refusal returns a number and a place"
 pub data Verdict : Type 0 where
   accepted : Verdict
   refused : ℕ → ℕ → Verdict
@@ -50,6 +54,7 @@ longRule m s = refuse (ltb (2 ^ m - 1) (wordLength s)) 2 (wordLength s)
 unfoldable pub largeRule : Params → Verdict
 largeRule s = refuse (ltb most-order (order s)) 3 (order s)
 
+-- rules 1 to 3
 unfoldable pub designRules : ℕ → ℕ → ℕ → Verdict
 designRules m t M = sizeRule m t M then longRule m (params m t M) then largeRule (params m t M)
 
@@ -79,6 +84,7 @@ lengthRule place have want = refuse (not (eqb have want)) 6 place
 unfoldable pub listLengths : Params → List ℕ → List ℕ → Verdict
 listLengths s self parity = lengthRule 1 (length self) (2 * order s) then lengthRule 2 (length parity) (2 * order s)
 
+-- "The inverse has M × r rows of (M × r)/8 bytes rounded up"
 unfoldable pub kitLengths : Params → List ℕ → List ℕ → List ℕ → Verdict
 kitLengths s self parity w = listLengths s self parity then lengthRule 3 (length w) (order s * rowBytes (order s))
 
@@ -136,6 +142,7 @@ inverseRule s l w =
     refuseFirst 9 0 (n * n) (wrongEntry n (systemEntry s l) (inverseEntry w n))
     then refuseFirst 9 (n * n) (n * n) (wrongEntry n (inverseEntry w n) (systemEntry s l))
 
+-- rules 7 to 9: "It passes exactly when both lists are permutations, spare bits of W are 0, A W is the identity and W A is the identity"
 unfoldable pub kitRules : Params → Interleavers → List ℕ → Verdict
 kitRules s l w = listRule s l then spareRule s w then inverseRule s l w
 

@@ -14,25 +14,21 @@
 --   listsT, receivedT                  two lists, and a received frame of 1 block
 --   correction0T, correction1T         the sites to be flipped in its row words 0 and 1
 --   correctionT                        those that the definition gives
---   SecondKit, secondKit               the facts, and that they hold
+--   SecondKit                          the facts; `secondKit` in proofs/Vectors.antt shows them
 -- Assumes nothing.
-use mathlib.Core.Path.{_≡_, refl}
+use mathlib.Core.Path.{_≡_}
 use mathlib.Core.List.{List, [], _∷_}
 use Prim.Native.Nat.{ℕ}
 use lib.ListN.{replicate}
-use Rattle.bch.specs.Polynomial.{_⊕_, _⊗_, timesX, iterate, polyAtDigits, polyAt, horner, remainder, bitsOf}
-use Rattle.bch.specs.Field.{fieldPoly, valueAt}
-use Rattle.bch.specs.Code.{leastFrom, minimalPoly, generator, isCodeword, parity}
-use Rattle.staircase.specs.Lists.{sumBits, tabulate, concat, firstWhere}
+use Rattle.staircase.specs.Lists.{tabulate}
 use Rattle.staircase.specs.Design.{Params, Interleavers, params}
-use Rattle.staircase.specs.Word.{rowInfo, rowWord, columnInfo, columnWord}
-use Rattle.staircase.specs.System.{preimage, columnParity, rowParity, residual, systemEntry, constantEntry, inverseEntry, product, selfEntry, groupBits}
-use Rattle.staircase.specs.Frame.{Frame, Site, rowSites, columnSites, words, outsideAmong, outside, groupRedundancy, redundancy}
+use Rattle.staircase.specs.Frame.{Frame, Site, rowSites}
 use Rattle.staircase.specs.Frame.Site.{inRed}
-use Rattle.staircase.specs.Decoder.{choices, flipBits, firstCorrecting, errorPositions, correction, flipAll, correctWord, correctWords, round, runRounds, decoded}
-use Rattle.staircase.specs.Rules.{Verdict, refuseFirst, sizeRule, longRule, largeRule, designRules, countRule, roundsRule, listLengths, kitLengths, redLength, frameLengths, kitWork, wordWork, entries, interleavers, badEntry, listRule, spareRow, spareRule, wrongEntry, inverseRule, kitRules, bitRule, frameBits}
+use Rattle.staircase.specs.System.{systemEntry}
+use Rattle.staircase.specs.Decoder.{correction}
+use Rattle.staircase.specs.Rules.{Verdict, redLength, kitWork, wordWork, interleavers}
 use Rattle.staircase.specs.Rules.Verdict.{accepted, refused}
-use Rattle.staircase.specs.Calls.{kitVerdict, encodeVerdict, encodeCall, decodeVerdict, Counts, Corrected, decodeCall}
+use Rattle.staircase.specs.Calls.{kitVerdict, encodeCall, Counts, Corrected, decodeCall}
 
 -- ---- the second kit
 
@@ -125,16 +121,3 @@ pub record SecondKit : Type 0 where
   pub twoErrors : correctionT 0 ≡ correction0T
   -- the codeword within two changes differs in a bit of B0 and one of X, and neither is flipped
   pub needsB0 : correctionT 1 ≡ correction1T
-
-pub secondKit : SecondKit
-unfolding _⊕_ _⊗_ timesX iterate polyAtDigits polyAt horner remainder bitsOf fieldPoly valueAt leastFrom minimalPoly generator isCodeword parity sumBits tabulate concat firstWhere rowInfo rowWord columnInfo columnWord preimage columnParity rowParity residual systemEntry constantEntry inverseEntry product selfEntry groupBits rowSites columnSites words outsideAmong outside groupRedundancy redundancy choices flipBits firstCorrecting errorPositions correction flipAll correctWord correctWords round runRounds decoded refuseFirst sizeRule longRule largeRule designRules countRule roundsRule listLengths kitLengths frameLengths kitWork wordWork entries badEntry listRule spareRow spareRule wrongEntry inverseRule kitRules bitRule frameBits kitVerdict encodeVerdict encodeCall decodeVerdict decodeCall
-secondKit =
-    record {
-      system = refl;
-      wrongBit = refl;
-      encoded = refl;
-      corrected = refl;
-      unsettled = refl;
-      twoErrors = refl;
-      needsB0 = refl;
-    }

@@ -1,4 +1,4 @@
--- Document 01, "System and kit": the system A y + c of a group, the packed inverse W, products, and the redundancy that W gives a group.
+-- Document 01, "System and kit": the system A y + c of a group, the packed inverse W, products, and the redundancy that W gives a frame.
 --   Contents                       a bit for each place of a block, of Y or of P, row by row
 --   stack, unstack                 from Y's row by row order to its column by column order, and back
 --   columnParity, rowParity        P by the column words, Q by the row words
@@ -7,6 +7,7 @@
 --   rowBytes, inverseEntry         the packed inverse
 --   product, identity              products of square matrices of bits
 --   selfEntry, groupBits           Y = W c, and the group
+--   groupRedundancy, redundancy    of a frame's information
 -- Assumes nothing.
 use mathlib.Core.Bool.{cond}
 use mathlib.Core.List.{List, _++_}
@@ -14,9 +15,10 @@ use Prim.Native.Nat.{ℕ, _+_, _*_, _/_, _%_, _^_}
 use lib.Dec.{eqb}
 use lib.ListN.{getD}
 use Rattle.bch.specs.Code.{parity}
-use Rattle.staircase.specs.Lists.{bitSum, sumBits, tabulate, firstWhere}
+use Rattle.staircase.specs.Lists.{bitSum, sumBits, tabulate, concat, firstWhere}
 use Rattle.staircase.specs.Design.{Params, Interleavers, order}
 use Rattle.staircase.specs.Word.{rowInfo, columnInfo}
+use Rattle.staircase.specs.Frame.{groups, block}
 
 abbrev pub Contents : Type 0
 Contents = ℕ → ℕ
@@ -85,3 +87,10 @@ selfEntry s l w before odd even q =
 unfoldable pub groupBits : Params → Interleavers → List ℕ → Contents → Contents → Contents → List ℕ
 groupBits s l w before odd even =
     tabulate (order s) (selfEntry s l w before odd even) ++ tabulate (order s) (columnParity s odd even (selfEntry s l w before odd even))
+
+unfoldable pub groupRedundancy : Params → Interleavers → List ℕ → ℕ → List ℕ → ℕ → List ℕ
+groupRedundancy s l w L info i = groupBits s l w (block s L info (2 * i)) (block s L info (2 * i + 1)) (block s L info (2 * i + 2))
+
+-- "in order of blocks or groups"
+unfoldable pub redundancy : Params → Interleavers → List ℕ → ℕ → List ℕ → List ℕ
+redundancy s l w L info = concat (groups L) (groupRedundancy s l w L info)

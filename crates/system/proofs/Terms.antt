@@ -19,7 +19,7 @@ use lib.ListN.{length, getD, replicate}
 use Rattle.bch.proofs.Sum.{mod2-bit}
 use Rattle.staircase.specs.Lists.{bitSum, sumBits, tabulate}
 use Rattle.staircase.proofs.Matrix.{bitSum-assoc, bitSum-zero, zero-bitSum, sumBits-lt, sumBits-same}
-use Rattle.staircase.proofs.System.{tabulate-length, tabulate-at}
+use Rattle.staircase.proofs.Tables.{tabulate-length, tabulate-at}
 use Rattle.staircase.proofs.Entries.{sumBits-last}
 use Rattle.matrix.specs.Packed.{packedBit}
 use Rattle.system.specs.Rows.{stackOf, runTerm, spreadTerm}

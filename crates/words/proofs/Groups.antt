@@ -22,11 +22,12 @@ use Rattle.staircase.specs.System.{Contents}
 use Rattle.staircase.specs.Frame.{groups, rowSites, columnSites, read, frameOf}
 use Rattle.staircase.specs.Rules.{entries}
 use Rattle.staircase.specs.Demand2.{Permutes}
-use Rattle.staircase.proofs.Fill.{stretch-end}
-use Rattle.staircase.proofs.System.{Proper, tabulate-length, tabulate-at, place-lt}
+use Rattle.staircase.proofs.Bounds.{stretch-end}
+use Rattle.staircase.proofs.System.{Proper, place-lt}
+use Rattle.staircase.proofs.Tables.{tabulate-length, tabulate-at}
 use Rattle.design.specs.declared.Design.{Design}
 use Rattle.design.specs.Sizes.{paramsOf, orderOf, listsOf}
-use Rattle.design.proofs.Generator.{proper-of}
+use Rattle.design.proofs.Allowed.{proper-of}
 use Rattle.blocks.specs.Blocks.{sent, blockBytes, sentBit, partSum, columnSum, rowSum}
 use Rattle.blocks.proofs.Blocks.{sent-odd, block-fits, block-is, odd-is}
 use Rattle.blocks.proofs.Sums.{Adds, adds-at, part-at}

@@ -18,7 +18,8 @@ use Rattle.staircase.specs.Word.{rowWord, rowInfo, columnWord, columnInfo}
 use Rattle.staircase.specs.System.{Contents}
 use Rattle.staircase.specs.Frame.{rowSites, columnSites, read, block, frameOf}
 use Rattle.staircase.specs.Demand2.{Permutes}
-use Rattle.staircase.proofs.System.{Proper, Binary, tabulate-length, tabulate-at, tabulate-bits}
+use Rattle.staircase.proofs.System.{Proper}
+use Rattle.staircase.proofs.Tables.{Binary, tabulate-length, tabulate-at, tabulate-bits}
 use Rattle.staircase.proofs.Entries.{columnRemainder, rowRemainder}
 use Rattle.staircase.proofs.Redundancy.{block-binary, read-row, read-column}
 use Rattle.blocks.specs.Blocks.{partSum, columnSum, rowSum, Powers}

@@ -12,7 +12,7 @@ use Rattle.bch.specs.Polynomial.{Bits}
 use Rattle.bch.specs.Powers.{xorSum}
 use Rattle.bch.proofs.PowerSum.{xorSum-same}
 use Rattle.staircase.specs.Lists.{tabulate}
-use Rattle.staircase.proofs.System.{tabulate-length, tabulate-at, tabulate-bits}
+use Rattle.staircase.proofs.Tables.{tabulate-length, tabulate-at, tabulate-bits}
 
 module _ (spread bits : List ℕ) (n : ℕ) (at : ℕ → ℕ) (made : spread ≡ tabulate n (λ p. getD bits (at p) 0)) where
   pub spread-bits : Bits bits → Bits spread

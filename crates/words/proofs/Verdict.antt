@@ -16,8 +16,8 @@ use Rattle.staircase.specs.Frame.{groups, outside, frameOf}
 use Rattle.staircase.specs.Rules.{Verdict, _then_, designRules, countRule, lengthRule, listLengths, infoLength, redLength, frameLengths, wordWork, interleavers, listRule, frameBits}
 use Rattle.staircase.specs.Rules.Verdict.{accepted, refused}
 use Rattle.staircase.specs.Calls.{Counted, wordsVerdict, countedBy, wordsCall}
-use Rattle.staircase.proofs.Fill.{small-product}
-use Rattle.staircase.proofs.Rules.{then-first, then-rest}
+use Rattle.staircase.proofs.Bounds.{small-product}
+use Rattle.staircase.proofs.Rules.{then-first, then-rest, count-limits, length-equal, list-lengths, frame-lengths, lists-permute, frame-bits}
 use Rattle.design.specs.declared.Refusal.{Refusal}
 use Rattle.design.specs.declared.Check.{Check}
 use Rattle.design.specs.declared.Check.the-variants as check
@@ -26,8 +26,6 @@ use Rattle.design.specs.declared.Designed.{Designed}
 use Rattle.design.specs.declared.Designed.the-variants as designed
 use Rattle.design.specs.Answers.{verdictOf, designVerdict, DesignIs, Allowed}
 use Rattle.design.proofs.Answers.{refused-then, check-refused, check-passed, design-refused, design-made, made-params}
-use Rattle.design.proofs.Accepted.{count-limits, length-equal, list-lengths, frame-lengths}
-use Rattle.rules.proofs.Accepted.{lists-permute, frame-bits}
 use Rattle.design.specs.Sizes.{paramsOf, orderOf, listsOf}
 use Rattle.words.specs.declared.WordCount.{WordCount}
 use Rattle.words.specs.declared.WordCount.the-variants as count

@@ -3,7 +3,7 @@ use native.Mathlib.Omega.{arith}
 use mathlib.Core.Path.{_≡_, sym, ap, _∙_, subst}
 use Prim.Native.Nat.{ℕ, _+_, _-_, _*_, _<_}
 use Rattle.staircase.specs.Frame.Site.{inInfo}
-use Rattle.staircase.proofs.Fill.{small-product}
+use Rattle.staircase.proofs.Bounds.{small-product}
 use Rattle.design.specs.Sizes.{paramsOf}
 use Rattle.correct.specs.Sites.{siteOf, Inside}
 use Rattle.correct.proofs.Places.{block-none, block-past, block-one, stretch-fits}

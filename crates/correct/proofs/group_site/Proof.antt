@@ -4,7 +4,7 @@ use mathlib.Core.Path.{_≡_, sym, ap, subst}
 use Prim.Native.Nat.{ℕ, _+_, _*_, _<_}
 use Rattle.staircase.specs.Frame.{groups}
 use Rattle.staircase.specs.Frame.Site.{inRed}
-use Rattle.staircase.proofs.Fill.{small-product}
+use Rattle.staircase.proofs.Bounds.{small-product}
 use Rattle.design.specs.Sizes.{orderOf}
 use Rattle.correct.specs.Sites.{siteOf, Inside}
 use Rattle.correct.proofs.Places.{stretch-fits}

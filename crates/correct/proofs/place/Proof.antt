@@ -1,7 +1,7 @@
 -- `correct::place` meets its contract. Assumes nothing.
 use native.Mathlib.Omega.{arith}
 use mathlib.Core.Path.{refl}
-use Rattle.staircase.proofs.Fill.{small-product}
+use Rattle.staircase.proofs.Bounds.{small-product}
 use Rattle.correct.proofs.place.Statement.{statement}
 use Rattle.correct.proofs.place.Tie as tie
 

@@ -2,7 +2,7 @@
 -- Assumes nothing.
 use mathlib.Core.Path.{sym, _∙_}
 use Rattle.design.proofs.Answers.{refused-then, passed-then, check-passed}
-use Rattle.design.proofs.Accepted.{count-limits}
+use Rattle.staircase.proofs.Rules.{count-limits}
 use Rattle.decoder.specs.Answers.{frameRules}
 use borrow.Author.Needs.{needs}
 use Rattle.decoder.proofs.check_frame.Statement.{statement}

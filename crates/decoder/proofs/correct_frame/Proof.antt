@@ -6,7 +6,7 @@ use Prim.Native.Nat.{ℕ, _+_, _*_, _%_, _^_}
 use lib.Pow.{pow-mono}
 use Rattle.blocks.proofs.Sums.{part-length}
 use Rattle.design.proofs.Sizes.{shl-one}
-use Rattle.positions.proofs.Sizes.{bits-small}
+use Rattle.design.proofs.Allowed.{bits-small}
 use borrow.Author.Needs.{needs}
 use Rattle.decoder.proofs.correct_frame.Statement.{statement}
 use Rattle.decoder.proofs.correct_frame.Tie as tie

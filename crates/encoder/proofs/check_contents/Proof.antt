@@ -6,9 +6,9 @@ use mathlib.Core.Path.{sym, ap₂, _∙_}
 use Prim.Native.Nat.{ℕ, _*_}
 use lib.ListN.{length}
 use Rattle.staircase.specs.Rules.{lengthRule, kitWork}
-use Rattle.staircase.proofs.Fill.{small-product}
+use Rattle.staircase.proofs.Bounds.{small-product}
 use Rattle.design.proofs.Answers.{refused-then, passed-then, check-passed}
-use Rattle.design.proofs.Accepted.{length-equal}
+use Rattle.staircase.proofs.Rules.{length-equal}
 use Rattle.encoder.specs.Checks.{contentRules}
 use Rattle.encoder.proofs.check_contents.Statement.{statement}
 use Rattle.encoder.proofs.check_contents.Tie as tie

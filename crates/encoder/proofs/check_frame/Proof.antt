@@ -4,7 +4,7 @@ use borrow.Author.Needs.{needs}
 use mathlib.Core.Path.{sym, _∙_}
 use Rattle.design.proofs.Answers.{refused-then, passed-then, check-passed}
 use Rattle.encoder.specs.Checks.{frameRules}
-use Rattle.design.proofs.Accepted.{count-limits}
+use Rattle.staircase.proofs.Rules.{count-limits}
 use Rattle.encoder.proofs.check_frame.Statement.{statement}
 use Rattle.encoder.proofs.check_frame.Tie as tie
 

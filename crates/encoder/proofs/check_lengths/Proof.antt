@@ -3,7 +3,7 @@
 use borrow.Author.Needs.{needs}
 use mathlib.Core.Path.{sym, _∙_}
 use Rattle.design.proofs.Answers.{refused-then, passed-then, check-passed}
-use Rattle.lengths.proofs.Fit.{lengths-fit}
+use Rattle.staircase.proofs.Rules.{lengths-fit}
 use Rattle.encoder.specs.Checks.{lengthRules}
 use Rattle.encoder.proofs.check_lengths.Statement.{statement}
 use Rattle.encoder.proofs.check_lengths.Tie as tie

@@ -4,7 +4,7 @@ use Rattle.framefill.proofs.Filling.{group-given, group-passes, group-n
 use Rattle.framescan.proofs.Judging.{groups-none}
 use Rattle.framescan.specs.FrameText.{groupLines}
 use Rattle.formats.specs.Items.{prep, walk}
-use Rattle.staircase.proofs.Fill.{stretch-end}
+use Rattle.staircase.proofs.Bounds.{stretch-end}
 use native.Mathlib.Omega.{arith}
 use mathlib.Core.Path.{_≡_}
 use lib.ListN.{length, take}

@@ -2,7 +2,7 @@
 -- Assumes nothing.
 use Rattle.framefill.proofs.Filling.{row-passes, row-filled, none-filled, all-filled, rows-none}
 use Rattle.formats.specs.Items.{bitsLines, prep, walk}
-use Rattle.staircase.proofs.Fill.{stretch-end}
+use Rattle.staircase.proofs.Bounds.{stretch-end}
 use native.Mathlib.Omega.{arith}
 use mathlib.Core.Path.{_≡_}
 use lib.ListN.{length, take}

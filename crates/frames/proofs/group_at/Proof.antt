@@ -3,7 +3,7 @@
 use native.Mathlib.Omega.{arith}
 use borrow.Author.Needs.{needs}
 use mathlib.Core.Path.{_∙_}
-use Rattle.staircase.proofs.Fill.{small-product}
+use Rattle.staircase.proofs.Bounds.{small-product}
 use Rattle.frames.proofs.Lending.{lent-from, group-from}
 use Rattle.frames.proofs.group_at.Statement.{statement}
 use Rattle.frames.proofs.group_at.Tie as tie

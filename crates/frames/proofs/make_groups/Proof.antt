@@ -4,7 +4,7 @@ use native.Mathlib.Omega.{arith}
 use mathlib.Core.Path.{_≡_, _∙_}
 use Prim.Native.Nat.{_*_, _-_, _≤_}
 use lib.ListN.{length}
-use Rattle.staircase.proofs.Fill.{stretch-end}
+use Rattle.staircase.proofs.Bounds.{stretch-end}
 use Rattle.staircase.specs.Frame.{groups}
 use Rattle.remainders.proofs.Rows.{row-length}
 use Rattle.frames.specs.Groups.{groupFrom}

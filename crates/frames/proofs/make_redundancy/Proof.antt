@@ -15,7 +15,7 @@ use Rattle.staircase.specs.Rules.{entries}
 use Rattle.staircase.specs.Demand2.{Permutes}
 use Rattle.design.specs.Sizes.{paramsOf, orderOf}
 use Rattle.positions.proofs.Parts.{part-fits, part-is}
-use Rattle.positions.proofs.Sizes.{bits-small}
+use Rattle.design.proofs.Allowed.{bits-small}
 use Rattle.frames.proofs.Whole.{frame-ready, frame-made}
 use Rattle.frames.proofs.make_redundancy.Statement.{statement}
 use Rattle.frames.proofs.make_redundancy.Tie as tie

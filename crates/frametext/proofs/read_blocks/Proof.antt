@@ -2,7 +2,7 @@
 -- Assumes nothing.
 use Rattle.frametext.proofs.Calls.{blocks-refused, blocks-few, blocks-pass, length-due, blocks-length, blocks-filled}
 use Rattle.staircase.specs.Design.{most-blocks}
-use Rattle.staircase.proofs.Fill.{small-product}
+use Rattle.staircase.proofs.Bounds.{small-product}
 use native.Mathlib.Omega.{arith}
 use lib.ListN.{length}
 use borrow.Author.Needs.{needs}

@@ -13,7 +13,7 @@ use Rattle.staircase.proofs.Permutation.{preimage-sent}
 use Rattle.design.specs.Sizes.{paramsOf, orderOf}
 use Rattle.positions.proofs.Parts.{part-fits, part-is, part-within, middle-is}
 use Rattle.inverse.proofs.Link.{part-of}
-use Rattle.positions.proofs.Sizes.{r-small, order-positive, bits-small}
+use Rattle.design.proofs.Allowed.{r-small, order-positive, bits-small}
 use Rattle.inverse.proofs.Whole.{left-found}
 use Rattle.inverse.proofs.left_place.Statement.{statement}
 use Rattle.inverse.proofs.left_place.Tie as tie

@@ -8,8 +8,8 @@ use Rattle.staircase.specs.Rules.{kitRules}
 use Rattle.staircase.specs.System.{rowBytes}
 use Rattle.design.proofs.Answers.{refused-then, passed-then, check-passed}
 use Rattle.design.specs.Sizes.{paramsOf, orderOf, listsOf}
-use Rattle.rules.proofs.Accepted.{lists-permute}
-use Rattle.positions.proofs.Sizes.{order-positive}
+use Rattle.staircase.proofs.Rules.{lists-permute}
+use Rattle.design.proofs.Allowed.{order-positive}
 use Rattle.rules.proofs.OfDesign.{lists-rule, spare-rule}
 use Rattle.kit.proofs.check_content.Statement.{statement}
 use Rattle.kit.proofs.check_content.Tie as tie

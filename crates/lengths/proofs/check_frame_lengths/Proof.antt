@@ -6,7 +6,7 @@ use native.Mathlib.Omega.{arith}
 use Rattle.staircase.specs.Design.{most-blocks}
 use Rattle.staircase.specs.Rules.{frameLengths}
 use Rattle.design.proofs.Answers.{refused-then, passed-then}
-use Rattle.staircase.proofs.Fill.{small-product}
+use Rattle.staircase.proofs.Bounds.{small-product}
 use borrow.Author.Needs.{needs}
 use Rattle.lengths.proofs.check_frame_lengths.Statement.{statement}
 use Rattle.lengths.proofs.check_frame_lengths.Tie as tie

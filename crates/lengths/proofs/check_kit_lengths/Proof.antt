@@ -6,7 +6,7 @@ use mathlib.Core.Path.{ap₂, _∙_}
 use Prim.Native.Nat.{ℕ, _*_}
 use lib.ListN.{length}
 use Rattle.staircase.specs.Rules.{lengthRule, kitLengths}
-use Rattle.staircase.proofs.Fill.{small-product}
+use Rattle.staircase.proofs.Bounds.{small-product}
 use Rattle.design.proofs.Answers.{refused-then, passed-then}
 use Rattle.lengths.proofs.check_kit_lengths.Statement.{statement}
 use Rattle.lengths.proofs.check_kit_lengths.Tie as tie

@@ -4,10 +4,11 @@ use native.Mathlib.Omega.{arith}
 use borrow.Author.Needs.{needs}
 use mathlib.Core.Path.{_≡_, ap₂, _∙_, subst₂}
 use Prim.Native.Nat.{ℕ, _*_, _/_, _^_, _≤_}
+use native.Mathlib.Nat.{one-mul}
+use lib.Pow.{shl-exact}
 use Rattle.bch.specs.Powers.{PositionPowers}
 use Rattle.bch.proofs.Bch.{degree, degree-positive}
-use Rattle.design.proofs.Generator.{code-of}
-use Rattle.positions.proofs.Sizes.{r-small, shl-one}
+use Rattle.design.proofs.Allowed.{code-of, r-small}
 use Rattle.positions.proofs.fill_table.Statement.{statement}
 use Rattle.positions.proofs.fill_table.Tie as tie
 
@@ -36,7 +37,7 @@ fill-positions-requires c κs =
     let k = code-of d h in
     let e : c .before .before .before .before .r .result ≡ d .m * d .t = c .before .before .before .before .r .ensures .0 in
     let u : c .before .before .before .before .r .result ≤ 30 = omega (arith, r-small d h) in
-    (omega (arith, degree-positive (d .m) (d .t) k), u, shl-one (c .before .before .before .before .r .result) u, ap₂ (λ (g x : ℕ). g / 2 ^ x) (c .before .generator-of .ensures .0) e ∙ degree (d .m) (d .t) k)
+    (omega (arith, degree-positive (d .m) (d .t) k), u, shl-exact {a = 1} 1 (c .before .before .before .before .r .result) 32 (omega arith) (omega arith) ∙ one-mul (2 ^ c .before .before .before .before .r .result), ap₂ (λ (g x : ℕ). g / 2 ^ x) (c .before .generator-of .ensures .0) e ∙ degree (d .m) (d .t) k)
 
 same-length : tie.Need-same-length
 same-length c = search needs

@@ -7,7 +7,7 @@ use Prim.Native.Nat.{ℕ, _+_, _*_, _-_, _/_, _%_, _≤_, _<_}
 use native.Mathlib.Nat.{zero-mul}
 use lib.ListN.{length, getD}
 use Rattle.staircase.specs.Rules.{entries}
-use Rattle.staircase.proofs.Fill.{stretch-end}
+use Rattle.staircase.proofs.Bounds.{stretch-end}
 use Rattle.products.specs.Products.{leftWrong, unstackOf}
 use Rattle.products.proofs.Search.{row-found, row-clean, rows-none}
 use Rattle.products.proofs.Sizes.{unstacked, square-small}

@@ -7,7 +7,7 @@ use Prim.Native.Nat.{ℕ, _+_, _*_, _-_, _/_, _%_, _≤_, _<_}
 use native.Mathlib.Nat.{mul-le-mul-right}
 use lib.ListN.{length, getD}
 use Rattle.staircase.specs.Rules.{entries}
-use Rattle.staircase.proofs.Fill.{stretch-end}
+use Rattle.staircase.proofs.Bounds.{stretch-end}
 use Rattle.staircase.proofs.Search.{firstWhere-le}
 use Rattle.products.specs.Products.{rightWrong, unstackOf}
 use Rattle.products.proofs.Search.{Best, best-none, best-more, best-kept, best-is}

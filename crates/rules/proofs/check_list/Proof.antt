@@ -8,8 +8,7 @@ use native.Mathlib.Omega.{arith}
 use lib.ListN.{length, getD, replicate, length-set}
 use borrow.Author.Count.{below-more}
 use Rattle.staircase.specs.Rules.{entries, badEntry}
-use Rattle.staircase.proofs.Rules.{refuseFirst-accepted}
-use Rattle.rules.proofs.FirstPlace.{refuseFirst-refused}
+use Rattle.staircase.proofs.Rules.{refuseFirst-accepted, refuseFirst-refused}
 use Rattle.rules.proofs.Entries.{entry-at, Marked, marked-none, marked-more, too-high, repeated, new-entry}
 use Rattle.design.specs.Answers.{refusalVerdict, verdictOf}
 use Rattle.rules.proofs.check_list.Statement.{statement}

@@ -6,11 +6,10 @@ use Prim.Native.Nat.{ℕ, _-_, _≤_, _<_}
 use native.Mathlib.Nat.{zero-add}
 use native.Mathlib.Omega.{arith}
 use borrow.Author.Count.{below-more}
-use Rattle.staircase.proofs.Fill.{small-product, stretch-end}
+use Rattle.staircase.proofs.Bounds.{small-product, stretch-end}
 use Rattle.staircase.specs.System.{rowBytes}
 use Rattle.staircase.specs.Rules.{spareRow}
-use Rattle.staircase.proofs.Rules.{refuseFirst-accepted}
-use Rattle.rules.proofs.FirstPlace.{refuseFirst-refused}
+use Rattle.staircase.proofs.Rules.{refuseFirst-accepted, refuseFirst-refused}
 use Rattle.design.proofs.Sizes.{shl-one}
 use Rattle.rules.proofs.Spare.{usedBits, spare-none, spare-some}
 use Rattle.design.specs.Answers.{refusalVerdict, verdictOf}

@@ -9,8 +9,7 @@ use lib.ListN.{length, getD}
 use borrow.Author.Count.{below-more}
 use borrow.Author.Tests.{lt-ltb, le-ltb}
 use Rattle.staircase.specs.Rules.{bitRule}
-use Rattle.staircase.proofs.Rules.{refuseFirst-accepted}
-use Rattle.rules.proofs.FirstPlace.{refuseFirst-refused}
+use Rattle.staircase.proofs.Rules.{refuseFirst-accepted, refuseFirst-refused}
 use Rattle.design.specs.Answers.{refusalVerdict, verdictOf}
 use Rattle.rules.proofs.search_bits.Statement.{statement}
 use Rattle.rules.proofs.search_bits.Tie as tie

@@ -3,7 +3,7 @@
 use mathlib.Core.Path.{sym, _∙_}
 use Rattle.show.specs.Show.{frameVerdict}
 use Rattle.design.proofs.Answers.{refused-then, passed-then, check-passed}
-use Rattle.design.proofs.Accepted.{count-limits}
+use Rattle.staircase.proofs.Rules.{count-limits}
 use borrow.Author.Needs.{needs}
 use Rattle.show.proofs.check_frame.Statement.{statement}
 use Rattle.show.proofs.check_frame.Tie as tie

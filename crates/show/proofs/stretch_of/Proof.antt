@@ -3,7 +3,7 @@
 use Prim.Native.Nat.{_-_}
 use native.Mathlib.Nat.{add-sub-cancel-left}
 use native.Mathlib.Omega.{arith}
-use Rattle.staircase.proofs.Fill.{stretch-end}
+use Rattle.staircase.proofs.Bounds.{stretch-end}
 use borrow.Author.Needs.{needs}
 use Rattle.show.proofs.stretch_of.Statement.{statement}
 use Rattle.show.proofs.stretch_of.Tie as tie

@@ -5,7 +5,7 @@ use borrow.Author.Needs.{needs}
 use mathlib.Core.Path.{sym, _∙_}
 use Prim.Native.Nat.{_+_, _*_}
 use lib.ListN.{length}
-use Rattle.staircase.proofs.Fill.{small-product}
+use Rattle.staircase.proofs.Bounds.{small-product}
 use Rattle.blocks.proofs.Blocks.{sent-odd}
 use Rattle.words.proofs.Groups.{block-lent, columns-of-blocks}
 use Rattle.words.proofs.block_columns.Statement.{statement}

@@ -7,7 +7,7 @@ use Prim.Native.Nat.{ℕ, _*_}
 use lib.ListN.{length}
 use Rattle.staircase.specs.Rules.{lengthRule, wordWork, frameBits}
 use Rattle.design.proofs.Answers.{refused-then, passed-then, check-passed}
-use Rattle.design.proofs.Accepted.{length-equal}
+use Rattle.staircase.proofs.Rules.{length-equal}
 use Rattle.design.specs.Sizes.{orderOf}
 use Rattle.rules.proofs.OfDesign.{lists-rule}
 use Rattle.words.specs.Checks.{contentRules}

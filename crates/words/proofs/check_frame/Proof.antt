@@ -3,7 +3,7 @@
 use borrow.Author.Needs.{needs}
 use mathlib.Core.Path.{sym, _∙_}
 use Rattle.design.proofs.Answers.{refused-then, passed-then, check-passed}
-use Rattle.design.proofs.Accepted.{count-limits}
+use Rattle.staircase.proofs.Rules.{count-limits}
 use Rattle.words.specs.Checks.{frameRules}
 use Rattle.words.proofs.check_frame.Statement.{statement}
 use Rattle.words.proofs.check_frame.Tie as tie

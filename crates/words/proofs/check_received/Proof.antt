@@ -3,7 +3,7 @@
 use borrow.Author.Needs.{needs}
 use mathlib.Core.Path.{sym, _∙_}
 use Rattle.design.proofs.Answers.{refused-then, passed-then, check-passed}
-use Rattle.design.proofs.Accepted.{list-lengths}
+use Rattle.staircase.proofs.Rules.{list-lengths}
 use Rattle.design.specs.Sizes.{paramsOf}
 use Rattle.words.specs.Checks.{receivedRules}
 use Rattle.words.proofs.Verdict.{lengths-small}

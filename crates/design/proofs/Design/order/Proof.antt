@@ -3,7 +3,7 @@
 use mathlib.Core.Path.{ap}
 use Prim.Native.Nat.{ℕ, _*_}
 use native.Mathlib.Omega.{arith}
-use Rattle.staircase.proofs.Fill.{small-product}
+use Rattle.staircase.proofs.Bounds.{small-product}
 use Rattle.design.proofs.Sizes.{product-fits}
 use borrow.Author.Needs.{needs}
 use Rattle.design.proofs.Design.order.Statement.{statement}

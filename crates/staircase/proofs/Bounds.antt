@@ -1,0 +1,14 @@
+-- Bounds of products of sizes, which `omega` does not find.
+--   small-product   a product of bounded numbers
+--   stretch-end     the end of one of n stretches
+-- Assumes nothing.
+use Prim.Native.Nat.{ℕ, _+_, _*_, _≤_, _<_}
+use native.Mathlib.Nat.{mul-le-mul, suc-mul, mul-le-mul-right}
+use native.Mathlib.Omega.{arith}
+
+pub small-product : (a b k l : ℕ) → a ≤ k → b ≤ l → a * b ≤ k * l
+small-product a b k l h g = mul-le-mul h g
+
+-- stretch i of n stretches of w ends within them
+pub stretch-end : (i n w : ℕ) → i < n → i * w + w ≤ n * w
+stretch-end i n w h = omega (arith, suc-mul i w, mul-le-mul-right w h)

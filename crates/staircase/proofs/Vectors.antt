@@ -1,0 +1,169 @@
+-- The vectors of specs/RowsK.antt and specs/SecondKit.antt, by computation. Two kinds of steps would be long, and go by laws: the products of the
+-- second kit, whose A is read from its rows, and the search for two errors, which ends at the codeword that is named here.
+--   rowsK       document 01's rows under kit K
+--   secondKit   the second kit
+-- Assumes nothing.
+use mathlib.Core.Path.{_≡_, refl, sym, ap, ap₂, _∙_}
+use mathlib.Core.Bool.{true, not, cond}
+use mathlib.Core.List.{List, [], _∷_, map}
+use Prim.Native.Nat.{ℕ, _*_, _/_, _%_, _≤_, _<_}
+use native.Mathlib.Nat.{mod-lt, div-lt-iff-lt-mul}
+use native.Mathlib.Omega.{arith}
+use lib.Dec.{eqb}
+use lib.ListN.{length, getD, replicate}
+use Rattle.bch.specs.Polynomial.{_⊕_, _⊗_, timesX, iterate, polyAtDigits, polyAt, horner, remainder, bitsOf}
+use Rattle.bch.specs.Field.{fieldPoly, valueAt}
+use Rattle.bch.specs.Code.{leastFrom, minimalPoly, generator, isCodeword, parity, unlike, distance}
+use Rattle.staircase.specs.Lists.{sumBits, tabulate, concat, firstWhere}
+use Rattle.staircase.specs.Design.{Interleavers, Limits}
+use Rattle.staircase.specs.Word.{rowInfo, rowWord, columnInfo, columnWord}
+use Rattle.staircase.specs.Frame.{Site, rowSites, columnSites, words, read, outsideAmong, outside}
+use Rattle.staircase.specs.Frame.Site.{unsent}
+use Rattle.staircase.specs.System.{preimage, columnParity, rowParity, residual, systemEntry, constantEntry, inverseEntry, product, identity, selfEntry, groupBits, groupRedundancy, redundancy}
+use Rattle.staircase.specs.Decoder.{choices, flipBits, firstCorrecting, errorPositions, allSent, correction, flipAll, correctWord, correctWords, round, runRounds, decoded}
+use Rattle.staircase.specs.Rules.{Verdict, _then_, refuseFirst, sizeRule, longRule, largeRule, designRules, countRule, roundsRule, listLengths, kitLengths, redLength, frameLengths, kitWork, wordWork, entries, interleavers, badEntry, listRule, spareRow, spareRule, wrongEntry, inverseRule, kitRules, bitRule, frameBits}
+use Rattle.staircase.specs.Rules.Verdict.{accepted}
+use Rattle.staircase.specs.Calls.{kitVerdict, encodeVerdict, encodedBy, encodeCall, decodeVerdict, decodeCall}
+use Rattle.staircase.specs.RowsK.{RowsK}
+use Rattle.staircase.specs.SecondKit.{paramsS, selfS, parityS, inverseS, systemS, infoS, redS, paramsT, listsT, receivedT, correctionT, correction0T, correction1T, SecondKit}
+use Rattle.staircase.proofs.Search.{firstWhere-before}
+use Rattle.staircase.proofs.Tables.{tabulate-at}
+use Rattle.staircase.proofs.Matrix.{sumBits-same}
+use Rattle.staircase.proofs.Rules.{then-accepted, refuseFirst-accepted, design-limits, bytes-bits}
+use Rattle.staircase.proofs.Errors.{errorsAt, errors}
+use Rattle.staircase.proofs.Correction.{nearest-errors}
+use Rattle.staircase.proofs.BchCode.{apart-of}
+
+pub rowsK : RowsK
+unfolding _⊕_ _⊗_ timesX iterate polyAtDigits polyAt horner remainder bitsOf fieldPoly valueAt leastFrom minimalPoly generator isCodeword parity sumBits tabulate concat firstWhere rowInfo rowWord columnInfo columnWord preimage columnParity rowParity residual systemEntry constantEntry inverseEntry product selfEntry groupBits rowSites columnSites words outsideAmong outside groupRedundancy redundancy choices flipBits firstCorrecting errorPositions correction flipAll correctWord correctWords round runRounds decoded refuseFirst sizeRule longRule largeRule designRules countRule roundsRule listLengths kitLengths frameLengths kitWork wordWork entries badEntry listRule spareRow spareRule wrongEntry inverseRule kitRules bitRule frameBits kitVerdict encodeVerdict encodeCall decodeVerdict decodeCall
+rowsK =
+    record {
+      x9 = refl;
+      x8 = refl;
+      system = refl;
+      rightInverse = refl;
+      leftInverse = refl;
+      passes = refl;
+      blocks1 = refl;
+      blocks10 = refl;
+      blocks01 = refl;
+      blocks11 = refl;
+      blocks0100 = refl;
+      plainSystem = refl;
+      plainRefused = refl;
+      inverseRefused = refl;
+      corrected = refl;
+      correctedInOne = refl;
+      needsB0 = refl;
+      fits3 = refl;
+      long4 = refl;
+      fits204 = refl;
+      large205 = refl;
+    }
+
+-- ---- the second kit passes
+
+abbrev listsS : Interleavers
+listsS = interleavers paramsS selfS parityS
+
+abbrev A : ℕ → ℕ → ℕ
+A = systemEntry paramsS listsS
+
+abbrev W : ℕ → ℕ → ℕ
+W = inverseEntry inverseS 8
+
+abbrev rowsOfA : ℕ → ℕ → ℕ
+rowsOfA i j = getD (getD systemS i []) j 0
+
+system-rows : tabulate 8 (λ i. tabulate 8 (A i)) ≡ systemS
+unfolding _⊕_ _⊗_ timesX iterate polyAtDigits polyAt horner remainder bitsOf fieldPoly valueAt leastFrom minimalPoly generator parity tabulate firstWhere rowInfo columnInfo preimage columnParity rowParity residual systemEntry entries
+system-rows = refl
+
+system-at : (i j : ℕ) → i < 8 → j < 8 → A i j ≡ rowsOfA i j
+system-at i j hi hj =
+    sym (tabulate-at 8 (A i) 0 j hj)
+    ∙ ap (λ (r : List ℕ). getD r j 0) (sym (tabulate-at 8 (λ i. tabulate 8 (A i)) [] i hi) ∙ ap (λ (a : List (List ℕ)). getD a i []) system-rows)
+
+wrongEntry-same : (n : ℕ) (a b a₂ b₂ : ℕ → ℕ → ℕ) → 0 < n → ((i j : ℕ) → i < n → j < n → a i j ≡ a₂ i j) → ((i j : ℕ) → i < n → j < n → b i j ≡ b₂ i j)
+    → (e : ℕ) → e < n * n → wrongEntry n a b e ≡ wrongEntry n a₂ b₂ e
+unfolding wrongEntry product
+wrongEntry-same n a b a₂ b₂ pos ha hb e h =
+    let i : ℕ = e / n in
+    let j : ℕ = e % n in
+    let hi : i < n = div-lt-iff-lt-mul pos .1 h in
+    let hj : j < n = mod-lt e pos in
+    ap (λ (z : ℕ). not (eqb z (identity i j)))
+    (sumBits-same n (λ k. a i k * b k j) (λ k. a₂ i k * b₂ k j) (λ k m. ap₂ (λ (x y : ℕ). x * y) (ha i k hi m) (hb k j m hj)))
+
+none-wrong : (firstWhere 64 (wrongEntry 8 rowsOfA W) ≡ 64) × (firstWhere 64 (wrongEntry 8 W rowsOfA) ≡ 64)
+unfolding firstWhere wrongEntry product sumBits inverseEntry
+none-wrong = (refl, refl)
+
+products : inverseRule paramsS listsS inverseS ≡ accepted
+unfolding inverseRule
+products =
+    then-accepted
+    (refuseFirst-accepted 9 0 64 (wrongEntry 8 A W) (λ e h. wrongEntry-same 8 A W rowsOfA W (omega arith) system-at (λ i j hi hj. refl) e h
+    ∙ firstWhere-before 64 (wrongEntry 8 rowsOfA W) e (omega (arith, h, none-wrong .0))))
+    (refuseFirst-accepted 9 64 64 (wrongEntry 8 W A) (λ e h. wrongEntry-same 8 W A W rowsOfA (omega arith) (λ i j hi hj. refl) system-at e h
+    ∙ firstWhere-before 64 (wrongEntry 8 W rowsOfA) e (omega (arith, h, none-wrong .1))))
+
+-- rule 9 apart
+encoded-but : encodeCall 4 1 2 3 selfS parityS inverseS infoS (replicate (redLength paramsS 3) 255) (kitWork paramsS)
+    ≡ encodedBy (inverseRule paramsS listsS inverseS then accepted) (replicate (redLength paramsS 3) 255) redS
+unfolding _⊕_ _⊗_ timesX iterate polyAtDigits polyAt horner remainder bitsOf fieldPoly valueAt leastFrom minimalPoly generator isCodeword parity sumBits tabulate concat firstWhere rowInfo rowWord columnInfo columnWord preimage columnParity rowParity residual systemEntry constantEntry inverseEntry product selfEntry groupBits rowSites columnSites words outsideAmong outside groupRedundancy redundancy choices flipBits firstCorrecting errorPositions correction flipAll correctWord correctWords round runRounds decoded refuseFirst sizeRule longRule largeRule designRules countRule roundsRule listLengths kitLengths frameLengths kitWork wordWork entries badEntry listRule spareRow spareRule wrongEntry kitRules bitRule frameBits kitVerdict encodeVerdict encodeCall decodeVerdict decodeCall
+encoded-but = refl
+
+-- ---- two errors
+
+limitsT : Limits 5 2 2
+unfolding designRules sizeRule longRule largeRule
+limitsT = design-limits 5 2 2 refl
+
+abbrev wordT : ℕ → List ℕ
+wordT a = read receivedT (rowSites paramsT listsT 1 0 a)
+
+-- the codewords within two changes of row words 0 and 1
+abbrev code0T : List ℕ
+code0T = 0 ∷ 0 ∷ 1 ∷ 1 ∷ 1 ∷ 0 ∷ 1 ∷ 1 ∷ 0 ∷ 0 ∷ 1 ∷ 0 ∷ 1 ∷ 0 ∷ 1 ∷ 0 ∷ 1 ∷ 0 ∷ 0 ∷ 0 ∷ 1 ∷ 1 ∷ 1 ∷ 1 ∷ []
+
+abbrev code1T : List ℕ
+code1T = 0 ∷ 1 ∷ 1 ∷ 0 ∷ 0 ∷ 1 ∷ 1 ∷ 0 ∷ 1 ∷ 0 ∷ 0 ∷ 1 ∷ 1 ∷ 1 ∷ 1 ∷ 0 ∷ 0 ∷ 0 ∷ 1 ∷ 0 ∷ 0 ∷ 1 ∷ 0 ∷ 1 ∷ []
+
+errors-of : (u v : List ℕ) → length u ≡ 24 → length v ≡ 24 → bitRule 0 u ≡ accepted → bitRule 0 v ≡ accepted
+    → isCodeword (paramsT .g) (paramsT .r) v ≡ true → distance u v ≤ 2 → errorPositions paramsT u ≡ errors u v
+errors-of u v lu lv hu hv = nearest-errors paramsT 24 (apart-of limitsT) u v lu lv (bytes-bits 0 u hu) (bytes-bits 0 v hv)
+
+positions0T : errorPositions paramsT (wordT 0) ≡ 8 ∷ 17 ∷ []
+unfolding _⊕_ _⊗_ timesX iterate polyAtDigits polyAt horner remainder fieldPoly valueAt leastFrom minimalPoly generator isCodeword unlike distance tabulate firstWhere refuseFirst bitRule rowInfo rowWord rowSites errorsAt errors
+positions0T = errors-of (wordT 0) code0T refl refl refl refl refl (let e : distance (wordT 0) code0T ≡ 2 = refl in omega arith)
+
+positions1T : errorPositions paramsT (wordT 1) ≡ 1 ∷ 9 ∷ []
+unfolding _⊕_ _⊗_ timesX iterate polyAtDigits polyAt horner remainder fieldPoly valueAt leastFrom minimalPoly generator isCodeword unlike distance tabulate firstWhere refuseFirst bitRule rowInfo rowWord rowSites errorsAt errors
+positions1T = errors-of (wordT 1) code1T refl refl refl refl refl (let e : distance (wordT 1) code1T ≡ 2 = refl in omega arith)
+
+-- the sites of a word at some positions, if all are sent
+abbrev sentAt : List Site → List ℕ → List Site
+sentAt w e = cond (allSent (map (λ j. getD w j unsent) e)) (map (λ j. getD w j unsent) e) []
+
+two-errors : correctionT 0 ≡ correction0T
+unfolding correction rowSites rowWord rowInfo tabulate
+two-errors = ap (sentAt (rowSites paramsT listsT 1 0 0)) positions0T
+
+needs-B0 : correctionT 1 ≡ correction1T
+unfolding correction rowSites rowWord rowInfo tabulate
+needs-B0 = ap (sentAt (rowSites paramsT listsT 1 0 1)) positions1T
+
+pub secondKit : SecondKit
+unfolding _⊕_ _⊗_ timesX iterate polyAtDigits polyAt horner remainder bitsOf fieldPoly valueAt leastFrom minimalPoly generator isCodeword parity sumBits tabulate concat firstWhere rowInfo rowWord columnInfo columnWord preimage columnParity rowParity residual systemEntry constantEntry inverseEntry product selfEntry groupBits rowSites columnSites words outsideAmong outside groupRedundancy redundancy choices flipBits firstCorrecting errorPositions correction flipAll correctWord correctWords round runRounds decoded refuseFirst sizeRule longRule largeRule designRules countRule roundsRule listLengths kitLengths frameLengths kitWork wordWork entries badEntry listRule spareRow spareRule wrongEntry inverseRule kitRules bitRule frameBits kitVerdict encodeVerdict encodeCall decodeVerdict decodeCall
+secondKit =
+    record {
+      system = system-rows;
+      wrongBit = refl;
+      encoded =
+          encoded-but ∙ ap (λ (v : Verdict). encodedBy (v then accepted) (replicate (redLength paramsS 3) 255) redS) products;
+      corrected = refl;
+      unsettled = refl;
+      twoErrors = two-errors;
+      needsB0 = needs-B0;
+    }
