@@ -53,7 +53,7 @@ fn check_list(list: &[u8], n: usize, marks: &mut [u8], base: u64) -> Check
     requires { ⌜ (length (now list) ≡ 2 * n) × (length (now marks) ≡ n) × (n ≤ 4096) × (base ≤ 4096) ⌝ }
     ensures { λ a. ⌜ verdictOf a ≡ refuseFirst 7 base n (badEntry n (entries n (now (list .entry)))) ⌝ }
 {
-    clear(&mut marks[..]);
+    clear(marks);
     for p in 0..n {
         let e = entry(list, p);
         let place = base + (p as u64);
@@ -75,11 +75,11 @@ pub fn check_lists(own: &[u8], parity: &[u8], n: usize, marks: &mut [u8]) -> Che
     ensures { λ a. ⌜ verdictOf a
         ≡ (refuseFirst 7 0 n (badEntry n (entries n (now (own .entry)))) then refuseFirst 7 n n (badEntry n (entries n (now (parity .entry))))) ⌝ }
 {
-    let first = check_list(own, n, &mut marks[..], 0);
+    let first = check_list(own, n, marks, 0);
     let Check::Passed = first else {
         return first;
     };
-    check_list(parity, n, &mut marks[..], n as u64)
+    check_list(parity, n, marks, n as u64)
 }
 
 // Rule 8 for the lent inverse of n rows and columns, packed. Reads one byte of each row.
