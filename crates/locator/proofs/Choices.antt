@@ -5,7 +5,7 @@
 --   located-none     nothing is located where no choice has the sum
 --   located-zero, located-one, located-two, located-three, NotThree, located-nowhere   the same for choices by their number of positions
 -- Assumes nothing.
-use mathlib.Core.Path.{_≡_, refl, sym, ap, ap₂, _∙_, subst}
+use mathlib.Core.Path.{_≡_, refl, sym, ap, _∙_, subst}
 use mathlib.Core.Bool.{Bool, cond}
 use mathlib.Core.Logic.{_≢_, inl, inr}
 use mathlib.Core.List.{List, [], _∷_}
@@ -27,8 +27,7 @@ use Rattle.staircase.specs.Lists.{tabulate}
 use Rattle.staircase.specs.Design.{Params, params}
 use Rattle.staircase.specs.Decoder.{choices, flipBits, errorPositions}
 use Rattle.staircase.proofs.Member.{In, Sub, done, skip, keep, sub-nil, choices-sub}
-use Rattle.staircase.proofs.Errors.{Positions, positions-below, positions-once, errorPositions-found}
-use Rattle.staircase.proofs.Errors.{flipBits-length, flipBits-bits, flipBits-here, flipBits-other, flipBits-distance}
+use Rattle.staircase.proofs.Errors.{Positions, positions-below, errorPositions-found, flipBits-length, flipBits-bits, flipBits-distance, flips-once}
 use Rattle.locator.specs.Located.{sumAt, firstWithSum, located}
 use Rattle.locator.specs.Steps.{NotOne, NotTwo}
 use Rattle.locator.proofs.Link.{flipBits-remainder, errorPositions-located}
@@ -84,65 +83,6 @@ pub rising-positions : {n t : ℕ} {c : List ℕ} → Rising 0 n c → length c 
 rising-positions {n} {t} {c} r l =
     record { sub = rising-sub n 0 (λ j. j) (λ k. sym (zero-add k)) c (subst (λ (z : ℕ). Rising 0 z c) (sym (zero-add n)) r); few = l }
 
-rising-above : (a n : ℕ) (c : List ℕ) → Rising a n c → (k : ℕ) → In k c → a ≤ k
-rising-above a n (p ∷ c) r k (inl e) = omega arith
-rising-above a n (p ∷ c) r k (inr i) = omega (arith, rising-above (suc p) n c (r .2) k i)
-
--- rising lists with the same entries are equal
-rising-same : (a n : ℕ) (c d : List ℕ) → Rising a n c → Rising a n d → ((k : ℕ) → In k c → In k d) → ((k : ℕ) → In k d → In k c) → c ≡ d
-rising-same a n [] [] r s h k = refl
-rising-same a n [] (q ∷ d) r s h k = absurd (k q (inl refl))
-rising-same a n (p ∷ c) [] r s h k = absurd (h p (inl refl))
-rising-same a n (p ∷ c) (q ∷ d) r s h k = go (rising-same (suc p) n c d (r .2))
-  where
-    first : In p (q ∷ d) → In q (p ∷ c) → p ≡ q
-    first (inl e) j = e
-    first (inr i) (inl e) = sym e
-    first (inr i) (inr j) = absurd (omega (arith, rising-above (suc q) n d (s .2) p i, rising-above (suc p) n c (r .2) q j))
-
-    e : p ≡ q
-    e = first (h p (inl refl)) (k q (inl refl))
-
-    tail : (x y : ℕ) (l : List ℕ) → suc x ≤ y → In y (x ∷ l) → In y l
-    tail x y l b (inl e) = absurd (omega arith)
-    tail x y l b (inr i) = i
-
-    s₁ : Rising (suc p) n d
-    s₁ = subst (λ (z : ℕ). Rising (suc z) n d) (sym e) (s .2)
-
-    go : (Rising (suc p) n d → ((x : ℕ) → In x c → In x d) → ((x : ℕ) → In x d → In x c) → c ≡ d) → p ∷ c ≡ q ∷ d
-    go rest =
-        ap₂ _∷_ e
-        (rest s₁ (λ x i. tail q x d (omega (arith, e, rising-above (suc p) n c (r .2) x i)) (h x (inr i)))
-        (λ x i. tail p x c (rising-above (suc p) n d s₁ x i) (k x (inr i))))
-
-in-dec : (k : ℕ) (c : List ℕ) → Dec (In k c)
-in-dec k [] = no (λ i. i)
-in-dec k (j ∷ c) = go (ℕ-discrete k j) (in-dec k c)
-  where
-    go : Dec (k ≡ j) → Dec (In k c) → Dec (In k (j ∷ c))
-    go (yes e) d = yes (inl e)
-    go (no n) (yes i) = yes (inr i)
-    go (no n) (no m) = no (λ (i : In k (j ∷ c)). neither i)
-      where
-        neither : In k (j ∷ c) → ⊥
-        neither (inl e) = n e
-        neither (inr i) = m i
-
--- a position that is flipped by the one choice is flipped by the other
-flips-in : (n t : ℕ) (c d u : List ℕ) → Positions n t c → Bits u → length u ≡ n → flipBits c u ≡ flipBits d u → (k : ℕ) → In k c → In k d
-flips-in n t c d u p hu e h k i = go (in-dec k d)
-  where
-    go : Dec (In k d) → In k d
-    go (yes j) = j
-    go (no j) =
-        let l : k < length u = omega (arith, positions-below p k i) in
-        let a : getD (flipBits c u) k 0 ≡ 1 - getD u k 0 = flipBits-here c u (positions-once p) k i l in
-        let b : getD (flipBits d u) k 0 ≡ getD u k 0 = flipBits-other d u k j in
-        let f = ap (λ (z : List ℕ). getD z k 0) h in
-        let x = hu k in
-        absurd (omega arith)
-
 -- ---- one choice has a sum
 
 module _ (m t : ℕ) (table : List ℕ) (at : PositionPowers (generator m t) (m * t) table) (fits : length table ≤ 2 ^ m - 1) (C : Code m t) where
@@ -188,8 +128,7 @@ module _ (m t : ℕ) (table : List ℕ) (at : PositionPowers (generator m t) (m 
       (zero-codeword (generator m t) (m * t) (flipBits d u) (again-remainder c d p q ∙ ap (λ (z : ℕ). z ⊕ sumAt table d) e ∙ ⊕-self (sumAt table d)))
       (le-trans (flipBits-distance c u) (p .few)) (le-trans (flipBits-distance d u) (q .few))
       in
-      rising-same 0 n c d (positions-rising p) (positions-rising q) (flips-in n t c d u p (word-bits c) (sym (word-length c)) same)
-      (flips-in n t d c u q (word-bits c) (sym (word-length c)) (sym same))
+      flips-once n t c d u (sym (word-length c)) p q (word-bits c) same
 
   pub located-is : (x : ℕ) (c : List ℕ) → Positions n t c → sumAt table c ≡ x → located table t x ≡ c
   located-is x c p e =
