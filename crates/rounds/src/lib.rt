@@ -207,9 +207,11 @@ fn correct_group(
         work,
         sums,
     );
+    let flips = rows.flips + columns.flips;
+    let wrong = rows.wrong + columns.wrong;
     Pass {
-        flips: rows.flips + columns.flips,
-        wrong: rows.wrong + columns.wrong,
+        flips: flips,
+        wrong: wrong,
     }
 }
 

@@ -16,11 +16,11 @@ correct-lines-requires-2 c κs =
     let p = c .before .before .before .before .before .before .before .before .before .before .before .before .before .before .before .before .before .before .before .before .before .before .before .before .before .before .pre in
     (p .0, c .before .before .before .before .before .before .before .before .before .before .before .before .correct-lines .ensures .4, c .before .before .before .before .before .before .before .work .given ∙ p .2, c .before .before .before .before .before .sums .given ∙ p .3)
 
-add-t31 : tie.Need-add-t31
-add-t31 c = omega (arith, c .before .before .before .before .before .before .before .before .before .before .before .before .before .before .before .before .before .before .before .before .before .before .before .correct-lines .ensures .2, c .before .before .before .before .before .before .before .before .before .before .correct-lines2 .ensures .2)
+add-flips : tie.Need-add-flips
+add-flips c = omega (arith, c .before .before .before .before .before .before .before .before .before .before .before .before .before .before .before .before .before .before .before .before .before .before .before .correct-lines .ensures .2, c .before .before .before .before .before .before .before .before .before .before .correct-lines2 .ensures .2)
 
-add-t32 : tie.Need-add-t32
-add-t32 c = omega (arith, c .before .before .before .before .before .before .before .before .before .before .before .before .before .before .before .before .before .before .before .before .before .before .before .before .before .correct-lines .ensures .3, c .before .before .before .before .before .before .before .before .before .before .before .before .correct-lines2 .ensures .3)
+add-wrong : tie.Need-add-wrong
+add-wrong c = omega (arith, c .before .before .before .before .before .before .before .before .before .before .before .before .before .before .before .before .before .before .before .before .before .before .before .before .before .correct-lines .ensures .3, c .before .before .before .before .before .before .before .before .before .before .before .before .correct-lines2 .ensures .3)
 
 same-length : tie.Need-same-length
 same-length c = c .before .before .before .before .before .before .before .before .before .before .before .info2 .given ∙ c .before .before .before .before .before .before .before .before .before .before .before .before .before .before .before .before .before .before .before .before .before .before .before .before .info .given
@@ -56,8 +56,8 @@ correct-group-spec =
     (tie.spec
     correct-lines-requires
     correct-lines-requires-2
-    add-t31
-    add-t32
+    add-flips
+    add-wrong
     same-length
     same-length-2
     same-length-3
