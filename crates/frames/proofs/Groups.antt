@@ -3,9 +3,9 @@
 --   written, written-none, written-more, written-all   a buffer that a loop fills group by group
 --   groups-are                          the groups are the redundancy of the frame's definition
 -- Assumes nothing.
-use mathlib.Core.Path.{_≡_, refl, sym, ap, ap₂, _∙_}
+use mathlib.Core.Path.{_≡_, sym, ap, ap₂, _∙_}
 use mathlib.Core.List.{List, _++_, append-nil, append-assoc}
-use Prim.Native.Nat.{ℕ, zero, suc, _+_, _-_, _*_, _<_}
+use Prim.Native.Nat.{ℕ, _+_, _-_, _*_, _<_}
 use native.Mathlib.Nat.{zero-mul, add-mul, one-mul, add-sub-cancel-left}
 use native.Mathlib.Numerals.{add-one}
 use native.Mathlib.Omega.{arith}
@@ -18,7 +18,7 @@ use Rattle.staircase.specs.System.{Contents, preimage, groupRedundancy, redunda
 use Rattle.staircase.specs.Frame.{groups, block}
 use Rattle.staircase.specs.Demand2.{Permutes}
 use Rattle.staircase.proofs.System.{Proper}
-use Rattle.staircase.proofs.Tables.{tabulate-length, concat-last, concat-length}
+use Rattle.staircase.proofs.Tables.{tabulate-length, concat-last, concat-same, concat-length}
 use Rattle.staircase.proofs.Redundancy.{block-binary}
 use Rattle.blocks.specs.Blocks.{sent, blockBytes, sentBit, Powers}
 use Rattle.blocks.proofs.Blocks.{sent-odd, block-is, odd-is}
@@ -40,11 +40,6 @@ groupFrom-length table sources inverse size r L info i =
     (λ k. getD (blockBytes L (size * size) info (2 * i + 1)) k 0) (sentBit (sent L (2 * i + 2)) (blockBytes L (size * size) info (2 * i + 2)))
 
 -- ---- group by group
-
-concat-same : (n : ℕ) (f g : ℕ → List ℕ) → ((i : ℕ) → i < n → f i ≡ g i) → concat n f ≡ concat n g
-unfolding concat
-concat-same zero f g h = refl
-concat-same (suc n) f g h = ap₂ _++_ (h zero (omega arith)) (concat-same n (λ k. f (suc k)) (λ k. g (suc k)) (λ i l. h (suc i) (omega arith)))
 
 -- the first i stretches of w bytes by the rule, the rest as it was
 unfoldable pub written : (ℕ → List ℕ) → List ℕ → ℕ → ℕ → List ℕ

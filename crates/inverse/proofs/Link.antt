@@ -5,7 +5,7 @@
 use mathlib.Core.Path.{_≡_, sym, ap, ap₂, _∙_}
 use mathlib.Core.Bool.{Bool, true, false, not, cond}
 use mathlib.Core.List.{List}
-use Prim.Native.Nat.{ℕ, _+_, _-_, _*_, _/_, _%_, _<_}
+use Prim.Native.Nat.{ℕ, _-_, _*_, _/_, _%_, _<_}
 use native.Mathlib.Nat.{mul-comm, mod-lt, div-lt-iff-lt-mul}
 use native.Mathlib.Omega.{arith}
 use lib.Dec.{eqb, ltb}
@@ -15,7 +15,7 @@ use borrow.Author.Tests.{lt-ltb}
 use Rattle.bch.specs.Powers.{powerMod, PositionPowers}
 use Rattle.staircase.specs.Lists.{sumBits}
 use Rattle.staircase.specs.Design.{Params, Interleavers, order}
-use Rattle.staircase.specs.System.{unstack, preimage, systemEntry, inverseEntry, product, identity}
+use Rattle.staircase.specs.System.{preimage, systemEntry, inverseEntry, product, identity}
 use Rattle.staircase.specs.Rules.{wrongEntry}
 use Rattle.staircase.specs.Demand2.{Permutes}
 use Rattle.staircase.proofs.Matrix.{sumBits-same}

@@ -1,29 +1,27 @@
 -- The scan of a text by its two lines, and designs that rules 1 to 3 let through.
---   order-small, small              the sizes of designs that rules 1 to 3 let through
+--   small                           the sizes of designs that rules 1 to 3 let through
 --   not-eleven                      none of these rules has the number 11
 --   Found, two-lines                the two lines at the start of a text, or the place where they go wrong
 --   scan-stuck, scan-found          the verdict of either
 --   rule-refused                    the place of a scan, by its verdict
 --   Accepted, accepted-is           an accepted text starts with two lines of a design that passes, and the scan reads the rest
 -- Assumes nothing.
-use Prim.Native.Nat.{ℕ, _-_, _*_, _^_, _≤_, _<_}
+use Prim.Native.Nat.{ℕ, _-_, _*_, _^_, _<_}
 use mathlib.Core.Path.{_≡_, refl, sym, ap, _∙_}
 use mathlib.Core.Bool.{Bool, true, false}
 use mathlib.Core.List.{List, [], _∷_}
 use mathlib.Core.Logic.{_⊎_, inl, inr}
 use native.Mathlib.Omega.{arith}
-use native.Mathlib.Nat.{pow-le-pow-right}
 use lib.Dec.{ltb}
 use lib.ListN.{getD}
-use borrow.Author.Tests.{ltb-false}
 use Rattle.formats.specs.Format as format
 use Rattle.formats.specs.Format.{Scan, scan}
 use Rattle.formats.specs.Items.{Walk, stuck, past, walk, scanAt}
 use Rattle.readers.specs.Verdicts.{scanRule}
-use Rattle.staircase.specs.Design.{Params, params, order, wordLength}
+use Rattle.staircase.specs.Design.{params, order, wordLength}
 use Rattle.staircase.specs.Rules.{Verdict, _then_, refuse, outOfRange, sizeRule, longRule, largeRule, designRules}
 use Rattle.staircase.specs.Rules.Verdict.{accepted, refused}
-use Rattle.staircase.proofs.Rules.{then-first, then-rest, refuse-false, design-limits}
+use Rattle.staircase.proofs.Rules.{then-first, then-rest, design-limits}
 use Rattle.kitscan.specs.KitText.{headItems, kitFormat}
 use Rattle.kittext.specs.Reader.{headNumber, kitParams, bodyScan, bodyRule, scanKit, Passing}
 use Rattle.kitscan.specs.Answers.{restFormat}
@@ -32,19 +30,10 @@ use Rattle.kitscan.proofs.TwoLines.{Shown, head-read, head-stuck}
 
 -- ---- designs that rules 1 to 3 let through
 
-pub order-small : (m t M : ℕ) → Passing m t M → M * (m * t) ≤ 4096
-unfolding designRules largeRule
-order-small m t M e =
-    let s : Params = params m t M in
-    let large : largeRule s ≡ accepted = then-rest (longRule m s) (largeRule s) (then-rest (sizeRule m t M) (longRule m s then largeRule s) e) in
-    ltb-false 4096 (M * (m * t)) (refuse-false (ltb 4096 (M * (m * t))) 3 (M * (m * t)) large)
-
 pub small : (m t M : ℕ) → Passing m t M → Small m t M
 small m t M e =
     let l = design-limits m t M e in
-    let h = order-small m t M e in
-    let p : 2 ^ m ≤ 2 ^ 10 = pow-le-pow-right (omega arith) (l .m-high) in
-    record { hm = omega (arith, l .m-high); ht = omega (arith, l .t-high); hM = omega (arith, l .fits); hn = omega arith }
+    record { hm = omega (arith, l .m-high); ht = omega (arith, l .t-high); hM = omega (arith, l .M-high); hn = omega (arith, l .order-high) }
 
 -- no rule of these has the number 11
 abbrev Other : Verdict → Type 0

@@ -17,7 +17,7 @@ use Rattle.formats.proofs.Parts.{Split, fit-split, lits-first}
 use Rattle.staircase.specs.Lists.{tabulate, concat}
 use Rattle.staircase.specs.System.{rowBytes, inverseEntry}
 use Rattle.staircase.specs.Rules.{entries}
-use Rattle.staircase.proofs.Tables.{tabulate-same}
+use Rattle.staircase.proofs.Tables.{tabulate-same, concat-same}
 use Rattle.rules.proofs.Entries.{entry-at}
 use Rattle.kitscan.specs.KitText.{pairLine, pairLines}
 use Rattle.kitfill.specs.Bytes.{firsts, seconds, packs, binary, pack, packRows}
@@ -25,12 +25,6 @@ use Rattle.kittext.specs.Rendered.{pairText, rowText}
 use Rattle.kittext.proofs.Counting.{pair-is}
 use Rattle.kitfill.proofs.RowCounts.{Run, row-items, row-count}
 use Rattle.kitfill.proofs.Packing.{length-pack}
-
-pub concat-same : (n : ℕ) (f g : ℕ → List ℕ) → ((k : ℕ) → k < n → f k ≡ g k) → concat n f ≡ concat n g
-unfolding concat
-concat-same zero f g h = refl
-concat-same (suc n) f g h =
-    ap₂ (λ (x y : List ℕ). x ++ y) (h zero (omega arith)) (concat-same n (λ k. f (suc k)) (λ k. g (suc k)) (λ k l. h (suc k) (omega arith)))
 
 shift : (x i : ℕ) → suc x + i ≡ x + suc i
 shift x i = omega arith

@@ -20,6 +20,8 @@ use Rattle.staircase.specs.Lists.{concat}
 use Rattle.staircase.specs.System.{inverseEntry}
 use Rattle.staircase.specs.Rules.{entries}
 use Rattle.staircase.specs.Rules.Verdict.{accepted, refused}
+use Rattle.staircase.proofs.Tables.{concat-same}
+use Rattle.staircase.proofs.Rules.{design-limits}
 use Rattle.kitscan.specs.KitText.{headBytes, listNames, rowNames, pairLines, kitBody}
 use Rattle.kitfill.specs.Bytes.{firsts, seconds, packs, packRows}
 use Rattle.kittext.specs.Reader.{headNumber, kitParams, bodyScan, scanKit, selfOf, parityOf, inverseOf}
@@ -27,8 +29,8 @@ use Rattle.kitscan.specs.Answers.{restFormat, tailItems}
 use Rattle.kittext.specs.Rendered.{pairText, rowText}
 use Rattle.kittext.proofs.Counting.{pairs-count, self-shown, parity-shown, inverse-shown}
 use Rattle.kittext.proofs.KitTexts.{tidy-body, head-passed, kit-rest}
-use Rattle.kittext.proofs.Rendering.{concat-same, pairs-render, values-small, entry-of, row-same, rows-bits, rows-render, inverse-of}
-use Rattle.kittext.proofs.Judged.{order-small, shown, order-found, body-found, Accepted, accepted-is}
+use Rattle.kittext.proofs.Rendering.{pairs-render, values-small, entry-of, row-same, rows-bits, rows-render, inverse-of}
+use Rattle.kittext.proofs.Judged.{shown, order-found, body-found, Accepted, accepted-is}
 
 -- ---- what an accepted text shows
 
@@ -109,7 +111,7 @@ kit-told s acc = go (accepted-is s acc)
         let F = A .found in
         let S = shown s F in
         let n : ℕ = F .M * (F .m * F .t) in
-        let p : n ≤ 4096 = order-small (F .m) (F .t) (F .M) (A .passing) in
+        let p : n ≤ 4096 = design-limits (F .m) (F .t) (F .M) (A .passing) .order-high in
         let b : scanAt (restFormat n) s (F .q) ≡ format.read (A .mark) (A .vs) = sym (kit-rest s (F .m) (F .t) (F .M) (F .q) (F .lines)) ∙ A .scanned in
         let (e, w, z) = items-read (kitBody n) s (F .q) (A .mark) (A .vs) b in
         let P = walk-sound (kitBody n) s (F .q) (A .vs) e (tidy-oks (kitBody n) (tidy-body n (omega arith))) w in

@@ -7,7 +7,7 @@
 use mathlib.Core.Path.{_≡_, refl, sym, ap, _∙_}
 use mathlib.Core.Bool.{Bool, true, false, cond}
 use mathlib.Core.List.{List}
-use Prim.Native.Nat.{ℕ, zero, suc, _+_, _-_, _*_, _/_, _%_, _^_, _≤_, _<_}
+use Prim.Native.Nat.{ℕ, _+_, _-_, _*_, _/_, _%_, _^_, _≤_, _<_}
 use native.Mathlib.Nat.{mod-lt, mul-comm, add-sub-cancel-left}
 use native.Mathlib.Omega.{arith}
 use lib.Bits.{bitXor}
@@ -15,7 +15,7 @@ use lib.Dec.{eqb, ltb}
 use lib.ListN.{length, getD, set, take, drop, replicate}
 use borrow.Author.Tests.{ne-eqb}
 use borrow.Rule.Slice.PartMut.{mid-len}
-use Rattle.bch.proofs.Store.{set-each}
+use Rattle.bch.proofs.Store.{zeros-at, set-each}
 use Rattle.staircase.specs.Lists.{bitSum}
 use Rattle.staircase.specs.System.{rowBytes, inverseEntry}
 use Rattle.staircase.proofs.Matrix.{bitSum-zero}
@@ -47,11 +47,6 @@ paddedEntry-at w n i b r h = go (ltb i n)
     go : (z : Bool) → cond z (inverseEntry w n i (8 * b + r)) 0 ≡ bit (cond z (getD w (i * rowBytes n + b) 0) 0) r
     go true = inverseEntry-at w n i b r h
     go false = sym (bit-zero r)
-
-zeros-at : (n i : ℕ) → _≡_ {A = ℕ} (getD (replicate n 0) i 0) 0
-zeros-at zero i = refl
-zeros-at (suc n) zero = refl
-zeros-at (suc n) (suc i) = zeros-at n i
 
 pub packedBit-zeros : (n k : ℕ) → packedBit (replicate n 0) k ≡ 0
 unfolding packedBit

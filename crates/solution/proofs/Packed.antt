@@ -8,8 +8,7 @@
 use mathlib.Core.Path.{_≡_, refl, sym, ap, ap₂, _∙_}
 use mathlib.Core.Bool.{Bool, true, false, cond}
 use mathlib.Core.List.{List}
-use Prim.Native.Nat.{ℕ, zero, suc, _+_, _-_, _*_, _/_, _%_, _^_, _≤_, _<_}
-use native.Mathlib.Nat.{zero-div}
+use Prim.Native.Nat.{ℕ, _+_, _-_, _*_, _/_, _%_, _^_, _≤_, _<_}
 use native.Mathlib.Decide.{ℕ-discrete}
 use native.Mathlib.Omega.{arith}
 use lib.Dec.{eqb, ltb}
@@ -21,6 +20,7 @@ use Rattle.staircase.specs.System.{rowBytes, inverseEntry}
 use Rattle.staircase.proofs.Matrix.{bitSum-zero, zero-bitSum, sumBits-same}
 use Rattle.staircase.proofs.Bounds.{stretch-end, small-product}
 use Rattle.matrix.specs.Packed.{packedBit}
+use Rattle.matrix.proofs.Packed.{packedBit-zeros}
 use Rattle.remainders.proofs.Rows.{row-length, row-at}
 
 packed-bit : (row : List ℕ) (k : ℕ) → packedBit row k < 2
@@ -32,16 +32,8 @@ packed-bit row k = mod2-bit (getD row (k / 8) 0 / 2 ^ (k % 8))
 abbrev pub PackedUpTo : (ℕ → ℕ) → List ℕ → ℕ → Type 0
 PackedUpTo f row k = (j : ℕ) → packedBit row j ≡ cond (ltb j k) (f j) 0
 
-zero-at : (n j : ℕ) → _≡_ {A = ℕ} (getD (replicate n 0) j 0) 0
-zero-at zero j = refl
-zero-at (suc n) zero = refl
-zero-at (suc n) (suc j) = zero-at n j
-
 pub packed-none : (f : ℕ → ℕ) (n : ℕ) → PackedUpTo f (replicate n 0) 0
-unfolding packedBit
-packed-none f n j =
-    ap (λ (x : ℕ). x / 2 ^ (j % 8) % 2) (zero-at n (j / 8)) ∙ ap (λ (x : ℕ). x % 2) (zero-div (2 ^ (j % 8)))
-    ∙ ap (λ (z : Bool). cond z (f j) 0) (sym (le-ltb j 0 (omega arith)))
+packed-none f n j = packedBit-zeros n j ∙ ap (λ (z : Bool). cond z (f j) 0) (sym (le-ltb j 0 (omega arith)))
 
 module _ (f : ℕ → ℕ) (row next : List ℕ) (k v : ℕ) (is : v ≡ f k) (small : v < 2) (before : PackedUpTo f row k)
     (added : (j : ℕ) → packedBit next j ≡ bitSum (packedBit row j) (cond (eqb k j) v 0)) where

@@ -3,6 +3,7 @@
 --   tabulate-length, tabulate-at, tabulate-bits   the length of a table, its entries, and that they are bits
 --   tabulate-same, tabulate-map                   tables of the same values, and of values under a function
 --   tabulate-last, concat-last                    one more entry, and one more list, at the end
+--   concat-same                                   the same lists, one after the other
 --   concat-length, concat-at                      lists of one size, one after the other
 -- Assumes nothing.
 use mathlib.Core.Path.{_≡_, refl, sym, ap, ap₂, _∙_}
@@ -57,6 +58,11 @@ unfolding concat
 concat-last zero f = append-nil (f zero)
 concat-last (suc n) f =
     ap (λ t. f zero ++ t) (concat-last n (λ k. f (suc k))) ∙ sym (append-assoc (f zero) (concat n (λ k. f (suc k))) (f (suc n)))
+
+pub concat-same : {A : Type 0} (n : ℕ) (f g : ℕ → List A) → ((k : ℕ) → k < n → f k ≡ g k) → concat n f ≡ concat n g
+unfolding concat
+concat-same zero f g h = refl
+concat-same (suc n) f g h = ap₂ _++_ (h zero (suc-le-suc zero-le)) (concat-same n (λ k. f (suc k)) (λ k. g (suc k)) (λ k l. h (suc k) (suc-le-suc l)))
 
 pub concat-length : {A : Type 0} (n size : ℕ) (f : ℕ → List A) → ((k : ℕ) → length (f k) ≡ size) → length (concat n f) ≡ n * size
 unfolding concat

@@ -11,7 +11,7 @@
 // into the working bytes: byte b × M + a is row a, column b, and stands in Y or P where the list sends it. Nothing of the frame is changed.
 ghost use mathlib.Core.Path.{_≡_};
 ghost use mathlib.Core.Bool.{cond};
-ghost use Prim.Native.Nat.{ℕ, _+_, _*_, _^_, _≤_, _<_};
+ghost use Prim.Native.Nat.{_+_, _*_, _^_, _≤_, _<_};
 ghost use lib.Dec.{eqb};
 ghost use lib.ListN.{length, getD};
 ghost use Rattle.bch.specs.Polynomial.{Bits};

@@ -3,9 +3,8 @@
 use native.Mathlib.Omega.{arith}
 use borrow.Author.Needs.{needs}
 use mathlib.Core.Path.{_≡_, ap, _∙_}
-use mathlib.Core.List.{List}
 use Prim.Native.Nat.{ℕ, _*_, _-_, _≤_}
-use lib.ListN.{length, take, drop}
+use lib.ListN.{length, take}
 use Rattle.design.specs.Sizes.{paramsOf}
 use Rattle.positions.proofs.Parts.{part-within, middle-is}
 use Rattle.design.proofs.Allowed.{r-small}

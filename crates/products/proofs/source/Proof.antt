@@ -1,8 +1,8 @@
 -- The line's place in Y or P is below M × r.
 -- Assumes nothing.
 use native.Mathlib.Omega.{arith}
-use mathlib.Core.Path.{_≡_, refl}
-use Prim.Native.Nat.{_+_, _*_, _/_, _%_}
+use mathlib.Core.Path.{refl}
+use Prim.Native.Nat.{_*_}
 use Rattle.system.specs.Lines.{unstackOf}
 use Rattle.products.proofs.Sizes.{unstacked}
 use Rattle.products.proofs.source.Statement.{statement}
