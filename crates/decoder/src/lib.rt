@@ -84,8 +84,8 @@ fn correct_in(
     }
 }
 
-// Working entries for the positions of a word, for their values and those of four bits, for a field, and for the remainders of the row words of a
-// group. Only their lengths are told: the most that a design needs, or more.
+// Working entries for the positions of a word, for their values and those of four bits, for a field, and for the remainders of a group's row words
+// or column words. Only their lengths are told: the most that a design needs, or more.
 fn position_entries() -> [u32; 1024]
     ensures { λ a. ⌜ 1024 ≡ length a ⌝ }
 {

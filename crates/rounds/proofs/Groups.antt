@@ -6,7 +6,7 @@
 --   group-round              a pass over the words of a group
 --   round-none, round-next   the groups before i, and one group more
 --   idle-frame               a pass that flips nothing leaves the frame
---   group-wrong, round-wrong, words-wrong   and then counts the words outside the code
+--   group-outside, round-outside, words-outside   and then counts the words outside the code
 -- Assumes nothing.
 use mathlib.Core.Path.{_≡_, refl, sym, ap, ap₂, _∙_}
 use mathlib.Core.Bool.{Bool, true, false}
@@ -103,22 +103,22 @@ unfolding round
 idle-frame s ws f x e z = ap (λ (y : Progress). y .frame) e ∙ idle s ws f (ap (λ (y : Progress). y .flips) (sym e) ∙ z)
 
 -- a group in which nothing is flipped: its words are those of the frame as it was
-pub group-wrong : (s : Params) (l : Interleavers) (L i : ℕ) (f : Frame) (x : Progress) (a b : ℕ) → x ≡ round s (lineWords s l L i false) f → x .flips ≡ 0
+pub group-outside : (s : Params) (l : Interleavers) (L i : ℕ) (f : Frame) (x : Progress) (a b : ℕ) → x ≡ round s (lineWords s l L i false) f → x .flips ≡ 0
     → a ≡ nonzeros (wordRemainders s l L f i false) → b ≡ nonzeros (wordRemainders s l L (x .frame) i true)
     → a + b ≡ outsideAmong s f (groupWords s l L i)
-group-wrong s l L i f x a b e z ha hb =
+group-outside s l L i f x a b e z ha hb =
     let kept : x .frame ≡ f = idle-frame s (lineWords s l L i false) f x e z in
     let rows = line-rows s l L f i false (rowRemainders s l L f i) refl refl in
     let columns = line-columns s l L f i true (columnRemainders s L f i) refl refl in
     ap₂ _+_ (ha ∙ ap nonzeros (sym rows)) (hb ∙ ap (λ (g : Frame). nonzeros (wordRemainders s l L g i true)) kept ∙ ap nonzeros (sym columns))
     ∙ group-count s f l L i
 
-pub round-wrong : (s : Params) (l : Interleavers) (L n : ℕ) (f : Frame) (x : Progress) (wrong more : ℕ) → x ≡ round s (concat n (groupWords s l L)) f
-    → x .flips ≡ 0 → wrong ≡ outsideAmong s f (concat n (groupWords s l L)) → more ≡ outsideAmong s (x .frame) (groupWords s l L n)
-    → wrong + more ≡ outsideAmong s f (concat (n + 1) (groupWords s l L))
-round-wrong s l L n f x wrong more e z hw hm =
-    next-group s f l L n wrong more hw (hm ∙ ap (λ (g : Frame). outsideAmong s g (groupWords s l L n)) (idle-frame s (concat n (groupWords s l L)) f x e z))
+pub round-outside : (s : Params) (l : Interleavers) (L n : ℕ) (f : Frame) (x : Progress) (count more : ℕ) → x ≡ round s (concat n (groupWords s l L)) f
+    → x .flips ≡ 0 → count ≡ outsideAmong s f (concat n (groupWords s l L)) → more ≡ outsideAmong s (x .frame) (groupWords s l L n)
+    → count + more ≡ outsideAmong s f (concat (n + 1) (groupWords s l L))
+round-outside s l L n f x count more e z hw hm =
+    next-group s f l L n count more hw (hm ∙ ap (λ (g : Frame). outsideAmong s g (groupWords s l L n)) (idle-frame s (concat n (groupWords s l L)) f x e z))
 
-pub words-wrong : (s : Params) (l : Interleavers) (L n : ℕ) (f : Frame) (x : Progress) (wrong : ℕ) → n ≡ groups L → x ≡ round s (concat n (groupWords s l L)) f
-    → x .flips ≡ 0 → wrong ≡ outsideAmong s f (concat n (groupWords s l L)) → wrong ≡ outside s l L (x .frame)
-words-wrong s l L n f x wrong h e z hw = all-groups s f l L n wrong hw h ∙ ap (outside s l L) (sym (idle-frame s (concat n (groupWords s l L)) f x e z))
+pub words-outside : (s : Params) (l : Interleavers) (L n : ℕ) (f : Frame) (x : Progress) (count : ℕ) → n ≡ groups L → x ≡ round s (concat n (groupWords s l L)) f
+    → x .flips ≡ 0 → count ≡ outsideAmong s f (concat n (groupWords s l L)) → count ≡ outside s l L (x .frame)
+words-outside s l L n f x count h e z hw = all-groups s f l L n count hw h ∙ ap (outside s l L) (sym (idle-frame s (concat n (groupWords s l L)) f x e z))

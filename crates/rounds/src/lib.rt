@@ -31,15 +31,15 @@ const DEFAULT_ROUNDS: usize = 7;
 // What a pass over some words has done: bits flipped, and words that were outside the code when their remainders were taken.
 struct Pass {
     flips: usize,
-    wrong: u64,
+    outside: u64,
 }
 
-// Rounds made, bits flipped, and whether the last round flipped nothing; `wrong` are then the words outside the code.
+// Rounds made, bits flipped, and whether the last round flipped nothing; `outside` are then the words outside the code.
 pub struct Made {
     pub rounds: usize,
     pub flips: usize,
     pub idle: bool,
-    pub wrong: u64,
+    pub outside: u64,
 }
 
 // Fills the tables of a design: the powers of x at the positions of a word, their values and then those of four bits, and the field's.
@@ -115,9 +115,9 @@ fn correct_lines(
     ensures { λ a. ⌜ (record { frame = frameOf (now (info .exit)) (now (red .exit)); flips = a .flips }
         ≡ round (paramsOf d) (lineWords (paramsOf d) (listsOf d (now (own .entry)) (now (parity .entry))) blocks i column)
         (frameOf (now (info .entry)) (now (red .entry))))
-        × (a .wrong ≡ nonzeros (wordRemainders (paramsOf d) (listsOf d (now (own .entry)) (now (parity .entry))) blocks
+        × (a .outside ≡ nonzeros (wordRemainders (paramsOf d) (listsOf d (now (own .entry)) (now (parity .entry))) blocks
         (frameOf (now (info .entry)) (now (red .entry))) i column))
-        × (a .flips ≤ 1500) × (a .wrong ≤ 500) × FrameFits d blocks (now (info .exit)) (now (red .exit)) ⌝ }
+        × (a .flips ≤ 1500) × (a .outside ≤ 500) × FrameFits d blocks (now (info .exit)) (now (red .exit)) ⌝ }
 {
     line_remainders(
         d,
@@ -132,7 +132,7 @@ fn correct_lines(
         work,
         sums,
     );
-    let wrong = words::count_nonzero(&sums[..]);
+    let outside = words::count_nonzero(&sums[..]);
     let flips = correct::correct_words(
         d,
         blocks,
@@ -149,7 +149,7 @@ fn correct_lines(
     );
     Pass {
         flips: flips,
-        wrong: wrong,
+        outside: outside,
     }
 }
 
@@ -173,9 +173,9 @@ fn correct_group(
     ensures { λ a. ⌜ (record { frame = frameOf (now (info .exit)) (now (red .exit)); flips = a .flips }
         ≡ round (paramsOf d) (groupWords (paramsOf d) (listsOf d (now (own .entry)) (now (parity .entry))) blocks i)
         (frameOf (now (info .entry)) (now (red .entry))))
-        × (a .flips ≡ 0 → a .wrong ≡ outsideAmong (paramsOf d) (frameOf (now (info .entry)) (now (red .entry)))
+        × (a .flips ≡ 0 → a .outside ≡ outsideAmong (paramsOf d) (frameOf (now (info .entry)) (now (red .entry)))
         (groupWords (paramsOf d) (listsOf d (now (own .entry)) (now (parity .entry))) blocks i))
-        × (a .flips ≤ 3000) × (a .wrong ≤ 1000) × FrameFits d blocks (now (info .exit)) (now (red .exit)) ⌝ }
+        × (a .flips ≤ 3000) × (a .outside ≤ 1000) × FrameFits d blocks (now (info .exit)) (now (red .exit)) ⌝ }
 {
     let rows = correct_lines(
         d,
@@ -208,10 +208,10 @@ fn correct_group(
         sums,
     );
     let flips = rows.flips + columns.flips;
-    let wrong = rows.wrong + columns.wrong;
+    let outside = rows.outside + columns.outside;
     Pass {
         flips: flips,
-        wrong: wrong,
+        outside: outside,
     }
 }
 
@@ -234,13 +234,13 @@ fn correct_once(
     ensures { λ a. ⌜ (record { frame = frameOf (now (info .exit)) (now (red .exit)); flips = a .flips }
         ≡ round (paramsOf d) (words (paramsOf d) (listsOf d (now (own .entry)) (now (parity .entry))) blocks)
         (frameOf (now (info .entry)) (now (red .entry))))
-        × (a .flips ≡ 0 → a .wrong
+        × (a .flips ≡ 0 → a .outside
         ≡ outside (paramsOf d) (listsOf d (now (own .entry)) (now (parity .entry))) blocks (frameOf (now (info .exit)) (now (red .exit))))
         × (a .flips ≤ 6144000) × FrameFits d blocks (now (info .exit)) (now (red .exit)) ⌝ }
 {
     let count = design::group_count(blocks as u64) as usize;
     let mut flips = 0;
-    let mut wrong: u64 = 0;
+    let mut outside: u64 = 0;
     for i in 0..count {
         let more = correct_group(
             d,
@@ -257,11 +257,11 @@ fn correct_once(
             sums,
         );
         flips += more.flips;
-        wrong += more.wrong;
+        outside += more.outside;
     }
     Pass {
         flips: flips,
-        wrong: wrong,
+        outside: outside,
     }
 }
 
@@ -285,7 +285,7 @@ pub fn run_rounds(
     ensures { λ a. ⌜ (record { frame = frameOf (now (info .exit)) (now (red .exit)); rounds = a .rounds; flips = a .flips }
         ≡ runRounds (paramsOf d) (words (paramsOf d) (listsOf d (now (own .entry)) (now (parity .entry))) blocks) limit
         (frameOf (now (info .entry)) (now (red .entry))))
-        × (a .idle ≡ true → a .wrong
+        × (a .idle ≡ true → a .outside
         ≡ outside (paramsOf d) (listsOf d (now (own .entry)) (now (parity .entry))) blocks (frameOf (now (info .exit)) (now (red .exit))))
         × (length (now (work .exit)) ≡ length (now (work .entry))) ⌝ }
 {
@@ -310,7 +310,7 @@ pub fn run_rounds(
                 rounds: k + 1,
                 flips: flips,
                 idle: true,
-                wrong: more.wrong,
+                outside: more.outside,
             };
         }
     }
@@ -318,7 +318,7 @@ pub fn run_rounds(
         rounds: limit,
         flips: flips,
         idle: false,
-        wrong: 0,
+        outside: 0,
     }
 }
 
@@ -335,12 +335,12 @@ pub fn outside_after(
     work: &mut [u8],
 ) -> u64
     requires { ⌜ Received d blocks (now own) (now parity) (now info) (now red) × WordTable d (now table) × (length (now work) ≡ orderOf d)
-        × (made .idle ≡ true → made .wrong ≡ outside (paramsOf d) (listsOf d (now own) (now parity)) blocks (frameOf (now info) (now red))) ⌝ }
+        × (made .idle ≡ true → made .outside ≡ outside (paramsOf d) (listsOf d (now own) (now parity)) blocks (frameOf (now info) (now red))) ⌝ }
     ensures { λ a. ⌜ a
         ≡ outside (paramsOf d) (listsOf d (now (own .entry)) (now (parity .entry))) blocks (frameOf (now (info .entry)) (now (red .entry))) ⌝ }
 {
     if made.idle {
-        return made.wrong;
+        return made.outside;
     }
     words::count_outside(d, blocks, own, parity, info, red, table, work)
 }

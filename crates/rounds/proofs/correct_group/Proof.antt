@@ -4,7 +4,7 @@ use native.Mathlib.Omega.{arith}
 use mathlib.Core.Path.{_≡_, _∙_}
 use Rattle.staircase.specs.Frame.{frameOf}
 use Rattle.design.specs.Sizes.{paramsOf, listsOf}
-use Rattle.rounds.proofs.Groups.{group-round, group-wrong}
+use Rattle.rounds.proofs.Groups.{group-round, group-outside}
 use Rattle.rounds.proofs.correct_group.Statement.{statement}
 use Rattle.rounds.proofs.correct_group.Tie as tie
 
@@ -19,8 +19,8 @@ correct-lines-requires-2 c κs =
 add-flips : tie.Need-add-flips
 add-flips c = omega (arith, c .before .before .before .before .before .before .before .before .before .before .before .before .before .before .before .before .before .before .before .before .before .before .before .correct-lines .ensures .2, c .before .before .before .before .before .before .before .before .before .before .correct-lines2 .ensures .2)
 
-add-wrong : tie.Need-add-wrong
-add-wrong c = omega (arith, c .before .before .before .before .before .before .before .before .before .before .before .before .before .before .before .before .before .before .before .before .before .before .before .before .before .correct-lines .ensures .3, c .before .before .before .before .before .before .before .before .before .before .before .before .correct-lines2 .ensures .3)
+add-outside : tie.Need-add-outside
+add-outside c = omega (arith, c .before .before .before .before .before .before .before .before .before .before .before .before .before .before .before .before .before .before .before .before .before .before .before .before .before .correct-lines .ensures .3, c .before .before .before .before .before .before .before .before .before .before .before .before .correct-lines2 .ensures .3)
 
 same-length : tie.Need-same-length
 same-length c = c .before .before .before .before .before .before .before .before .before .before .before .info2 .given ∙ c .before .before .before .before .before .before .before .before .before .before .before .before .before .before .before .before .before .before .before .before .before .before .before .before .info .given
@@ -44,7 +44,7 @@ returns c =
     let y = c .before .before .before .before .before .before .before .before .before .before .before .before .correct-lines2 .ensures in (
       group-round s l (a .blocks) (a .i) f _ _ (x .0) (y .0),
       λ e. let z : c .before .before .before .before .before .before .before .before .before .before .before .before .before .before .before .before .before .before .before .before .before .before .before .before .before .correct-lines .result .flips ≡ 0 = omega (arith, e) in
-          group-wrong s l (a .blocks) (a .i) f _ _ _ (x .0) z (x .1) (y .1),
+          group-outside s l (a .blocks) (a .i) f _ _ _ (x .0) z (x .1) (y .1),
       omega (arith, x .2, y .2),
       omega (arith, x .3, y .3),
       y .4,
@@ -57,7 +57,7 @@ correct-group-spec =
     correct-lines-requires
     correct-lines-requires-2
     add-flips
-    add-wrong
+    add-outside
     same-length
     same-length-2
     same-length-3

@@ -12,16 +12,16 @@ use Rattle.design.specs.Sizes.{paramsOf, orderOf, listsOf}
 use Rattle.rules.specs.Received.{FrameFits}
 use Rattle.words.specs.Words.{groupWords}
 use Rattle.words.proofs.Count.{none-yet}
-use Rattle.rounds.proofs.Groups.{round-none, round-next, round-wrong, words-wrong}
+use Rattle.rounds.proofs.Groups.{round-none, round-next, round-outside, words-outside}
 use Rattle.rounds.proofs.correct_once.Statement.{statement}
 use Rattle.rounds.proofs.correct_once.Tie as tie
 
 abbrev Inv-loop : tie.InvT-loop
-Inv-loop d blocks own parity positions syndromes field info₀ red₀ work₀ sums₀ count flips₀ wrong₀ i₀ info red work sums flips wrong i =
-    (i ≤ groups blocks) × (length work ≡ orderOf d) × (length sums ≡ d .size) × FrameFits d blocks info red × (flips ≤ i * 3000) × (wrong ≤ i * 1000) × (record { frame = frameOf info red; flips = flips } ≡ round (paramsOf d) (concat i (groupWords (paramsOf d) (listsOf d own parity) blocks)) (frameOf info₀ red₀)) × (flips ≡ 0 → wrong ≡ outsideAmong (paramsOf d) (frameOf info₀ red₀) (concat i (groupWords (paramsOf d) (listsOf d own parity) blocks)))
+Inv-loop d blocks own parity positions syndromes field info₀ red₀ work₀ sums₀ count flips₀ outside₀ i₀ info red work sums flips outside i =
+    (i ≤ groups blocks) × (length work ≡ orderOf d) × (length sums ≡ d .size) × FrameFits d blocks info red × (flips ≤ i * 3000) × (outside ≤ i * 1000) × (record { frame = frameOf info red; flips = flips } ≡ round (paramsOf d) (concat i (groupWords (paramsOf d) (listsOf d own parity) blocks)) (frameOf info₀ red₀)) × (flips ≡ 0 → outside ≡ outsideAmong (paramsOf d) (frameOf info₀ red₀) (concat i (groupWords (paramsOf d) (listsOf d own parity) blocks)))
 
 abbrev μ-loop : tie.MeasureT-loop
-μ-loop d blocks own parity positions syndromes field info₀ red₀ work₀ sums₀ count flips₀ wrong₀ i₀ info red work sums flips wrong i =
+μ-loop d blocks own parity positions syndromes field info₀ red₀ work₀ sums₀ count flips₀ outside₀ i₀ info red work sums flips outside i =
     groups blocks - i
 
 group-count-requires : tie.Need-group-count-requires Inv-loop μ-loop
@@ -44,8 +44,8 @@ correct-group-requires c κs =
 add-flips : tie.Need-add-flips Inv-loop μ-loop
 add-flips c = omega (arith, c .before .before .before .before .before .before .before .before .before .correct-group .ensures .2, c .before .before .before .before .before .before .before .before .before .before .before .before .before .before .before .loop .inv .4, c .before .before .before .before .before .before .before .before .before .before .before .before .before .before .before .before .before .before .before .before .before .before .before .before .before .before .pre .0 .few-blocks)
 
-add-wrong : tie.Need-add-wrong Inv-loop μ-loop
-add-wrong c = omega (arith, c .before .before .before .before .before .before .before .before .before .before .correct-group .ensures .3, c .before .before .before .before .before .before .before .before .before .before .before .before .before .before .before .before .loop .inv .5, c .before .before .before .before .before .before .before .before .before .before .before .before .before .before .before .before .before .before .before .before .before .before .before .before .before .before .before .pre .0 .few-blocks)
+add-outside : tie.Need-add-outside Inv-loop μ-loop
+add-outside c = omega (arith, c .before .before .before .before .before .before .before .before .before .before .correct-group .ensures .3, c .before .before .before .before .before .before .before .before .before .before .before .before .before .before .before .before .loop .inv .5, c .before .before .before .before .before .before .before .before .before .before .before .before .before .before .before .before .before .before .before .before .before .before .before .before .before .before .before .pre .0 .few-blocks)
 
 add-i : tie.Need-add-i Inv-loop μ-loop
 add-i c = omega (arith, c .before .before .before .before .before .before .before .before .before .before .before .before .before .before .before .before .before .before .before .before .before .before .before .before .before .before .before .pre .0 .few-blocks)
@@ -71,7 +71,7 @@ loop-again c =
       round-next s (groupWords s k (a .blocks)) f (l .i) x _ (l .inv .6) (g .0),
       λ e. let z : l .flips ≡ 0 = omega (arith, e) in
           let n : c .before .before .before .before .before .before .before .before .before .before .correct-group .result .flips ≡ 0 = omega (arith, e) in
-          round-wrong s k (a .blocks) (l .i) f x _ _ (l .inv .6) z (l .inv .7 z) (g .1 n),
+          round-outside s k (a .blocks) (l .i) f x _ _ (l .inv .6) z (l .inv .7 z) (g .1 n),
     )
 
 same-length : tie.Need-same-length Inv-loop μ-loop
@@ -96,7 +96,7 @@ returns c =
     let f = frameOf (a .info .now) (a .red .now) in
     let e : l .i ≡ groups (a .blocks) = omega arith in (
       l .inv .6 ∙ ap (λ (n : ℕ). round s (concat n (groupWords s k (a .blocks))) f) e,
-      λ z. words-wrong s k (a .blocks) (l .i) f (record { frame = frameOf (l .info) (l .red); flips = l .flips }) _ e (l .inv .6) z (l .inv .7 z),
+      λ z. words-outside s k (a .blocks) (l .i) f (record { frame = frameOf (l .info) (l .red); flips = l .flips }) _ e (l .inv .6) z (l .inv .7 z),
       omega (arith, l .inv .4, c .before .before .before .before .before .before .before .before .before .before .before .before .pre .0 .few-blocks),
       l .inv .3,
     )
@@ -111,7 +111,7 @@ correct-once-spec =
     loop-holds
     correct-group-requires
     add-flips
-    add-wrong
+    add-outside
     add-i
     loop-less
     loop-again
