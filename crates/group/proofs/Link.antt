@@ -3,7 +3,7 @@
 --   group-is         the group, for blocks that agree with those of the frame in all their places
 -- Assumes nothing.
 use mathlib.Core.Path.{_≡_, sym, ap, ap₂, _∙_}
-use mathlib.Core.List.{List}
+use mathlib.Core.List.{List, _++_}
 use Prim.Native.Nat.{ℕ, _+_, _-_, _*_, _/_, _%_, _<_}
 use native.Mathlib.Nat.{zero-mul, mod-lt, div-lt-iff-lt-mul}
 use native.Mathlib.Omega.{arith}
