@@ -185,8 +185,8 @@ module _ (m t M area order : ℕ) (s : List ℕ) (f : Found) (ea : area ≡ M * 
       groups-walk : walk (groupLines order 1 (groups n)) s (q + 18) ≡ past (frame-text .red) (frame-text .last)
       groups-walk = ap (λ (k : ℕ). walk (groupLines order 1 (groups n)) s (k + 18)) (blocks-out .1) ∙ frame-text .group-lines
 
-      pub groups-pass : Passes (walk (groupLines order 1 (groups n)) s (q + 18))
-      groups-pass = subst Passes (sym groups-walk) tt
+      pub groups-pass : (G : ℕ) → G ≡ groups n → Passes (walk (groupLines order 1 G) s (q + 18))
+      groups-pass G e = subst Passes (sym (ap (λ (k : ℕ). walk (groupLines order 1 k) s (q + 18)) e ∙ groups-walk)) tt
 
     module _ (info red : List ℕ) (c : Check) (h : verdictOf c ≡ frameLengths (params m t M) n info red) where
       pub frame-room : c ≡ check.Passed → (length info ≡ n * area) × (length red ≡ groups n * (2 * order))
@@ -221,11 +221,12 @@ module _ (m t M area order : ℕ) (s : List ℕ) (f : Found) (ea : area ≡ M * 
           ap (λ (l : List ℕ). drop (frameCount M (m * t) s * (M * M)) l) (frame-text .whole)
           ∙ drop-at (frame-text .info) (frame-text .red) (frameCount M (m * t) s * (M * M)) (sym cut)
 
-      pub frame-filled : (i o : List ℕ) (q j : ℕ) → c ≡ check.Passed → past i q ≡ walk (bitsLines area 1 n) s 11
-          → past o j ≡ walk (groupLines order 1 (groups n)) s (q + 18) → FrameDone M (m * t) s info red (Read n) i o
+      pub frame-filled : (i o : List ℕ) (q j G : ℕ) → c ≡ check.Passed → past i q ≡ walk (bitsLines area 1 n) s 11 → G ≡ groups n
+          → past o j ≡ walk (groupLines order 1 G) s (q + 18) → FrameDone M (m * t) s info red (Read n) i o
       unfolding readFrameCall frameRule frameCount
-      frame-filled i o q j k w v =
+      frame-filled i o q j G k w eg v =
           let ((a, b), l) = read-whole y (due-both info red (mark y)) n (valuesOf y) frame-is c due-lengths k in
-          let z : past o j ≡ past (frame-text .red) (frame-text .last) = v ∙ groups-walk i q w in
+          let z : past o j ≡ past (frame-text .red) (frame-text .last) =
+          v ∙ ap (λ (a : ℕ). walk (groupLines order 1 a) s (q + 18)) eg ∙ groups-walk i q w in
           let p : o ≡ frame-text .red = cc in
           (a, (b, (blocks-out i q w .0 ∙ sym (l (frameInfo M r s) info ∙ info-read), p ∙ sym (l (frameRed M r s) red ∙ red-read))))

@@ -100,8 +100,9 @@ pub fn read_frame(text: &[u8], d: Design, info: &mut [u8], red: &mut [u8]) -> Bl
     match lengths {
         Check::Refused(r) => Blocks::Refused(r),
         Check::Passed => {
+            let groups = design::group_count(blocks as u64);
             let middle = framefill::fill_lines(text, BLOCK_LINES, blocks, area, info);
-            framefill::fill_groups(text, middle + GROUP_NAMES, (blocks + 1) / 2, n, red);
+            framefill::fill_groups(text, middle + GROUP_NAMES, groups as usize, n, red);
             Blocks::Read(blocks as u64)
         }
     }
