@@ -26,8 +26,8 @@ use Rattle.staircase.specs.Calls.{encodedBy, encodeVerdict, encodeCall, decodeC
 use Rattle.staircase.proofs.Fill.{filled}
 use Rattle.staircase.proofs.Bounds.{small-product}
 use Rattle.staircase.proofs.Tables.{tabulate-length, tabulate-at}
-use Rattle.staircase.proofs.Rules.{then-first, then-rest, length-equal, lengths-fit}
-use Rattle.staircase.proofs.Demand3.{proper-of}
+use Rattle.staircase.proofs.Rules.{then-first, then-rest, design-limits, length-equal, lengths-fit}
+use Rattle.staircase.proofs.BchCode.{proper-of}
 use Rattle.design.specs.declared.Refusal.{Refusal}
 use Rattle.design.specs.declared.Check.the-variants as check
 use Rattle.design.specs.Answers.{refusalVerdict, verdictOf}
@@ -141,7 +141,7 @@ module _ (m t M L : ℕ) (own parity w info red : List ℕ) (work : ℕ) (v : (e
       let e : work ≡ order s * rowBytes (order s) =
       length-equal 6 work (kitWork s)
       (then-first (lengthRule 6 work (kitWork s)) rest (then-rest (frameLengths s L info red) _ (then-rest (kitLengths s own parity w) _ lengths))) in
-      let ok = proper-of m t M design in
+      let ok = proper-of (design-limits m t M design) in
       let p = small-product 1 1 M (m * t) (ok .mpos) (ok .rpos) in
       let one : 1 ≤ rowBytes (order s) = omega (arith, p) in
       omega (arith, e, small-product (order s) 1 (order s) (rowBytes (order s)) (omega arith) one)
