@@ -1,16 +1,15 @@
 -- Where the positions of a word stand, by the numbers that the code computes.
 --   block-none, block-past, block-one   the sites of a block that is not sent, and of one that is
---   place-fits, red-below     the places of a matrix, and of Y and P
+--   red-below                 the places of Y and P
 --   bit-column, bit-self, bit-parity    the bit of a group at a place of X and Q, or of Y and P
 --   word-first, word-second, word-red   the site at a position of a row word or of a column word
 -- Assumes nothing.
-use mathlib.Core.Path.{_≡_, refl, sym, ap, ap₂, _∙_, subst}
+use mathlib.Core.Path.{_≡_, refl, sym, ap, ap₂, _∙_}
 use mathlib.Core.Bool.{Bool, true, false, cond}
 use Prim.Native.Nat.{ℕ, zero, suc, _+_, _-_, _*_, _≤_, _<_}
 use native.Mathlib.Nat.{mul-comm, mul-assoc, add-mul}
 use native.Mathlib.Decide.{decLt}
 use native.Mathlib.Omega.{arith}
-use lib.Arith.{digits-lt}
 use lib.Dec.{ltb}
 use lib.ListN.{getD}
 use borrow.Author.Tests.{lt-ltb, le-ltb}
@@ -18,6 +17,7 @@ use Rattle.staircase.specs.Design.{Params, Interleavers, order, wordLength}
 use Rattle.staircase.specs.Frame.{blockAt, rowSites, columnSites}
 use Rattle.staircase.specs.Frame.Site.{unsent, inInfo, inRed}
 use Rattle.staircase.proofs.Positions.{row-at-before, row-at-odd, row-at-self, row-at-parity, column-at-odd, column-at-even, column-at-self, column-at-parity}
+use Rattle.staircase.proofs.Bounds.{place-below}
 use Rattle.correct.specs.Sites.{groupBit, wordSites}
 
 pub block-none : (s : Params) (L b k : ℕ) → b < 1 → unsent ≡ blockAt s L b k
@@ -34,18 +34,14 @@ block-one s L (suc b) k h g =
     let e : suc b - 1 ≡ b = omega arith in
     ap (λ (z : ℕ). inInfo (z * (s .M * s .M) + k)) e ∙ sym (ap (λ (z : Bool). cond z (inInfo (b * (s .M * s .M) + k)) unsent) (lt-ltb b L (omega arith)))
 
--- a place of a matrix of n rows
-pub place-fits : (n w row column : ℕ) → row < n → column < w → row * w + column < w * n
-place-fits n w row column h g = subst (λ (z : ℕ). row * w + column < z) (mul-comm n w) (digits-lt {q = row} {m = n} {r = column} {c = w} h g)
-
 -- a place of Y or X, and one of P or Q
 red-fits : (M r a p : ℕ) → 2 * M ≤ p → p < 2 * M + r → a < M → (p - 2 * M) * M + a < M * r
-red-fits M r a p h j b = place-fits r M (p - 2 * M) a (omega arith) b
+red-fits M r a p h j b = place-below M r (p - 2 * M) a (omega arith) b
 
 pub red-below : (M r a p : ℕ) → p < 2 * M + 2 * r → 2 * M ≤ p → a < M → (p - 2 * M) * M + a < 2 * (M * r)
 red-below M r a p j h b =
     let e : M * (2 * r) ≡ 2 * (M * r) = sym (mul-assoc M 2 r) ∙ ap (λ (z : ℕ). z * r) (mul-comm M 2) ∙ mul-assoc 2 M r in
-    omega (arith, e, place-fits (2 * r) M (p - 2 * M) a (omega arith) b)
+    omega (arith, e, place-below M (2 * r) (p - 2 * M) a (omega arith) b)
 
 red-past : (M r a p : ℕ) → 2 * M + r ≤ p → (p - 2 * M) * M + a ≡ M * r + ((p - (2 * M + r)) * M + a)
 red-past M r a p h =

@@ -24,7 +24,7 @@ use Rattle.design.specs.declared.Designed.the-variants as designed
 use Rattle.design.specs.Answers.{verdictOf, designVerdict, DesignIs, Allowed}
 use Rattle.design.specs.Sizes.{paramsOf, orderOf, listsOf}
 use Rattle.rules.specs.Received.{Received}
-use Rattle.design.proofs.Answers.{refused-then, check-refused, check-passed, design-refused, design-made, made-params}
+use Rattle.design.proofs.Answers.{check-refused, check-passed, made-params, refused-design, made-design}
 use Rattle.words.specs.Checks.{contentRules, receivedRules}
 use Rattle.words.proofs.Verdict as words
 use Rattle.decoder.specs.declared.Decoding.{Decoding}
@@ -77,6 +77,9 @@ module _ (m t M L k : ℕ) (own parity info red : List ℕ) (work : ℕ) where
   unfolding decodeCall
   refused-call x other e = by-refused x f done left other ∙ ap (λ (v : Verdict). correctedBy v f done left) e
 
+  abbrev rules : Params → Verdict
+  rules s = frameRules s L k own parity info red work
+
   whole : (designRules m t M then frameRules (params m t M) L k own parity info red work) ≡ decodeVerdict m t M L k own parity info red work
   unfolding decodeVerdict frameRules receivedRules contentRules
   whole = refl
@@ -84,16 +87,11 @@ module _ (m t M L k : ℕ) (own parity info red : List ℕ) (work : ℕ) where
   module _ (a : Designed) (n : designVerdict a ≡ designRules m t M) where
     pub decode-design : (c : Decoding) (x : Check) (r : Refusal) → ((g : Frame) → correctedOf c g ≡ refusedFrame (verdictOf x) g) → a ≡ designed.Refused r
         → verdictOf x ≡ designVerdict a → correctedOf c (frameOf info red) ≡ decodeCall m t M L k own parity info red work
-    decode-design c x r h g e =
-        let v : Verdict = frameRules (params m t M) L k own parity info red work in
-        let same : verdictOf x ≡ verdictOf (check.Refused r) = e ∙ design-refused g in
-        h f ∙ refused-call (verdictOf x) (λ z. check-refused {r = r} refl (sym same ∙ z)) (same ∙ refused-then v (sym (design-refused g) ∙ n) refl ∙ whole)
+    decode-design c x r h g e = let q = refused-design m t M rules a n x g e in h f ∙ refused-call (verdictOf x) (q .0) (q .1 ∙ whole)
 
     module _ (i : DesignIs a m t M) (d : Design) (g : a ≡ designed.Made d) (x : Check) (e : verdictOf x ≡ frameRules (paramsOf d) L k own parity info red work) where
       verdict-is : verdictOf x ≡ decodeVerdict m t M L k own parity info red work
-      verdict-is =
-          e ∙ ap (λ (s : Params). frameRules s L k own parity info red work) (made-params g m t M i)
-          ∙ ap (λ (z : Verdict). z then frameRules (params m t M) L k own parity info red work) (sym (design-made g) ∙ n) ∙ whole
+      verdict-is = made-design m t M rules a n x i g e ∙ whole
 
       pub decode-frame : (c : Decoding) (r : Refusal) → ((z : Frame) → correctedOf c z ≡ refusedFrame (verdictOf x) z) → x ≡ check.Refused r
           → correctedOf c (frameOf info red) ≡ decodeCall m t M L k own parity info red work

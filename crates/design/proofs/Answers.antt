@@ -4,13 +4,14 @@
 --   check-refused, check-passed    a refusal is not accepted, and a check that passed is
 --   design-refused, design-made    the refusal of a design is that of a check, and a design that was made is accepted
 --   made-params, made-allowed    a design that was made has the sizes that it was made from, and is allowed
+--   refused-design, made-design    a call's verdict, rules 1 to 3 and then others: after a design that is refused, and after one that was made
 -- Assumes nothing.
 use mathlib.Core.Path.{_≡_, refl, sym, ap, _∙_}
 use mathlib.Core.Logic.{_≢_}
 use Prim.Native.Nat.{ℕ}
 use native.Mathlib.Omega.{arith}
-use Rattle.staircase.specs.Design.{params}
-use Rattle.staircase.specs.Rules.{Verdict, _then_}
+use Rattle.staircase.specs.Design.{Params, params}
+use Rattle.staircase.specs.Rules.{Verdict, _then_, designRules}
 use Rattle.staircase.specs.Rules.Verdict.{accepted, refused}
 use Rattle.design.specs.declared.Refusal.{Refusal}
 use Rattle.design.specs.declared.Refusal.the-variants.{Size, Long, Large, Count, Rounds, Length, List, Spare, Inverse, Bit}
@@ -19,6 +20,7 @@ use Rattle.design.specs.declared.Check.the-variants as check
 use Rattle.design.specs.declared.Design.{Design}
 use Rattle.design.specs.declared.Designed.{Designed}
 use Rattle.design.specs.declared.Designed.the-variants as designed
+use Rattle.design.specs.Sizes.{paramsOf}
 use Rattle.design.specs.Answers.{refusalVerdict, verdictOf, designVerdict, DesignIs, Allowed, DesignAllowed}
 
 refusal-stays : (r : Refusal) (v : Verdict) → refusalVerdict r ≡ (refusalVerdict r then v)
@@ -68,3 +70,15 @@ module _ {a : Designed} {d : Design} (e : a ≡ designed.Made d) where
 pub made-allowed : {a : Designed} {d : Design} → a ≡ designed.Made d → DesignAllowed a → Allowed d
 unfolding DesignAllowed
 made-allowed e h = rw e at h
+
+-- x is what the call answers
+module _ (m t M : ℕ) (rules : Params → Verdict) (a : Designed) (n : designVerdict a ≡ designRules m t M) (x : Check) where
+  pub refused-design : {r : Refusal} → a ≡ designed.Refused r → verdictOf x ≡ designVerdict a
+      → (verdictOf x ≢ accepted) × (verdictOf x ≡ (designRules m t M then rules (params m t M)))
+  refused-design {r} g e =
+      let same : verdictOf x ≡ verdictOf (check.Refused r) = e ∙ design-refused g in
+      ((λ z. check-refused {r = r} refl (sym same ∙ z)), same ∙ refused-then (rules (params m t M)) (sym (design-refused g) ∙ n) refl)
+
+  pub made-design : DesignIs a m t M → {d : Design} → a ≡ designed.Made d → verdictOf x ≡ rules (paramsOf d) → verdictOf x ≡ (designRules m t M then rules (params m t M))
+  made-design i {d} g e =
+      e ∙ ap rules (made-params g m t M i) ∙ ap (λ (z : Verdict). z then rules (params m t M)) (sym (design-made g) ∙ n)

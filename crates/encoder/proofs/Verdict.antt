@@ -20,7 +20,7 @@ use Rattle.design.specs.declared.Designed.{Designed}
 use Rattle.design.specs.declared.Designed.the-variants as designed
 use Rattle.design.specs.Sizes.{paramsOf, listsOf}
 use Rattle.design.specs.Answers.{verdictOf, designVerdict, DesignIs, Allowed}
-use Rattle.design.proofs.Answers.{refused-then, check-refused, check-passed, design-refused, design-made, made-params}
+use Rattle.design.proofs.Answers.{check-refused, check-passed, made-params, refused-design, made-design}
 use Rattle.frames.specs.Groups.{Encodable}
 use Rattle.encoder.specs.Checks.{contentRules, lengthRules, frameRules}
 
@@ -103,6 +103,9 @@ module _ (m t M L : ℕ) (own parity w info red : List ℕ) (work : ℕ) where
       let new : List ℕ = redundancy (params m t M) (interleavers (params m t M) own parity) w L info in
       (e ∙ by-verdict call red new, a ∙ by-new call red new (sym e ∙ check-passed g))
 
+  abbrev rules : Params → Verdict
+  rules s = frameRules s L own parity w info red work
+
   whole : (designRules m t M then frameRules (params m t M) L own parity w info red work) ≡ encodeVerdict m t M L own parity w info red work
   unfolding encodeVerdict frameRules lengthRules contentRules
   whole = refl
@@ -110,16 +113,11 @@ module _ (m t M L : ℕ) (own parity w info red : List ℕ) (work : ℕ) where
   module _ (a : Designed) (n : designVerdict a ≡ designRules m t M) where
     pub encode-design : (x : Check) (r : Refusal) → a ≡ designed.Refused r → verdictOf x ≡ designVerdict a
         → (verdictOf x ≡ (encodeCall m t M L own parity w info red work) .verdict) × (red ≡ (encodeCall m t M L own parity w info red work) .red)
-    encode-design x r g e =
-        let f : Verdict = frameRules (params m t M) L own parity w info red work in
-        let same : verdictOf x ≡ verdictOf (check.Refused r) = e ∙ design-refused g in
-        refused-call x (λ z. check-refused {r = r} refl (sym same ∙ z)) (same ∙ refused-then f (sym (design-refused g) ∙ n) refl ∙ whole)
+    encode-design x r g e = let q = refused-design m t M rules a n x g e in refused-call x (q .0) (q .1 ∙ whole)
 
     module _ (i : DesignIs a m t M) (d : Design) (g : a ≡ designed.Made d) (x : Check) (e : verdictOf x ≡ frameRules (paramsOf d) L own parity w info red work) where
       verdict-is : verdictOf x ≡ encodeVerdict m t M L own parity w info red work
-      verdict-is =
-          e ∙ ap (λ (s : Params). frameRules s L own parity w info red work) (made-params g m t M i)
-          ∙ ap (λ (z : Verdict). z then frameRules (params m t M) L own parity w info red work) (sym (design-made g) ∙ n) ∙ whole
+      verdict-is = made-design m t M rules a n x i g e ∙ whole
 
       pub encode-frame : (r : Refusal) → x ≡ check.Refused r
           → (verdictOf x ≡ (encodeCall m t M L own parity w info red work) .verdict) × (red ≡ (encodeCall m t M L own parity w info red work) .red)

@@ -9,12 +9,9 @@ use mathlib.Core.List.{List, [], _∷_, _++_}
 use Rattle.formats.specs.Format.{Item, byte, Format, end, _▷_, opt, fork, dec}
 use Rattle.formats.specs.Items.{lits, seq, bits, bitsLine, bitsLines, Spells}
 use Rattle.staircase.specs.Frame.{groups}
+use Rattle.lines.specs.Written.{blockNames}
 
 -- ---- block text
-
--- `block bits` and a line feed
-abbrev pub blockNames : List ℕ
-blockNames = 98 ∷ 108 ∷ 111 ∷ 99 ∷ 107 ∷ 32 ∷ 98 ∷ 105 ∷ 116 ∷ 115 ∷ 10 ∷ []
 
 -- after i lines, at most k more: the text ends, or goes on
 unfoldable pub blockTail : ℕ → ℕ → ℕ → Format

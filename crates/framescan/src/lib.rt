@@ -11,7 +11,8 @@ ghost use Rattle.staircase.specs.Design.{most-blocks};
 ghost use Rattle.formats.specs.Format.{scan};
 ghost use Rattle.formats.specs.Items.{lits, bitsLine, walk, scanAt, verdict};
 ghost use Rattle.readers.specs.Answers.{stepOf};
-ghost use Rattle.framescan.specs.FrameText.{blockNames, blockTail, blockFormat, groupLine, groupLines, groupTail, frameTail, frameFormat};
+ghost use Rattle.framescan.specs.FrameText.{blockTail, blockFormat, groupLine, groupLines, groupTail, frameTail, frameFormat};
+ghost use Rattle.lines.specs.Written.{blockNames};
 ghost use Rattle.framescan.specs.Judged.{foundScan};
 use readers::Step;
 

@@ -4,7 +4,7 @@
 --   frame-refused, frame-length, frame-filled      those of frame text; frame-few .. frame-room for its lines
 -- Assumes nothing.
 use Prim.Native.Nat.{ℕ, _+_, _*_, _≤_}
-use mathlib.Core.Path.{_≡_, refl, sym, ap, subst, _∙_}
+use mathlib.Core.Path.{_≡_, sym, ap, subst, _∙_}
 use mathlib.Core.Logic.{_≢_}
 use mathlib.Core.List.{List}
 use native.Mathlib.Omega.{arith}
@@ -24,6 +24,7 @@ use Rattle.design.specs.Answers.{refusalVerdict, verdictOf}
 use Rattle.design.proofs.Answers.{check-refused, check-passed}
 use Rattle.staircase.proofs.Rules.{length-equal, frame-lengths}
 use Rattle.readers.specs.Verdicts.{scanRule, mark, valuesOf, kept}
+use Rattle.readers.proofs.Kept.{kept-old}
 use Rattle.framescan.specs.FrameText.{blockFormat, frameFormat, groupLines}
 use Rattle.framescan.specs.Judged.{foundScan}
 use Rattle.frametext.specs.Reader.{blockScan, blockRule, blockCount, blockInfo, readBlocksCall, blocksVerdict, CountIs}
@@ -36,11 +37,6 @@ use Rattle.frametext.proofs.Answering.{found-wrong, found-count, blocks
 use Rattle.frametext.proofs.Parts.{BlockParts, block-parts, FrameParts, frame-parts}
 
 -- ---- the rule of a scan, and then another
-
-kept-not : (v : Verdict) (new old : List ℕ) → v ≢ accepted → kept v new old ≡ old
-unfolding kept
-kept-not accepted new old h = absurd (h refl)
-kept-not (refused n p) new old h = refl
 
 -- the answer a of a call with the verdict v, for a text whose scan is x
 abbrev Answers : Blocks → Verdict → Scan → Type 0
@@ -64,7 +60,7 @@ module _ (x : Scan) (u : Verdict) where
     unfolding blocksVerdict CountIs verdictOf
     refused-length r f =
         let d : (scanRule 12 x then u) ≡ refusalVerdict r = due ∙ sym g ∙ ap verdictOf f in
-        ((sym d, tt), λ new old. kept-not (scanRule 12 x then u) new old (λ z. check-refused f (ap verdictOf f ∙ sym d ∙ z)))
+        ((sym d, tt), λ new old. kept-old (scanRule 12 x then u) new old (λ z. check-refused f (ap verdictOf f ∙ sym d ∙ z)))
 
     read-whole : c ≡ check.Passed → Answers (Read n) (scanRule 12 x then u) x × ((new old : List ℕ) → kept (scanRule 12 x then u) new old ≡ new)
     unfolding blocksVerdict CountIs mark kept

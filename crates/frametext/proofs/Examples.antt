@@ -7,7 +7,8 @@ use Rattle.formats.specs.Format.{digitsOf, dec, item}
 use Rattle.formats.specs.Items.{bitsLine}
 use Rattle.staircase.specs.Rules.Verdict.{accepted, refused}
 use Rattle.readers.specs.Verdicts.{scanRule, mark, valuesOf}
-use Rattle.framescan.specs.FrameText.{blockNames, blockTail, blockFormat, groupLine, groupLines, groupTail, frameTail, frameFormat}
+use Rattle.framescan.specs.FrameText.{blockTail, blockFormat, groupLine, groupLines, groupTail, frameTail, frameFormat}
+use Rattle.lines.specs.Written.{blockNames}
 use Rattle.frametext.specs.Reader.{blockScan, blockRule, blockCount, blockInfo, frameScan, frameRule, frameCount, frameInfo, frameRed}
 
 -- `block bits`, `1 0`, `2 1`, `3 0`, `4 0`

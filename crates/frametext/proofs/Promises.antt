@@ -21,8 +21,10 @@ use Rattle.staircase.specs.Frame.{groups}
 use Rattle.staircase.specs.Rules.{Verdict, _then_, lengthRule}
 use Rattle.staircase.specs.Rules.Verdict.{accepted, refused}
 use Rattle.staircase.proofs.Rules.{then-accepted, length-accepted}
-use Rattle.readers.specs.Verdicts.{scanRule, mark, valuesOf, kept}
-use Rattle.framescan.specs.FrameText.{blockNames, groupNamesTail, blockFormat, frameFormat, groupLines, BlockText, FrameText}
+use Rattle.readers.specs.Verdicts.{scanRule, mark, valuesOf}
+use Rattle.readers.proofs.Kept.{kept-new}
+use Rattle.framescan.specs.FrameText.{groupNamesTail, blockFormat, frameFormat, groupLines, BlockText, FrameText}
+use Rattle.lines.specs.Written.{blockNames}
 use Rattle.frametext.specs.Reader.{blockScan, blockRule, blockCount, blockInfo, readBlocksCall, frameScan, frameRule, frameCount, frameInfo, frameRed, readFrameCall}
 use Rattle.frametext.proofs.Texts.{clear-blocks, clear-frame, blocks-union, union-blocks, frame-union, union-frame, blocks-read, frame-read}
 use Rattle.framefill.proofs.Takes.{fit-length}
@@ -97,10 +99,6 @@ blocks-hold M s e = go (blockCount M s) (blockInfo M s) (blocks-accepted M s .0 
           info-bits = fit-bits is vs (lines-bare (M * M) 1 L) (b .spells .0);
           text-length = omega (arith, length-append names is, lines-long (M * M) 1 L);
         }
-
-kept-new : (v : Verdict) (new old : List ℕ) → v ≡ accepted → kept v new old ≡ new
-unfolding kept
-kept-new v new old e = rw e
 
 -- An accepted text fills a slice that fits with its information.
 pub blocks-left : (M : ℕ) (s old : List ℕ) → blockRule M s ≡ accepted → length old ≡ blockCount M s * (M * M) → readBlocksCall M s old .info ≡ blockInfo M s

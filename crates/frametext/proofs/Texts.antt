@@ -17,7 +17,8 @@ use Rattle.formats.proofs.Parts.{fit-append, fit-split}
 use Rattle.formats.proofs.Scan.{dec-head, scan-sound}
 use Rattle.formats.proofs.Spelling.{seq-renders, renders-seq, Spelt, Tidy, clear-seq, tidy-append, tidy-bitsLine}
 use Rattle.staircase.specs.Frame.{groups}
-use Rattle.framescan.specs.FrameText.{blockNames, blockTail, blockFormat, groupNamesTail, groupLine, groupLines, groupTail, frameTail, frameFormat}
+use Rattle.framescan.specs.FrameText.{blockTail, blockFormat, groupNamesTail, groupLine, groupLines, groupTail, frameTail, frameFormat}
+use Rattle.lines.specs.Written.{blockNames}
 use Rattle.framescan.specs.FrameText.{blockItems, groupItems, BlockText, FrameText}
 use Rattle.framefill.proofs.Takes.{tidy-groupLine}
 

@@ -10,7 +10,8 @@ use mathlib.Core.List.{List, _++_}
 use native.Mathlib.Omega.{arith}
 use lib.ListN.{length}
 use Rattle.formats.specs.Items.{Walk, stuck, past, walk, values, Passes, bitsLines}
-use Rattle.readers.specs.Verdicts.{valuesOf, kept}
+use Rattle.readers.specs.Verdicts.{valuesOf}
+use Rattle.readers.proofs.Kept.{kept-new, kept-old}
 use Rattle.staircase.specs.Rules.{Verdict, _then_, kitLengths}
 use Rattle.staircase.specs.Rules.Verdict.{accepted, refused}
 use Rattle.staircase.specs.Design.{Params, order}
@@ -47,23 +48,13 @@ Leaves a s own parity w own′ parity′ w′ =
     × ((parity′ ≡ (readKitCall s own parity w) .parity)
     × (w′ ≡ (readKitCall s own parity w) .inverse))))
 
-kept-old : (v : Verdict) (new old : List ℕ) → v ≢ accepted → old ≡ kept v new old
-unfolding kept
-kept-old accepted new old h = absurd (h refl)
-kept-old (refused n p) new old h = refl
-
-kept-new : (v : Verdict) (new old : List ℕ) → v ≡ accepted → new ≡ kept v new old
-unfolding kept
-kept-new accepted new old h = refl
-kept-new (refused n p) new old h = cc
-
 module _ (a : KitScan) (s own parity w : List ℕ) (e : kitScanVerdict a ≡ readVerdict s own parity w) (d : KitDesign a s) where
   leaves-old : kitScanVerdict a ≢ accepted → Leaves a s own parity w own parity w
   unfolding readKitCall
   leaves-old h =
       let n : readVerdict s own parity w ≢ accepted = λ z. h (e ∙ z) in
       let v : Verdict = readVerdict s own parity w in
-      (e, (d, (kept-old v (selfOf s) own n, (kept-old v (parityOf s) parity n, kept-old v (inverseOf s) w n))))
+      (e, (d, (sym (kept-old v (selfOf s) own n), (sym (kept-old v (parityOf s) parity n), sym (kept-old v (inverseOf s) w n)))))
 
   leaves-new : kitScanVerdict a ≡ accepted → (own′ parity′ w′ : List ℕ) → own′ ≡ selfOf s → parity′ ≡ parityOf s → w′ ≡ inverseOf s
       → Leaves a s own parity w own′ parity′ w′
@@ -71,7 +62,7 @@ module _ (a : KitScan) (s own parity w : List ℕ) (e : kitScanVerdict a ≡ rea
   leaves-new h own′ parity′ w′ f g i =
       let n : readVerdict s own parity w ≡ accepted = sym e ∙ h in
       let v : Verdict = readVerdict s own parity w in
-      (e, (d, (f ∙ kept-new v (selfOf s) own n, (g ∙ kept-new v (parityOf s) parity n, i ∙ kept-new v (inverseOf s) w n))))
+      (e, (d, (f ∙ sym (kept-new v (selfOf s) own n), (g ∙ sym (kept-new v (parityOf s) parity n), i ∙ sym (kept-new v (inverseOf s) w n)))))
 
 pub refusal-not : (r : Refusal) → refusalVerdict r ≢ accepted
 unfolding verdictOf

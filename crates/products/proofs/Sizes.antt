@@ -12,9 +12,9 @@ use native.Mathlib.Nat.{mod-lt, div-lt-iff-lt-mul}
 use native.Mathlib.Omega.{arith}
 use lib.ListN.{length, getD}
 use Rattle.staircase.specs.Rules.{entries}
-use Rattle.staircase.proofs.Bounds.{small-product}
+use Rattle.staircase.proofs.Bounds.{small-product, place-below}
 use Rattle.system.specs.Lines.{lineEntry}
-use Rattle.system.proofs.Terms.{Sized, sized, place-below}
+use Rattle.system.proofs.Terms.{Sized, sized}
 use Rattle.system.proofs.Link.{lineEntry-spare}
 use Rattle.products.specs.Products.{Side}
 

@@ -1,4 +1,7 @@
 -- How much room the programs need: a kit text of at most 32,768 bytes has at most 181 rows, a block text of as many shows at most 8,192 rows of blocks.
+--   few-rows         the rows of a kit
+--   few-block-rows   the rows of blocks
+--   few-red          the redundancy of the groups
 -- Assumes nothing.
 use mathlib.Core.Path.{_≡_}
 use Prim.Native.Nat.{ℕ, zero, suc, _+_, _*_, _≤_, _<_}
@@ -6,8 +9,6 @@ use native.Mathlib.Omega.{arith}
 use native.Mathlib.Nat.{mul-le-mul, mul-assoc}
 use native.Mathlib.Decide.{decLt}
 use Rattle.staircase.specs.Frame.{groups}
-use Rattle.design.specs.declared.Design.{Design}
-use Rattle.design.specs.Answers.{Allowed}
 
 -- 182 × 182 is 33,124
 pub few-rows : (n : ℕ) → n * n ≤ 32768 → n ≤ 181
@@ -45,7 +46,3 @@ few-red L M r l h k n =
   where
     distrib : (a b : ℕ) → (a + 1) * b ≡ a * b + b
     distrib a b = omega arith
-
--- r of an allowed design
-pub small-r : (d : Design) → Allowed d → d .m * d .t ≤ 30
-small-r d a = let e : d .m * d .t ≤ 10 * 3 = mul-le-mul (a .m-high) (a .t-high) in e

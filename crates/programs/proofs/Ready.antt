@@ -21,13 +21,14 @@ use Rattle.staircase.specs.System.{rowBytes}
 use Rattle.staircase.specs.Rules.Verdict.{accepted}
 use Rattle.design.specs.declared.Design.{Design}
 use Rattle.design.specs.Sizes.{orderOf}
+use Rattle.design.proofs.Allowed.{r-small}
 use Rattle.kittext.specs.Reader.{kitParams, selfOf, parityOf, inverseOf, readKitCall}
 use Rattle.kittext.proofs.Promises.{kit-order-small, kit-read}
 use Rattle.frametext.specs.Reader.{blockRule, blockCount, frameRule, frameCount}
 use Rattle.frametext.proofs.Promises.{blocks-hold, frame-holds}
 use Rattle.programs.specs.Steps.{textRule, textCount, Started, Scanned, SizesAre, RoomFor, Ready}
 use Rattle.programs.specs.declared.Sizes.{Sizes}
-use Rattle.programs.proofs.Bounds.{few-rows, few-red, small-r}
+use Rattle.programs.proofs.Bounds.{few-rows, few-red}
 
 -- ---- the kit
 
@@ -81,7 +82,7 @@ module _ (framed : Bool) (d : Design) (L : ℕ) (kit text : List ℕ) (B : Scann
 
   -- the redundancy of a frame of so many blocks
   pub red-short : groups L * (2 * orderOf d) ≤ 245941
-  red-short = few-red L (d .size) (d .m * d .t) few-blocks bytes (small-r d (B .started .allowed)) (few-entries d kit text (B .started))
+  red-short = few-red L (d .size) (d .m * d .t) few-blocks bytes (r-small d (B .started .allowed)) (few-entries d kit text (B .started))
 
   -- ---- the arrays
 

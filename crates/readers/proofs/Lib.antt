@@ -2,3 +2,4 @@ pub mod Numbers
 pub mod Fields
 pub mod Lines
 pub mod Scans
+pub mod Kept

@@ -25,6 +25,7 @@ use Rattle.staircase.specs.Design.{Params, Interleavers, order}
 use Rattle.staircase.specs.Word.{rowInfo, rowWord, columnInfo, columnWord}
 use Rattle.staircase.specs.System.{Contents, zeros, unit, stack, unstack, preimage, columnParity, rowParity, residual, systemEntry, constantEntry, inverseEntry, product, identity, selfEntry}
 use Rattle.staircase.specs.Demand2.{Permutes}
+use Rattle.staircase.proofs.Bounds.{place-below}
 use Rattle.staircase.proofs.Matrix.{bitSum-swap, bitSum-zero, zero-bitSum, bitSum-self, bitSum-equal, sumBits-lt, sumBits-same, apply, apply-product, apply-identity, linear-units, sum-of-units}
 use Rattle.staircase.proofs.Stretches.{three-bits, three-same}
 use Rattle.staircase.proofs.Parity.{add, parity-sum-at, codeword-table, table-codeword}
@@ -48,7 +49,7 @@ module _ (s : Params) (ok : Proper s) where
   order-positive = mul-pos (ok .mpos) (ok .rpos)
 
   pub place-lt : (b a : ℕ) → b < s .r → a < s .M → b * s .M + a < order s
-  place-lt b a hb ha = subst (λ (z : ℕ). b * s .M + a < z) (mul-comm (s .r) (s .M)) (digits-lt {q = b} {m = s .r} {r = a} {c = s .M} hb ha)
+  place-lt = place-below (s .M) (s .r)
 
   pub row-of : (q : ℕ) → q < order s → q / s .M < s .r
   row-of q h = div-lt-iff-lt-mul (ok .mpos) .1 (subst (λ (z : ℕ). q < z) (mul-comm (s .M) (s .r)) h)

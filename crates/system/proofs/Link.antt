@@ -20,7 +20,8 @@ use Rattle.staircase.proofs.Matrix.{sumBits-same, sumBits-sum, sumBits-zero}
 use Rattle.staircase.proofs.Permutation.{preimage-sent}
 use Rattle.staircase.proofs.System.{Proper, unstack-lt}
 use Rattle.staircase.proofs.Entries.{coefficient, system-row, system-column}
-use Rattle.system.proofs.Terms.{place-below, stackOf-below, run-end}
+use Rattle.system.proofs.Terms.{stackOf-below, run-end}
+use Rattle.staircase.proofs.Bounds.{place-below}
 use Rattle.system.specs.Lines.{PartOf, stackOf, digit, lineDigit, lineTerm, lineEntry}
 
 -- ---- past the order

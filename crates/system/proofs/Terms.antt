@@ -1,7 +1,7 @@
 -- A packed row or column that a loop adds up, and the sizes of a system.
 --   sum-more                 two additions to a bit are one term more of its sum
 --   Sized, sized             the sizes at an entry and a place
---   place-below, stackOf-below, run-end   places of Y, of the stack, and of r bits side by side
+--   stackOf-below, run-end   places of the stack, and of r bits side by side
 -- Assumes nothing.
 use mathlib.Core.Path.{_≡_, sym, ap, _∙_, subst}
 use Prim.Native.Nat.{ℕ, zero, suc, _+_, _-_, _*_, _/_, _%_, _≤_, _<_}
@@ -18,9 +18,6 @@ pub sum-more : (f : ℕ → ℕ) (b x₀ x₁ x₂ u v : ℕ) → x₀ ≡ sumBi
 sum-more f b x₀ x₁ x₂ u v before first second term =
     second ∙ ap (λ (z : ℕ). bitSum z v) (first ∙ ap (λ (z : ℕ). bitSum z u) before) ∙ bitSum-assoc (sumBits b f) u v
     ∙ ap (bitSum (sumBits b f)) (sym term) ∙ sym (ap (λ (n : ℕ). sumBits n f) (add-one b) ∙ sumBits-last b f)
-
-pub place-below : (size r b a : ℕ) → b < r → a < size → b * size + a < size * r
-place-below size r b a hb ha = subst (λ (z : ℕ). b * size + a < z) (mul-comm r size) (digits-lt {q = b} {m = r} {r = a} {c = size} hb ha)
 
 pub stackOf-below : (size r q : ℕ) → 0 < size → q < size * r → stackOf size r q < size * r
 stackOf-below size r q mpos h =

@@ -25,7 +25,7 @@ use Rattle.design.specs.declared.Design.{Design}
 use Rattle.design.specs.declared.Designed.{Designed}
 use Rattle.design.specs.declared.Designed.the-variants as designed
 use Rattle.design.specs.Answers.{verdictOf, designVerdict, DesignIs, Allowed}
-use Rattle.design.proofs.Answers.{refused-then, check-refused, check-passed, design-refused, design-made, made-params}
+use Rattle.design.proofs.Answers.{check-refused, check-passed, made-params, refused-design, made-design}
 use Rattle.design.specs.Sizes.{paramsOf, orderOf, listsOf}
 use Rattle.words.specs.declared.WordCount.{WordCount}
 use Rattle.words.specs.declared.WordCount.the-variants as count
@@ -117,6 +117,9 @@ module _ (m t M L : ℕ) (own parity info red : List ℕ) (work : ℕ) where
   unfolding wordsCall
   refused-call c x k other e = k ∙ by-refused (verdictOf x) number other ∙ ap (λ (v : Verdict). countedBy v number) e
 
+  abbrev rules : Params → Verdict
+  rules s = frameRules s L own parity info red work
+
   whole : (designRules m t M then frameRules (params m t M) L own parity info red work) ≡ wordsVerdict m t M L own parity info red work
   unfolding wordsVerdict frameRules receivedRules contentRules
   whole = refl
@@ -124,16 +127,11 @@ module _ (m t M L : ℕ) (own parity info red : List ℕ) (work : ℕ) where
   module _ (a : Designed) (n : designVerdict a ≡ designRules m t M) where
     pub words-design : (c : WordCount) (x : Check) (r : Refusal) → countedOf c ≡ countedBy (verdictOf x) 0 → a ≡ designed.Refused r → verdictOf x ≡ designVerdict a
         → countedOf c ≡ wordsCall m t M L own parity info red work
-    words-design c x r k g e =
-        let f : Verdict = frameRules (params m t M) L own parity info red work in
-        let same : verdictOf x ≡ verdictOf (check.Refused r) = e ∙ design-refused g in
-        refused-call c x k (λ z. check-refused {r = r} refl (sym same ∙ z)) (same ∙ refused-then f (sym (design-refused g) ∙ n) refl ∙ whole)
+    words-design c x r k g e = let q = refused-design m t M rules a n x g e in refused-call c x k (q .0) (q .1 ∙ whole)
 
     module _ (i : DesignIs a m t M) (d : Design) (g : a ≡ designed.Made d) (x : Check) (e : verdictOf x ≡ frameRules (paramsOf d) L own parity info red work) where
       verdict-is : verdictOf x ≡ wordsVerdict m t M L own parity info red work
-      verdict-is =
-          e ∙ ap (λ (s : Params). frameRules s L own parity info red work) (made-params g m t M i)
-          ∙ ap (λ (z : Verdict). z then frameRules (params m t M) L own parity info red work) (sym (design-made g) ∙ n) ∙ whole
+      verdict-is = made-design m t M rules a n x i g e ∙ whole
 
       pub words-frame : (c : WordCount) (r : Refusal) → countedOf c ≡ countedBy (verdictOf x) 0 → x ≡ check.Refused r
           → countedOf c ≡ wordsCall m t M L own parity info red work

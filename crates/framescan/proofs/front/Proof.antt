@@ -2,7 +2,7 @@
 -- Assumes nothing.
 use Rattle.readers.proofs.Lines.{step-of, stops-first, goes-on}
 use Rattle.formats.specs.Items.{lits, bitsLine}
-use Rattle.framescan.specs.FrameText.{blockNames}
+use Rattle.lines.specs.Written.{blockNames}
 use borrow.Author.Needs.{needs}
 use Rattle.framescan.proofs.front.Statement.{statement}
 use Rattle.framescan.proofs.front.Tie as tie

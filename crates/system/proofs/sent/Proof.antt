@@ -9,7 +9,8 @@ use lib.ListN.{getD}
 use Rattle.staircase.specs.Rules.{entries}
 use Rattle.rules.proofs.Entries.{entry-at}
 use Rattle.system.specs.Lines.{stackOf}
-use Rattle.system.proofs.Terms.{place-below, stackOf-below}
+use Rattle.system.proofs.Terms.{stackOf-below}
+use Rattle.staircase.proofs.Bounds.{place-below}
 use Rattle.system.proofs.sent.Statement.{statement}
 use Rattle.system.proofs.sent.Tie as tie
 
