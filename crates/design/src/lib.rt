@@ -3,7 +3,7 @@
 //   r, n, k, order, area, row_bytes             the sizes of a design
 //   check_count(blocks), check_rounds(rounds)   rules 4 and 5
 //   design_check(a)                             the answer of `Design::new` as a check's
-//   group_count                                 the groups of a frame
+//   MOST_BLOCKS, group_count                    the most blocks of a frame; the groups of a frame
 //
 // An answer is an enum. `refusalVerdict`, `verdictOf` and `designVerdict` of specs/ give the table's number and place of each case, and each
 // contract says that the answer is the verdict of the rule in the crate `staircase`, for every argument that the `requires` line lets in.
@@ -51,7 +51,7 @@ pub enum Designed {
 }
 
 // "L from 1 to 4,096"
-const MOST_BLOCKS: u64 = 4096;
+pub const MOST_BLOCKS: u64 = 4096;
 
 // Rule 5: "above 64".
 const MOST_ROUNDS: u64 = 64;

@@ -17,7 +17,7 @@ use lib.ListN.{length, take, drop, length-append, take-append-drop}
 use lib.Seq.{drop-drop, drop-append-seam, length-take-le}
 use Rattle.formats.specs.Format.{dec, digit, Item, byte, num, bit, Shows, Piece, none, got, item}
 use Rattle.formats.specs.Format.{Format, Renders, Scan, refused, read, after, step, scan, Clear}
-use Rattle.formats.specs.Items.{lits, seq, Walk, stuck, past, prep, stride, walk, spell, Fit, bits, bitsLine, bitsLines, moved, scanAt}
+use Rattle.formats.specs.Items.{lits, seq, Walk, stuck, past, prep, stride, walk, spell, Fit, bits, bitsLine, moved, scanAt}
 use Rattle.formats.proofs.Digits.{Digits, digits-are}
 use Rattle.formats.proofs.Items.{Sound, Ok, Guard, item-sound, item-complete}
 
@@ -95,14 +95,8 @@ tidy-dec v h = tidy-digits (dec v) (digits-are 20 v)
 pub tidy-bitsLine : (n p : ℕ) → p < 10000 → Tidy (bitsLine n p)
 unfolding bitsLine
 tidy-bitsLine n p h =
-    tidy-append (lits (dec p) ++ (byte 32 ∷ bits n)) (byte 10 ∷ [])
-    (tidy-append (lits (dec p)) (byte 32 ∷ bits n) (tidy-dec p h) (omega arith, tidy-bits n))
-    (omega arith, tt)
-
-pub tidy-bitsLines : (n k p : ℕ) → p + k ≤ 10000 → Tidy (bitsLines n p k)
-unfolding bitsLines
-tidy-bitsLines n zero p h = tt
-tidy-bitsLines n (suc k) p h = tidy-append (bitsLine n p) (bitsLines n (suc p) k) (tidy-bitsLine n p (omega arith)) (tidy-bitsLines n k (suc p) (omega arith))
+    tidy-append (lits (dec p)) ((byte 32 ∷ bits n) ++ (byte 10 ∷ [])) (tidy-dec p h)
+    (tidy-append (byte 32 ∷ bits n) (byte 10 ∷ []) (omega arith, tidy-bits n) (omega arith, tt))
 
 -- THE SCAN OVER A LIST is the walk, and then the scan of what follows.
 abbrev pub prefix : List ℕ → Scan → Scan

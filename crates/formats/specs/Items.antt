@@ -1,10 +1,12 @@
 -- Lists of items: what they spell, how they are read at a position of a text, and the lines of a number and bits.
---   lits, bits, bitsLine, bitsLines   fixed bytes; n bits; a line of a number and n bits, and such lines from a number on
---   seq                               the format of items and what follows them
---   spell, Fit, Spells                the bytes that items with given values make
---   Walk, walk                        reads items at a position: their values and the position after them, or the place where they go wrong
---   onward, values, Passes            going on after a walk; its values; whether it passes
---   scanAt, verdict                   the scan of a format from a position on, places counted from the start of the text; a scan without its values
+--   lits, bits               fixed bytes; n bits
+--   linesFrom                lines that each have a number, from a number on
+--   bitsLine, bitsLines      a line of a number and n bits, and such lines
+--   seq                      the format of items and what follows them
+--   spell, Fit, Spells       the bytes that items with given values make
+--   Walk, walk               reads items at a position: their values and the position after them, or the place where they go wrong
+--   onward, values, Passes   going on after a walk; its values; whether it passes
+--   scanAt, verdict          the scan of a format from a position on, places counted from the start of the text; a scan without its values
 -- Assumes nothing.
 use Prim.Native.Nat.{ℕ, zero, suc, _+_, _<_}
 use mathlib.Core.Path.{_≡_}
@@ -21,14 +23,17 @@ lits (b ∷ bs) = byte b ∷ lits bs
 abbrev pub bits : ℕ → List Item
 bits n = replicate n bit
 
+-- The lines of the numbers p to p + k - 1, by a rule for the line of a number.
+unfoldable pub linesFrom : (ℕ → List Item) → ℕ → ℕ → List Item
+linesFrom line p zero = []
+linesFrom line p (suc k) = line p ++ linesFrom line (suc p) k
+
 -- The line of the number p and n bits: the number, a space, the bits and the line feed.
 unfoldable pub bitsLine : ℕ → ℕ → List Item
-bitsLine n p = lits (dec p) ++ (byte 32 ∷ bits n) ++ (byte 10 ∷ [])
+bitsLine n p = lits (dec p) ++ ((byte 32 ∷ bits n) ++ (byte 10 ∷ []))
 
--- The lines of the numbers p to p + k - 1.
-unfoldable pub bitsLines : ℕ → ℕ → ℕ → List Item
-bitsLines n p zero = []
-bitsLines n p (suc k) = bitsLine n p ++ bitsLines n (suc p) k
+abbrev pub bitsLines : ℕ → ℕ → ℕ → List Item
+bitsLines n p k = linesFrom (bitsLine n) p k
 
 -- The items, and then the format.
 abbrev pub seq : List Item → Format → Format

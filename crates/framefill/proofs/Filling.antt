@@ -4,9 +4,10 @@
 --   line-wrong .. line-filled         the line of a block: its number, its bits, a line feed
 --   half-lent, half-filled            a part of a slice with the values of a walk
 --   group-wrong .. both-filled        the line of a group, with the two halves of a slice
---   row-passes, row-filled            the lines of blocks, a part of the slice for each
---   group-given .. group-next         the lines of groups
---   none-filled, all-filled           before the first line and after the last
+--   none-filled, all-filled           lines of one width: before the first and after the last
+--   next-given .. next-filled         and the next, into its part of the slice
+--   row-passes, row-filled            the lines of blocks
+--   group-next                        the lines of groups
 -- Assumes nothing.
 use Prim.Native.Nat.{ℕ, suc, _+_, _-_, _*_, _≤_, _<_}
 use mathlib.Core.Path.{_≡_, sym, ap, ap₂, subst, _∙_}
@@ -20,17 +21,18 @@ use borrow.Rule.Slice.PartMut.{putMid, mid-len, same-len-mid}
 use lib.ListN.{length, getD, set, take, drop, length-append, length-drop, drop-of-length-le}
 use lib.Seq.{length-take-le, take-all, take-at, drop-at, take-suc-set}
 use Rattle.formats.specs.Format.{Item, byte, bit, dec}
-use Rattle.formats.specs.Items.{lits, bits, bitsLine, bitsLines, Walk, stuck, past, prep, walk, onward, values, Passes}
+use Rattle.formats.specs.Items.{lits, bits, linesFrom, bitsLine, bitsLines, Walk, stuck, past, prep, walk, onward, values, Passes}
 use Rattle.formats.proofs.Walking.{prep-nil, prep-prep, walk-append, walk-end, walk-this, walk-other, walk-bit}
 use Rattle.readers.specs.Answers.{stepWalk}
 use Rattle.readers.specs.declared.Step.{Step}
 use Rattle.readers.specs.declared.Step.the-variants.{Next, Refused}
 use Rattle.readers.proofs.Lines.{bits-end, bits-low, bits-high}
 use Rattle.formats.proofs.Spelling.{tidy-bits, tidy-bitsLine}
+use Rattle.formats.proofs.Takes.{passed-length, part-takes, line-takes}
+use Rattle.formats.proofs.Lines.{lines-first, lines-whole, lines-end}
 use Rattle.staircase.proofs.Bounds.{stretch-end}
 use Rattle.framescan.specs.FrameText.{groupLine, groupLines}
-use Rattle.framescan.proofs.Judging.{groups-suc}
-use Rattle.framefill.proofs.Takes.{passed-length, part-takes, line-takes, group-takes, tidy-groupLine}
+use Rattle.framefill.proofs.Takes.{group-takes, tidy-groupLine}
 
 -- ---- walks that pass
 
@@ -147,29 +149,25 @@ feed-walk is s at ys q ok e =
 abbrev Part : ℕ → List Item
 Part n = byte 32 ∷ bits n
 
-line-parts : (n p : ℕ) → bitsLine n p ≡ lits (dec p) ++ (Part n ++ (byte 10 ∷ []))
-unfolding bitsLine
-line-parts n p = append-assoc (lits (dec p)) (Part n) (byte 10 ∷ [])
-
 -- the line of a block
 module _ (n p : ℕ) (s : List ℕ) (at : ℕ) (ok : Passes (walk (bitsLine n p) s at)) (x : Step) (e : stepWalk x ≡ walk (lits (dec p)) s at) where
-  all : Passes (walk (lits (dec p) ++ (Part n ++ (byte 10 ∷ []))) s at)
-  all = subst (λ (is : List Item). Passes (walk is s at)) (line-parts n p) ok
-
   pub line-wrong : (q : ℕ) → x ≡ Refused q → ⊥
-  line-wrong q f = number-wrong p (Part n ++ (byte 10 ∷ [])) s at all x e q f
+  unfolding bitsLine
+  line-wrong q f = number-wrong p (Part n ++ (byte 10 ∷ [])) s at ok x e q f
 
   module _ (i : ℕ) (f : x ≡ Next i) where
     behind : Passes (walk (Part n ++ (byte 10 ∷ [])) s i)
-    behind = subst Passes (number-walk p (Part n ++ (byte 10 ∷ [])) s at all x e i f) all
+    unfolding bitsLine
+    behind = subst Passes (number-walk p (Part n ++ (byte 10 ∷ [])) s at ok x e i f) ok
 
     pub line-part : Passes (walk (byte 32 ∷ bits n) s i)
     line-part = first-passes (Part n) (byte 10 ∷ []) s i behind
 
     pub line-filled : (ys : List ℕ) (q : ℕ) → past ys q ≡ walk (byte 32 ∷ bits n) s i → (q < length s) × (past ys (q + 1) ≡ walk (bitsLine n p) s at)
+    unfolding bitsLine
     line-filled ys q g =
         let (l, h) = feed-walk (Part n) s i ys q behind g in
-        (l, h ∙ sym (ap (λ (is : List Item). walk is s at) (line-parts n p) ∙ number-walk p (Part n ++ (byte 10 ∷ [])) s at all x e i f))
+        (l, h ∙ sym (number-walk p (Part n ++ (byte 10 ∷ [])) s at ok x e i f))
 
 -- the line of a group
 module _ (n p : ℕ) (s : List ℕ) (at : ℕ) (ok : Passes (walk (groupLine n p) s at)) (x : Step) (e : stepWalk x ≡ walk (lits (dec p)) s at) where
@@ -266,27 +264,50 @@ module _ (n p : ℕ) (s : List ℕ) (at : ℕ) (ok : Passes (walk (groupLine n p
         ap (λ (z : List ℕ). past z (q + 1)) (halves n out mid end own parity l (sized i own j g) (sized j parity q h) a b)
         ∙ group-filled n p s at ok x e i f own j g parity q h .1
 
--- ---- lines, of W values each: i are written, and w is the walk of all
+-- ---- lines, of W values each: i of N are written, and w is the walk of all
 
-module _ (is js rest : List Item) (W i : ℕ) (s : List ℕ) (q : ℕ) (out : List ℕ) (w : Walk) (r : rest ≡ is ++ js)
-    (e : w ≡ prep (take (i * W) out) (walk rest s q)) where
-  here : w ≡ prep (take (i * W) out) (walk (is ++ js) s q)
-  here = e ∙ ap (λ (z : List Item). prep (take (i * W) out) (walk z s q)) r
+pub none-filled : (line : ℕ → List Item) (N W : ℕ) (s : List ℕ) (q : ℕ) (out : List ℕ)
+    → walk (linesFrom line 1 N) s q ≡ prep (take (0 * W) out) (walk (linesFrom line 1 (N - 0)) s q)
+none-filled line N W s q out =
+    let w : Walk = walk (linesFrom line 1 (N - 0)) s q in
+    lines-whole line 1 N s q ∙ sym (ap (λ (k : ℕ). prep (take k out) w) (zero-mul W) ∙ prep-nil w)
 
-  next-passes : Passes w → Passes (walk is s q)
-  next-passes p = first-passes is js s q (rest-passes w (walk (is ++ js) s q) (take (i * W) out) here p)
+module _ (line : ℕ → List Item) (W N i : ℕ) (s : List ℕ) (q : ℕ) (out : List ℕ) (w : Walk) (l : length out ≡ N * W)
+    (e : w ≡ prep (take (i * W) out) (walk (linesFrom line (i + 1) (N - i)) s q)) where
+  pub all-filled : N ≤ i → i ≤ N → past out q ≡ w
+  all-filled h g =
+      let k : i ≡ N = omega arith in
+      let t : take (i * W) out ≡ out = ap (λ (j : ℕ). take (j * W) out) k ∙ take-all (N * W) out (omega arith) in
+      sym (e ∙ ap (prep (take (i * W) out)) (lines-end line (i + 1) N i s q h) ∙ ap (λ (y : List ℕ). past y q) (append-nil (take (i * W) out) ∙ t))
 
-  module _ (ys : List ℕ) (k : ℕ) (l : length ys ≡ W) (h : i * W + W ≤ length out) where
-    next-length : length (putMid (i * W) (i * W + W - i * W) out ys) ≡ length out
-    next-length = same-len-mid (i * W) (i * W + W - i * W) out ys (l ∙ sym (part-length out (i * W) W h))
+  module _ (h : i < N) where
+    abbrev others : List Item
+    others = linesFrom line (i + 1 + 1) (N - (i + 1))
 
-    next-filled : past ys k ≡ walk is s q → w ≡ prep (take ((i + 1) * W) (putMid (i * W) (i * W + W - i * W) out ys)) (walk js s k)
-    next-filled g =
-        here ∙ ap (prep (take (i * W) out)) (then-walk is js s q ys k g) ∙ prep-prep (take (i * W) out) ys (walk js s k)
-        ∙ ap (λ (z : List ℕ). prep z (walk js s k)) (sym taken)
+    here : w ≡ prep (take (i * W) out) (walk (line (i + 1) ++ others) s q)
+    here = e ∙ ap (λ (z : List Item). prep (take (i * W) out) (walk z s q)) (lines-first line (i + 1) N i h)
+
+    fits : i * W + W ≤ length out
+    fits = omega (arith, stretch-end i N W h)
+
+    pub next-given : length (take (i * W + W - i * W) (drop (i * W) out)) ≡ W
+    next-given = part-length out (i * W) W fits
+
+    pub next-passes : Passes w → Passes (walk (line (i + 1)) s q)
+    next-passes p = first-passes (line (i + 1)) others s q (rest-passes w (walk (line (i + 1) ++ others) s q) (take (i * W) out) here p)
+
+    pub next-filled : (ys : List ℕ) (k : ℕ) → length ys ≡ W → past ys k ≡ walk (line (i + 1)) s q
+        → (i + 1 ≤ N) × (length (putMid (i * W) (i * W + W - i * W) out ys) ≡ N * W)
+        × (w ≡ prep (take ((i + 1) * W) (putMid (i * W) (i * W + W - i * W) out ys)) (walk (linesFrom line (i + 1 + 1) (N - (i + 1))) s k))
+    next-filled ys k m g = (
+      omega arith,
+      same-len-mid (i * W) (i * W + W - i * W) out ys (m ∙ sym next-given) ∙ l,
+      here ∙ ap (prep (take (i * W) out)) (then-walk (line (i + 1)) others s q ys k g) ∙ prep-prep (take (i * W) out) ys (walk others s k)
+          ∙ ap (λ (z : List ℕ). prep z (walk others s k)) (sym taken),
+    )
       where
         n : length (take (i * W) out ++ ys) ≡ (i + 1) * W
-        n = length-append (take (i * W) out) ys ∙ sum (length (take (i * W) out)) (length ys) (length-take-le (i * W) out (omega arith)) l
+        n = length-append (take (i * W) out) ys ∙ sum (length (take (i * W) out)) (length ys) (length-take-le (i * W) out (omega (arith, fits))) m
           where
             sum : (a b : ℕ) → a ≡ i * W → b ≡ W → a + b ≡ (i + 1) * W
             sum a b f g = omega (arith, suc-mul i W)
@@ -294,87 +315,32 @@ module _ (is js rest : List Item) (W i : ℕ) (s : List ℕ) (q : ℕ) (out : Li
         taken : take ((i + 1) * W) (putMid (i * W) (i * W + W - i * W) out ys) ≡ take (i * W) out ++ ys
         taken = rw (← append-assoc) (take-at (take (i * W) out ++ ys) _ ((i + 1) * W) n)
 
-pub none-filled : (f : ℕ → List Item) (n W : ℕ) (s : List ℕ) (q : ℕ) (out : List ℕ) → walk (f n) s q ≡ prep (take (0 * W) out) (walk (f (n - 0)) s q)
-none-filled f n W s q out =
-    let e : n ≡ n - 0 = omega arith in
-    ap (λ (k : ℕ). walk (f k) s q) e ∙ sym (ap (λ (k : ℕ). prep (take k out) (walk (f (n - 0)) s q)) (zero-mul W) ∙ prep-nil (walk (f (n - 0)) s q))
-
-pub all-filled : (is : List Item) (W i n : ℕ) (s : List ℕ) (q : ℕ) (out : List ℕ) (w : Walk) → is ≡ [] → n ≤ i → i ≤ n → length out ≡ n * W
-    → w ≡ prep (take (i * W) out) (walk is s q) → past out q ≡ w
-unfolding walk
-all-filled is W i n s q out w z h g l e =
-    let k : i ≡ n = omega arith in
-    let t : take (i * W) out ≡ out = ap (λ (j : ℕ). take (j * W) out) k ∙ take-all (n * W) out (omega arith) in
-    sym (e ∙ ap (λ (js : List Item). prep (take (i * W) out) (walk js s q)) z ∙ ap (λ (y : List ℕ). past y q) (append-nil (take (i * W) out) ∙ t))
-
--- ---- the lines of blocks, of which i are left behind
-
-rows-suc : (n N i : ℕ) → i < N → bitsLines n (i + 1) (N - i) ≡ bitsLine n (i + 1) ++ bitsLines n (i + 1 + 1) (N - (i + 1))
-unfolding bitsLines
-rows-suc n N i h =
-    let e : N - i ≡ suc (N - (i + 1)) = omega arith in
-    let f : suc (i + 1) ≡ i + 1 + 1 = omega arith in
-    ap (λ (k : ℕ). bitsLines n (i + 1) k) e ∙ ap (λ (k : ℕ). bitsLine n (i + 1) ++ bitsLines n k (N - (i + 1))) f
-
-pub rows-none : (n N i : ℕ) → N ≤ i → bitsLines n (i + 1) (N - i) ≡ []
-unfolding bitsLines
-rows-none n N i h = let e : N - i ≡ 0 = omega arith in ap (λ (k : ℕ). bitsLines n (i + 1) k) e
+-- ---- the lines of blocks: a line has as many bits as the part of the slice
 
 module _ (area N i : ℕ) (s : List ℕ) (q : ℕ) (out : List ℕ) (w : Walk) (h : i < N) (l : length out ≡ N * area)
     (e : w ≡ prep (take (i * area) out) (walk (bitsLines area (i + 1) (N - i)) s q)) where
-  abbrev row : List Item
-  row = bitsLine area (i + 1)
-
-  abbrev rows : List Item
-  rows = bitsLines area (i + 1 + 1) (N - (i + 1))
-
-  fits : i * area + area ≤ length out
-  fits = omega (arith, stretch-end i N area h)
-
   given : length (take (i * area + area - i * area) (drop (i * area) out)) ≡ area
-  given = part-length out (i * area) area fits
+  given = next-given (bitsLine area) area N i s q out w l e h
 
   pub row-passes : Passes w → Passes (walk (bitsLine (length (take (i * area + area - i * area) (drop (i * area) out))) (i + 1)) s q)
   row-passes p =
-      subst (λ (k : ℕ). Passes (walk (bitsLine k (i + 1)) s q)) (sym given)
-      (next-passes row rows (bitsLines area (i + 1) (N - i)) area i s q out w (rows-suc area N i h) e p)
+      subst (λ (k : ℕ). Passes (walk (bitsLine k (i + 1)) s q)) (sym given) (next-passes (bitsLine area) area N i s q out w l e h p)
 
   pub row-filled : i < 9999 → (ys : List ℕ) (k : ℕ) → past ys k ≡ walk (bitsLine (length (take (i * area + area - i * area) (drop (i * area) out))) (i + 1)) s q
       → (i + 1 ≤ N) × (length (putMid (i * area) (i * area + area - i * area) out ys) ≡ N * area)
       × (w ≡ prep (take ((i + 1) * area) (putMid (i * area) (i * area + area - i * area) out ys)) (walk (bitsLines area (i + 1 + 1) (N - (i + 1))) s k))
   row-filled b ys k g =
-      let g′ : past ys k ≡ walk row s q = g ∙ ap (λ (j : ℕ). walk (bitsLine j (i + 1)) s q) given in
-      let m : length ys ≡ area = passed-length row s q ys k (tidy-bitsLine area (i + 1) (omega arith)) g′ ∙ line-takes area (i + 1) in (
-        omega arith,
-        next-length row rows (bitsLines area (i + 1) (N - i)) area i s q out w (rows-suc area N i h) e ys k m fits ∙ l,
-        next-filled row rows (bitsLines area (i + 1) (N - i)) area i s q out w (rows-suc area N i h) e ys k m fits g′,
-      )
+      let f : past ys k ≡ walk (bitsLine area (i + 1)) s q = g ∙ ap (λ (j : ℕ). walk (bitsLine j (i + 1)) s q) given in
+      let m : length ys ≡ area = passed-length (bitsLine area (i + 1)) s q ys k (tidy-bitsLine area (i + 1) (omega arith)) f ∙ line-takes area (i + 1) in
+      next-filled (bitsLine area) area N i s q out w l e h ys k m f
 
 -- ---- the lines of groups
 
 module _ (n N i : ℕ) (s : List ℕ) (q : ℕ) (out : List ℕ) (w : Walk) (h : i < N) (l : length out ≡ N * (2 * n))
     (e : w ≡ prep (take (i * (2 * n)) out) (walk (groupLines n (i + 1) (N - i)) s q)) where
-  abbrev group : List Item
-  group = groupLine n (i + 1)
-
-  abbrev others : List Item
-  others = groupLines n (i + 1 + 1) (N - (i + 1))
-
-  group-fits : i * (2 * n) + 2 * n ≤ length out
-  group-fits = omega (arith, stretch-end i N (2 * n) h)
-
-  pub group-given : length (take (i * (2 * n) + 2 * n - i * (2 * n)) (drop (i * (2 * n)) out)) ≡ 2 * n
-  group-given = part-length out (i * (2 * n)) (2 * n) group-fits
-
-  pub group-passes : Passes w → Passes (walk (groupLine n (i + 1)) s q)
-  group-passes p = next-passes group others (groupLines n (i + 1) (N - i)) (2 * n) i s q out w (groups-suc n N i h) e p
-
   pub group-next : i < 9999 → (ys : List ℕ) (k : ℕ) → past ys k ≡ walk (groupLine n (i + 1)) s q
       → (i + 1 ≤ N) × (length (putMid (i * (2 * n)) (i * (2 * n) + 2 * n - i * (2 * n)) out ys) ≡ N * (2 * n))
       × (w ≡ prep (take ((i + 1) * (2 * n)) (putMid (i * (2 * n)) (i * (2 * n) + 2 * n - i * (2 * n)) out ys)) (walk (groupLines n (i + 1 + 1) (N - (i + 1))) s k))
   group-next b ys k g =
-      let m : length ys ≡ 2 * n = passed-length group s q ys k (tidy-groupLine n (i + 1) (omega arith)) g ∙ group-takes n (i + 1) in (
-        omega arith,
-        next-length group others (groupLines n (i + 1) (N - i)) (2 * n) i s q out w (groups-suc n N i h) e ys k m group-fits ∙ l,
-        next-filled group others (groupLines n (i + 1) (N - i)) (2 * n) i s q out w (groups-suc n N i h) e ys k m group-fits g,
-      )
+      let m : length ys ≡ 2 * n = passed-length (groupLine n (i + 1)) s q ys k (tidy-groupLine n (i + 1) (omega arith)) g ∙ group-takes n (i + 1) in
+      next-filled (groupLine n) (2 * n) N i s q out w l e h ys k m g

@@ -1,84 +1,22 @@
--- How many values items take.
---   takes, fit-length         the number of values
---   takes-append              of two lists of items
---   passed-length             the values that a walk passes with
---   part-takes .. group-takes the values of the line of a block and of a group
---   tidy-groupLine            the line of a group is tidy
+-- The line of a group: how many values it takes, and that it is tidy.
+--   group-takes      2 n values
+--   tidy-groupLine   it is tidy
 -- Assumes nothing.
-use Prim.Native.Nat.{ℕ, zero, suc, _+_, _*_, _<_}
-use mathlib.Core.Path.{_≡_, refl, sym, ap, _∙_}
+use Prim.Native.Nat.{ℕ, _*_, _<_}
+use mathlib.Core.Path.{_≡_}
 use mathlib.Core.List.{List, [], _∷_, _++_}
 use native.Mathlib.Omega.{arith}
-use native.Mathlib.Nat.{zero-add, suc-add}
-use lib.ListN.{length}
-use Rattle.formats.specs.Format.{Item, byte, num, bit, dec}
-use Rattle.formats.specs.Items.{lits, bits, bitsLine, past, walk, Fit}
-use Rattle.formats.proofs.Spelling.{Tidy, tidy-append, tidy-bits, tidy-dec, tidy-oks, walk-sound}
+use Rattle.formats.specs.Format.{Item, byte, dec}
+use Rattle.formats.specs.Items.{lits, bits}
+use Rattle.formats.proofs.Spelling.{Tidy, tidy-append, tidy-bits, tidy-dec}
+use Rattle.formats.proofs.Takes.{takes, takes-append, takes-lits, part-takes, end-takes}
 use Rattle.framescan.specs.FrameText.{groupLine}
-
--- ---- values
-
--- how many values the items take
-unfoldable pub takes : List Item → ℕ
-takes [] = 0
-takes (byte b ∷ is) = takes is
-takes (num ∷ is) = suc (takes is)
-takes (bit ∷ is) = suc (takes is)
-
-pub fit-length : (is : List Item) (vs : List ℕ) → Fit is vs → length vs ≡ takes is
-unfolding takes
-fit-length [] [] f = refl
-fit-length [] (v ∷ vs) f = absurd f
-fit-length (byte b ∷ is) vs f = fit-length is vs f
-fit-length (num ∷ is) [] f = absurd f
-fit-length (num ∷ is) (v ∷ vs) f = ap suc (fit-length is vs (f .1))
-fit-length (bit ∷ is) [] f = absurd f
-fit-length (bit ∷ is) (v ∷ vs) f = ap suc (fit-length is vs (f .1))
-
-pub takes-append : (is js : List Item) → takes (is ++ js) ≡ takes is + takes js
-unfolding takes
-takes-append [] js = sym (zero-add (takes js))
-takes-append (byte b ∷ is) js = takes-append is js
-takes-append (num ∷ is) js = ap suc (takes-append is js) ∙ sym (suc-add (takes is) (takes js))
-takes-append (bit ∷ is) js = ap suc (takes-append is js) ∙ sym (suc-add (takes is) (takes js))
-
-takes-lits : (bs : List ℕ) → takes (lits bs) ≡ 0
-unfolding takes
-takes-lits [] = refl
-takes-lits (b ∷ bs) = takes-lits bs
-
-takes-bits : (n : ℕ) → takes (bits n) ≡ n
-unfolding takes
-takes-bits zero = refl
-takes-bits (suc n) = ap suc (takes-bits n)
-
--- ---- what a walk passes with
-
-pub passed-length : (is : List Item) (s : List ℕ) (at : ℕ) (ys : List ℕ) (q : ℕ) → Tidy is → past ys q ≡ walk is s at → length ys ≡ takes is
-passed-length is s at ys q h e = fit-length is ys (walk-sound is s at ys q (tidy-oks is h) (sym e) .fit)
-
--- ---- the lines of blocks and groups
-
-pub part-takes : (n : ℕ) → takes (byte 32 ∷ bits n) ≡ n
-unfolding takes
-part-takes n = takes-bits n
-
-feed-takes : takes (byte 10 ∷ []) ≡ 0
-unfolding takes
-feed-takes = refl
-
-pub line-takes : (n p : ℕ) → takes (bitsLine n p) ≡ n
-unfolding bitsLine
-line-takes n p =
-    let front : List Item = lits (dec p) ++ (byte 32 ∷ bits n) in
-    omega (arith, takes-append front (byte 10 ∷ []), takes-append (lits (dec p)) (byte 32 ∷ bits n), takes-lits (dec p), part-takes n, feed-takes)
 
 pub group-takes : (n p : ℕ) → takes (groupLine n p) ≡ 2 * n
 unfolding groupLine
 group-takes n p =
     let last : List Item = (byte 32 ∷ bits n) ++ (byte 10 ∷ []) in
-    let both : List Item = (byte 32 ∷ bits n) ++ last in
-    omega (arith, takes-append (lits (dec p)) both, takes-append (byte 32 ∷ bits n) last, takes-append (byte 32 ∷ bits n) (byte 10 ∷ []), takes-lits (dec p), part-takes n, feed-takes)
+    omega (arith, takes-append (lits (dec p)) ((byte 32 ∷ bits n) ++ last), takes-append (byte 32 ∷ bits n) last, takes-lits (dec p), part-takes n, end-takes n)
 
 pub tidy-groupLine : (n p : ℕ) → p < 10000 → Tidy (groupLine n p)
 unfolding groupLine

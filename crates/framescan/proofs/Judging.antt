@@ -4,7 +4,6 @@
 --   end-there, end-over           the end of a text
 --   front-wrong, front-on         the header and the first line, of either text
 --   tail-there .. tail-next       block text after a line
---   lines-all .. lines-next       the lines of the groups
 --   group-number .. group-end     the line of a group
 --   names-wrong .. groups-over    group text
 --   frame-group .. frame-next     frame text after a line
@@ -122,38 +121,6 @@ module _ (area most i : ℕ) (s : List ℕ) (q : ℕ) where
         → verdict (scanAt (blockTail area (most - i) i) s q) ≡ verdict (scanAt (blockTail area (most - (i + 1)) (i + 1)) s k)
     tail-next k f = ap verdict tail-line ∙ then-next (bitsLine area (i + 1)) Rest s q x e k f
 
--- ---- the lines of the groups: i of N are read
-
-pub groups-suc : (n N i : ℕ) → i < N → groupLines n (i + 1) (N - i) ≡ groupLine n (i + 1) ++ groupLines n (i + 1 + 1) (N - (i + 1))
-unfolding groupLines
-groups-suc n N i h =
-    let e : N - i ≡ suc (N - (i + 1)) = omega arith in
-    let f : suc (i + 1) ≡ i + 1 + 1 = omega arith in
-    ap (λ (k : ℕ). groupLines n (i + 1) k) e ∙ ap (λ (k : ℕ). groupLine n (i + 1) ++ groupLines n k (N - (i + 1))) f
-
-pub groups-none : (n N i : ℕ) → N ≤ i → groupLines n (i + 1) (N - i) ≡ []
-unfolding groupLines
-groups-none n N i h = let e : N - i ≡ 0 = omega arith in ap (λ (k : ℕ). groupLines n (i + 1) k) e
-
-pub lines-all : (n N : ℕ) (s : List ℕ) (q : ℕ) → stepOf (walk (groupLines n 1 N) s q) ≡ stepOf (walk (groupLines n (0 + 1) (N - 0)) s q)
-lines-all n N s q = let e : N ≡ N - 0 = omega arith in ap (λ (k : ℕ). stepOf (walk (groupLines n 1 k) s q)) e
-
-pub lines-done : (n N i : ℕ) (s : List ℕ) (q : ℕ) → N ≤ i → stepOf (walk (groupLines n (i + 1) (N - i)) s q) ≡ Next q
-unfolding walk
-lines-done n N i s q h = ap (λ (is : List Item). stepOf (walk is s q)) (groups-none n N i h)
-
-module _ (n N i : ℕ) (s : List ℕ) (q : ℕ) (h : i < N) (x : Step) (e : x ≡ stepOf (walk (groupLine n (i + 1)) s q)) where
-  abbrev Left : List Item
-  Left = groupLines n (i + 1 + 1) (N - (i + 1))
-
-  pub lines-wrong : (k : ℕ) → x ≡ Refused k → x ≡ stepOf (walk (groupLines n (i + 1) (N - i)) s q)
-  lines-wrong k f = stops-first (groupLine n (i + 1)) Left s q x e k f ∙ ap (λ (is : List Item). stepOf (walk is s q)) (sym (groups-suc n N i h))
-
-  pub lines-next : (k : ℕ) → x ≡ Next k
-      → stepOf (walk (groupLines n (i + 1) (N - i)) s q) ≡ stepOf (walk (groupLines n (i + 1 + 1) (N - (i + 1))) s k)
-  lines-next k f =
-      ap (λ (is : List Item). stepOf (walk is s q)) (groups-suc n N i h) ∙ sym (goes-on (groupLine n (i + 1)) Left s q x e k f (stepOf (walk Left s k)) refl)
-
 -- ---- the line of a group
 
 module _ (n p : ℕ) (s : List ℕ) (at : ℕ) (x : Step) (ex : stepWalk x ≡ walk (lits (dec p)) s at) where
@@ -195,9 +162,9 @@ module _ (n L : ℕ) (s : List ℕ) (at : ℕ) (x : Step) (ex : stepWalk x ≡ w
   unfolding groupTail
   names-wrong q f = sym (ap verdict (then-wrong (lits groupNamesTail ++ Lines) (end L) s at x (stops-first (lits groupNamesTail) Lines s at x (step-of x _ ex) q f) q f))
 
-  module _ (i : ℕ) (fx : x ≡ Next i) (y : Step) (ey : y ≡ stepOf (walk (groupLines n 1 (groups L)) s i)) where
+  module _ (i : ℕ) (fx : x ≡ Next i) (G : ℕ) (eg : G ≡ groups L) (y : Step) (ey : y ≡ stepOf (walk (groupLines n 1 G) s i)) where
     both : y ≡ stepOf (walk (lits groupNamesTail ++ Lines) s at)
-    both = goes-on (lits groupNamesTail) Lines s at x (step-of x _ ex) i fx y ey
+    both = goes-on (lits groupNamesTail) Lines s at x (step-of x _ ex) i fx y (ey ∙ ap (λ (k : ℕ). stepOf (walk (groupLines n 1 k) s i)) eg)
 
     pub groups-wrong : (q : ℕ) → y ≡ Refused q → refused q ≡ verdict (scanAt (groupTail n L) s at)
     unfolding groupTail

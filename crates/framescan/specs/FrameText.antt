@@ -7,7 +7,7 @@
 use Prim.Native.Nat.{ℕ, zero, suc, _-_, _≤_}
 use mathlib.Core.List.{List, [], _∷_, _++_}
 use Rattle.formats.specs.Format.{Item, byte, Format, end, _▷_, opt, fork, dec}
-use Rattle.formats.specs.Items.{lits, seq, bits, bitsLine, bitsLines, Spells}
+use Rattle.formats.specs.Items.{lits, seq, bits, linesFrom, bitsLine, bitsLines, Spells}
 use Rattle.staircase.specs.Frame.{groups}
 use Rattle.lines.specs.Written.{blockNames}
 
@@ -31,9 +31,8 @@ groupNamesTail = 114 ∷ 111 ∷ 117 ∷ 112 ∷ 32 ∷ 115 ∷ 101 ∷ 108 ∷ 
 unfoldable pub groupLine : ℕ → ℕ → List Item
 groupLine n p = lits (dec p) ++ ((byte 32 ∷ bits n) ++ ((byte 32 ∷ bits n) ++ (byte 10 ∷ [])))
 
-unfoldable pub groupLines : ℕ → ℕ → ℕ → List Item
-groupLines n p zero = []
-groupLines n p (suc k) = groupLine n p ++ groupLines n (suc p) k
+abbrev pub groupLines : ℕ → ℕ → ℕ → List Item
+groupLines n p k = linesFrom (groupLine n) p k
 
 -- the group text of L blocks, behind its first byte
 unfoldable pub groupTail : ℕ → ℕ → Format

@@ -23,7 +23,7 @@ pub enum Found {
 }
 
 // "for 1 to 4,096 blocks"
-const MOST_BLOCKS: usize = 4096;
+const MOST_BLOCKS: usize = design::MOST_BLOCKS as usize;
 
 // `block bits` and the line of block 1.
 fn front(s: &[u8], area: usize) -> Step
@@ -125,7 +125,8 @@ fn group_text(s: &[u8], at: usize, n: usize, blocks: usize) -> Found
     match names {
         Step::Refused(q) => Found::Wrong(q),
         Step::Next(i) => {
-            let lines = group_lines(s, i, n, (blocks + 1) / 2);
+            let groups = design::group_count(blocks as u64);
+            let lines = group_lines(s, i, n, groups as usize);
             match lines {
                 Step::Refused(q) => Found::Wrong(q),
                 Step::Next(e) => {

@@ -4,10 +4,10 @@ use mathlib.Core.Path.{_≡_, refl}
 use mathlib.Core.List.{List, [], _∷_, _++_}
 use Prim.Native.Nat.{ℕ}
 use Rattle.formats.specs.Format.{digitsOf, dec, item}
-use Rattle.formats.specs.Items.{bitsLine}
+use Rattle.formats.specs.Items.{linesFrom, bitsLine}
 use Rattle.staircase.specs.Rules.Verdict.{accepted, refused}
 use Rattle.readers.specs.Verdicts.{scanRule, mark, valuesOf}
-use Rattle.framescan.specs.FrameText.{blockTail, blockFormat, groupLine, groupLines, groupTail, frameTail, frameFormat}
+use Rattle.framescan.specs.FrameText.{blockTail, blockFormat, groupLine, groupTail, frameTail, frameFormat}
 use Rattle.lines.specs.Written.{blockNames}
 use Rattle.frametext.specs.Reader.{blockScan, blockRule, blockCount, blockInfo, frameScan, frameRule, frameCount, frameInfo, frameRed}
 
@@ -36,10 +36,10 @@ byte-behind = refl
 
 -- The four blocks with their groups are read.
 pub four-blocks-framed : (frameRule 1 4 (fourBlocks ++ twoGroups) ≡ accepted) × (frameCount 1 4 (fourBlocks ++ twoGroups) ≡ 4) × (frameInfo 1 4 (fourBlocks ++ twoGroups) ≡ 0 ∷ 1 ∷ 0 ∷ 0 ∷ []) × (frameRed 1 4 (fourBlocks ++ twoGroups) ≡ 0 ∷ 0 ∷ 0 ∷ 1 ∷ 0 ∷ 1 ∷ 1 ∷ 0 ∷ 0 ∷ 0 ∷ 0 ∷ 1 ∷ 0 ∷ 0 ∷ 1 ∷ 1 ∷ [])
-unfolding frameRule frameCount frameInfo frameRed frameScan scanRule mark valuesOf frameFormat frameTail groupTail groupLines groupLine bitsLine dec digitsOf item
+unfolding frameRule frameCount frameInfo frameRed frameScan scanRule mark valuesOf frameFormat frameTail groupTail linesFrom groupLine bitsLine dec digitsOf item
 four-blocks-framed = (refl, refl, refl, refl)
 
 -- Block text alone is no frame text: `g` or the line of block 5 is due at its end.
 pub frame-cut : frameRule 1 4 fourBlocks ≡ refused 12 27
-unfolding frameRule frameCount frameInfo frameRed frameScan scanRule mark valuesOf frameFormat frameTail groupTail groupLines groupLine bitsLine dec digitsOf item
+unfolding frameRule frameCount frameInfo frameRed frameScan scanRule mark valuesOf frameFormat frameTail groupTail linesFrom groupLine bitsLine dec digitsOf item
 frame-cut = refl

@@ -1,20 +1,20 @@
--- How many values the lines of a text take, that these are bits, and how long texts are at least.
---   Bare, fit-bits            items without numbers have bits as values
---   spell-long                a text has a byte at least for each item
---   lines-take .. groups-long the lines of blocks and groups
+-- That the values of a text are bits, and how long texts are at least.
+--   Bare, fit-bits           items without numbers have bits as values
+--   spell-long               a text has a byte at least for each item
+--   lines-bare, lines-long   lines, by a law for the line of a number
+--   line-bare .. group-long  the line of a block and of a group
 -- Assumes nothing.
 use Prim.Native.Nat.{ℕ, zero, suc, _+_, _*_, _≤_, _<_}
-use mathlib.Core.Path.{_≡_, refl, sym, ap, _∙_}
+use mathlib.Core.Path.{_≡_, refl, ap}
 use mathlib.Core.List.{List, [], _∷_, _++_}
 use native.Mathlib.Omega.{arith}
-use native.Mathlib.Nat.{zero-mul, suc-mul}
+use native.Mathlib.Nat.{suc-mul}
 use lib.ListN.{length, length-append, length-replicate}
 use Rattle.bch.specs.Polynomial.{Bits}
 use Rattle.formats.specs.Format.{Item, byte, num, bit, dec}
-use Rattle.formats.specs.Items.{lits, bits, bitsLine, bitsLines, spell, Fit}
+use Rattle.formats.specs.Items.{lits, bits, linesFrom, bitsLine, spell, Fit}
 use Rattle.formats.proofs.Items.{dec-long}
-use Rattle.framescan.specs.FrameText.{groupLine, groupLines}
-use Rattle.framefill.proofs.Takes.{takes, takes-append, line-takes, group-takes}
+use Rattle.framescan.specs.FrameText.{groupLine}
 
 -- ---- bits
 
@@ -66,78 +66,55 @@ lits-length : (bs : List ℕ) → length (lits bs) ≡ length bs
 lits-length [] = refl
 lits-length (b ∷ bs) = ap suc (lits-length bs)
 
--- ---- the lines of blocks
+-- ---- lines that each have a number, by a law for the line of a number
 
-pub lines-take : (n p k : ℕ) → takes (bitsLines n p k) ≡ k * n
-unfolding bitsLines takes
-lines-take n p zero = sym (zero-mul n)
-lines-take n p (suc k) = takes-append (bitsLine n p) (bitsLines n (suc p) k) ∙ sum (takes (bitsLine n p)) (takes (bitsLines n (suc p) k)) (line-takes n p) (lines-take n (suc p) k)
-  where
-    sum : (a b : ℕ) → a ≡ n → b ≡ k * n → a + b ≡ suc k * n
-    sum a b e f = omega (arith, suc-mul k n)
+module _ (line : ℕ → List Item) where
+  pub lines-bare : (k p : ℕ) → ((q : ℕ) → Bare (line q)) → Bare (linesFrom line p k)
+  unfolding linesFrom
+  lines-bare zero p b = tt
+  lines-bare (suc k) p b = bare-append (line p) (linesFrom line (suc p) k) (b p) (lines-bare k (suc p) b)
 
-line-bare : (n p : ℕ) → Bare (bitsLine n p)
+  pub lines-long : (w k p : ℕ) → ((q : ℕ) → w ≤ length (line q)) → k * w ≤ length (linesFrom line p k)
+  unfolding linesFrom
+  lines-long w zero p l = omega arith
+  lines-long w (suc k) p l = sum (length (line p)) (length (linesFrom line (suc p) k)) (length-append (line p) (linesFrom line (suc p) k)) (l p) (lines-long w k (suc p) l)
+    where
+      sum : (a b : ℕ) → length (line p ++ linesFrom line (suc p) k) ≡ a + b → w ≤ a → k * w ≤ b → suc k * w ≤ length (line p ++ linesFrom line (suc p) k)
+      sum a b e f g = omega (arith, suc-mul k w)
+
+-- ---- the line of a block and of a group: a number has a digit; spaces, bits and a line feed follow
+
+abbrev End : ℕ → List Item
+End n = (byte 32 ∷ bits n) ++ (byte 10 ∷ [])
+
+end-bare : (n : ℕ) → Bare (End n)
+end-bare n = bare-append (byte 32 ∷ bits n) (byte 10 ∷ []) (bare-bits n) tt
+
+end-length : (n : ℕ) → length (End n) ≡ n + 2
+end-length n = omega (arith, length-append (byte 32 ∷ bits n) (byte 10 ∷ []), length-replicate n bit)
+
+pub line-bare : (n p : ℕ) → Bare (bitsLine n p)
 unfolding bitsLine
-line-bare n p =
-    bare-append (lits (dec p) ++ (byte 32 ∷ bits n)) (byte 10 ∷ []) (bare-append (lits (dec p)) (byte 32 ∷ bits n) (bare-lits (dec p)) (bare-bits n)) tt
+line-bare n p = bare-append (lits (dec p)) (End n) (bare-lits (dec p)) (end-bare n)
 
-pub lines-bare : (n p k : ℕ) → Bare (bitsLines n p k)
-unfolding bitsLines
-lines-bare n p zero = tt
-lines-bare n p (suc k) = bare-append (bitsLine n p) (bitsLines n (suc p) k) (line-bare n p) (lines-bare n (suc p) k)
-
--- a number has a digit, and a space, n bits and a line feed follow
-line-long : (n p : ℕ) → n + 3 ≤ length (bitsLine n p)
+pub line-long : (n p : ℕ) → n + 3 ≤ length (bitsLine n p)
 unfolding bitsLine
-line-long n p =
-    let front : List Item = lits (dec p) ++ (byte 32 ∷ bits n) in
-    omega (arith, length-append front (byte 10 ∷ []), length-append (lits (dec p)) (byte 32 ∷ bits n), lits-length (dec p), dec-long p, length-replicate n bit)
+line-long n p = omega (arith, length-append (lits (dec p)) (End n), lits-length (dec p), dec-long p, end-length n)
 
-pub lines-long : (n p k : ℕ) → k * (n + 3) ≤ length (bitsLines n p k)
-unfolding bitsLines
-lines-long n p zero = omega arith
-lines-long n p (suc k) = sum (length (bitsLine n p)) (length (bitsLines n (suc p) k)) (length-append (bitsLine n p) (bitsLines n (suc p) k)) (line-long n p) (lines-long n (suc p) k)
-  where
-    sum : (a b : ℕ) → length (bitsLine n p ++ bitsLines n (suc p) k) ≡ a + b → n + 3 ≤ a → k * (n + 3) ≤ b
-        → suc k * (n + 3) ≤ length (bitsLine n p ++ bitsLines n (suc p) k)
-    sum a b e f g = omega (arith, suc-mul k (n + 3))
-
--- ---- the lines of groups
-
-pub groups-take : (n p k : ℕ) → takes (groupLines n p k) ≡ k * (2 * n)
-unfolding groupLines takes
-groups-take n p zero = sym (zero-mul (2 * n))
-groups-take n p (suc k) =
-    takes-append (groupLine n p) (groupLines n (suc p) k) ∙ sum (takes (groupLine n p)) (takes (groupLines n (suc p) k)) (group-takes n p) (groups-take n (suc p) k)
-  where
-    sum : (a b : ℕ) → a ≡ 2 * n → b ≡ k * (2 * n) → a + b ≡ suc k * (2 * n)
-    sum a b e f = omega (arith, suc-mul k (2 * n))
-
-group-bare : (n p : ℕ) → Bare (groupLine n p)
+pub group-bare : (n p : ℕ) → Bare (groupLine n p)
 unfolding groupLine
 group-bare n p =
-    let last : List Item = (byte 32 ∷ bits n) ++ (byte 10 ∷ []) in
-    bare-append (lits (dec p)) ((byte 32 ∷ bits n) ++ last) (bare-lits (dec p))
-    (bare-append (byte 32 ∷ bits n) last (bare-bits n) (bare-append (byte 32 ∷ bits n) (byte 10 ∷ []) (bare-bits n) tt))
+    bare-append (lits (dec p)) ((byte 32 ∷ bits n) ++ End n) (bare-lits (dec p)) (bare-append (byte 32 ∷ bits n) (End n) (bare-bits n) (end-bare n))
 
-pub groups-bare : (n p k : ℕ) → Bare (groupLines n p k)
-unfolding groupLines
-groups-bare n p zero = tt
-groups-bare n p (suc k) = bare-append (groupLine n p) (groupLines n (suc p) k) (group-bare n p) (groups-bare n (suc p) k)
-
-group-long : (n p : ℕ) → 2 * n + 4 ≤ length (groupLine n p)
+pub group-long : (n p : ℕ) → 2 * n + 4 ≤ length (groupLine n p)
 unfolding groupLine
 group-long n p =
-    let last : List Item = (byte 32 ∷ bits n) ++ (byte 10 ∷ []) in
-    let both : List Item = (byte 32 ∷ bits n) ++ last in
-    omega (arith, length-append (lits (dec p)) both, length-append (byte 32 ∷ bits n) last, length-append (byte 32 ∷ bits n) (byte 10 ∷ []), lits-length (dec p), dec-long p, length-replicate n bit)
-
-pub groups-long : (n p k : ℕ) → k * (2 * n + 4) ≤ length (groupLines n p k)
-unfolding groupLines
-groups-long n p zero = omega arith
-groups-long n p (suc k) =
-    sum (length (groupLine n p)) (length (groupLines n (suc p) k)) (length-append (groupLine n p) (groupLines n (suc p) k)) (group-long n p) (groups-long n (suc p) k)
-  where
-    sum : (a b : ℕ) → length (groupLine n p ++ groupLines n (suc p) k) ≡ a + b → 2 * n + 4 ≤ a → k * (2 * n + 4) ≤ b
-        → suc k * (2 * n + 4) ≤ length (groupLine n p ++ groupLines n (suc p) k)
-    sum a b e f g = omega (arith, suc-mul k (2 * n + 4))
+    omega (
+      arith,
+      length-append (lits (dec p)) ((byte 32 ∷ bits n) ++ End n),
+      length-append (byte 32 ∷ bits n) (End n),
+      lits-length (dec p),
+      dec-long p,
+      length-replicate n bit,
+      end-length n,
+    )

@@ -9,15 +9,16 @@ use native.Mathlib.Omega.{arith}
 use lib.ListN.{length, drop, length-drop}
 use lib.Seq.{drop-drop, drop-append-seam}
 use Rattle.formats.specs.Format.{Item, read, scan}
-use Rattle.formats.specs.Items.{bitsLines, past, walk, spell, Fit}
+use Rattle.formats.specs.Items.{bitsLine, bitsLines, past, walk, spell, Fit}
 use Rattle.formats.proofs.Parts.{Split, fit-split}
-use Rattle.formats.proofs.Spelling.{walk-spell, tidy-bitsLines}
+use Rattle.formats.proofs.Spelling.{walk-spell, tidy-bitsLine}
+use Rattle.formats.proofs.Takes.{fit-length, line-takes}
+use Rattle.formats.proofs.Lines.{lines-tidy, lines-take}
 use Rattle.staircase.specs.Design.{most-blocks}
 use Rattle.staircase.specs.Frame.{groups}
-use Rattle.framescan.specs.FrameText.{blockFormat, frameFormat, groupLines, groupItems, BlockText, FrameText}
-use Rattle.frametext.proofs.Texts.{tidy-groupLines, blocks-read, frame-read}
-use Rattle.framefill.proofs.Takes.{fit-length}
-use Rattle.frametext.proofs.Lengths.{lines-take, groups-take}
+use Rattle.framescan.specs.FrameText.{blockFormat, frameFormat, groupLine, groupLines, groupItems, BlockText, FrameText}
+use Rattle.framefill.proofs.Takes.{group-takes, tidy-groupLine}
+use Rattle.frametext.proofs.Texts.{blocks-read, frame-read}
 
 -- ---- block text
 
@@ -40,9 +41,9 @@ block-parts area L vs s e = go (blocks-read area most-blocks L vs s (omega arith
         record {
           some = b .some;
           few = h;
-          size = fit-length is vs f ∙ lines-take area 1 L;
+          size = fit-length is vs f ∙ lines-take (bitsLine area) area L 1 (line-takes area);
           last = 11 + length (spell is vs);
-          lines = walk-spell is vs [] s 11 (tidy-bitsLines area L 1 (omega arith)) f d;
+          lines = walk-spell is vs [] s 11 (lines-tidy (bitsLine area) L 1 (omega arith) (tidy-bitsLine area)) f d;
         }
 
 -- ---- frame text
@@ -92,13 +93,13 @@ frame-parts area n L vs s e = go (frame-read area n most-blocks L vs s (omega ar
           info = us;
           red = ws;
           whole = S .all;
-          info-size = fit-length is us f ∙ lines-take area 1 L;
-          red-size = fit-length js ws g ∙ groups-take n 1 (groups L);
+          info-size = fit-length is us f ∙ lines-take (bitsLine area) area L 1 (line-takes area);
+          red-size = fit-length js ws g ∙ lines-take (groupLine n) (2 * n) (groups L) 1 (group-takes n);
           middle = q;
-          block-lines = walk-spell is us (spell G ws) s 11 (tidy-bitsLines area L 1 (omega arith)) f a;
+          block-lines = walk-spell is us (spell G ws) s 11 (lines-tidy (bitsLine area) L 1 (omega arith) (tidy-bitsLine area)) f a;
           room = omega (arith, length-drop q s);
           last = q + 18 + length (spell js ws);
-          group-lines = walk-spell js ws [] s (q + 18) (tidy-groupLines n (groups L) 1 (omega arith)) g c;
+          group-lines = walk-spell js ws [] s (q + 18) (lines-tidy (groupLine n) (groups L) 1 (omega arith) (tidy-groupLine n)) g c;
         }
 
     go : FrameText area n most-blocks L vs s → FrameParts area n L vs s

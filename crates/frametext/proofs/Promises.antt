@@ -14,7 +14,7 @@ use lib.Seq.{take-at, drop-at, getD-take, getD-drop}
 use Rattle.bch.specs.Polynomial.{Bits}
 use Rattle.formats.specs.Format as format
 use Rattle.formats.specs.Format.{Item, byte, Text, Longest, Scan, read, scan}
-use Rattle.formats.specs.Items.{lits, bitsLines, spell}
+use Rattle.formats.specs.Items.{lits, bitsLine, bitsLines, spell}
 use Rattle.formats.proofs.Scan.{scan-complete, scan-longest, longest-same}
 use Rattle.staircase.specs.Design.{most-blocks}
 use Rattle.staircase.specs.Frame.{groups}
@@ -23,12 +23,13 @@ use Rattle.staircase.specs.Rules.Verdict.{accepted, refused}
 use Rattle.staircase.proofs.Rules.{then-accepted, length-accepted}
 use Rattle.readers.specs.Verdicts.{scanRule, mark, valuesOf}
 use Rattle.readers.proofs.Kept.{kept-new}
-use Rattle.framescan.specs.FrameText.{groupNamesTail, blockFormat, frameFormat, groupLines, BlockText, FrameText}
+use Rattle.framescan.specs.FrameText.{groupNamesTail, blockFormat, frameFormat, groupLine, groupLines, BlockText, FrameText}
 use Rattle.lines.specs.Written.{blockNames}
 use Rattle.frametext.specs.Reader.{blockScan, blockRule, blockCount, blockInfo, readBlocksCall, frameScan, frameRule, frameCount, frameInfo, frameRed, readFrameCall}
 use Rattle.frametext.proofs.Texts.{clear-blocks, clear-frame, blocks-union, union-blocks, frame-union, union-frame, blocks-read, frame-read}
-use Rattle.framefill.proofs.Takes.{fit-length}
-use Rattle.frametext.proofs.Lengths.{lines-take, fit-bits, bare-append, lines-bare, groups-bare, spell-long, lines-long, groups-long}
+use Rattle.formats.proofs.Takes.{fit-length, line-takes}
+use Rattle.formats.proofs.Lines.{lines-take}
+use Rattle.frametext.proofs.Lengths.{fit-bits, bare-append, spell-long, lines-bare, lines-long, line-bare, line-long, group-bare, group-long}
 use Rattle.frametext.proofs.Parts.{frame-parts}
 
 -- ---- a scan by its rule
@@ -95,9 +96,9 @@ blocks-hold M s e = go (blockCount M s) (blockInfo M s) (blocks-accepted M s .0 
         record {
           some = b .some;
           few = b .few;
-          info-length = fit-length is vs (b .spells .0) ∙ lines-take (M * M) 1 L;
-          info-bits = fit-bits is vs (lines-bare (M * M) 1 L) (b .spells .0);
-          text-length = omega (arith, length-append names is, lines-long (M * M) 1 L);
+          info-length = fit-length is vs (b .spells .0) ∙ lines-take (bitsLine (M * M)) (M * M) L 1 (line-takes (M * M));
+          info-bits = fit-bits is vs (lines-bare (bitsLine (M * M)) L 1 (line-bare (M * M))) (b .spells .0);
+          text-length = omega (arith, length-append names is, lines-long (bitsLine (M * M)) (M * M + 3) L 1 (line-long (M * M)));
         }
 
 -- An accepted text fills a slice that fits with its information.
@@ -178,7 +179,7 @@ frame-holds M r s e = go (mark (frameScan M r s)) (valuesOf (frameScan M r s)) (
         let js : List Item = groupLines (M * r) 1 (groups L) in
         let first : List Item = lits blockNames ++ is in
         let second : List Item = byte 103 ∷ (lits groupNamesTail ++ js) in
-        let bits : Bits vs = fit-bits (is ++ second) vs (bare-append is second (lines-bare (M * M) 1 L) (groups-bare (M * r) 1 (groups L))) (b .spells .0) in
+        let bits : Bits vs = fit-bits (is ++ second) vs (bare-append is second (lines-bare (bitsLine (M * M)) L 1 (line-bare (M * M))) (lines-bare (groupLine (M * r)) (groups L) 1 (group-bare (M * r)))) (b .spells .0) in
         let info : take (L * (M * M)) vs ≡ p .info = ap (λ (l : List ℕ). take (L * (M * M)) l) (p .whole) ∙ take-at (p .info) (p .red) (L * (M * M)) (p .info-size) in
         let red : drop (L * (M * M)) vs ≡ p .red = ap (λ (l : List ℕ). drop (L * (M * M)) l) (p .whole) ∙ drop-at (p .info) (p .red) (L * (M * M)) (p .info-size) in
         let long : length (first ++ second) ≤ length (spell (first ++ second) vs) = spell-long (first ++ second) vs (b .spells .0) in
@@ -191,7 +192,7 @@ frame-holds M r s e = go (mark (frameScan M r s)) (valuesOf (frameScan M r s)) (
           info-bits = bits-take (L * (M * M)) vs bits;
           red-bits = bits-drop (L * (M * M)) vs bits;
           text-length =
-              omega (arith, length-append first second, length-append (lits blockNames) is, length-append (lits groupNamesTail) js, lines-long (M * M) 1 L, groups-long (M * r) 1 (groups L));
+              omega (arith, length-append first second, length-append (lits blockNames) is, length-append (lits groupNamesTail) js, lines-long (bitsLine (M * M)) (M * M + 3) L 1 (line-long (M * M)), lines-long (groupLine (M * r)) (2 * (M * r) + 4) (groups L) 1 (group-long (M * r)));
         }
 
 -- An accepted text fills slices that fit with its information and its redundancy.

@@ -12,10 +12,11 @@ use native.Mathlib.Omega.{arith}
 use borrow.Author.Tests.{ne-eqb}
 use lib.Dec.{eqb}
 use Rattle.formats.specs.Format.{Item, byte, Format, end, _▷_, Renders, read, scan, Avoids, Begins, Clear}
-use Rattle.formats.specs.Items.{lits, seq, bitsLine, bitsLines, spell, Fit, Spells}
+use Rattle.formats.specs.Items.{lits, seq, linesFrom, bitsLine, bitsLines, spell, Fit, Spells}
 use Rattle.formats.proofs.Parts.{fit-append, fit-split}
 use Rattle.formats.proofs.Scan.{dec-head, scan-sound}
-use Rattle.formats.proofs.Spelling.{seq-renders, renders-seq, Spelt, Tidy, clear-seq, tidy-append, tidy-bitsLine}
+use Rattle.formats.proofs.Spelling.{seq-renders, renders-seq, Spelt, clear-seq, tidy-append, tidy-bitsLine}
+use Rattle.formats.proofs.Lines.{lines-tidy}
 use Rattle.staircase.specs.Frame.{groups}
 use Rattle.framescan.specs.FrameText.{blockTail, blockFormat, groupNamesTail, groupLine, groupLines, groupTail, frameTail, frameFormat}
 use Rattle.lines.specs.Written.{blockNames}
@@ -45,16 +46,11 @@ clear-blocks area most l h =
     clear-seq (lits blockNames) (seq (bitsLine area 1) (blockTail area (most - 1) 1)) (omega arith)
     (clear-seq (bitsLine area 1) (blockTail area (most - 1) 1) (tidy-bitsLine area 1 (omega arith)) (clear-blockTail area (most - 1) 1 (omega arith)))
 
-pub tidy-groupLines : (n k p : ℕ) → p + k ≤ 10000 → Tidy (groupLines n p k)
-unfolding groupLines
-tidy-groupLines n zero p h = tt
-tidy-groupLines n (suc k) p h = tidy-append (groupLine n p) (groupLines n (suc p) k) (tidy-groupLine n p (omega arith)) (tidy-groupLines n k (suc p) (omega arith))
-
 clear-groups : (area L : ℕ) → L < 10000 → Clear (groupTail area L)
 unfolding groupTail
 clear-groups area L h =
     clear-seq (lits groupNamesTail ++ groupLines area 1 (groups L)) (end L)
-    (tidy-append (lits groupNamesTail) (groupLines area 1 (groups L)) (omega arith) (tidy-groupLines area (groups L) 1 (omega arith))) tt
+    (tidy-append (lits groupNamesTail) (groupLines area 1 (groups L)) (omega arith) (lines-tidy (groupLine area) (groups L) 1 (omega arith) (tidy-groupLine area))) tt
 
 clear-frameTail : (area order k i : ℕ) → i + k < 10000 → Clear (frameTail area order k i)
 unfolding frameTail
@@ -77,12 +73,12 @@ abbrev Lines : ℕ → ℕ → ℕ → ℕ → List ℕ → List ℕ → Type 0
 Lines area k i L vs s = (j : ℕ) × (j ≤ k) × (L ≡ i + j) × Spells (bitsLines area (suc i) j) vs s
 
 no-line : (area k i L : ℕ) (vs s : List ℕ) → L ≡ i → vs ≡ [] → s ≡ [] → Lines area k i L vs s
-unfolding bitsLines
+unfolding linesFrom
 no-line area k i L vs s a b c = (0, omega arith, omega arith, (rw b tt, c))
 
 more-lines : (area k i L : ℕ) (vs s ws us t : List ℕ) → Fit (bitsLine area (suc i)) ws → vs ≡ ws ++ us → s ≡ spell (bitsLine area (suc i)) ws ++ t
     → Lines area k (suc i) L us t → Lines area (suc k) i L vs s
-unfolding bitsLines
+unfolding linesFrom
 more-lines area k i L vs s ws us t f e g (j, h, l, (m, n)) =
     let (x, y) = fit-append (bitsLine area (suc i)) (bitsLines area (suc (suc i)) j) ws us f m in
     (suc j, omega arith, omega arith, (rw e x, rw (g, e, n) (sym y)))
@@ -98,7 +94,7 @@ tail-lines area (suc k) i L vs s (inr r) = go (renders-seq (bitsLine area (suc i
     go (ws, us, t, f, e, g, x) ih = more-lines area k i L vs s ws us t f e g (ih us t x)
 
 lines-tail : (area k i L j : ℕ) (vs s : List ℕ) → j ≤ k → L ≡ i + j → Spells (bitsLines area (suc i) j) vs s → Renders (blockTail area k i) L vs s
-unfolding blockTail bitsLines
+unfolding blockTail linesFrom
 lines-tail area zero i L zero [] s h e (f, g) = (omega arith, refl, g)
 lines-tail area zero i L zero (v ∷ vs) s h e (f, g) = absurd f
 lines-tail area zero i L (suc j) vs s h e x = absurd (omega arith)
@@ -120,7 +116,7 @@ abbrev Front : ℕ → List Item
 Front area = lits blockNames ++ bitsLine area 1
 
 pub blocks-union : (area most L : ℕ) (vs s : List ℕ) → 1 ≤ most → Renders (blockFormat area most) L vs s → BlockText area most L vs s
-unfolding blockFormat bitsLines
+unfolding blockFormat linesFrom
 blocks-union area most L vs s l r = go (renders-seq (Front area) (blockTail area (most - 1) 1) L vs s r)
   where
     go2 : (ws us t : List ℕ) → Fit (Front area) ws → vs ≡ ws ++ us → s ≡ spell (Front area) ws ++ t → Lines area (most - 1) 1 L us t → BlockText area most L vs s
@@ -133,7 +129,7 @@ blocks-union area most L vs s l r = go (renders-seq (Front area) (blockTail area
     go (ws, us, t, f, e, g, x) = go2 ws us t f e g (tail-lines area (most - 1) 1 L us t x)
 
 pub union-blocks : (area most L : ℕ) (vs s : List ℕ) → BlockText area most L vs s → Renders (blockFormat area most) L vs s
-unfolding blockFormat bitsLines
+unfolding blockFormat linesFrom
 union-blocks area most zero vs s b = absurd (omega (arith, b .some))
 union-blocks area most (suc j) vs s b =
     let S = fit-split (Front area) (bitsLines area 2 j) vs (b .spells .0) in
@@ -160,14 +156,14 @@ closed is i L vs s (ws, us, t, f, e, g, (a, b, c)) =
     (a, (rw x f, g ∙ ap (λ (z : List ℕ). spell is ws ++ z) c ∙ append-nil (spell is ws) ∙ ap (spell is) (sym x)))
 
 last-group : (area order k i L : ℕ) (vs s : List ℕ) → Renders (byte 103 ▷ groupTail order i) L vs s → FrameLines area order k i L vs s
-unfolding groupTail bitsLines
+unfolding groupTail linesFrom
 last-group area order k i L vs s r =
     let (a, x) = closed (Groups order i) i L vs s (renders-seq (Groups order i) (end i) L vs s r) in
     (0, omega arith, omega arith, rw a x)
 
 more-frame : (area order k i L : ℕ) (vs s ws us t : List ℕ) → Fit (bitsLine area (suc i)) ws → vs ≡ ws ++ us → s ≡ spell (bitsLine area (suc i)) ws ++ t
     → FrameLines area order k (suc i) L us t → FrameLines area order (suc k) i L vs s
-unfolding bitsLines
+unfolding linesFrom
 more-frame area order k i L vs s ws us t f e g (j, h, l, (m, n)) =
     let (x, y) = fit-append (bitsLine area (suc i)) (bitsLines area (suc (suc i)) j ++ Groups order L) ws us f m in
     (suc j, omega arith, omega arith, rw append-assoc (rw e x, rw (g, e, n) (sym y)))
@@ -192,7 +188,7 @@ open-group order i L vs s a (f, g) =
     (spell is vs, g′, rw (← append-nil (spell is vs)) (subst (λ (v : List ℕ). Renders (seq is (end i)) L v (spell is vs ++ [])) (append-nil vs) (seq-renders is (end i) L vs [] [] f′ (a, refl, refl))))
 
 lines-frame : (area order k i L j : ℕ) (vs s : List ℕ) → j ≤ k → L ≡ i + j → Spells (bitsLines area (suc i) j ++ Groups order L) vs s → Renders (frameTail area order k i) L vs s
-unfolding frameTail bitsLines
+unfolding frameTail linesFrom
 lines-frame area order zero i L zero vs s h e x = let (t, a, r) = open-group order i L vs s (omega arith) x in ([], 103 ∷ [], vs, t, (refl, refl), refl, a, r)
 lines-frame area order zero i L (suc j) vs s h e x = absurd (omega arith)
 lines-frame area order (suc k) i L zero vs s h e x = inl (open-group order i L vs s (omega arith) x)
@@ -212,7 +208,7 @@ lines-frame area order (suc k) i L (suc j) vs s h e x =
         rw (g, x, w) (seq-renders (bitsLine area (suc i)) (frameTail area order k (suc i)) L ws us (spell R us) m (ih us (spell R us) (n, refl)))
 
 pub frame-union : (area order most L : ℕ) (vs s : List ℕ) → 1 ≤ most → Renders (frameFormat area order most) L vs s → FrameText area order most L vs s
-unfolding frameFormat bitsLines
+unfolding frameFormat linesFrom
 frame-union area order most L vs s l r = go (renders-seq (Front area) (frameTail area order (most - 1) 1) L vs s r)
   where
     go2 : (ws us t : List ℕ) → Fit (Front area) ws → vs ≡ ws ++ us → s ≡ spell (Front area) ws ++ t → FrameLines area order (most - 1) 1 L us t → FrameText area order most L vs s
@@ -230,7 +226,7 @@ frame-union area order most L vs s l r = go (renders-seq (Front area) (frameTail
     go (ws, us, t, f, e, g, x) = go2 ws us t f e g (frame-lines area order (most - 1) 1 L us t x)
 
 pub union-frame : (area order most L : ℕ) (vs s : List ℕ) → FrameText area order most L vs s → Renders (frameFormat area order most) L vs s
-unfolding frameFormat bitsLines
+unfolding frameFormat linesFrom
 union-frame area order most zero vs s b = absurd (omega (arith, b .some))
 union-frame area order most (suc j) vs s b = go (b .few) (subst (λ (is : List Item). Spells is vs s) (append-assoc (Front area) (bitsLines area 2 j) (Groups order (suc j))) (b .spells))
   where

@@ -11,12 +11,13 @@ use lib.ListN.{length, drop, length-append, length-drop, drop-of-length-le}
 use lib.Seq.{sets, sets-eq, take-at, drop-drop, drop-append-add}
 use Rattle.formats.specs.Items.{past, prep, walk, values, Passes}
 use Rattle.formats.proofs.Walking.{prep-nil, prep-prep}
+use Rattle.formats.proofs.Lines.{lines-whole, lines-end}
 use Rattle.kitscan.specs.KitText.{pairLine, pairLines}
 use Rattle.kitfill.specs.Bytes.{firsts, seconds, packs}
 use Rattle.kitscan.specs.Answers.{lineWalk}
 use Rattle.kitscan.specs.declared.Line.{Line}
 use Rattle.kitscan.specs.declared.Line.the-variants.{Pair, NoPair}
-use Rattle.kitscan.proofs.ListLines.{lines-all, lines-next, lines-wrong, lines-done}
+use Rattle.kitscan.proofs.ListLines.{pairs-wrong, pairs-next}
 
 -- of pairs: how many there are, and one more
 halves : (k : ℕ) (l : List ℕ) → length l ≡ 2 * k → (length (firsts l) ≡ k) × (length (seconds l) ≡ k)
@@ -84,7 +85,7 @@ module _ (s : List ℕ) (at n : ℕ) (l₀ m₀ : List ℕ) where
         count = refl;
         left = refl;
         right = refl;
-        rest = lines-all n s at ∙ sym (prep-nil (walk (pairLines 0 (n - 0)) s at));
+        rest = lines-whole pairLine 0 n s at ∙ sym (prep-nil (walk (pairLines 0 (n - 0)) s at));
       }
 
   module _ (hl : length l₀ ≡ 2 * n) (hm : length m₀ ≡ 2 * n) (l m : List ℕ) (q p : ℕ) (F : Filled s at n l₀ m₀ l m q p) where
@@ -99,7 +100,7 @@ module _ (s : List ℕ) (at n : ℕ) (l₀ m₀ : List ℕ) where
 
     module _ (lt : p < n) (x : Line) (e : lineWalk x ≡ walk (pairLine p) s q) where
       pub filled-wrong : (k : ℕ) → x ≡ NoPair k → Passes (walk (pairLines 0 n) s at) → ⊥
-      filled-wrong k f h = rw (F .rest, lines-wrong p n s q lt x e k f) at h
+      filled-wrong k f h = rw (F .rest, pairs-wrong p n s q lt x e k f) at h
 
       pub filled-next : (a b r : ℕ) → x ≡ Pair a b r → (l′ m′ : List ℕ)
           → l′ ≡ sets l (2 * p) ((a % 256) ∷ (a / 256 % 256) ∷ []) → m′ ≡ sets m (2 * p) ((b % 256) ∷ (b / 256 % 256) ∷ [])
@@ -112,12 +113,12 @@ module _ (s : List ℕ) (at n : ℕ) (l₀ m₀ : List ℕ) where
             count = omega (arith, length-append (F .ws) (a ∷ b ∷ []), F .count);
             left = rw (g, F .left, more .0) (put-more l₀ (firsts (F .ws)) p a (counts .0) (omega arith));
             right = rw (h, F .right, more .1) (put-more m₀ (seconds (F .ws)) p b (counts .1) (omega arith));
-            rest = rw (F .rest, lines-next p n s q lt x e a b r f, prep-prep);
+            rest = rw (F .rest, pairs-next p n s q lt x e a b r f, prep-prep);
           }
 
     module _ (done : n ≤ p) where
       all-read : walk (pairLines 0 n) s at ≡ past (F .ws) q
-      all-read = rw (F .rest, lines-done p n s q done) (ap (λ (z : List ℕ). past z q) (append-nil (F .ws)))
+      all-read = rw (F .rest, lines-end pairLine p n p s q done) (ap (λ (z : List ℕ). past z q) (append-nil (F .ws)))
 
       nothing-left : (k : List ℕ) → length k ≡ 2 * n → drop (2 * p) k ≡ []
       nothing-left k h = drop-of-length-le k {i = 2 * p} (omega arith)

@@ -1,4 +1,3 @@
-pub mod RowCounts
 pub mod Filling
 pub mod Packing
 pub mod RowFilling

@@ -1,4 +1,5 @@
 -- Filling the inverse from the values of its lines.
+--   Run                            what follows the number in a row's line
 --   Parts, row-not .. row-packed   `fill_row`: where the bits of a row's line stand
 --   packRows-more, put-row         one row more
 --   Packed, packed-start .. packed-all   the state of the filling after p lines
@@ -11,22 +12,26 @@ use native.Mathlib.Nat.{mul-le-mul-right}
 use native.Mathlib.Numerals.{add-one}
 use lib.ListN.{length, take, drop, length-append, length-drop, drop-of-length-le}
 use lib.Seq.{sets, take-all, drop-drop, take-append-le, drop-append-le}
-use Rattle.formats.specs.Format.{byte, dec}
+use Rattle.formats.specs.Format.{Item, byte, dec}
 use Rattle.formats.specs.Items.{lits, Walk, stuck, past, prep, walk, onward, spell, Fit, bits, bitsLine, bitsLines, values, Passes}
-use Rattle.formats.proofs.Spelling.{tidy-append, tidy-bits, tidy-oks, walk-sound}
+use Rattle.formats.proofs.Spelling.{tidy-append, tidy-bits, tidy-oks, tidy-bitsLine, walk-sound}
+use Rattle.formats.proofs.Takes.{passed-length, line-takes}
 use Rattle.formats.proofs.Walking.{walk-append, prep-nil, prep-prep}
+use Rattle.formats.proofs.Lines.{lines-whole, lines-end, lines-walk}
 use Rattle.readers.specs.declared.Step.{Step}
 use Rattle.readers.specs.declared.Step.the-variants.{Next, Refused}
 use Rattle.readers.specs.Answers.{stepOf, stepWalk}
 use Rattle.staircase.specs.System.{rowBytes}
 use Rattle.kitfill.specs.Bytes.{pack, packRows, lows}
-use Rattle.kitfill.proofs.RowCounts.{Run, row-items, row-walked}
 use Rattle.kitfill.proofs.Packing.{length-pack}
 use Rattle.kitfill.proofs.Filling.{put-behind}
 use Rattle.readers.proofs.Lines.{answer-past}
-use Rattle.kitscan.proofs.RowLines.{rows-all, rows-done, rows-split}
 
 -- ---- the bits of a line
+
+-- what follows the number in a row's line
+abbrev pub Run : ℕ → List Item
+Run n = byte 32 ∷ (bits n ++ (byte 10 ∷ []))
 
 -- The bits of a run are the last bits of its characters.
 run-lows : (n : ℕ) (ws t : List ℕ) → Fit (bits n ++ (byte 10 ∷ [])) ws
@@ -50,11 +55,13 @@ pub record Parts (n p : ℕ) (s : List ℕ) (at i : ℕ) : Type 0 where
 
 module _ (n p : ℕ) (s : List ℕ) (at : ℕ) (x : Step) (ex : stepWalk x ≡ walk (lits (dec p)) s at) where
   pub row-not : (q : ℕ) → x ≡ Refused q → Passes (walk (bitsLine n p) s at) → ⊥
-  row-not q f h = rw (row-items n p, walk-append (lits (dec p)) (Run n) s at, ← ex, f) at h
+  unfolding bitsLine
+  row-not q f h = rw (walk-append (lits (dec p)) (Run n) s at, ← ex, f) at h
 
   module _ (i : ℕ) (fx : x ≡ Next i) where
     from-space : walk (bitsLine n p) s at ≡ walk (Run n) s i
-    from-space = rw (row-items n p, walk-append (lits (dec p)) (Run n) s at, ← ex, fx) (prep-nil (walk (Run n) s i))
+    unfolding bitsLine
+    from-space = rw (walk-append (lits (dec p)) (Run n) s at, ← ex, fx) (prep-nil (walk (Run n) s i))
 
     parts : (ws : List ℕ) (q : ℕ) → walk (Run n) s i ≡ past ws q → Parts n p s at i
     parts ws q e =
@@ -144,7 +151,7 @@ module _ (s : List ℕ) (at n : ℕ) (w₀ : List ℕ) where
         ws = [];
         count = omega arith;
         bytes = ap (λ (i : ℕ). drop i w₀) z;
-        rest = rows-all n s at ∙ sym (prep-nil (walk (bitsLines n 0 (n - 0)) s at));
+        rest = lines-whole (bitsLine n) 0 n s at ∙ sym (prep-nil (walk (bitsLines n 0 (n - 0)) s at));
       }
 
   module _ (small : n ≤ 4096) (hw : length w₀ ≡ n * rowBytes n) (w : List ℕ) (q p : ℕ) (F : Packed s at n w₀ w q p) where
@@ -161,7 +168,7 @@ module _ (s : List ℕ) (at n : ℕ) (w₀ : List ℕ) where
 
     module _ (lt : p < n) where
       rest-is : walk (bitsLines n 0 n) s at ≡ prep (F .ws) (onward (walk (bitsLine n p) s q) (λ r. walk (bitsLines n (p + 1) (n - (p + 1))) s r))
-      rest-is = rw (F .rest, rows-split p n lt, walk-append (bitsLine n p) (bitsLines n (p + 1) (n - (p + 1))) s q)
+      rest-is = F .rest ∙ ap (prep (F .ws)) (lines-walk (bitsLine n) p n p s q lt)
 
       pub packed-line : Passes (walk (bitsLines n 0 n) s at) → Passes (walk (bitsLine n p) s q)
       packed-line h = onward-passes (F .ws) (walk (bitsLine n p) s q) (λ r. walk (bitsLines n (p + 1) (n - (p + 1))) s r) (rw rest-is at h)
@@ -171,7 +178,7 @@ module _ (s : List ℕ) (at n : ℕ) (w₀ : List ℕ) where
       packed-next r w′ e f =
           let vs : List ℕ = values (walk (bitsLine n p) s q) in
           let v : walk (bitsLine n p) s q ≡ past vs r = answer-past (walk (bitsLine n p) s q) (Next r) r e refl in
-          let c : length vs ≡ n = row-walked n p s q vs r (omega arith) v in
+          let c : length vs ≡ n = passed-length (bitsLine n p) s q vs r (tidy-bitsLine n p (omega arith)) (sym v) ∙ line-takes n p in
           let next : ℕ → Walk = λ (k : ℕ). walk (bitsLines n (p + 1) (n - (p + 1))) s k in
           record {
             within = omega arith;
@@ -186,7 +193,7 @@ module _ (s : List ℕ) (at n : ℕ) (w₀ : List ℕ) where
       whole = omega (arith, F .within)
 
       all-read : walk (bitsLines n 0 n) s at ≡ past (F .ws) q
-      all-read = rw (F .rest, rows-done p n s q done) (ap (λ (z : List ℕ). past z q) (append-nil (F .ws)))
+      all-read = rw (F .rest, lines-end (bitsLine n) p n p s q done) (ap (λ (z : List ℕ). past z q) (append-nil (F .ws)))
 
       pub packed-all : w ≡ packRows n n (values (walk (bitsLines n 0 n) s at))
       packed-all =

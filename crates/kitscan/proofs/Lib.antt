@@ -1,4 +1,3 @@
 pub mod TwoLines
 pub mod ListLines
-pub mod RowLines
 pub mod RestLaws

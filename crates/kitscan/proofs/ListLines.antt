@@ -1,16 +1,14 @@
 -- The lines of the lists, as the code has them.
 --   two-first .. two-read      `two_numbers`
 --   place-wrong .. pair-read   `pair_line`
---   lines-wrong .. lines-done  the lines from p on
+--   pairs-wrong .. pairs-step  one line more of the lists
 -- Assumes nothing.
-use Prim.Native.Nat.{ℕ, suc, _+_, _-_, _≤_, _<_}
+use Prim.Native.Nat.{ℕ, _+_, _-_, _<_}
 use mathlib.Core.Path.{_≡_, sym, ap, _∙_}
 use mathlib.Core.List.{List, [], _∷_}
-use native.Mathlib.Omega.{arith}
-use native.Mathlib.Numerals.{add-one}
 use Rattle.formats.specs.Format.{byte, num, dec}
-use Rattle.formats.specs.Items.{lits, Walk, stuck, past, prep, walk, onward}
-use Rattle.formats.proofs.Walking.{walk-append}
+use Rattle.formats.specs.Items.{lits, Walk, stuck, past, prep, walk}
+use Rattle.formats.proofs.Lines.{lines-walk}
 use Rattle.readers.specs.declared.Step.{Step}
 use Rattle.readers.specs.declared.Step.the-variants.{Next, Refused}
 use Rattle.readers.specs.declared.Field.{Field}
@@ -54,25 +52,12 @@ module _ (s : List ℕ) (at p : ℕ) (x : Step) (ex : stepWalk x ≡ walk (lits 
     pair-read j f w g = g ∙ sym (walk-goes (lits (dec p)) pairTail s at x ex i fx ∙ walk-goes (byte 32 ∷ []) twoNumbers s i y ey j f)
 
 -- the lines from p on
-lines-suc : (p n : ℕ) (s : List ℕ) (q : ℕ) → p < n → walk (pairLines p (n - p)) s q ≡ onward (walk (pairLine p) s q) (λ r. walk (pairLines (p + 1) (n - (p + 1))) s r)
-unfolding pairLines
-lines-suc p n s q h =
-    let e : n - p ≡ suc (n - (p + 1)) = omega arith in
-    rw (e, add-one p) (walk-append (pairLine p) (pairLines (suc p) (n - suc p)) s q)
-
-pub lines-all : (n : ℕ) (s : List ℕ) (q : ℕ) → walk (pairLines 0 n) s q ≡ walk (pairLines 0 (n - 0)) s q
-lines-all n s q = let e : n ≡ n - 0 = omega arith in ap (λ (k : ℕ). walk (pairLines 0 k) s q) e
-
-pub lines-done : (p n : ℕ) (s : List ℕ) (q : ℕ) → n ≤ p → walk (pairLines p (n - p)) s q ≡ past [] q
-unfolding pairLines walk
-lines-done p n s q h = let e : n - p ≡ 0 = omega arith in rw e
-
 module _ (p n : ℕ) (s : List ℕ) (q : ℕ) (h : p < n) (x : Line) (e : lineWalk x ≡ walk (pairLine p) s q) where
-  pub lines-wrong : (k : ℕ) → x ≡ NoPair k → walk (pairLines p (n - p)) s q ≡ stuck k
-  lines-wrong k f = rw (lines-suc p n s q h, ← e, f)
+  pub pairs-wrong : (k : ℕ) → x ≡ NoPair k → walk (pairLines p (n - p)) s q ≡ stuck k
+  pairs-wrong k f = rw (lines-walk pairLine p n p s q h, ← e, f)
 
-  pub lines-next : (a b r : ℕ) → x ≡ Pair a b r → walk (pairLines p (n - p)) s q ≡ prep (a ∷ b ∷ []) (walk (pairLines (p + 1) (n - (p + 1))) s r)
-  lines-next a b r f = rw (lines-suc p n s q h, ← e, f)
+  pub pairs-next : (a b r : ℕ) → x ≡ Pair a b r → walk (pairLines p (n - p)) s q ≡ prep (a ∷ b ∷ []) (walk (pairLines (p + 1) (n - (p + 1))) s r)
+  pairs-next a b r f = rw (lines-walk pairLine p n p s q h, ← e, f)
 
-  pub lines-step : (a b r : ℕ) → x ≡ Pair a b r → stepOf (walk (pairLines p (n - p)) s q) ≡ stepOf (walk (pairLines (p + 1) (n - (p + 1))) s r)
-  lines-step a b r f = ap stepOf (lines-next a b r f) ∙ step-prep (a ∷ b ∷ []) (walk (pairLines (p + 1) (n - (p + 1))) s r)
+  pub pairs-step : (a b r : ℕ) → x ≡ Pair a b r → stepOf (walk (pairLines p (n - p)) s q) ≡ stepOf (walk (pairLines (p + 1) (n - (p + 1))) s r)
+  pairs-step a b r f = ap stepOf (pairs-next a b r f) ∙ step-prep (a ∷ b ∷ []) (walk (pairLines (p + 1) (n - (p + 1))) s r)

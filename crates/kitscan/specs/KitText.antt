@@ -6,10 +6,10 @@
 --   kitFormat m t M          the kit texts of a design; its two lines are fixed bytes
 --   KitText D                the kit texts of the designs in D
 -- Assumes nothing.
-use Prim.Native.Nat.{ℕ, zero, suc, _*_}
+use Prim.Native.Nat.{ℕ, _*_}
 use mathlib.Core.List.{List, [], _∷_, _++_}
 use Rattle.formats.specs.Format.{Item, byte, num, Format, end, dec, Text}
-use Rattle.formats.specs.Items.{lits, seq, spell, bitsLines}
+use Rattle.formats.specs.Items.{lits, seq, spell, linesFrom, bitsLines}
 
 -- ---- the two lines
 
@@ -49,9 +49,8 @@ pairTail = byte 32 ∷ twoNumbers
 unfoldable pub pairLine : ℕ → List Item
 pairLine p = lits (dec p) ++ pairTail
 
-unfoldable pub pairLines : ℕ → ℕ → List Item
-pairLines p zero = []
-pairLines p (suc n) = pairLine p ++ pairLines (suc p) n
+abbrev pub pairLines : ℕ → ℕ → List Item
+pairLines p n = linesFrom pairLine p n
 
 -- "`inverse` has M × r characters, column 0 first"
 unfoldable pub kitBody : ℕ → List Item

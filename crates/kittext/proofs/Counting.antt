@@ -1,37 +1,33 @@
 -- The lines of a kit text: how many values they have, and the lists and the inverse that these make.
---   tidy-pairLine, tidy-pairLines   the lists' lines are tidy
---   PairIs, pair-is                 the values of a line of the lists, and its bytes
---   pairs-count, pairs-walked       2 values a line of the lists
---   rows-count                      n values a line of the rows
---   self-shown .. inverse-shown     the lists and the inverse of a text, by the values of its lines
+--   tidy-pairLine                a line of the lists is tidy
+--   PairIs, pair-is              the values of a line of the lists, and its bytes
+--   pairs-count, pairs-walked    2 values a line of the lists
+--   rows-count                   n values a line of the rows
+--   self-shown .. inverse-shown  the lists and the inverse of a text, by the values of its lines
 -- Assumes nothing.
-use Prim.Native.Nat.{ℕ, zero, suc, _+_, _*_, _≤_, _<_}
+use Prim.Native.Nat.{ℕ, _*_, _≤_, _<_}
 use mathlib.Core.Path.{_≡_, refl, ap, _∙_}
 use mathlib.Core.List.{List, [], _∷_, _++_}
 use native.Mathlib.Omega.{arith}
-use lib.ListN.{length, take, length-append}
+use lib.ListN.{length, take}
 use lib.Seq.{take-at, drop-at}
 use Rattle.formats.specs.Format.{digit, dec}
 use Rattle.formats.specs.Items.{lits, past, walk, spell, Fit, bitsLine, bitsLines}
 use Rattle.formats.proofs.Spelling.{Tidy, tidy-append, tidy-dec, tidy-oks, walk-sound, spell-lits}
+use Rattle.formats.proofs.Takes.{takes, fit-length, takes-append, takes-lits, line-takes}
+use Rattle.formats.proofs.Lines.{lines-tidy, lines-take}
 use Rattle.formats.proofs.Parts.{Split, fit-split, fit-none}
 use Rattle.readers.specs.Verdicts.{valuesOf}
 use Rattle.staircase.specs.Design.{order}
 use Rattle.kitscan.specs.KitText.{pairTail, pairLine, pairLines}
 use Rattle.kitfill.specs.Bytes.{firsts, seconds, packs, packRows}
 use Rattle.kittext.specs.Reader.{kitParams, bodyScan, selfOf, parityOf, inverseOf}
-use Rattle.kitfill.proofs.RowCounts.{row-count}
 
 -- ---- the lists' lines
 
 pub tidy-pairLine : (p : ℕ) → p < 10000 → Tidy (pairLine p)
 unfolding pairLine digit
 tidy-pairLine p h = tidy-append (lits (dec p)) pairTail (tidy-dec p h) (omega arith, (refl, omega arith, (refl, omega arith, tt)))
-
-pub tidy-pairLines : (n p : ℕ) → p + n ≤ 10000 → Tidy (pairLines p n)
-unfolding pairLines
-tidy-pairLines zero p h = tt
-tidy-pairLines (suc n) p h = tidy-append (pairLine p) (pairLines (suc p) n) (tidy-pairLine p (omega arith)) (tidy-pairLines n (suc p) (omega arith))
 
 -- the values of a line, and its bytes
 pub record PairIs (p : ℕ) (ws : List ℕ) : Type 0 where
@@ -68,29 +64,21 @@ pair-is p ws h = go (fit-split (lits (dec p)) pairTail ws h)
               ∙ ap (λ (z : List ℕ). dec p ++ spell pairTail z) e;
         }
 
+pair-takes : (p : ℕ) → takes (pairLine p) ≡ 2
+unfolding pairLine takes
+pair-takes p = omega (arith, takes-append (lits (dec p)) pairTail, takes-lits (dec p))
+
 pub pairs-count : (n p : ℕ) (ws : List ℕ) → Fit (pairLines p n) ws → length ws ≡ 2 * n
-unfolding pairLines
-pairs-count zero p [] h = refl
-pairs-count zero p (w ∷ ws) h = absurd h
-pairs-count (suc n) p ws h =
-    let S = fit-split (pairLine p) (pairLines (suc p) n) ws h in
-    let P = pair-is p (S .us) (S .left) in
-    let i = pairs-count n (suc p) (S .vs) (S .right) in
-    omega (arith, ap length (S .all), length-append (S .us) (S .vs), ap length (P .both))
+pairs-count n p ws h = omega (arith, fit-length (pairLines p n) ws h, lines-take pairLine 2 n p pair-takes)
 
 pub pairs-walked : (n : ℕ) (s : List ℕ) (at : ℕ) (ws : List ℕ) (q : ℕ) → n ≤ 10000 → walk (pairLines 0 n) s at ≡ past ws q → length ws ≡ 2 * n
-pairs-walked n s at ws q h e = pairs-count n 0 ws (walk-sound (pairLines 0 n) s at ws q (tidy-oks (pairLines 0 n) (tidy-pairLines n 0 (omega arith))) e .fit)
+pairs-walked n s at ws q h e =
+    pairs-count n 0 ws (walk-sound (pairLines 0 n) s at ws q (tidy-oks (pairLines 0 n) (lines-tidy pairLine n 0 (omega arith) tidy-pairLine)) e .fit)
 
 -- ---- the rows' lines
 
 pub rows-count : (n k p : ℕ) (ws : List ℕ) → Fit (bitsLines n p k) ws → length ws ≡ k * n
-unfolding bitsLines
-rows-count n zero p [] h = omega arith
-rows-count n zero p (w ∷ ws) h = absurd h
-rows-count n (suc k) p ws h =
-    let S = fit-split (bitsLine n p) (bitsLines n (suc p) k) ws h in
-    let i = rows-count n k (suc p) (S .vs) (S .right) in
-    omega (arith, ap length (S .all), length-append (S .us) (S .vs), row-count n p (S .us) (S .left))
+rows-count n k p ws h = fit-length (bitsLines n p k) ws h ∙ lines-take (bitsLine n) n k p (line-takes n)
 
 -- ---- the lists and the inverse
 

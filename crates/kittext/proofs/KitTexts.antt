@@ -16,14 +16,15 @@ use native.Mathlib.Decide.{decLt}
 use lib.ListN.{length, getD, take, drop}
 use lib.Seq.{take-append-add}
 use Rattle.formats.specs.Format.{digit, Format, end, Renders, Text, Shares, Longest, Scan, refused, read, scan, Clear}
-use Rattle.formats.specs.Items.{lits, seq, Walk, stuck, past, walk, spell, Fit, bitsLines, moved, scanAt}
+use Rattle.formats.specs.Items.{lits, seq, Walk, stuck, past, walk, spell, Fit, bitsLine, bitsLines, moved, scanAt}
 use Rattle.formats.proofs.Parts.{fit-none}
 use Rattle.formats.proofs.Scan.{scan-longest}
-use Rattle.formats.proofs.Spelling.{renders-seq, Spelt, Tidy, Oks, clear-seq, tidy-append, tidy-bitsLines, tidy-oks, oks-bytes, scan-seq, scan-whole}
+use Rattle.formats.proofs.Spelling.{renders-seq, Spelt, Tidy, Oks, clear-seq, tidy-append, tidy-bitsLine, tidy-oks, oks-bytes, scan-seq, scan-whole}
+use Rattle.formats.proofs.Lines.{lines-tidy}
 use Rattle.formats.proofs.Spelling.{continue, prefix-nil, walk-spell, walk-sound, Passed, spell-lits, fit-lits}
-use Rattle.kitscan.specs.KitText.{headItems, headFormat, headBytes, listNames, rowNames, pairLines, kitBody, kitFormat, KitText}
+use Rattle.kitscan.specs.KitText.{headItems, headFormat, headBytes, listNames, rowNames, pairLine, pairLines, kitBody, kitFormat, KitText}
 use Rattle.kitscan.specs.Answers.{restFormat, tailItems}
-use Rattle.kittext.proofs.Counting.{tidy-pairLines}
+use Rattle.kittext.proofs.Counting.{tidy-pairLine}
 
 -- ---- the two lines
 
@@ -70,8 +71,8 @@ pub tidy-body : (n : ℕ) → n ≤ 10000 → Tidy (kitBody n)
 unfolding kitBody
 tidy-body n h =
     tidy-append (lits listNames) (pairLines 0 n ++ tailItems n) (omega arith)
-    (tidy-append (pairLines 0 n) (tailItems n) (tidy-pairLines n 0 (omega arith))
-    (tidy-append (lits rowNames) (bitsLines n 0 n) (omega arith) (tidy-bitsLines n n 0 (omega arith))))
+    (tidy-append (pairLines 0 n) (tailItems n) (lines-tidy pairLine n 0 (omega arith) tidy-pairLine)
+    (tidy-append (lits rowNames) (bitsLines n 0 n) (omega arith) (lines-tidy (bitsLine n) n 0 (omega arith) (tidy-bitsLine n))))
 
 pub clear-kit : (m t M : ℕ) → Small m t M → Clear (kitFormat m t M)
 unfolding kitFormat

@@ -12,7 +12,8 @@ use native.Mathlib.Nat.{add-zero, not-suc-le-zero, le-of-suc-le-suc, pow-succ', 
 use lib.ListN.{length, getD, take, drop, List·getD-append}
 use lib.Seq.{getD-take, getD-drop, getD-append-add, drop-drop}
 use Rattle.formats.specs.Format.{byte, dec}
-use Rattle.formats.specs.Items.{spell, Fit, bits, bitsLine, bitsLines}
+use Rattle.formats.specs.Items.{spell, Fit, bits, linesFrom, bitsLine, bitsLines}
+use Rattle.formats.proofs.Takes.{fit-length, line-takes}
 use Rattle.formats.proofs.Parts.{Split, fit-split, lits-first}
 use Rattle.staircase.specs.Lists.{tabulate, concat}
 use Rattle.staircase.specs.System.{rowBytes, inverseEntry}
@@ -23,7 +24,7 @@ use Rattle.kitscan.specs.KitText.{pairLine, pairLines}
 use Rattle.kitfill.specs.Bytes.{firsts, seconds, packs, binary, pack, packRows}
 use Rattle.kittext.specs.Rendered.{pairText, rowText}
 use Rattle.kittext.proofs.Counting.{pair-is}
-use Rattle.kitfill.proofs.RowCounts.{Run, row-items, row-count}
+use Rattle.kitfill.proofs.RowFilling.{Run}
 use Rattle.kitfill.proofs.Packing.{length-pack}
 
 shift : (x i : ℕ) → suc x + i ≡ x + suc i
@@ -43,7 +44,7 @@ pub record Pairs (k p : ℕ) (ws : List ℕ) : Type 0 where
   pub spelt : spell (pairLines p (suc k)) ws ≡ pairText p a b ++ spell (pairLines (suc p) k) vs
 
 pairs-split : (k p : ℕ) (ws : List ℕ) → Fit (pairLines p (suc k)) ws → Pairs k p ws
-unfolding pairLines
+unfolding linesFrom
 pairs-split k p ws h =
     let S = fit-split (pairLine p) (pairLines (suc p) k) ws h in
     let P = pair-is p (S .us) (S .left) in
@@ -59,7 +60,7 @@ pairs-split k p ws h =
     }
 
 pub values-small : (k p : ℕ) (ws : List ℕ) → Fit (pairLines p k) ws → (i : ℕ) → (getD (firsts ws) i 0 < 10000) × (getD (seconds ws) i 0 < 10000)
-unfolding pairLines firsts seconds
+unfolding linesFrom firsts seconds
 values-small zero p [] h i = (omega arith, omega arith)
 values-small zero p (w ∷ ws) h i = absurd h
 values-small (suc k) p ws h zero = let P = pairs-split k p ws h in rw (P .all) (P .a-small, P .b-small)
@@ -79,7 +80,7 @@ pairs-one k p ws P ih =
 
 pub pairs-render : (k p : ℕ) (ws : List ℕ) → Fit (pairLines p k) ws
     → spell (pairLines p k) ws ≡ concat k (λ i. pairText (p + i) (getD (firsts ws) i 0) (getD (seconds ws) i 0))
-unfolding pairLines concat firsts seconds
+unfolding linesFrom concat firsts seconds
 pairs-render zero p [] h = refl
 pairs-render zero p (w ∷ ws) h = absurd h
 pairs-render (suc k) p ws h = let P = pairs-split k p ws h in pairs-one k p ws P (pairs-render k (suc p) (P .vs) (P .right))
@@ -143,12 +144,13 @@ run-render (suc n) [] h = absurd h
 run-render (suc n) (w ∷ ws) h = ap (λ (l : List ℕ). (48 + w) ∷ l) (run-render n ws (h .1))
 
 row-render : (n p : ℕ) (ws : List ℕ) → Fit (bitsLine n p) ws → (spell (bitsLine n p) ws ≡ rowText n p (λ j. getD ws j 0)) × AllBits ws
+unfolding bitsLine
 row-render n p ws h =
-    let r = lits-first (dec p) (Run n) ws (rw (row-items n p) at h) in
-    (rw (row-items n p) (r .1 ∙ ap (λ (l : List ℕ). dec p ++ (32 ∷ l)) (run-render n ws (r .0))), run-bits n ws (r .0))
+    let r = lits-first (dec p) (Run n) ws h in
+    (r .1 ∙ ap (λ (l : List ℕ). dec p ++ (32 ∷ l)) (run-render n ws (r .0)), run-bits n ws (r .0))
 
 pub rows-bits : (n k p : ℕ) (ws : List ℕ) → Fit (bitsLines n p k) ws → AllBits ws
-unfolding bitsLines
+unfolding linesFrom
 rows-bits n zero p [] h = tt
 rows-bits n zero p (w ∷ ws) h = absurd h
 rows-bits n (suc k) p ws h =
@@ -164,7 +166,7 @@ rows-one n k p ws S ih =
     ∙ ap₂ (λ (x y : List ℕ). x ++ y) (row-render n p (S .us) (S .left) .0 ∙ first) (ih ∙ concat-same k _ (λ i. rowText n (p + suc i) (λ j. getD ws (suc i * n + j) 0)) later)
   where
     count : length (S .us) ≡ n
-    count = row-count n p (S .us) (S .left)
+    count = fit-length (bitsLine n p) (S .us) (S .left) ∙ line-takes n p
 
     here : (j : ℕ) → j < n → getD (S .us) j 0 ≡ getD ws (0 * n + j) 0
     here j l =
@@ -185,7 +187,7 @@ rows-one n k p ws S ih =
         ∙ ap (λ (x : ℕ). rowText n x (λ j. getD ws (suc i * n + j) 0)) (shift p i)
 
 pub rows-render : (n k p : ℕ) (ws : List ℕ) → Fit (bitsLines n p k) ws → spell (bitsLines n p k) ws ≡ concat k (λ i. rowText n (p + i) (λ j. getD ws (i * n + j) 0))
-unfolding bitsLines concat
+unfolding linesFrom concat
 rows-render n zero p [] h = refl
 rows-render n zero p (w ∷ ws) h = absurd h
 rows-render n (suc k) p ws h =

@@ -1,11 +1,13 @@
 -- The texts that the programs print, as bytes.
 --   chars                        the characters of bits
 --   bitsText, groupLineText      the line of a block, the line of a group
+--   linesText                    lines that each have a number, from a number on
+--   blockLines, groupLines       those of blocks and of groups
 --   blockText, groupText         block text and group text whole
 --   refusalText, countsText      what a refusal prints, and the three numbers at the end of what `mend` prints
 -- A byte is a number below 256; 10 is the line feed and 32 the space. `dec` of formats is a number in decimal digits.
 -- Assumes nothing: these are definitions.
-use Prim.Native.Nat.{ℕ, zero, suc, _+_, _%_}
+use Prim.Native.Nat.{ℕ, zero, suc, _+_, _*_, _%_}
 use mathlib.Core.List.{List, [], _∷_, _++_}
 use lib.ListN.{take, drop}
 use Rattle.formats.specs.Format.{dec}
@@ -23,15 +25,25 @@ bitsText p vs = dec p ++ (32 ∷ (chars vs ++ (10 ∷ [])))
 unfoldable pub groupLineText : ℕ → List ℕ → List ℕ → List ℕ
 groupLineText p ys ps = dec p ++ (32 ∷ (chars ys ++ (32 ∷ (chars ps ++ (10 ∷ [])))))
 
--- The lines of the blocks p to p + k - 1, each with the next `area` bits: "numbered from 1 in order".
-unfoldable pub blockLines : ℕ → ℕ → ℕ → List ℕ → List ℕ
-blockLines area p zero bits = []
-blockLines area p (suc k) bits = bitsText p (take area bits) ++ blockLines area (suc p) k (drop area bits)
+-- "numbered from 1 in order": the lines of the numbers p to p + k - 1, by a rule for the line of a number and the bits that are left; each takes w of
+-- them.
+unfoldable pub linesText : (ℕ → List ℕ → List ℕ) → ℕ → ℕ → ℕ → List ℕ → List ℕ
+linesText line w p zero bits = []
+linesText line w p (suc k) bits = line p bits ++ linesText line w (suc p) k (drop w bits)
 
--- The lines of the groups p to p + k - 1, each with the next n bits, its Y, and the n after these, its P.
-unfoldable pub groupLines : ℕ → ℕ → ℕ → List ℕ → List ℕ
-groupLines n p zero bits = []
-groupLines n p (suc k) bits = groupLineText p (take n bits) (take n (drop n bits)) ++ groupLines n (suc p) k (drop n (drop n bits))
+-- The line of block p with the next `area` bits.
+abbrev pub nextBlock : ℕ → ℕ → List ℕ → List ℕ
+nextBlock area p bits = bitsText p (take area bits)
+
+-- The line of group p with the next n bits, its Y, and the n after these, its P.
+abbrev pub nextGroup : ℕ → ℕ → List ℕ → List ℕ
+nextGroup n p bits = groupLineText p (take n bits) (take n (drop n bits))
+
+abbrev pub blockLines : ℕ → ℕ → ℕ → List ℕ → List ℕ
+blockLines area p k bits = linesText (nextBlock area) area p k bits
+
+abbrev pub groupLines : ℕ → ℕ → ℕ → List ℕ → List ℕ
+groupLines n p k bits = linesText (nextGroup n) (2 * n) p k bits
 
 -- "`block bits`" as a line.
 abbrev pub blockNames : List ℕ

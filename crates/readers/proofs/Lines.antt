@@ -2,20 +2,22 @@
 --   bits-done .. bits-all               `bit_run`: the bits from i on
 --   step-of, answer-stuck, answer-past  a walk, by the answer to it
 --   stops-first, goes-on                items one after the other, by the answers to each
+--   lines-wrong, lines-step             lines one after the other, likewise
 --   part-space, part-bits               `bits_part`
 --   line-number, line-bits, line-end    `bits_line`
 -- Assumes nothing.
 use Prim.Native.Nat.{ℕ, suc, _+_, _-_, _≤_, _<_}
 use mathlib.Core.Path.{_≡_, refl, sym, ap, _∙_}
-use mathlib.Core.List.{List, [], _∷_, _++_, append-assoc}
+use mathlib.Core.List.{List, [], _∷_, _++_}
 use native.Mathlib.Omega.{arith}
 use lib.ListN.{length, getD, List·getD-eq-default}
 use Rattle.formats.specs.Format.{Item, byte, bit, dec}
-use Rattle.formats.specs.Items.{lits, Walk, stuck, past, prep, walk, onward, values, bits, bitsLine}
+use Rattle.formats.specs.Items.{lits, Walk, stuck, past, prep, walk, onward, values, bits, linesFrom, bitsLine}
 use Rattle.readers.specs.Answers.{stepOf, stepWalk}
 use Rattle.readers.specs.declared.Step.{Step}
 use Rattle.readers.specs.declared.Step.the-variants.{Next, Refused}
 use Rattle.formats.proofs.Walking.{bit-none, getD-any, walk-append, walk-bit}
+use Rattle.formats.proofs.Lines.{lines-first}
 
 pub step-prep : (ws : List ℕ) (w : Walk) → stepOf (prep ws w) ≡ stepOf w
 step-prep ws (stuck q) = refl
@@ -79,6 +81,20 @@ module _ (is js : List Item) (s : List ℕ) (at : ℕ) (x : Step) (e : x ≡ ste
       let vs : List ℕ = values (walk is s at) in
       g ∙ sym (step-prep vs (walk js s i)) ∙ from-first (past vs i) (answer-past (walk is s at) x i e f)
 
+-- Lines one after the other: of N lines i are read, and the next has the number p.
+module _ (line : ℕ → List Item) (p N i : ℕ) (s : List ℕ) (q : ℕ) (h : i < N) (x : Step) (e : x ≡ stepOf (walk (line p) s q)) where
+  abbrev After : List Item
+  After = linesFrom line (p + 1) (N - (i + 1))
+
+  joined : stepOf (walk (line p ++ After) s q) ≡ stepOf (walk (linesFrom line p (N - i)) s q)
+  joined = ap (λ (is : List Item). stepOf (walk is s q)) (sym (lines-first line p N i h))
+
+  pub lines-wrong : (k : ℕ) → x ≡ Refused k → x ≡ stepOf (walk (linesFrom line p (N - i)) s q)
+  lines-wrong k f = stops-first (line p) After s q x e k f ∙ joined
+
+  pub lines-step : (k : ℕ) → x ≡ Next k → stepOf (walk (linesFrom line p (N - i)) s q) ≡ stepOf (walk (linesFrom line (p + 1) (N - (i + 1))) s k)
+  lines-step k f = sym (goes-on (line p) After s q x e k f (stepOf (walk After s k)) refl ∙ joined)
+
 -- A space and bits.
 module _ (n : ℕ) (s : List ℕ) (at : ℕ) (x : Step) (e : stepWalk x ≡ walk (byte 32 ∷ []) s at) where
   pub part-space : (q : ℕ) → x ≡ Refused q → x ≡ stepOf (walk (byte 32 ∷ bits n) s at)
@@ -88,24 +104,21 @@ module _ (n : ℕ) (s : List ℕ) (at : ℕ) (x : Step) (e : stepWalk x ≡ walk
   part-bits i f y g = goes-on (byte 32 ∷ []) (bits n) s at x (step-of x _ e) i f y g
 
 -- The line of a number and bits.
-line-parts : (n p : ℕ) → bitsLine n p ≡ lits (dec p) ++ ((byte 32 ∷ bits n) ++ (byte 10 ∷ []))
-unfolding bitsLine
-line-parts n p = append-assoc (lits (dec p)) (byte 32 ∷ bits n) (byte 10 ∷ [])
-
 module _ (n p : ℕ) (s : List ℕ) (at : ℕ) (x : Step) (ex : stepWalk x ≡ walk (lits (dec p)) s at) where
   abbrev Rest : List Item
   Rest = (byte 32 ∷ bits n) ++ (byte 10 ∷ [])
 
-  whole : (y : Step) → y ≡ stepOf (walk (lits (dec p) ++ Rest) s at) → y ≡ stepOf (walk (bitsLine n p) s at)
-  whole y e = e ∙ ap (λ (is : List Item). stepOf (walk is s at)) (sym (line-parts n p))
-
   pub line-number : (q : ℕ) → x ≡ Refused q → x ≡ stepOf (walk (bitsLine n p) s at)
-  line-number q f = whole x (stops-first (lits (dec p)) Rest s at x (step-of x _ ex) q f)
+  unfolding bitsLine
+  line-number q f = stops-first (lits (dec p)) Rest s at x (step-of x _ ex) q f
 
   module _ (i : ℕ) (fx : x ≡ Next i) (y : Step) (ey : y ≡ stepOf (walk (byte 32 ∷ bits n) s i)) where
+    behind-number : (z : Step) → z ≡ stepOf (walk Rest s i) → z ≡ stepOf (walk (bitsLine n p) s at)
+    unfolding bitsLine
+    behind-number z e = goes-on (lits (dec p)) Rest s at x (step-of x _ ex) i fx z e
+
     pub line-bits : (q : ℕ) → y ≡ Refused q → y ≡ stepOf (walk (bitsLine n p) s at)
-    line-bits q f = whole y (goes-on (lits (dec p)) Rest s at x (step-of x _ ex) i fx y (stops-first (byte 32 ∷ bits n) (byte 10 ∷ []) s i y ey q f))
+    line-bits q f = behind-number y (stops-first (byte 32 ∷ bits n) (byte 10 ∷ []) s i y ey q f)
 
     pub line-end : (e : ℕ) → y ≡ Next e → (z : Step) → stepWalk z ≡ walk (byte 10 ∷ []) s e → z ≡ stepOf (walk (bitsLine n p) s at)
-    line-end e f z g =
-        whole z (goes-on (lits (dec p)) Rest s at x (step-of x _ ex) i fx z (goes-on (byte 32 ∷ bits n) (byte 10 ∷ []) s i y ey e f z (step-of z _ g)))
+    line-end e f z g = behind-number z (goes-on (byte 32 ∷ bits n) (byte 10 ∷ []) s i y ey e f z (step-of z _ g))

@@ -4,7 +4,7 @@ use Prim.Native.Nat.{ℕ}
 use mathlib.Core.Path.{_≡_, refl}
 use mathlib.Core.List.{List, [], _∷_}
 use Rattle.formats.specs.Format.{digitsOf, dec}
-use Rattle.lines.specs.Written.{chars, bitsText, groupLineText, blockLines, groupLines, blockText, groupText, refusalText, countsText}
+use Rattle.lines.specs.Written.{chars, bitsText, groupLineText, linesText, blockText, groupText, refusalText, countsText}
 
 -- The four blocks 0, 1, 0, 0 under K, where M × M is 1.
 abbrev fourBlocks : List ℕ
@@ -13,7 +13,7 @@ fourBlocks =
     10 ∷ []
 
 pub four-blocks : blockText 1 4 (0 ∷ 1 ∷ 0 ∷ 0 ∷ []) ≡ fourBlocks
-unfolding dec digitsOf chars bitsText blockLines blockText
+unfolding dec digitsOf chars bitsText linesText blockText
 four-blocks = refl
 
 -- The two groups that `frame` turns them into, where M × r is 4: 0001 0110 and 0001 0011.
@@ -23,7 +23,7 @@ twoGroups =
     32 ∷ 48 ∷ 49 ∷ 49 ∷ 48 ∷ 10 ∷ 50 ∷ 32 ∷ 48 ∷ 48 ∷ 48 ∷ 49 ∷ 32 ∷ 48 ∷ 48 ∷ 49 ∷ 49 ∷ 10 ∷ []
 
 pub two-groups : groupText 4 2 (0 ∷ 0 ∷ 0 ∷ 1 ∷ 0 ∷ 1 ∷ 1 ∷ 0 ∷ 0 ∷ 0 ∷ 0 ∷ 1 ∷ 0 ∷ 0 ∷ 1 ∷ 1 ∷ []) ≡ twoGroups
-unfolding dec digitsOf chars groupLineText groupLines groupText
+unfolding dec digitsOf chars groupLineText linesText groupText
 two-groups = refl
 
 -- "refused 3 at 4,100".

@@ -1,13 +1,14 @@
 -- The lines of block text and group text one after another.
 --   Rest, rest-start, rest-end                    what is left of a text to be written
---   block-room, block-written, blocks-none        the line of the next block
---   group-room, group-written, groups-none        the line of the next group
+--   lines-none                                    after the last line
+--   block-room, block-written                     the line of the next block
+--   group-room, group-written                     the line of the next group
 --   one-less                                      the bits of one line fewer
 --   block-text-parts, block-text-put, group-..    the line of names before the others
 --   block-text-length, group-text-length          how long the texts are at most
 -- Assumes nothing.
 use Prim.Native.Nat.{ℕ, zero, suc, _+_, _-_, _*_, _≤_, _<_}
-use mathlib.Core.Path.{_≡_, refl, sym, ap, _∙_}
+use mathlib.Core.Path.{_≡_, refl, sym, ap, subst, _∙_}
 use mathlib.Core.List.{List, [], _++_}
 use native.Mathlib.Omega.{arith}
 use native.Mathlib.Nat.{add-sub-cancel-left}
@@ -15,7 +16,7 @@ use native.Mathlib.Numerals.{add-one, sub-one}
 use lib.ListN.{length, take, drop, length-append, length-drop}
 use lib.Seq.{sets, length-sets, length-take-le, drop-drop}
 use Rattle.formats.specs.Format.{dec}
-use Rattle.lines.specs.Written.{bitsText, groupLineText, blockLines, groupLines, blockNames, groupNames, blockText, groupText}
+use Rattle.lines.specs.Written.{bitsText, groupLineText, linesText, nextBlock, nextGroup, blockLines, groupLines, blockNames, groupNames, blockText, groupText}
 use Rattle.lines.proofs.Decimal.{dec-four}
 use Rattle.lines.proofs.Placing.{bits-length, group-length}
 use Rattle.lines.proofs.Storing.{sets-append, put-then}
@@ -53,58 +54,72 @@ pub rest-end : {o₀ whole o rest : List ℕ} {at q : ℕ} → rest ≡ [] → R
 rest-end {o₀} {whole} {o} {rest} {at} {q} e h = (omega (arith, h .ends, ap length e), ap (sets o q) (sym e) ∙ h .gives)
 
 -- THE NEXT LINE, of the bits from a position on, and the lines behind it.
-blocks-next : (area p k from : ℕ) (info : List ℕ) → 0 < k → blockLines area p k (drop from info)
-    ≡ bitsText p (take (from + area - from) (drop from info)) ++ blockLines area (p + 1) (k - 1) (drop (from + area) info)
-unfolding blockLines
-blocks-next area p zero from info h = absurd (omega arith)
-blocks-next area p (suc k) from info h =
-    rw (add-sub-cancel-left from area, sub-one (suc k), add-one p, ← drop-drop area from info) refl
+module _ (line : ℕ → List ℕ → List ℕ) (w : ℕ) where
+  lines-next : (p k from : ℕ) (bits : List ℕ) → 0 < k
+      → linesText line w p k (drop from bits) ≡ line p (drop from bits) ++ linesText line w (p + 1) (k - 1) (drop (from + w) bits)
+  unfolding linesText
+  lines-next p zero from bits h = absurd (omega arith)
+  lines-next p (suc k) from bits h = rw (sub-one (suc k), add-one p, ← drop-drop w from bits) refl
 
--- The line that is next has room, and once it is written those behind it are left.
+  pub lines-none : (p k : ℕ) (bits : List ℕ) → k ≤ 0 → linesText line w p k bits ≡ []
+  unfolding linesText
+  lines-none p zero bits h = refl
+  lines-none p (suc k) bits h = absurd (omega arith)
+
+  -- The line t that is next has room, and once it is written those behind it are left.
+  module _ (p k from : ℕ) (bits : List ℕ) (some : 0 < k) {o₀ whole o t : List ℕ} {at q : ℕ}
+      (h : Rest o₀ at whole o q (linesText line w p k (drop from bits))) (e : line p (drop from bits) ≡ t) where
+    abbrev behind : List ℕ
+    behind = linesText line w (p + 1) (k - 1) (drop (from + w) bits)
+
+    next : linesText line w p k (drop from bits) ≡ t ++ behind
+    next = lines-next p k from bits some ∙ ap (λ (l : List ℕ). l ++ behind) e
+
+    line-room : at + length whole ≤ length o₀ → q + length t ≤ length o
+    line-room l = rest-room t behind next h l
+
+    line-written : {o₁ : List ℕ} {r : ℕ} → (r ≡ q + length t) × (o₁ ≡ sets o q t) → Rest o₀ at whole o₁ r (linesText line w (p + 1) (k - 1) (drop (from + w) bits))
+    line-written g = rest-more t behind next h g
+
+  -- Lines of at most m bytes. A number below 10,000 has at most four digits.
+  lines-length : (m p k : ℕ) (bits : List ℕ) → p + k ≤ 10000 → length bits ≡ k * w
+      → ((q : ℕ) (vs : List ℕ) → q < 10000 → w ≤ length vs → length (line q vs) ≤ m) → length (linesText line w p k bits) ≤ k * m
+  unfolding linesText
+  lines-length m p zero bits h e l = omega arith
+  lines-length m p (suc k) bits h e l =
+      let f : length bits ≡ w + k * w = omega (arith, e) in
+      let d : length (drop w bits) ≡ k * w = omega (arith, length-drop w bits) in
+      let i : length (linesText line w (suc p) k (drop w bits)) ≤ k * m = lines-length m (suc p) k (drop w bits) (omega arith) d l in
+      omega (arith, i, l p bits (omega arith) (omega arith), length-append (line p bits) (linesText line w (suc p) k (drop w bits)))
+
+-- A block's line, from the part of the slice that the code lends.
 module _ (area p k from : ℕ) (info : List ℕ) (some : 0 < k) {o₀ whole o : List ℕ} {at q : ℕ}
     (h : Rest o₀ at whole o q (blockLines area p k (drop from info))) where
-  abbrev line : List ℕ
-  line = bitsText p (take (from + area - from) (drop from info))
-
-  abbrev behind : List ℕ
-  behind = blockLines area (p + 1) (k - 1) (drop (from + area) info)
+  part : nextBlock area p (drop from info) ≡ bitsText p (take (from + area - from) (drop from info))
+  part = ap (λ (n : ℕ). bitsText p (take n (drop from info))) (sym (add-sub-cancel-left from area))
 
   pub block-room : at + length whole ≤ length o₀ → q + (length (dec p) + 2 + length (take (from + area - from) (drop from info))) ≤ length o
-  block-room l = omega (arith, rest-room line behind (blocks-next area p k from info some) h l, bits-length p (take (from + area - from) (drop from info)))
+  block-room l =
+      omega (arith, line-room (nextBlock area) area p k from info some h part l, bits-length p (take (from + area - from) (drop from info)))
 
   pub block-written : {o₁ : List ℕ} {r : ℕ}
       → (r ≡ q + length (bitsText p (take (from + area - from) (drop from info)))) ×
       (o₁ ≡ sets o q (bitsText p (take (from + area - from) (drop from info))))
       → Rest o₀ at whole o₁ r (blockLines area (p + 1) (k - 1) (drop (from + area) info))
-  block-written e = rest-more line behind (blocks-next area p k from info some) h e
+  block-written = line-written (nextBlock area) area p k from info some h part
 
-pub blocks-none : (area p k : ℕ) (bits : List ℕ) → k ≤ 0 → blockLines area p k bits ≡ []
-unfolding blockLines
-blocks-none area p zero bits h = refl
-blocks-none area p (suc k) bits h = absurd (omega arith)
-
-groups-next : (n p k from : ℕ) (red : List ℕ) → 0 < k → groupLines n p k (drop from red)
-    ≡ groupLineText p (take (from + n - from) (drop from red)) (take (from + n + n - (from + n)) (drop (from + n) red))
-    ++ groupLines n (p + 1) (k - 1) (drop (from + n + n) red)
-unfolding groupLines
-groups-next n p zero from red h = absurd (omega arith)
-groups-next n p (suc k) from red h =
-    rw (add-sub-cancel-left from n, add-sub-cancel-left (from + n) n, sub-one (suc k), add-one p, ← drop-drop n (from + n) red, ← drop-drop n from red) refl
-
+-- A group's line, from two parts.
 module _ (n p k from : ℕ) (red : List ℕ) (some : 0 < k) {o₀ whole o : List ℕ} {at q : ℕ}
     (h : Rest o₀ at whole o q (groupLines n p k (drop from red))) where
-  abbrev line-of-group : List ℕ
-  line-of-group = groupLineText p (take (from + n - from) (drop from red)) (take (from + n + n - (from + n)) (drop (from + n) red))
-
-  abbrev behind-group : List ℕ
-  behind-group = groupLines n (p + 1) (k - 1) (drop (from + n + n) red)
+  parts : nextGroup n p (drop from red) ≡ groupLineText p (take (from + n - from) (drop from red)) (take (from + n + n - (from + n)) (drop (from + n) red))
+  parts = rw (add-sub-cancel-left from n, add-sub-cancel-left (from + n) n, ← drop-drop n from red) refl
 
   pub group-room : at + length whole ≤ length o₀
       → q + (length (dec p) + 3 + (length (take (from + n - from) (drop from red)) + length (take (from + n + n - (from + n)) (drop (from + n) red)))) ≤ length o
   group-room l =
       omega (
         arith,
-        rest-room line-of-group behind-group (groups-next n p k from red some) h l,
+        line-room (nextGroup n) (2 * n) p k from red some h parts l,
         group-length p (take (from + n - from) (drop from red)) (take (from + n + n - (from + n)) (drop (from + n) red)),
       )
 
@@ -112,12 +127,9 @@ module _ (n p k from : ℕ) (red : List ℕ) (some : 0 < k) {o₀ whole o : List
       → (r ≡ q + length (groupLineText p (take (from + n - from) (drop from red)) (take (from + n + n - (from + n)) (drop (from + n) red))))
       × (o₁ ≡ sets o q (groupLineText p (take (from + n - from) (drop from red)) (take (from + n + n - (from + n)) (drop (from + n) red))))
       → Rest o₀ at whole o₁ r (groupLines n (p + 1) (k - 1) (drop (from + n + n) red))
-  group-written e = rest-more line-of-group behind-group (groups-next n p k from red some) h e
-
-pub groups-none : (n p k : ℕ) (bits : List ℕ) → k ≤ 0 → groupLines n p k bits ≡ []
-unfolding groupLines
-groups-none n p zero bits h = refl
-groups-none n p (suc k) bits h = absurd (omega arith)
+  group-written {o₁} {r} e =
+      let z : from + 2 * n ≡ from + n + n = omega arith in
+      subst (λ (i : ℕ). Rest o₀ at whole o₁ r (groupLines n (p + 1) (k - 1) (drop i red))) z (line-written (nextGroup n) (2 * n) p k from red some h parts e)
 
 -- One line fewer takes so many bits away.
 pub one-less : (k w : ℕ) → 0 < k → k * w ≡ w + (k - 1) * w
@@ -147,32 +159,18 @@ pub group-text-put : (o : List ℕ) (at n G : ℕ) (red : List ℕ) {o₁ o₂ :
 unfolding groupText
 group-text-put o at n G red a b = put-then o groupNames (groupLines n 1 G red) at a b
 
--- HOW LONG THEY ARE. A number below 10,000 has at most four digits.
-block-lines-length : (area p k : ℕ) (bits : List ℕ) → p + k ≤ 10000 → length bits ≡ k * area → length (blockLines area p k bits) ≤ k * (area + 6)
-unfolding blockLines
-block-lines-length area p zero bits h e = omega arith
-block-lines-length area p (suc k) bits h e =
-    let f : length bits ≡ area + k * area = omega (arith, e) in
-    let t : length (take area bits) ≡ area = length-take-le area bits (omega arith) in
-    let d : length (drop area bits) ≡ k * area = omega (arith, length-drop area bits) in
-    let i : length (blockLines area (suc p) k (drop area bits)) ≤ k * (area + 6) = block-lines-length area (suc p) k (drop area bits)
-    (omega arith) d in
-    omega (arith, i, t, bits-length p (take area bits), dec-four p (omega arith), length-append (bitsText p (take area bits)) (blockLines area (suc p) k (drop area bits)))
+-- HOW LONG THEY ARE.
+block-most : (area q : ℕ) (vs : List ℕ) → q < 10000 → area ≤ length vs → length (nextBlock area q vs) ≤ area + 6
+block-most area q vs h l = omega (arith, bits-length q (take area vs), dec-four q h, length-take-le area vs l)
 
-group-lines-length : (n p k : ℕ) (bits : List ℕ) → p + k ≤ 10000 → length bits ≡ k * (2 * n) → length (groupLines n p k bits) ≤ k * (2 * n + 7)
-unfolding groupLines
-group-lines-length n p zero bits h e = omega arith
-group-lines-length n p (suc k) bits h e =
-    let f : length bits ≡ 2 * n + k * (2 * n) = omega (arith, e) in
-    let r : List ℕ = drop n (drop n bits) in
-    let t : length (take n bits) ≡ n = length-take-le n bits (omega arith) in
-    let u : length (take n (drop n bits)) ≡ n = length-take-le n (drop n bits) (omega (arith, length-drop n bits)) in
-    let d : length r ≡ k * (2 * n) = omega (arith, length-drop n (drop n bits), length-drop n bits) in
-    let i : length (groupLines n (suc p) k r) ≤ k * (2 * n + 7) = group-lines-length n (suc p) k r (omega arith) d in
-    omega (arith, i, t, u, group-length p (take n bits) (take n (drop n bits)), dec-four p (omega arith), length-append (groupLineText p (take n bits) (take n (drop n bits))) (groupLines n (suc p) k r))
+group-most : (n q : ℕ) (vs : List ℕ) → q < 10000 → 2 * n ≤ length vs → length (nextGroup n q vs) ≤ 2 * n + 7
+group-most n q vs h l =
+    let t : length (take n vs) ≡ n = length-take-le n vs (omega arith) in
+    let u : length (take n (drop n vs)) ≡ n = length-take-le n (drop n vs) (omega (arith, length-drop n vs)) in
+    omega (arith, t, u, group-length q (take n vs) (take n (drop n vs)), dec-four q h)
 
 pub block-text-length : (area L : ℕ) (info : List ℕ) → L ≤ 4096 → length info ≡ L * area → length (blockText area L info) ≤ 11 + L * (area + 6)
-block-text-length area L info h e = omega (arith, block-text-parts area L info, block-lines-length area 1 L info (omega arith) e)
+block-text-length area L info h e = omega (arith, block-text-parts area L info, lines-length (nextBlock area) area (area + 6) 1 L info (omega arith) e (block-most area))
 
 pub group-text-length : (n G : ℕ) (red : List ℕ) → G ≤ 4096 → length red ≡ G * (2 * n) → length (groupText n G red) ≤ 18 + G * (2 * n + 7)
-group-text-length n G red h e = omega (arith, group-text-parts n G red, group-lines-length n 1 G red (omega arith) e)
+group-text-length n G red h e = omega (arith, group-text-parts n G red, lines-length (nextGroup n) (2 * n) (2 * n + 7) 1 G red (omega arith) e (group-most n))

@@ -1,8 +1,7 @@
 -- The loop's invariant: the bits of i groups are written, and the walk of all lines goes on behind them. The measure is the number of lines left.
 -- Assumes nothing.
-use Rattle.framefill.proofs.Filling.{group-given, group-passes, group-next, none-filled, all-filled}
-use Rattle.framescan.proofs.Judging.{groups-none}
-use Rattle.framescan.specs.FrameText.{groupLines}
+use Rattle.framefill.proofs.Filling.{none-filled, next-given, next-passes, all-filled, group-next}
+use Rattle.framescan.specs.FrameText.{groupLine, groupLines}
 use Rattle.formats.specs.Items.{prep, walk}
 use Rattle.staircase.proofs.Bounds.{stretch-end}
 use native.Mathlib.Omega.{arith}
@@ -21,7 +20,7 @@ abbrev μ-loop : tie.MeasureT-loop
 loop-holds : tie.Need-loop-holds Inv-loop μ-loop
 loop-holds c =
     let a = c .before .before .args in
-    (omega arith, c .before .before .pre .1, none-filled (groupLines (a .n) 1) (a .count) (2 * a .n) (a .s .now) (a .at) (a .out .now))
+    (omega arith, c .before .before .pre .1, none-filled (groupLine (a .n)) (a .count) (2 * a .n) (a .s .now) (a .at) (a .out .now))
 
 mul-a : tie.Need-mul-a Inv-loop μ-loop
 mul-a c =
@@ -70,7 +69,7 @@ fill-group-requires c κs =
     let a = c .before .before .before .before .before .args in
     let l = c .before .before .loop in
     let t = c .before .loop-test .taken in
-    (omega (arith, c .before .before .before .before .before .pre .0), group-given (a .n) (a .count) (l .i) (a .s .now) (l .q) (l .out) _ t (l .inv .1) (l .inv .2), group-passes (a .n) (a .count) (l .i) (a .s .now) (l .q) (l .out) _ t (l .inv .1) (l .inv .2) (c .before .before .before .before .before .pre .2))
+    (omega (arith, c .before .before .before .before .before .pre .0), next-given (groupLine (a .n)) (2 * a .n) (a .count) (l .i) (a .s .now) (l .q) (l .out) _ (l .inv .1) (l .inv .2) t, next-passes (groupLine (a .n)) (2 * a .n) (a .count) (l .i) (a .s .now) (l .q) (l .out) _ (l .inv .1) (l .inv .2) t (c .before .before .before .before .before .pre .2))
 
 add-i : tie.Need-add-i Inv-loop μ-loop
 add-i c = omega arith
@@ -91,7 +90,7 @@ returns : tie.Need-returns Inv-loop μ-loop
 returns c =
     let a = c .before .before .before .before .args in
     let l = c .before .loop in
-    all-filled _ (2 * a .n) (l .i) (a .count) (a .s .now) (l .q) (l .out) _ (groups-none (a .n) (a .count) (l .i) (omega arith)) (omega arith) (l .inv .0) (l .inv .1) (l .inv .2)
+    all-filled (groupLine (a .n)) (2 * a .n) (a .count) (l .i) (a .s .now) (l .q) (l .out) _ (l .inv .1) (l .inv .2) (omega arith) (l .inv .0)
 
 pub fill-groups-spec : {M : Type 1} → statement M
 fill-groups-spec =

@@ -1,7 +1,7 @@
 -- The loop's invariant: the bits of i lines are written, and the walk of all lines goes on behind them. The measure is the number of lines left.
 -- Assumes nothing.
-use Rattle.framefill.proofs.Filling.{row-passes, row-filled, none-filled, all-filled, rows-none}
-use Rattle.formats.specs.Items.{bitsLines, prep, walk}
+use Rattle.framefill.proofs.Filling.{none-filled, all-filled, row-passes, row-filled}
+use Rattle.formats.specs.Items.{bitsLine, bitsLines, prep, walk}
 use Rattle.staircase.proofs.Bounds.{stretch-end}
 use native.Mathlib.Omega.{arith}
 use mathlib.Core.Path.{_≡_}
@@ -19,7 +19,7 @@ abbrev μ-loop : tie.MeasureT-loop
 loop-holds : tie.Need-loop-holds Inv-loop μ-loop
 loop-holds c =
     let a = c .before .before .args in
-    (omega arith, c .before .before .pre .1, none-filled (bitsLines (a .area) 1) (a .n) (a .area) (a .s .now) (a .at) (a .out .now))
+    (omega arith, c .before .before .pre .1, none-filled (bitsLine (a .area)) (a .n) (a .area) (a .s .now) (a .at) (a .out .now))
 
 mul-a : tie.Need-mul-a Inv-loop μ-loop
 mul-a c =
@@ -76,7 +76,7 @@ returns : tie.Need-returns Inv-loop μ-loop
 returns c =
     let a = c .before .before .before .before .args in
     let l = c .before .loop in
-    all-filled _ (a .area) (l .i) (a .n) (a .s .now) (l .q) (l .out) _ (rows-none (a .area) (a .n) (l .i) (omega arith)) (omega arith) (l .inv .0) (l .inv .1) (l .inv .2)
+    all-filled (bitsLine (a .area)) (a .area) (a .n) (l .i) (a .s .now) (l .q) (l .out) _ (l .inv .1) (l .inv .2) (omega arith) (l .inv .0)
 
 pub fill-lines-spec : {M : Type 1} → statement M
 fill-lines-spec =

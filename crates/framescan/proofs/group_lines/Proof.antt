@@ -1,12 +1,13 @@
 -- The loop's invariant: i lines are read, and the walk of all lines goes on behind them. The measure is the number of lines left.
 -- Assumes nothing.
-use Rattle.framescan.proofs.Judging.{lines-all, lines-done, lines-wrong, lines-next}
-use Rattle.framescan.specs.FrameText.{groupLines}
+use Rattle.formats.proofs.Lines.{lines-whole, lines-end}
+use Rattle.readers.proofs.Lines.{lines-wrong, lines-step}
+use Rattle.framescan.specs.FrameText.{groupLine, groupLines}
 use Rattle.readers.specs.Answers.{stepOf}
 use Rattle.formats.specs.Items.{walk}
 use borrow.Author.Needs.{needs}
 use native.Mathlib.Omega.{arith}
-use mathlib.Core.Path.{_≡_, sym, _∙_}
+use mathlib.Core.Path.{_≡_, sym, ap, _∙_}
 use Prim.Native.Nat.{_+_, _-_, _≤_}
 use Rattle.framescan.proofs.group_lines.Statement.{statement}
 use Rattle.framescan.proofs.group_lines.Tie as tie
@@ -20,7 +21,7 @@ abbrev μ-loop : tie.MeasureT-loop
 loop-holds : tie.Need-loop-holds Inv-loop μ-loop
 loop-holds c =
     let a = c .before .args in
-    (omega arith, lines-all (a .n) (a .count) (a .s .now) (a .at))
+    (omega arith, ap stepOf (lines-whole (groupLine (a .n)) 1 (a .count) (a .s .now) (a .at)))
 
 add-group-line : tie.Need-add-group-line Inv-loop μ-loop
 add-group-line c = omega arith
@@ -35,7 +36,7 @@ returns : tie.Need-returns Inv-loop μ-loop
 returns c =
     let a = c .before .before .before .before .before .before .args in
     let l = c .before .before .before .before .loop in
-    lines-wrong (a .n) (a .count) (l .i) (a .s .now) (l .q) (c .before .before .before .loop-test .taken) _ (c .before .before .group-line .ensures) _ (c .enum-told .given .1) ∙ sym (l .inv .1)
+    lines-wrong (groupLine (a .n)) (l .i + 1) (a .count) (l .i) (a .s .now) (l .q) (c .before .before .before .loop-test .taken) _ (c .before .before .group-line .ensures) _ (c .enum-told .given .1) ∙ sym (l .inv .1)
 
 enum-known-line : tie.Need-enum-known-line Inv-loop μ-loop
 enum-known-line c = search needs
@@ -50,13 +51,13 @@ loop-again : tie.Need-loop-again Inv-loop μ-loop
 loop-again c =
     let a = c .before .before .before .before .before .before .before .args in
     let l = c .before .before .before .before .before .loop in
-    (omega arith, l .inv .1 ∙ lines-next (a .n) (a .count) (l .i) (a .s .now) (l .q) (c .before .before .before .before .loop-test .taken) _ (c .before .before .before .group-line .ensures) _ (c .before .line .given .1))
+    (omega arith, l .inv .1 ∙ lines-step (groupLine (a .n)) (l .i + 1) (a .count) (l .i) (a .s .now) (l .q) (c .before .before .before .before .loop-test .taken) _ (c .before .before .before .group-line .ensures) _ (c .before .line .given .1))
 
 returns-2 : tie.Need-returns-2 Inv-loop μ-loop
 returns-2 c =
     let a = c .before .before .before .args in
     let l = c .before .loop in
-    sym (l .inv .1 ∙ lines-done (a .n) (a .count) (l .i) (a .s .now) (l .q) (c .loop-test .left))
+    sym (l .inv .1 ∙ ap stepOf (lines-end (groupLine (a .n)) (l .i + 1) (a .count) (l .i) (a .s .now) (l .q) (c .loop-test .left)))
 
 pub group-lines-spec : {M : Type 1} → statement M
 group-lines-spec =

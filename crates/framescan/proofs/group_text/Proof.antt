@@ -17,8 +17,8 @@ enum-known-names c = search needs
 enum-known-names-2 : tie.Need-enum-known-names-2
 enum-known-names-2 c = search needs
 
-add-group-lines : tie.Need-add-group-lines
-add-group-lines c = search needs
+group-count-requires : tie.Need-group-count-requires
+group-count-requires c κs = search needs
 
 group-lines-requires : tie.Need-group-lines-requires
 group-lines-requires c κs = search needs
@@ -30,16 +30,16 @@ enum-known-lines-2 : tie.Need-enum-known-lines-2
 enum-known-lines-2 c = search needs
 
 returns : tie.Need-returns
-returns c = groups-there _ _ _ _ _ (c .before .before .before .before .before .before .before .before .literal .ensures) _ (c .before .before .before .before .before .before .names2 .given .1) _ (c .before .before .before .before .group-lines .ensures) _ (c .before .before .lines2 .given .1) (c .if1 .taken)
+returns c = groups-there _ _ _ _ _ (c .before .before .before .before .before .before .before .before .before .literal .ensures) _ (c .before .before .before .before .before .before .before .names2 .given .1) _ (c .before .before .before .before .before .group-count .ensures) _ (c .before .before .before .before .group-lines .ensures) _ (c .before .before .lines2 .given .1) (c .if1 .taken)
 
 returns-2 : tie.Need-returns-2
 returns-2 c = names-wrong _ _ _ _ _ (c .before .before .before .literal .ensures) _ (c .before .names .given .1)
 
 returns-3 : tie.Need-returns-3
-returns-3 c = groups-wrong _ _ _ _ _ (c .before .before .before .before .before .before .before .literal .ensures) _ (c .before .before .before .before .before .names2 .given .1) _ (c .before .before .before .group-lines .ensures) _ (c .before .lines .given .1)
+returns-3 c = groups-wrong _ _ _ _ _ (c .before .before .before .before .before .before .before .before .literal .ensures) _ (c .before .before .before .before .before .before .names2 .given .1) _ (c .before .before .before .before .group-count .ensures) _ (c .before .before .before .group-lines .ensures) _ (c .before .lines .given .1)
 
 returns-4 : tie.Need-returns-4
-returns-4 c = groups-over _ _ _ _ _ (c .before .before .before .before .before .before .before .before .literal .ensures) _ (c .before .before .before .before .before .before .names2 .given .1) _ (c .before .before .before .before .group-lines .ensures) _ (c .before .before .lines2 .given .1) (c .if1 .left)
+returns-4 c = groups-over _ _ _ _ _ (c .before .before .before .before .before .before .before .before .before .literal .ensures) _ (c .before .before .before .before .before .before .before .names2 .given .1) _ (c .before .before .before .before .before .group-count .ensures) _ (c .before .before .before .before .group-lines .ensures) _ (c .before .before .lines2 .given .1) (c .if1 .left)
 
 pub group-text-spec : {M : Type 1} → statement M
 group-text-spec =
@@ -49,7 +49,7 @@ group-text-spec =
     literal-requires
     enum-known-names
     enum-known-names-2
-    add-group-lines
+    group-count-requires
     group-lines-requires
     enum-known-lines
     enum-known-lines-2

@@ -5,9 +5,10 @@ use borrow.Author.Needs.{needs}
 use mathlib.Core.Path.{_≡_, sym, ap, _∙_}
 use Prim.Native.Nat.{_≤_, _-_}
 use Rattle.formats.specs.Items.{walk}
+use Rattle.formats.proofs.Lines.{lines-whole, lines-end}
 use Rattle.readers.specs.Answers.{stepOf}
-use Rattle.kitscan.specs.KitText.{pairLines}
-use Rattle.kitscan.proofs.ListLines.{lines-wrong, lines-done, lines-all, lines-step}
+use Rattle.kitscan.specs.KitText.{pairLine, pairLines}
+use Rattle.kitscan.proofs.ListLines.{pairs-wrong, pairs-step}
 use Rattle.kitscan.proofs.pairs.Statement.{statement}
 use Rattle.kitscan.proofs.pairs.Tie as tie
 
@@ -18,7 +19,7 @@ abbrev μ-loop : tie.MeasureT-loop
 μ-loop s at n q₀ p₀ q p = n - p
 
 loop-holds : tie.Need-loop-holds Inv-loop μ-loop
-loop-holds c = (omega arith, ap stepOf (lines-all _ _ _))
+loop-holds c = (omega arith, ap stepOf (lines-whole pairLine _ _ _ _))
 
 pair-line-requires : tie.Need-pair-line-requires Inv-loop μ-loop
 pair-line-requires c κs = omega arith
@@ -27,7 +28,7 @@ enum-known-line : tie.Need-enum-known-line Inv-loop μ-loop
 enum-known-line c = search needs
 
 returns : tie.Need-returns Inv-loop μ-loop
-returns c = sym (c .before .before .before .before .before .loop .inv .1 ∙ ap stepOf (lines-wrong _ _ _ _ (c .before .before .before .before .loop-test .taken) _ (c .before .before .before .pair-line .ensures) _ (c .before .line .given .1)))
+returns c = sym (c .before .before .before .before .before .loop .inv .1 ∙ ap stepOf (pairs-wrong _ _ _ _ (c .before .before .before .before .loop-test .taken) _ (c .before .before .before .pair-line .ensures) _ (c .before .line .given .1)))
 
 enum-known-line-2 : tie.Need-enum-known-line-2 Inv-loop μ-loop
 enum-known-line-2 c = search needs
@@ -39,10 +40,10 @@ loop-less : tie.Need-loop-less Inv-loop μ-loop
 loop-less c = omega arith
 
 loop-again : tie.Need-loop-again Inv-loop μ-loop
-loop-again c = (omega arith, c .before .before .before .before .before .loop .inv .1 ∙ lines-step _ _ _ _ (c .before .before .before .before .loop-test .taken) _ (c .before .before .before .pair-line .ensures) _ _ _ (c .before .line2 .given .1))
+loop-again c = (omega arith, c .before .before .before .before .before .loop .inv .1 ∙ pairs-step _ _ _ _ (c .before .before .before .before .loop-test .taken) _ (c .before .before .before .pair-line .ensures) _ _ _ (c .before .line2 .given .1))
 
 returns-2 : tie.Need-returns-2 Inv-loop μ-loop
-returns-2 c = sym (c .before .loop .inv .1 ∙ ap stepOf (lines-done _ _ _ _ (c .loop-test .left)))
+returns-2 c = sym (c .before .loop .inv .1 ∙ ap stepOf (lines-end pairLine _ _ _ _ _ (c .loop-test .left)))
 
 pub pairs-spec : {M : Type 1} → statement M
 pairs-spec =

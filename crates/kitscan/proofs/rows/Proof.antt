@@ -4,9 +4,10 @@ use native.Mathlib.Omega.{arith}
 use borrow.Author.Needs.{needs}
 use mathlib.Core.Path.{_≡_, sym, ap, _∙_}
 use Prim.Native.Nat.{_≤_, _-_}
-use Rattle.formats.specs.Items.{walk, bitsLines}
+use Rattle.formats.specs.Items.{walk, bitsLine, bitsLines}
+use Rattle.formats.proofs.Lines.{lines-whole, lines-end}
 use Rattle.readers.specs.Answers.{stepOf}
-use Rattle.kitscan.proofs.RowLines.{rows-all, rows-done, rows-wrong, rows-step}
+use Rattle.readers.proofs.Lines.{lines-wrong, lines-step}
 use Rattle.kitscan.proofs.rows.Statement.{statement}
 use Rattle.kitscan.proofs.rows.Tie as tie
 
@@ -17,7 +18,7 @@ abbrev μ-loop : tie.MeasureT-loop
 μ-loop s at n q₀ p₀ q p = n - p
 
 loop-holds : tie.Need-loop-holds Inv-loop μ-loop
-loop-holds c = (omega arith, ap stepOf (rows-all _ _ _))
+loop-holds c = (omega arith, ap stepOf (lines-whole (bitsLine _) _ _ _ _))
 
 bits-line-requires : tie.Need-bits-line-requires Inv-loop μ-loop
 bits-line-requires c κs = omega arith
@@ -26,7 +27,7 @@ enum-known-line : tie.Need-enum-known-line Inv-loop μ-loop
 enum-known-line c = search needs
 
 returns : tie.Need-returns Inv-loop μ-loop
-returns c = sym (c .before .before .before .before .before .loop .inv .1 ∙ rows-wrong _ _ _ _ (c .before .before .before .before .loop-test .taken) _ (c .before .before .before .bits-line .ensures) _ (c .before .line .given .1))
+returns c = sym (c .before .line .given .1) ∙ lines-wrong (bitsLine _) _ _ _ _ _ (c .before .before .before .before .loop-test .taken) _ (c .before .before .before .bits-line .ensures) _ (c .before .line .given .1) ∙ sym (c .before .before .before .before .before .loop .inv .1)
 
 enum-known-line-2 : tie.Need-enum-known-line-2 Inv-loop μ-loop
 enum-known-line-2 c = search needs
@@ -38,10 +39,10 @@ loop-less : tie.Need-loop-less Inv-loop μ-loop
 loop-less c = omega arith
 
 loop-again : tie.Need-loop-again Inv-loop μ-loop
-loop-again c = (omega arith, c .before .before .before .before .before .loop .inv .1 ∙ rows-step _ _ _ _ (c .before .before .before .before .loop-test .taken) _ (c .before .before .before .bits-line .ensures) _ (c .before .line2 .given .1))
+loop-again c = (omega arith, c .before .before .before .before .before .loop .inv .1 ∙ lines-step (bitsLine _) _ _ _ _ _ (c .before .before .before .before .loop-test .taken) _ (c .before .before .before .bits-line .ensures) _ (c .before .line2 .given .1))
 
 returns-2 : tie.Need-returns-2 Inv-loop μ-loop
-returns-2 c = sym (c .before .loop .inv .1 ∙ ap stepOf (rows-done _ _ _ _ (c .loop-test .left)))
+returns-2 c = sym (c .before .loop .inv .1 ∙ ap stepOf (lines-end (bitsLine _) _ _ _ _ _ (c .loop-test .left)))
 
 pub rows-spec : {M : Type 1} → statement M
 rows-spec =

@@ -4,8 +4,8 @@ use native.Mathlib.Omega.{arith}
 use mathlib.Core.Path.{_≡_}
 use Prim.Native.Nat.{_+_, _*_, _<_}
 use lib.ListN.{length, drop}
-use Rattle.lines.specs.Written.{blockLines}
-use Rattle.texts.proofs.Lines.{Rest, rest-start, rest-end, block-room, block-written, blocks-none, one-less}
+use Rattle.lines.specs.Written.{nextBlock, blockLines}
+use Rattle.texts.proofs.Lines.{Rest, rest-start, rest-end, block-room, block-written, lines-none, one-less}
 use Rattle.texts.proofs.put_block_lines.Statement.{statement}
 use Rattle.texts.proofs.put_block_lines.Tie as tie
 
@@ -70,7 +70,7 @@ returns : tie.Need-returns Inv-loop μ-loop
 returns c =
     let a = c .before .before .before .before .args in
     let l = c .before .loop in
-    rest-end (blocks-none (a .area) (l .block) (l .left) (drop (l .from) (a .info .now)) (c .loop-test .left)) (l .inv .2)
+    rest-end (lines-none (nextBlock (a .area)) _ (l .block) (l .left) (drop (l .from) (a .info .now)) (c .loop-test .left)) (l .inv .2)
 
 pub put-block-lines-spec : {M : Type 1} → statement M
 put-block-lines-spec =

@@ -4,8 +4,8 @@ use native.Mathlib.Omega.{arith}
 use mathlib.Core.Path.{_≡_}
 use Prim.Native.Nat.{_+_, _*_, _<_}
 use lib.ListN.{length, drop}
-use Rattle.lines.specs.Written.{groupLines}
-use Rattle.texts.proofs.Lines.{Rest, rest-start, rest-end, group-room, group-written, groups-none, one-less}
+use Rattle.lines.specs.Written.{nextGroup, groupLines}
+use Rattle.texts.proofs.Lines.{Rest, rest-start, rest-end, group-room, group-written, lines-none, one-less}
 use Rattle.texts.proofs.put_group_lines.Statement.{statement}
 use Rattle.texts.proofs.put_group_lines.Tie as tie
 
@@ -86,7 +86,7 @@ returns : tie.Need-returns Inv-loop μ-loop
 returns c =
     let a = c .before .before .before .before .args in
     let l = c .before .loop in
-    rest-end (groups-none (a .n) (l .group) (l .left) (drop (l .from) (a .red .now)) (c .loop-test .left)) (l .inv .2)
+    rest-end (lines-none (nextGroup (a .n)) _ (l .group) (l .left) (drop (l .from) (a .red .now)) (c .loop-test .left)) (l .inv .2)
 
 pub put-group-lines-spec : {M : Type 1} → statement M
 put-group-lines-spec =
