@@ -8,7 +8,7 @@ use mathlib.Core.List.{List}
 use Prim.Native.Nat.{ℕ, _≤_}
 use lib.Dec.{ltb}
 use borrow.Author.Tests.{ltb-false}
-use Rattle.staircase.specs.Design.{Params, params}
+use Rattle.staircase.specs.Design.{Params, params, most-rounds}
 use Rattle.staircase.specs.Frame.{Frame, frameOf, outside}
 use Rattle.staircase.specs.Decoder.{Decoded, decoded}
 use Rattle.staircase.specs.Rules.{Verdict, _then_, designRules, countRule, roundsRule, interleavers}
@@ -45,9 +45,9 @@ module _ (d : Design) (L k : ℕ) (own parity info red : List ℕ) (work : ℕ) 
   after-rounds : rest ≡ accepted
   after-rounds = then-rest (roundsRule k) rest after-count
 
-  pub few-rounds : k ≤ 64
+  pub few-rounds : k ≤ most-rounds
   unfolding roundsRule
-  few-rounds = ltb-false 64 k (refuse-false (ltb 64 k) 5 k (then-first (roundsRule k) rest after-count))
+  few-rounds = ltb-false most-rounds k (refuse-false (ltb most-rounds k) 5 k (then-first (roundsRule k) rest after-count))
 
   pub frame-received : Allowed d → Received d L own parity info red
   frame-received allowed = words.received d L own parity info red work after-rounds allowed counted

@@ -3,7 +3,7 @@
 ghost use mathlib.Core.Path.{_≡_};
 ghost use Prim.Native.Nat.{_+_, _*_, _^_, _≤_};
 ghost use lib.ListN.{length};
-ghost use Rattle.staircase.specs.Design.{wordLength};
+ghost use Rattle.staircase.specs.Design.{most-rounds, wordLength};
 ghost use Rattle.staircase.specs.Frame.{Frame, frameOf};
 ghost use Rattle.staircase.specs.Calls.{decodeCall};
 ghost use Rattle.design.specs.Answers.{verdictOf, Allowed};
@@ -44,7 +44,7 @@ fn correct_in(
     field: &mut [u16],
     sums: &mut [u32],
 ) -> Counts
-    requires { ⌜ Received d blocks (now own) (now parity) (now info) (now red) × (length (now work) ≡ orderOf d) × (rounds ≤ 64)
+    requires { ⌜ Received d blocks (now own) (now parity) (now info) (now red) × (length (now work) ≡ orderOf d) × (rounds ≤ most-rounds)
         × (length (now positions) ≡ wordLength (paramsOf d)) × (length (now syndromes) ≡ wordLength (paramsOf d) + 128)
         × (length (now field) ≡ 4 * 2 ^ (d .m)) × (length (now sums) ≡ d .size) ⌝ }
     ensures { λ a. ⌜ correctedOf (Decoding.Decoded a) (frameOf (now (info .exit)) (now (red .exit)))
@@ -121,7 +121,7 @@ fn correct_frame(
     red: &mut [u8],
     work: &mut [u8],
 ) -> Counts
-    requires { ⌜ Received d blocks (now own) (now parity) (now info) (now red) × (length (now work) ≡ orderOf d) × (rounds ≤ 64) ⌝ }
+    requires { ⌜ Received d blocks (now own) (now parity) (now info) (now red) × (length (now work) ≡ orderOf d) × (rounds ≤ most-rounds) ⌝ }
     ensures { λ a. ⌜ correctedOf (Decoding.Decoded a) (frameOf (now (info .exit)) (now (red .exit)))
         ≡ correctedFrame (paramsOf d) (listsOf d (now (own .entry)) (now (parity .entry))) blocks rounds (frameOf (now (info .entry)) (now (red .entry))) ⌝ }
 {

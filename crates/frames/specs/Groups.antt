@@ -8,7 +8,7 @@ use mathlib.Core.List.{List}
 use Prim.Native.Nat.{ℕ, _+_, _*_, _≤_, _<_}
 use lib.ListN.{length, getD}
 use Rattle.bch.specs.Polynomial.{Bits}
-use Rattle.staircase.specs.Design.{most-blocks}
+use Rattle.staircase.specs.Design.{most-order, most-blocks}
 use Rattle.staircase.specs.System.{rowBytes}
 use Rattle.staircase.specs.Demand2.{Permutes}
 use Rattle.staircase.specs.Frame.{groups}
@@ -29,7 +29,7 @@ pub record Ready (L size r : ℕ) (info table sources inverse : List ℕ) : Type
   pub few-columns : size ≤ 512
   pub some-rows : 0 < r
   pub few-rows : r ≤ 32
-  pub small : size * r ≤ 4096
+  pub small : size * r ≤ most-order
   pub blocks : length info ≡ L * (size * size)
   pub bits : Bits info
   pub powers : length table ≡ 2 * size + 2 * r

@@ -7,7 +7,7 @@ ghost use Rattle.staircase.specs.Frame.{groups};
 ghost use Rattle.design.specs.Answers.{verdictOf};
 ghost use Rattle.design.specs.Sizes.{orderOf};
 ghost use Rattle.lines.specs.Written.{groupText};
-ghost use Rattle.programs.specs.Output.{printed, frameOutput, Printed, Output};
+ghost use Rattle.programs.specs.Output.{printed, frameOutput, Printed, most-output, Output};
 ghost use Rattle.programs.specs.Steps.{Scanned, RoomFor, FrameReady, GroupsFit};
 use design::Check;
 use design::Design;
@@ -24,7 +24,7 @@ fn group_bits(n: usize) -> [u8; 245941]
 // Writes the groups that the encoder made, or its refusal.
 fn put_encoded(out: &mut [u8], d: Design, blocks: u64, red: &[u8], made: Check) -> usize
     requires { ⌜ GroupsFit d blocks (length (now red)) ⌝ }
-    requires { ⌜ 262144 ≤ length (now out) ⌝ }
+    requires { ⌜ most-output ≤ length (now out) ⌝ }
     ensures { λ a. ⌜ Printed (printed (verdictOf made) (groupText (orderOf d) (groups blocks) (now (red .entry)))) a (now (out .entry)) (now (out .exit)) ⌝ }
 {
     match made {
@@ -55,7 +55,7 @@ fn frame_call(
 ) -> usize
     requires { ⌜ FrameReady d blocks (now kit) (now text) (length (now own)) (length (now parity)) (length (now inverse)) (length (now info)) (length (now red))
         (length (now work)) ⌝ }
-    requires { ⌜ 262144 ≤ length (now out) ⌝ }
+    requires { ⌜ most-output ≤ length (now out) ⌝ }
     ensures { λ a. ⌜ Printed (frameOutput (now (kit .entry)) (now (text .entry))) a (now (out .entry)) (now (out .exit)) ⌝ }
 {
     kittext::read_kit(kit, own, parity, inverse);
@@ -78,7 +78,7 @@ fn frame_call(
 // The arrays that the call is lent.
 fn frame_arrays(kit: &[u8], text: &[u8], d: Design, blocks: u64, out: &mut [u8]) -> usize
     requires { ⌜ Scanned false d blocks (now kit) (now text) ⌝ }
-    requires { ⌜ 262144 ≤ length (now out) ⌝ }
+    requires { ⌜ most-output ≤ length (now out) ⌝ }
     ensures { λ a. ⌜ Printed (frameOutput (now (kit .entry)) (now (text .entry))) a (now (out .entry)) (now (out .exit)) ⌝ }
 {
     let s = programs::sizes_of(d, blocks);
@@ -105,7 +105,7 @@ fn frame_arrays(kit: &[u8], text: &[u8], d: Design, blocks: u64, out: &mut [u8])
 
 // Both inputs, and what `frame` prints of them, for which there is room.
 fn frame_inputs(kit: &[u8], text: &[u8], out: &mut [u8]) -> usize
-    requires { ⌜ 262144 ≤ length (now out) ⌝ }
+    requires { ⌜ most-output ≤ length (now out) ⌝ }
     ensures { λ a. ⌜ Printed (frameOutput (now (kit .entry)) (now (text .entry))) a (now (out .entry)) (now (out .exit)) ⌝ }
 {
     let begun = programs::begin(kit, text, false);

@@ -13,6 +13,7 @@ use lib.ListN.{length, getD}
 use Rattle.bch.specs.Polynomial.{_⊕_, Bits}
 use Rattle.bch.specs.Powers.{xorSum}
 use Rattle.staircase.specs.Lists.{sumBits, tabulate}
+use Rattle.staircase.specs.Design.{most-order}
 use Rattle.staircase.specs.System.{Contents, rowBytes, inverseEntry}
 use Rattle.blocks.specs.Blocks.{Sent, partSum, columnSum, rowSum}
 use Rattle.solution.specs.Bits.{digit, constantBit, productBit}
@@ -43,7 +44,7 @@ pub record Lent (size r : ℕ) (odd : List ℕ) (even-sent : Bool) (even : List 
   pub few-columns : size ≤ 512
   pub some-rows : 0 < r
   pub few-rows : r ≤ 32
-  pub small : size * r ≤ 4096
+  pub small : size * r ≤ most-order
   pub odd-block : (length odd ≡ size * size) × Bits odd
   pub even-block : Sent even-sent even (size * size)
   pub before-block : Sent before-sent before (size * size)

@@ -11,6 +11,7 @@ ghost use mathlib.Core.List.{_++_};
 ghost use Prim.Native.Nat.{_*_, _≤_, _<_};
 ghost use lib.ListN.{length, getD};
 ghost use Rattle.staircase.specs.Lists.{tabulate};
+ghost use Rattle.staircase.specs.Design.{most-order};
 ghost use Rattle.staircase.specs.System.{rowBytes};
 ghost use Rattle.blocks.specs.Blocks.{sentBit};
 ghost use Rattle.solution.specs.Bits.{productBit};
@@ -27,7 +28,7 @@ fn group_bits(
     out: &mut [u8],
 )
     requires { ⌜ (length (now inverse) ≡ size * r * rowBytes (size * r)) × (length (now c) ≡ rowBytes (size * r)) × (length (now part) ≡ r)
-        × (length (now columns) ≡ size) × (length (now out) ≡ 2 * (size * r)) × (0 < size) × (0 < r) × (r ≤ 32) × (size * r ≤ 4096) ⌝ }
+        × (length (now columns) ≡ size) × (length (now out) ≡ 2 * (size * r)) × (0 < size) × (0 < r) × (r ≤ 32) × (size * r ≤ most-order) ⌝ }
     ensures { λ u. ⌜ now (out .exit) ≡ tabulate (size * r) (productBit (now (inverse .entry)) (now (c .entry)) size r)
         ++ tabulate (size * r) (productParity (now (inverse .entry)) (now (c .entry)) (now (columns .entry)) (now (part .entry)) size r) ⌝ }
 {

@@ -12,6 +12,7 @@ ghost use lib.Seq.{sets};
 ghost use Rattle.formats.specs.Items.{walk, values, Passes, bitsLine, bitsLines};
 ghost use Rattle.readers.specs.declared.Step.the-variants.{Next};
 ghost use Rattle.readers.specs.Answers.{stepOf};
+ghost use Rattle.staircase.specs.Design.{most-order};
 ghost use Rattle.staircase.specs.System.{rowBytes};
 ghost use Rattle.kitscan.specs.KitText.{pairLines};
 ghost use Rattle.kitfill.specs.Bytes.{firsts, seconds, packs, binary, pack, packRows, lows};
@@ -29,7 +30,7 @@ fn put_entry(list: &mut [u8], p: usize, v: usize)
 
 // Fills both lists from their lines, which are right.
 pub fn fill_lists(s: &[u8], at: usize, n: usize, own: &mut [u8], parity: &mut [u8])
-    requires { ⌜ n ≤ 4096 ⌝ }
+    requires { ⌜ n ≤ most-order ⌝ }
     requires { ⌜ Passes (walk (pairLines 0 n) (now s) at) ⌝ }
     requires { ⌜ length (now own) ≡ 2 * n ⌝ }
     requires { ⌜ length (now parity) ≡ 2 * n ⌝ }
@@ -107,7 +108,7 @@ fn fill_row(s: &[u8], at: usize, n: usize, p: usize, out: &mut [u8], from: usize
 
 // Fills the inverse from its lines, which are right.
 pub fn fill_inverse(s: &[u8], at: usize, n: usize, inverse: &mut [u8])
-    requires { ⌜ n ≤ 4096 ⌝ }
+    requires { ⌜ n ≤ most-order ⌝ }
     requires { ⌜ Passes (walk (bitsLines n 0 n) (now s) at) ⌝ }
     requires { ⌜ length (now inverse) ≡ n * rowBytes n ⌝ }
     ensures { λ _. ⌜ now (inverse .exit) ≡ packRows n n (values (walk (bitsLines n 0 n) (now (s .entry)) at)) ⌝ }

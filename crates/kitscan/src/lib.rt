@@ -7,6 +7,7 @@
 // an enum; specs/Answers.antt says what its cases mean by the format of specs/KitText.antt, which contracts cite. Each goes once through what it reads.
 ghost use mathlib.Core.Path.{_≡_};
 ghost use Prim.Native.Nat.{_≤_, _<_};
+ghost use Rattle.staircase.specs.Design.{most-order};
 ghost use Rattle.formats.specs.Items.{walk, bitsLines};
 ghost use Rattle.readers.specs.Answers.{stepOf};
 ghost use Rattle.kitscan.specs.KitText.{twoNumbers, headItems, pairLine, pairLines};
@@ -120,7 +121,7 @@ pub fn pair_line(s: &[u8], at: usize, p: usize) -> Line
 
 // The lines of the places 0 to n - 1: the position after them, or the place where they go wrong.
 fn pairs(s: &[u8], at: usize, n: usize) -> Step
-    requires { ⌜ n ≤ 4096 ⌝ }
+    requires { ⌜ n ≤ most-order ⌝ }
     ensures { λ r. ⌜ r ≡ stepOf (walk (pairLines 0 n) (now (s .entry)) at) ⌝ }
 {
     let mut q = at;
@@ -142,7 +143,7 @@ fn pairs(s: &[u8], at: usize, n: usize) -> Step
 
 // The lines of the rows 0 to n - 1, of n bits each: the position after them, or the place where they go wrong.
 fn rows(s: &[u8], at: usize, n: usize) -> Step
-    requires { ⌜ n ≤ 4096 ⌝ }
+    requires { ⌜ n ≤ most-order ⌝ }
     ensures { λ r. ⌜ r ≡ stepOf (walk (bitsLines n 0 n) (now (s .entry)) at) ⌝ }
 {
     let mut q = at;
@@ -164,7 +165,7 @@ fn rows(s: &[u8], at: usize, n: usize) -> Step
 
 // What follows the lists' lines: the names, the lines of the rows and the end of the text. Answers the position of the rows' lines.
 fn rows_and_end(s: &[u8], at: usize, n: usize) -> Step
-    requires { ⌜ n ≤ 4096 ⌝ }
+    requires { ⌜ n ≤ most-order ⌝ }
     ensures { λ r. ⌜ TailIs r n (now (s .entry)) at ⌝ }
 {
     let names = readers::literal(s, at, b"row inverse\n");
@@ -183,7 +184,7 @@ fn rows_and_end(s: &[u8], at: usize, n: usize) -> Step
 
 // The rest of a kit text, for n = M × r, to the end of the text.
 pub fn judge_rest(s: &[u8], at: usize, n: usize) -> Rest
-    requires { ⌜ n ≤ 4096 ⌝ }
+    requires { ⌜ n ≤ most-order ⌝ }
     ensures { λ r. ⌜ restVerdict r ≡ restRule n (now (s .entry)) at ⌝ }
     ensures { λ r. ⌜ RestParts r n (now (s .entry)) at ⌝ }
 {

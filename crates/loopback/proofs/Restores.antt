@@ -7,7 +7,7 @@ use Prim.Native.Nat.{ℕ, _≤_}
 use lib.ListN.{length}
 use Rattle.bch.specs.Polynomial.{Bits}
 use Rattle.bch.specs.Code.{distance}
-use Rattle.staircase.specs.Design.{Params, Interleavers, params, order, most-blocks}
+use Rattle.staircase.specs.Design.{Params, Interleavers, params, order, most-blocks, most-rounds}
 use Rattle.staircase.specs.Frame.{frameOf, read}
 use Rattle.staircase.specs.System.{redundancy}
 use Rattle.staircase.specs.Rules.{Verdict, designRules, infoLength, redLength, interleavers, kitWork, wordWork}
@@ -54,7 +54,7 @@ module _ (m t M : ℕ) (self parity w : List ℕ) (design : designRules m t M �
       → EachWord (params m t M) (interleavers (params m t M) self parity) L
       (λ x. distance (read (frameOf info (redundancy (params m t M) (interleavers (params m t M) self parity) w L info)) x)
       (read (frameOf (turned infoErrors info) (turned redErrors (redundancy (params m t M) (interleavers (params m t M) self parity) w L info))) x) ≤ t)
-      → (k : ℕ) → k ≤ 64 → (rounds : ℕ) × (flips : ℕ)
+      → (k : ℕ) → k ≤ most-rounds → (rounds : ℕ) × (flips : ℕ)
       × (loopbackCall m t M L k self parity w infoErrors redErrors info old (kitWork (params m t M))
       ≡ record {
         outcome = done (record { rounds = rounds; flips = flips; outside = 0 });

@@ -22,6 +22,7 @@ ghost use lib.Count.{ones};
 ghost use lib.Dec.{eqb};
 ghost use lib.ListN.{length, getD, replicate};
 ghost use Rattle.staircase.specs.Lists.{bitSum, sumBits, firstWhere};
+ghost use Rattle.staircase.specs.Design.{most-order};
 ghost use Rattle.staircase.specs.System.{rowBytes, identity};
 ghost use Rattle.matrix.specs.Packed.{packedBit, planeBit};
 
@@ -64,7 +65,7 @@ fn mask_in(acc: &mut [u8], plane: &[u8], v: u8)
 // ones: a row of a product. What acc held is lost. The work grows with n for each byte of the row that is not 0.
 pub fn mask_rows(acc: &mut [u8], row: &[u8], t: &[u8], n: usize)
     requires { ⌜
-        (1 ≤ n) × (n ≤ 4096) × (length (now acc) ≡ n) × (length (now row) ≡ rowBytes n)
+        (1 ≤ n) × (n ≤ most-order) × (length (now acc) ≡ n) × (length (now row) ≡ rowBytes n)
         × (length (now t) ≡ n * rowBytes n)
         ⌝ }
     ensures { λ r. ⌜

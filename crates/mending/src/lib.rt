@@ -7,7 +7,7 @@ ghost use Rattle.staircase.specs.Frame.{frameOf};
 ghost use Rattle.design.specs.Sizes.{orderOf};
 ghost use Rattle.decoder.specs.declared.Decoding.the-variants.{Decoded};
 ghost use Rattle.decoder.specs.Answers.{correctedOf};
-ghost use Rattle.programs.specs.Output.{printed, mendText, mendOutput, Printed, Output};
+ghost use Rattle.programs.specs.Output.{printed, mendText, mendOutput, Printed, most-output, Output};
 ghost use Rattle.programs.specs.Steps.{Scanned, RoomFor, MendReady, FrameFits};
 use decoder::Counts;
 use decoder::Decoding;
@@ -32,7 +32,7 @@ fn put_corrected(
     counts: Counts,
 ) -> usize
     requires { ⌜ FrameFits d blocks (length (now info)) (length (now red)) ⌝ }
-    requires { ⌜ 262144 ≤ length (now out) ⌝ }
+    requires { ⌜ most-output ≤ length (now out) ⌝ }
     ensures { λ a. ⌜ Printed (mendText (d .size) (orderOf d) blocks (correctedOf (Decoded counts) (frameOf (now (info .entry)) (now (red .entry)))))
         a (now (out .entry)) (now (out .exit)) ⌝ }
 {
@@ -52,7 +52,7 @@ fn put_decoded(
     made: Decoding,
 ) -> usize
     requires { ⌜ FrameFits d blocks (length (now info)) (length (now red)) ⌝ }
-    requires { ⌜ 262144 ≤ length (now out) ⌝ }
+    requires { ⌜ most-output ≤ length (now out) ⌝ }
     ensures { λ a.
         let c = correctedOf made (frameOf (now (info .entry)) (now (red .entry))) in
         ⌜ Printed (printed (c .verdict) (mendText (d .size) (orderOf d) blocks c)) a (now (out .entry)) (now (out .exit)) ⌝ }
@@ -82,7 +82,7 @@ fn mend_call(
 ) -> usize
     requires { ⌜ MendReady d blocks (now kit) (now text) (length (now own)) (length (now parity)) (length (now inverse)) (length (now info))
         (length (now red)) (length (now work)) ⌝ }
-    requires { ⌜ 262144 ≤ length (now out) ⌝ }
+    requires { ⌜ most-output ≤ length (now out) ⌝ }
     ensures { λ a. ⌜ Printed (mendOutput (now (kit .entry)) (now (text .entry))) a (now (out .entry)) (now (out .exit)) ⌝ }
 {
     kittext::read_kit(kit, own, parity, inverse);
@@ -105,7 +105,7 @@ fn mend_call(
 // The arrays that the call is lent.
 fn mend_arrays(kit: &[u8], text: &[u8], d: Design, blocks: u64, out: &mut [u8]) -> usize
     requires { ⌜ Scanned true d blocks (now kit) (now text) ⌝ }
-    requires { ⌜ 262144 ≤ length (now out) ⌝ }
+    requires { ⌜ most-output ≤ length (now out) ⌝ }
     ensures { λ a. ⌜ Printed (mendOutput (now (kit .entry)) (now (text .entry))) a (now (out .entry)) (now (out .exit)) ⌝ }
 {
     let s = programs::sizes_of(d, blocks);
@@ -132,7 +132,7 @@ fn mend_arrays(kit: &[u8], text: &[u8], d: Design, blocks: u64, out: &mut [u8]) 
 
 // Both inputs, and what `mend` prints of them, for which there is room.
 fn mend_inputs(kit: &[u8], text: &[u8], out: &mut [u8]) -> usize
-    requires { ⌜ 262144 ≤ length (now out) ⌝ }
+    requires { ⌜ most-output ≤ length (now out) ⌝ }
     ensures { λ a. ⌜ Printed (mendOutput (now (kit .entry)) (now (text .entry))) a (now (out .entry)) (now (out .exit)) ⌝ }
 {
     let begun = programs::begin(kit, text, true);

@@ -11,6 +11,7 @@ ghost use mathlib.Core.Bool.{cond};
 ghost use Prim.Native.Nat.{ℕ, _+_, _*_, _/_, _%_, _^_, _≤_, _<_};
 ghost use lib.Dec.{ltb};
 ghost use lib.ListN.{length, getD};
+ghost use Rattle.staircase.specs.Design.{most-order};
 ghost use Rattle.staircase.specs.System.{rowBytes, inverseEntry};
 ghost use Rattle.matrix.specs.Packed.{Planes, paddedEntry};
 
@@ -54,7 +55,7 @@ fn transpose_block(x: u64) -> u64
 
 // The end of the columns from x that one block has, of n.
 fn block_end(x: usize, n: usize) -> usize
-    requires { ⌜ (x < n) × (n ≤ 4096) ⌝ }
+    requires { ⌜ (x < n) × (n ≤ most-order) ⌝ }
     ensures { λ e. ⌜ (x ≤ e) × (e ≤ n) × (e ≤ x + 8) × ((y : ℕ) → y < x + 8 → y < n → y < e) ⌝ }
 {
     if n < x + 8 {
@@ -79,7 +80,7 @@ fn put_block(part: &mut [u8], q: u64)
 
 // Plane b of the rows of w: a byte for each column, with the entries of the rows 8 b to 8 b + 7.
 fn plane_of_rows(plane: &mut [u8], w: &[u8], n: usize, rb: usize, b: usize)
-    requires { ⌜ (n ≤ 4096) × (length (now plane) ≡ n) × (rb ≡ rowBytes n) × (length (now w) ≡ n * rb) × (b < rb) ⌝ }
+    requires { ⌜ (n ≤ most-order) × (length (now plane) ≡ n) × (rb ≡ rowBytes n) × (length (now w) ≡ n * rb) × (b < rb) ⌝ }
     ensures { λ u. ⌜
         (length (now (plane .exit)) ≡ length (now (plane .entry)))
         × ((x : ℕ) → x < n → (r : ℕ) → r < 8
@@ -110,7 +111,7 @@ fn plane_of_columns(plane: &mut [u8], w: &[u8], n: usize, rb: usize, b: usize)
 
 // Plane b of the columns or of the rows of w.
 fn fill_plane(plane: &mut [u8], w: &[u8], n: usize, rb: usize, b: usize, columns: bool)
-    requires { ⌜ (n ≤ 4096) × (length (now plane) ≡ n) × (rb ≡ rowBytes n) × (length (now w) ≡ n * rb) × (b < rb) ⌝ }
+    requires { ⌜ (n ≤ most-order) × (length (now plane) ≡ n) × (rb ≡ rowBytes n) × (length (now w) ≡ n * rb) × (b < rb) ⌝ }
     ensures { λ u. ⌜
         (length (now (plane .exit)) ≡ length (now (plane .entry)))
         × ((x : ℕ) → x < n → (r : ℕ) → r < 8
@@ -127,7 +128,7 @@ fn fill_plane(plane: &mut [u8], w: &[u8], n: usize, rb: usize, b: usize, columns
 
 // The planes of the columns or of the rows of w.
 fn fill_planes(w: &[u8], n: usize, t: &mut [u8], columns: bool)
-    requires { ⌜ (1 ≤ n) × (n ≤ 4096) × (length (now w) ≡ n * rowBytes n) × (length (now t) ≡ n * rowBytes n) ⌝ }
+    requires { ⌜ (1 ≤ n) × (n ≤ most-order) × (length (now w) ≡ n * rowBytes n) × (length (now t) ≡ n * rowBytes n) ⌝ }
     ensures { λ r. ⌜
         (length (now (t .exit)) ≡ length (now (t .entry)))
         × Planes (now (t .exit)) n (λ k x. cond columns (inverseEntry (now (w .entry)) n x k) (paddedEntry (now (w .entry)) n k x))
@@ -144,7 +145,7 @@ fn fill_planes(w: &[u8], n: usize, t: &mut [u8], columns: bool)
 // Lays the packed matrix w, of n rows and n columns, out in the lent planes t: its rows are their rows, and the rows from n on are 0. Each byte of w
 // is read and each of t written once.
 pub fn planes_of_rows(w: &[u8], n: usize, t: &mut [u8])
-    requires { ⌜ (1 ≤ n) × (n ≤ 4096) × (length (now w) ≡ n * rowBytes n) × (length (now t) ≡ n * rowBytes n) ⌝ }
+    requires { ⌜ (1 ≤ n) × (n ≤ most-order) × (length (now w) ≡ n * rowBytes n) × (length (now t) ≡ n * rowBytes n) ⌝ }
     ensures { λ r. ⌜
         (length (now (t .exit)) ≡ length (now (t .entry)))
         × Planes (now (t .exit)) n (λ k x. cond (ltb k n) (inverseEntry (now (w .entry)) n k x) 0)
@@ -156,7 +157,7 @@ pub fn planes_of_rows(w: &[u8], n: usize, t: &mut [u8])
 // Lays the packed matrix w, of n rows and n columns, out in the lent planes t: its columns are their rows, spare columns too. Each byte of w is read and
 // each of t written once.
 pub fn planes_of_columns(w: &[u8], n: usize, t: &mut [u8])
-    requires { ⌜ (1 ≤ n) × (n ≤ 4096) × (length (now w) ≡ n * rowBytes n) × (length (now t) ≡ n * rowBytes n) ⌝ }
+    requires { ⌜ (1 ≤ n) × (n ≤ most-order) × (length (now w) ≡ n * rowBytes n) × (length (now t) ≡ n * rowBytes n) ⌝ }
     ensures { λ r. ⌜
         (length (now (t .exit)) ≡ length (now (t .entry)))
         × Planes (now (t .exit)) n (λ k x. inverseEntry (now (w .entry)) n x k)

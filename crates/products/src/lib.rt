@@ -3,13 +3,14 @@
 //   right_place(own, parity, n, part, size, t)   of W A, column by column
 //
 // Each entry of A W and of W A is the parity of the count of ones of masked bytes. A row of A has at most 2 r ones, so it is packed on its own
-// and only its non-zero bytes are used: each masks all n columns of W at once, from a copy of W in which byte b of every column stands side
-// by side. W A goes the same way with a column of A and the bytes of W's rows side by side. The work grows with n² r, n being M × r.
+// and only its non-zero bytes are used: each masks all n columns of W at once, from the planes of W's rows. W A goes the same way with a column of
+// A and the planes of W's columns. The work grows with n² r, n being M × r.
 ghost use mathlib.Core.Path.{_≡_};
 ghost use mathlib.Core.Bool.{true, false};
 ghost use Prim.Native.Nat.{ℕ, _*_, _/_, _%_, _≤_, _<_};
 ghost use lib.ListN.{length, getD};
 ghost use Rattle.staircase.specs.Lists.{firstWhere};
+ghost use Rattle.staircase.specs.Design.{most-order};
 ghost use Rattle.staircase.specs.System.{rowBytes};
 ghost use Rattle.staircase.specs.Rules.{entries};
 ghost use Rattle.matrix.specs.Packed.{packedBit};
@@ -18,7 +19,7 @@ ghost use Rattle.products.specs.Products.{Side, wrongIn, leftWrong, righ
 
 // The first wrong entry of line e of a product, or n, for the packed line of one factor and the planes of the other.
 fn first_in_line(line: &[u8], t: &[u8], n: usize, e: usize) -> usize
-    requires { ⌜ (0 < n) × (n ≤ 4096) × (length (now line) ≡ rowBytes n) × (length (now t) ≡ n * rowBytes n)
+    requires { ⌜ (0 < n) × (n ≤ most-order) × (length (now line) ≡ rowBytes n) × (length (now t) ≡ n * rowBytes n)
         × ((k : ℕ) → n ≤ k → packedBit (now line) k ≡ 0) ⌝ }
     ensures { λ a. ⌜ a ≡ firstWhere n (wrongIn (packedBit (now (line .entry))) (now (t .entry)) n e) ⌝ }
 {
@@ -50,7 +51,7 @@ fn line_first(
 
 // The place that a list sends to line e, from the places of the list's inverse.
 fn source(places: &[u16], size: usize, r: usize, e: usize) -> usize
-    requires { ⌜ (length (now places) ≡ size * r) × (size * r ≤ 4096) × (e < size * r) × ((q : ℕ) → q < size * r → getD (now places) q 0 < size * r) ⌝ }
+    requires { ⌜ (length (now places) ≡ size * r) × (size * r ≤ most-order) × (e < size * r) × ((q : ℕ) → q < size * r → getD (now places) q 0 < size * r) ⌝ }
     ensures { λ a. ⌜ (a ≡ getD (now (places .entry)) (unstackOf size r e) 0) × (a < size * r) ⌝ }
 {
     places[e % r * size + e / r] as usize
@@ -97,7 +98,7 @@ fn right_columns(
     best
 }
 
-// The place of the first wrong entry of A W, or n². The planes t hold the columns of W.
+// The place of the first wrong entry of A W, or n². The planes t are those of W's rows.
 pub fn left_place(own: &[u8], parity: &[u8], n: usize, part: &[u32], size: usize, t: &[u8]) -> usize
     requires { ⌜ Side n size (now own) (now part) (now t) × Side n size (now parity) (now part) (now t) ⌝ }
     ensures { λ a. ⌜ a ≡ firstWhere (n * n) (λ i. leftWrong (now (part .entry)) (entries n (now (own .entry))) (entries n (now (parity .entry)))
@@ -108,7 +109,7 @@ pub fn left_place(own: &[u8], parity: &[u8], n: usize, part: &[u32], size: usize
     left_rows(own, n, part, size, t, &places[0..n])
 }
 
-// The place of the first wrong entry of W A, or n². The planes t hold the rows of W.
+// The place of the first wrong entry of W A, or n². The planes t are those of W's columns.
 pub fn right_place(
     own: &[u8],
     parity: &[u8],

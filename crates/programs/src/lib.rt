@@ -16,7 +16,7 @@ ghost use lib.ListN.{length};
 ghost use Rattle.staircase.specs.Design.{most-blocks};
 ghost use Rattle.lines.specs.Written.{refusalText};
 ghost use Rattle.frametext.specs.Reader.{blocksVerdict, CountIs};
-ghost use Rattle.programs.specs.Output.{Printed};
+ghost use Rattle.programs.specs.Output.{most-input, Printed, most-output};
 ghost use Rattle.programs.specs.Steps.{textRule, textCount, Started, StartIs, SizesAre, RoomFor};
 use design::Design;
 use frametext::Blocks;
@@ -125,7 +125,7 @@ pub fn matrix_bytes(n: usize) -> [u8; 4163]
 }
 
 pub fn text_bits(n: usize) -> [u8; 32768]
-    requires { ⌜ n ≤ 32768 ⌝ }
+    requires { ⌜ n ≤ most-input ⌝ }
     ensures { λ a. ⌜ RoomFor n a ⌝ }
 {
     [0; 32768]
@@ -133,7 +133,7 @@ pub fn text_bits(n: usize) -> [u8; 32768]
 
 // Writes the two lines of a refusal, for which there is room.
 pub fn put_refusal(out: &mut [u8], rule: u64, place: u64) -> usize
-    requires { ⌜ 262144 ≤ length (now out) ⌝ }
+    requires { ⌜ most-output ≤ length (now out) ⌝ }
     ensures { λ a. ⌜ Printed (refusalText rule place) a (now (out .entry)) (now (out .exit)) ⌝ }
 {
     writers::refusal_lines(out, 0, rule, place)

@@ -12,7 +12,7 @@ ghost use mathlib.Core.Path.{_≡_};
 ghost use mathlib.Core.Bool.{true};
 ghost use Prim.Native.Nat.{_+_, _*_, _^_, _≤_, _<_};
 ghost use lib.ListN.{length};
-ghost use Rattle.staircase.specs.Design.{wordLength};
+ghost use Rattle.staircase.specs.Design.{most-rounds, wordLength};
 ghost use Rattle.staircase.specs.Frame.{Frame, frameOf, groups, outsideAmong, words, outside};
 ghost use Rattle.staircase.specs.Decoder.{Progress, Decoded, round, runRounds, roundsAllowed};
 ghost use Rattle.design.specs.Answers.{Allowed};
@@ -59,8 +59,8 @@ pub fn fill_tables(d: Design, positions: &mut [u32], syndromes: &mut [u32], fiel
 
 // The rounds that a number of rounds stands for.
 pub fn rounds_allowed(rounds: u64) -> usize
-    requires { ⌜ rounds ≤ 64 ⌝ }
-    ensures { λ a. ⌜ (a ≡ roundsAllowed rounds) × (a ≤ 64) ⌝ }
+    requires { ⌜ rounds ≤ most-rounds ⌝ }
+    ensures { λ a. ⌜ (a ≡ roundsAllowed rounds) × (a ≤ most-rounds) ⌝ }
 {
     if rounds == 0 {
         return DEFAULT_ROUNDS;
@@ -281,7 +281,7 @@ pub fn run_rounds(
     sums: &mut [u32],
 ) -> Made
     requires { ⌜ Ready d blocks (now own) (now parity) (now positions) (now syndromes) (now field)
-        × FrameFits d blocks (now info) (now red) × (length (now work) ≡ orderOf d) × (length (now sums) ≡ d .size) × (limit ≤ 64) ⌝ }
+        × FrameFits d blocks (now info) (now red) × (length (now work) ≡ orderOf d) × (length (now sums) ≡ d .size) × (limit ≤ most-rounds) ⌝ }
     ensures { λ a. ⌜ (record { frame = frameOf (now (info .exit)) (now (red .exit)); rounds = a .rounds; flips = a .flips }
         ≡ runRounds (paramsOf d) (words (paramsOf d) (listsOf d (now (own .entry)) (now (parity .entry))) blocks) limit
         (frameOf (now (info .entry)) (now (red .entry))))

@@ -15,6 +15,7 @@
 ghost use mathlib.Core.Path.{_≡_};
 ghost use Prim.Native.Nat.{ℕ, _+_, _*_, _^_, _≤_, _<_};
 ghost use lib.ListN.{length, getD, replicate};
+ghost use Rattle.staircase.specs.Design.{most-order};
 ghost use Rattle.staircase.specs.System.{rowBytes};
 ghost use Rattle.staircase.specs.Rules.{_then_, refuseFirst, entries, badEntry, spareRow, bitRule};
 ghost use Rattle.design.specs.Answers.{verdictOf};
@@ -50,7 +51,7 @@ fn clear(s: &mut [u8])
 // Rule 7 for the lent list of n entries; places count from `base`. `marks` is a working byte for each of the n numbers, and its bytes afterwards
 // are free. One pass over the marks and one over the list.
 fn check_list(list: &[u8], n: usize, marks: &mut [u8], base: u64) -> Check
-    requires { ⌜ (length (now list) ≡ 2 * n) × (length (now marks) ≡ n) × (n ≤ 4096) × (base ≤ 4096) ⌝ }
+    requires { ⌜ (length (now list) ≡ 2 * n) × (length (now marks) ≡ n) × (n ≤ most-order) × (base ≤ most-order) ⌝ }
     ensures { λ a. ⌜ verdictOf a ≡ refuseFirst 7 base n (badEntry n (entries n (now (list .entry)))) ⌝ }
 {
     clear(marks);
@@ -71,7 +72,7 @@ fn check_list(list: &[u8], n: usize, marks: &mut [u8], base: u64) -> Check
 // Rule 7 for the lent self list and parity list, of n entries each. `marks` is n working bytes, which are free afterwards. Twice the work of
 // `check_list`.
 pub fn check_lists(own: &[u8], parity: &[u8], n: usize, marks: &mut [u8]) -> Check
-    requires { ⌜ (length (now own) ≡ 2 * n) × (length (now parity) ≡ 2 * n) × (length (now marks) ≡ n) × (n ≤ 4096) ⌝ }
+    requires { ⌜ (length (now own) ≡ 2 * n) × (length (now parity) ≡ 2 * n) × (length (now marks) ≡ n) × (n ≤ most-order) ⌝ }
     ensures { λ a. ⌜ verdictOf a
         ≡ (refuseFirst 7 0 n (badEntry n (entries n (now (own .entry)))) then refuseFirst 7 n n (badEntry n (entries n (now (parity .entry))))) ⌝ }
 {
@@ -84,7 +85,7 @@ pub fn check_lists(own: &[u8], parity: &[u8], n: usize, marks: &mut [u8]) -> Che
 
 // Rule 8 for the lent inverse of n rows and columns, packed. Reads one byte of each row.
 pub fn check_spare(inverse: &[u8], n: usize) -> Check
-    requires { ⌜ (length (now inverse) ≡ n * rowBytes n) × (0 < n) × (n ≤ 4096) ⌝ }
+    requires { ⌜ (length (now inverse) ≡ n * rowBytes n) × (0 < n) × (n ≤ most-order) ⌝ }
     ensures { λ a. ⌜ verdictOf a ≡ refuseFirst 8 0 n (spareRow (now (inverse .entry)) n) ⌝ }
 {
     let width = (n + 7) / 8;

@@ -14,6 +14,7 @@ ghost use Prim.Native.Nat.{ℕ, _+_, _-_, _*_, _/_, _%_, _^_, _≤_, _<_};
 ghost use lib.ListN.{length, getD};
 ghost use Rattle.bch.specs.Polynomial.{Bits};
 ghost use Rattle.staircase.specs.Lists.{bitSum, tabulate};
+ghost use Rattle.staircase.specs.Design.{most-order};
 ghost use Rattle.staircase.specs.System.{rowBytes};
 ghost use Rattle.solution.specs.Bits.{digit, Packed, constantBit, productBit};
 
@@ -50,7 +51,7 @@ pub fn parity_bits(columns: &[u32], size: usize, r: usize, out: &mut [u8])
 // Entry k of the constant, from the remainders of the column words and from Q, a byte for each bit.
 fn constant_entry(columns: &[u32], q: &[u8], sources: &[u16], size: usize, r: usize, k: usize) -> u8
     requires { ⌜ (length (now columns) ≡ size) × (length (now q) ≡ size * r) × Bits (now q) × (length (now sources) ≡ size * r) × (0 < r) × (r ≤ 32)
-        × (size * r ≤ 4096) × (k < size * r) × (getD (now sources) (k % r * size + k / r) 0 < size * r) ⌝ }
+        × (size * r ≤ most-order) × (k < size * r) × (getD (now sources) (k % r * size + k / r) 0 < size * r) ⌝ }
     ensures { λ v. ⌜ (v ≡ bitSum (digit (getD (now (columns .entry)) (k / r) 0) r (k % r))
         (getD (now (q .entry)) (getD (now (sources .entry)) (k % r * size + k / r) 0) 0)) × (v < 2) ⌝ }
 {
@@ -72,7 +73,7 @@ fn constant_in(
 )
     requires { ⌜ (length (now columns) ≡ size) × (length (now rows) ≡ size) × (length (now sources) ≡ size * r) × (length (now q) ≡ size * r)
         × (length (now c) ≡ rowBytes (size * r))
-        × (0 < size) × (0 < r) × (r ≤ 32) × (size * r ≤ 4096) × ((p : ℕ) → p < size * r → getD (now sources) p 0 < size * r) ⌝ }
+        × (0 < size) × (0 < r) × (r ≤ 32) × (size * r ≤ most-order) × ((p : ℕ) → p < size * r → getD (now sources) p 0 < size * r) ⌝ }
     ensures { λ u. ⌜ (length (now (c .exit)) ≡ length (now (c .entry)))
         × Packed (size * r) (now (c .exit)) (constantBit (now (columns .entry)) (now (rows .entry)) (now (sources .entry)) size r) ⌝ }
 {
@@ -95,7 +96,7 @@ pub fn constant_bits(
     c: &mut [u8],
 )
     requires { ⌜ (length (now columns) ≡ size) × (length (now rows) ≡ size) × (length (now sources) ≡ size * r) × (length (now c) ≡ rowBytes (size * r))
-        × (0 < size) × (0 < r) × (r ≤ 32) × (size * r ≤ 4096) × ((p : ℕ) → p < size * r → getD (now sources) p 0 < size * r) ⌝ }
+        × (0 < size) × (0 < r) × (r ≤ 32) × (size * r ≤ most-order) × ((p : ℕ) → p < size * r → getD (now sources) p 0 < size * r) ⌝ }
     ensures { λ u. ⌜ (length (now (c .exit)) ≡ length (now (c .entry)))
         × Packed (size * r) (now (c .exit)) (constantBit (now (columns .entry)) (now (rows .entry)) (now (sources .entry)) size r) ⌝ }
 {
@@ -107,7 +108,7 @@ pub fn constant_bits(
 // inverse.
 pub fn self_bits(inverse: &[u8], c: &[u8], size: usize, r: usize, out: &mut [u8])
     requires { ⌜ (length (now inverse) ≡ size * r * rowBytes (size * r)) × (length (now c) ≡ rowBytes (size * r)) × (length (now out) ≡ size * r)
-        × (0 < size) × (0 < r) × (size * r ≤ 4096) ⌝ }
+        × (0 < size) × (0 < r) × (size * r ≤ most-order) ⌝ }
     ensures { λ u. ⌜ now (out .exit) ≡ tabulate (size * r) (productBit (now (inverse .entry)) (now (c .entry)) size r) ⌝ }
 {
     let w = c.len();

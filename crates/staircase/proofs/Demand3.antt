@@ -6,18 +6,18 @@ use mathlib.Core.Path.{_≡_, refl, sym, ap, _∙_, subst}
 use mathlib.Core.Bool.{Bool, true, false, cond}
 use mathlib.Core.Logic.{_≢_, inl, inr}
 use mathlib.Core.List.{List, _∷_}
-use Prim.Native.Nat.{ℕ, zero, suc, _+_, _*_, _/_, _≤_, _<_}
+use Prim.Native.Nat.{ℕ, zero, suc, _+_, _-_, _*_, _/_, _≤_, _<_}
 use native.Mathlib.Decide.{decLt}
 use native.Mathlib.Omega.{arith}
 use lib.ListN.{length, getD}
 use borrow.Author.Tests.{le-ltb}
 use Rattle.bch.specs.Polynomial.{Bits}
 use Rattle.bch.specs.Code.{distance}
-use Rattle.staircase.specs.Design.{Params, Interleavers, params, wordLength, order, Limits, most-blocks}
+use Rattle.staircase.specs.Design.{Params, Interleavers, params, wordLength, order, Limits, most-blocks, most-rounds}
 use Rattle.staircase.specs.Frame.{Frame, Site, bitAt, groups, rowSites, columnSites, words, read, inCode, outsideAmong, outside}
 use Rattle.staircase.specs.System.{redundancy}
 use Rattle.staircase.specs.Frame.Site.{unsent, inInfo, inRed}
-use Rattle.staircase.specs.Decoder.{Decoded, runRounds, roundsAllowed, decoded}
+use Rattle.staircase.specs.Decoder.{Decoded, runRounds, default-rounds, roundsAllowed, decoded}
 use Rattle.staircase.specs.Rules.{Verdict, designRules, countRule, roundsRule, listLengths, infoLength, redLength, frameLengths, kitWork, wordWork, interleavers, listRule, kitRules, frameBits}
 use Rattle.staircase.specs.Rules.Verdict.{accepted}
 use Rattle.staircase.specs.Calls.{encodeVerdict, Encoded, encodedBy, encodeCall, decodeVerdict, correctedBy, decodeCall}
@@ -96,11 +96,11 @@ module _ (m t M : ℕ) (self parity w : List ℕ) (design : designRules m t M �
       (then-accepted design (then-accepted counted (then-accepted (lengths-accepted s self parity w lengths)
       (then-accepted (sized i o hi ho) (then-accepted (length-accepted 6 (kitWork s) (kitWork s) refl) (then-accepted rules (bits-accepted 0 i hb)))))))
 
-  decodes : (k : ℕ) → k ≤ 64 → (i o : List ℕ) → length i ≡ infoLength s L → length o ≡ redLength s L → Bits i → Bits o
+  decodes : (k : ℕ) → k ≤ most-rounds → (i o : List ℕ) → length i ≡ infoLength s L → length o ≡ redLength s L → Bits i → Bits o
       → decodeVerdict m t M L k self parity i o (wordWork s) ≡ accepted
   unfolding decodeVerdict roundsRule listLengths frameBits kitRules
   decodes k hk i o hi ho bi bo =
-      then-accepted design (then-accepted counted (then-accepted (refuse-accepted 5 k (le-ltb 64 k hk))
+      then-accepted design (then-accepted counted (then-accepted (refuse-accepted 5 k (le-ltb most-rounds k hk))
       (then-accepted
       (then-accepted (length-accepted 1 (length self) (2 * order s) (lengths .selfLength)) (length-accepted 2 (length parity) (2 * order s) (lengths .parityLength)))
       (then-accepted (sized i o hi ho) (then-accepted (length-accepted 6 (wordWork s) (wordWork s) refl)
@@ -170,11 +170,11 @@ module _ (m t M : ℕ) (self parity w : List ℕ) (design : designRules m t M �
 
   restored : (k : ℕ) (received : Frame) → Received frame received
       → ((v : List Site) → In v (words s l L) → distance (read frame v) (read received v) ≤ t) → (runRounds s (words s l L) (roundsAllowed k) received) .frame ≡ frame
-  restored zero received like few = runRounds-restore s (wordLength s) (apart-of limits) frame frame-itself (words s l L) sound covered 6 received like few
+  restored zero received like few = runRounds-restore s (wordLength s) (apart-of limits) frame frame-itself (words s l L) sound covered (default-rounds - 1) received like few
   restored (suc k) received like few = runRounds-restore s (wordLength s) (apart-of limits) frame frame-itself (words s l L) sound covered k received like few
 
   restores : (received : Frame) → length (received .info) ≡ length info → length (received .red) ≡ length made → Bits (received .info) → Bits (received .red)
-      → EachWord s l L (λ x. distance (read frame x) (read received x) ≤ t) → (k : ℕ) → k ≤ 64 → (rounds : ℕ) × (flips : ℕ)
+      → EachWord s l L (λ x. distance (read frame x) (read received x) ≤ t) → (k : ℕ) → k ≤ most-rounds → (rounds : ℕ) × (flips : ℕ)
       × (decodeCall m t M L k self parity (received .info) (received .red) (wordWork s)
       ≡ record { verdict = accepted; frame = frame; counts = record { rounds = rounds; flips = flips; outside = 0 } })
   unfolding decodeCall decoded outside

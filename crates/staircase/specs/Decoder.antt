@@ -92,9 +92,12 @@ runRounds s ws (suc k) f =
     (record { frame = x .frame; rounds = 1; flips = 0 })
     (record { frame = rest .frame; rounds = 1 + rest .rounds; flips = x .flips + rest .flips })
 
--- "0 stands for 7"
+-- "a number of rounds; 0 stands for 7"
+abbrev pub default-rounds : ℕ
+default-rounds = 7
+
 abbrev pub roundsAllowed : ℕ → ℕ
-roundsAllowed zero = 7
+roundsAllowed zero = default-rounds
 roundsAllowed (suc k) = suc k
 
 unfoldable pub decoded : Params → Interleavers → ℕ → ℕ → Frame → Decoded

@@ -12,7 +12,7 @@ use Prim.Native.Nat.{ℕ, _+_, _*_, _/_, _≤_, _<_}
 use lib.ListN.{getD, length}
 use Rattle.bch.specs.Polynomial.{Bits}
 use Rattle.bch.specs.Code.{distance}
-use Rattle.staircase.specs.Design.{Params, Interleavers, params, order}
+use Rattle.staircase.specs.Design.{Params, Interleavers, params, order, most-rounds}
 use Rattle.staircase.specs.Frame.{Frame, Site, groups, rowSites, columnSites, read, inCode, outside}
 use Rattle.staircase.specs.Rules.{interleavers, kitWork, wordWork}
 use Rattle.staircase.specs.Rules.Verdict.{accepted}
@@ -47,6 +47,6 @@ pub record Demand3 (m t M L : ℕ) (self parity w info old : List ℕ) : Type 0 
   -- included, leaves exactly that frame in the buffers and counts no word outside at the end"
   pub restores : (received : Frame) → length (received .info) ≡ length info → length (received .red) ≡ length made → Bits (received .info) → Bits (received .red)
       → EachWord (params m t M) (interleavers (params m t M) self parity) L (λ x. distance (read (record { info = info; red = made }) x) (read received x) ≤ t)
-      → (k : ℕ) → k ≤ 64 → (rounds : ℕ) × (flips : ℕ)
+      → (k : ℕ) → k ≤ most-rounds → (rounds : ℕ) × (flips : ℕ)
       × (decodeCall m t M L k self parity (received .info) (received .red) (wordWork (params m t M))
       ≡ record { verdict = accepted; frame = record { info = info; red = made }; counts = record { rounds = rounds; flips = flips; outside = 0 } })

@@ -1,5 +1,5 @@
 -- Document 01, "Design and BCH words": the limits and the sizes of a design.
---   least-m .. most-blocks   the limits
+--   least-m .. most-rounds   the limits
 --   Params, params           what the words of a design need
 --   wordLength s             n
 --   order s                  M × r: entries of a list, of Y and of P, rows of the system
@@ -30,6 +30,10 @@ most-order = 4096
 -- "L from 1 to 4,096"
 abbrev pub most-blocks : ℕ
 most-blocks = 4096
+
+-- "5 rounds .. above 64"
+abbrev pub most-rounds : ℕ
+most-rounds = 64
 
 -- Rows and columns M of a block, redundancy bits r of a word, errors t that are corrected, generator g.
 pub record Params : Type 0 where

@@ -15,7 +15,7 @@ use Prim.Native.Nat.{ℕ, _+_, _-_, _*_, _/_, _%_, _^_}
 use lib.Dec.{ltb, leb, eqb}
 use lib.ListN.{getD, length}
 use Rattle.staircase.specs.Lists.{tabulate, firstWhere}
-use Rattle.staircase.specs.Design.{Params, Interleavers, params, wordLength, order, least-m, most-m, most-t, most-M, most-order, most-blocks}
+use Rattle.staircase.specs.Design.{Params, Interleavers, params, wordLength, order, least-m, most-m, most-t, most-M, most-order, most-blocks, most-rounds}
 use Rattle.staircase.specs.System.{systemEntry, inverseEntry, rowBytes, product, identity}
 use Rattle.staircase.specs.Frame.{groups}
 
@@ -74,7 +74,7 @@ partRule L (group i) = refuse (outOfRange 1 (groups L) i) 4 i
 
 -- "5 rounds: the number; above 64"
 unfoldable pub roundsRule : ℕ → Verdict
-roundsRule k = refuse (ltb 64 k) 5 k
+roundsRule k = refuse (ltb most-rounds k) 5 k
 
 -- "6 length: 1 self, 2 parity, 3 inverse, 4 information, 5 redundancy, 6 working; first slice of a wrong length"
 abbrev pub lengthRule : ℕ → ℕ → ℕ → Verdict

@@ -8,6 +8,7 @@
 ghost use mathlib.Core.Path.{_≡_};
 ghost use Prim.Native.Nat.{ℕ, _+_, _*_, _-_, _/_, _%_, _≤_, _<_};
 ghost use lib.ListN.{length, getD};
+ghost use Rattle.staircase.specs.Design.{most-order};
 ghost use Rattle.staircase.specs.System.{preimage};
 ghost use Rattle.staircase.specs.Rules.{entries};
 ghost use Rattle.staircase.specs.Demand2.{Permutes};
@@ -16,7 +17,7 @@ ghost use Rattle.system.specs.Lines.{stackOf, digit, lineDigit, lineEntr
 
 // Fills `out` with the inverse of a list of n entries that is a permutation: entry q is the place that the list sends to q.
 pub fn fill_inverse(list: &[u8], n: usize, out: &mut [u16])
-    requires { ⌜ (length (now list) ≡ 2 * n) × (length (now out) ≡ n) × (n ≤ 4096) × Permutes n (λ p. getD (entries n (now list)) p 0) ⌝ }
+    requires { ⌜ (length (now list) ≡ 2 * n) × (length (now out) ≡ n) × (n ≤ most-order) × Permutes n (λ p. getD (entries n (now list)) p 0) ⌝ }
     ensures { λ u. ⌜ (length (now (out .exit)) ≡ n)
         × ((q : ℕ) → q < n → getD (now (out .exit)) q 0 ≡ preimage (entries n (now (list .entry))) n q) ⌝ }
 {
@@ -47,7 +48,7 @@ fn line_digit(part: &[u32], column: bool, a: usize, b: usize) -> u8
 
 // Where the list sends place b × size + a, as an entry of the stack.
 fn sent(list: &[u8], n: usize, size: usize, r: usize, b: usize, a: usize) -> usize
-    requires { ⌜ (n ≡ size * r) × (b < r) × (a < size) × (length (now list) ≡ 2 * n) × (n ≤ 4096)
+    requires { ⌜ (n ≡ size * r) × (b < r) × (a < size) × (length (now list) ≡ 2 * n) × (n ≤ most-order)
         × ((q : ℕ) → q < n → getD (entries n (now list)) q 0 < n) ⌝ }
     ensures { λ k. ⌜ (k ≡ stackOf size r (getD (entries n (now (list .entry))) (b * size + a) 0)) × (k < n) ⌝ }
 {
