@@ -131,9 +131,6 @@ module _ (m : ℕ) (low : 4 ≤ m) (high : m ≤ 10) where
       abbrev w : ℕ
       w = power m h
 
-      w-below : w < 2 ^ m
-      w-below = power-below m low high h
-
       middle : w · w ≡ a · a ⊕ (a · b ⊕ b · b)
       middle =
           cancel m _·_ F (w · w) (a · a ⊕ (a · b ⊕ b · b)) (power m u) (F .mul-below w w)

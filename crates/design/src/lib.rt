@@ -12,7 +12,7 @@
 // the limits, so its sizes fit whatever the fields hold.
 ghost use mathlib.Core.Path.{_≡_};
 ghost use Prim.Native.Nat.{_+_, _*_, _/_, _≤_, _<_};
-ghost use Rattle.staircase.specs.Design.{params, most-blocks};
+ghost use Rattle.staircase.specs.Design.{most-blocks};
 ghost use Rattle.staircase.specs.Frame.{groups};
 ghost use Rattle.staircase.specs.Rules.{outOfRange, designRules, countRule, roundsRule};
 ghost use Rattle.design.specs.Answers.{verdictOf, designVerdict, DesignIs, DesignAllowed};

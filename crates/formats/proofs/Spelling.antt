@@ -7,7 +7,7 @@
 --   Oks, tidy-oks, Passed, walk-sound what is passed is spelt
 --   oks-bytes, spell-lits, fit-lits   the bytes that are spelt, as fixed bytes
 -- Assumes nothing.
-use Prim.Native.Nat.{ℕ, zero, suc, _+_, _≤_, _<_}
+use Prim.Native.Nat.{ℕ, zero, suc, _+_, _<_}
 use mathlib.Core.Path.{_≡_, refl, sym, ap, _∙_}
 use mathlib.Core.Bool.{false}
 use mathlib.Core.List.{List, [], _∷_, _++_, append-assoc}

@@ -11,29 +11,23 @@ use Rattle.bch.specs.Polynomial.{Bits}
 use Rattle.staircase.specs.Frame.{groups}
 use Rattle.blocks.specs.Blocks.{sent, blockBytes, sentBit}
 use Rattle.blocks.proofs.Blocks.{sent-odd, block-fits}
-use Rattle.group.specs.Group.{groupOf, Lent}
+use Rattle.group.specs.Group.{groupOf, Tables, Lent}
 use Rattle.frames.specs.Groups.{groupFrom, Ready}
 
 module _ (L size r : ℕ) (info table sources inverse : List ℕ) (i : ℕ) (odd even before : List ℕ) (has-even has-before : Bool)
     (eo : odd ≡ blockBytes L (size * size) info (2 * i + 1)) (ee : even ≡ blockBytes L (size * size) info (2 * i + 2))
     (eb : before ≡ blockBytes L (size * size) info (2 * i)) (se : has-even ≡ sent L (2 * i + 2)) (sb : has-before ≡ sent L (2 * i)) where
   pub lent-from : Ready L size r info table sources inverse → i < groups L → (out : List ℕ) → length out ≡ 2 * (size * r)
-      → Lent size r odd has-even even has-before before table sources inverse out
-  lent-from R h out long = record {
-    some-columns = R .some-columns;
-    few-columns = R .few-columns;
-    some-rows = R .some-rows;
-    few-rows = R .few-rows;
-    small = R .small;
-    odd-block = subst (λ (x : List ℕ). (length x ≡ size * size) × Bits x) (sym eo) (block-fits L (size * size) info (2 * i + 1) (R .blocks) (sent-odd L i h) (R .bits));
-    even-block = λ e. subst (λ (x : List ℕ). (length x ≡ size * size) × Bits x) (sym ee) (block-fits L (size * size) info (2 * i + 2) (R .blocks) (sym se ∙ e) (R .bits));
-    before-block = λ e. subst (λ (x : List ℕ). (length x ≡ size * size) × Bits x) (sym eb) (block-fits L (size * size) info (2 * i) (R .blocks) (sym sb ∙ e) (R .bits));
-    powers = R .powers;
-    places = R .places;
-    within = R .within;
-    packed = R .packed;
-    room = long;
-  }
+      → Tables size r table sources inverse × Lent size r odd has-even even has-before before out
+  lent-from R h out long = (
+    R .tables,
+    record {
+      odd-block = subst (λ (x : List ℕ). (length x ≡ size * size) × Bits x) (sym eo) (block-fits L (size * size) info (2 * i + 1) (R .blocks) (sent-odd L i h) (R .bits));
+      even-block = λ e. subst (λ (x : List ℕ). (length x ≡ size * size) × Bits x) (sym ee) (block-fits L (size * size) info (2 * i + 2) (R .blocks) (sym se ∙ e) (R .bits));
+      before-block = λ e. subst (λ (x : List ℕ). (length x ≡ size * size) × Bits x) (sym eb) (block-fits L (size * size) info (2 * i) (R .blocks) (sym sb ∙ e) (R .bits));
+      room = long;
+    },
+  )
 
   pub group-from : (out : List ℕ) → out ≡ groupOf table sources inverse size r (sentBit has-before before) (λ k. getD odd k 0) (sentBit has-even even)
       → out ≡ groupFrom table sources inverse size r L info i

@@ -45,17 +45,20 @@ module _ {d : Design} {L : ℕ} {parity inverse info red : List ℕ} (h : Encoda
     ready =
         record {
           few-blocks = h .few-blocks;
-          some-columns = h .allowed .M-low;
-          few-columns = omega (arith, h .allowed .M-high);
-          some-rows = ok .rpos;
-          few-rows = omega (arith, r-small d (h .allowed));
-          small = h .allowed .order-high;
+          tables =
+              record {
+                some-columns = h .allowed .M-low;
+                few-columns = omega (arith, h .allowed .M-high);
+                some-rows = ok .rpos;
+                few-rows = omega (arith, r-small d (h .allowed));
+                small = h .allowed .order-high;
+                powers = ap length is-table ∙ long;
+                places = ap length is-sources ∙ wide ∙ en;
+                within = within;
+                packed = h .inverseLength;
+              };
           blocks = h .infoLength;
           bits = h .bits;
-          powers = ap length is-table ∙ long;
-          places = ap length is-sources ∙ wide ∙ en;
-          within = within;
-          packed = h .inverseLength;
         }
 
     pub frame-ready : Ready L (d .size) r info table sources inverse

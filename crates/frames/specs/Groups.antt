@@ -5,18 +5,19 @@
 -- Assumes nothing.
 use mathlib.Core.Path.{_≡_}
 use mathlib.Core.List.{List}
-use Prim.Native.Nat.{ℕ, _+_, _*_, _≤_, _<_}
+use Prim.Native.Nat.{ℕ, _+_, _*_, _≤_}
 use lib.ListN.{length, getD}
 use Rattle.bch.specs.Polynomial.{Bits}
-use Rattle.staircase.specs.Design.{most-order, most-blocks}
+use Rattle.staircase.specs.Design.{most-blocks}
 use Rattle.staircase.specs.System.{rowBytes}
 use Rattle.staircase.specs.Demand2.{Permutes}
 use Rattle.staircase.specs.Frame.{groups}
-use Rattle.staircase.specs.Rules.{entries, infoLength, redLength}
+use Rattle.staircase.specs.Rules.{entries}
 use Rattle.design.specs.declared.Design.{Design}
 use Rattle.design.specs.Answers.{Allowed}
+use Rattle.design.specs.Sizes.{orderOf}
 use Rattle.blocks.specs.Blocks.{sent, blockBytes, sentBit}
-use Rattle.group.specs.Group.{groupOf}
+use Rattle.group.specs.Group.{groupOf, Tables}
 
 unfoldable pub groupFrom : List ℕ → List ℕ → List ℕ → ℕ → ℕ → ℕ → List ℕ → ℕ → List ℕ
 groupFrom table sources inverse size r L info i =
@@ -25,24 +26,16 @@ groupFrom table sources inverse size r L info i =
 
 pub record Ready (L size r : ℕ) (info table sources inverse : List ℕ) : Type 0 where
   pub few-blocks : L ≤ most-blocks
-  pub some-columns : 0 < size
-  pub few-columns : size ≤ 512
-  pub some-rows : 0 < r
-  pub few-rows : r ≤ 32
-  pub small : size * r ≤ most-order
+  pub tables : Tables size r table sources inverse
   pub blocks : length info ≡ L * (size * size)
   pub bits : Bits info
-  pub powers : length table ≡ 2 * size + 2 * r
-  pub places : length sources ≡ size * r
-  pub within : (q : ℕ) → q < size * r → getD sources q 0 < size * r
-  pub packed : length inverse ≡ size * r * rowBytes (size * r)
 
 pub record Encodable (d : Design) (L : ℕ) (parity inverse info red : List ℕ) : Type 0 where
   pub allowed : Allowed d
   pub few-blocks : L ≤ most-blocks
-  pub parityLength : length parity ≡ 2 * (d .size * (d .m * d .t))
-  pub inverseLength : length inverse ≡ d .size * (d .m * d .t) * rowBytes (d .size * (d .m * d .t))
+  pub parityLength : length parity ≡ 2 * orderOf d
+  pub inverseLength : length inverse ≡ orderOf d * rowBytes (orderOf d)
   pub infoLength : length info ≡ L * (d .size * d .size)
-  pub redLength : length red ≡ groups L * (2 * (d .size * (d .m * d .t)))
-  pub parityPermutes : Permutes (d .size * (d .m * d .t)) (λ p. getD (entries (d .size * (d .m * d .t)) parity) p 0)
+  pub redLength : length red ≡ groups L * (2 * orderOf d)
+  pub parityPermutes : Permutes (orderOf d) (λ p. getD (entries (orderOf d) parity) p 0)
   pub bits : Bits info

@@ -3,7 +3,8 @@
 --   productParity         a bit of P, from a packed constant
 --   selfBit, parityBit    a bit of Y and of P, by the blocks
 --   groupOf               the group: Y, then P
---   Lent                  what is asked of the sizes and slices of a group
+--   Tables                what is asked of the sizes, and of the slices that all groups of a frame share
+--   Lent                  and of the slices of one group
 -- Assumes nothing.
 use mathlib.Core.Path.{_≡_}
 use mathlib.Core.Bool.{Bool}
@@ -39,17 +40,19 @@ groupOf table sources inverse size r before odd even =
     let y : Contents = selfBit table sources inverse size r before odd even in
     tabulate (size * r) y ++ tabulate (size * r) (parityBit table size r odd even y)
 
-pub record Lent (size r : ℕ) (odd : List ℕ) (even-sent : Bool) (even : List ℕ) (before-sent : Bool) (before table sources inverse out : List ℕ) : Type 0 where
+pub record Tables (size r : ℕ) (table sources inverse : List ℕ) : Type 0 where
   pub some-columns : 0 < size
   pub few-columns : size ≤ 512
   pub some-rows : 0 < r
   pub few-rows : r ≤ 32
   pub small : size * r ≤ most-order
-  pub odd-block : (length odd ≡ size * size) × Bits odd
-  pub even-block : Sent even-sent even (size * size)
-  pub before-block : Sent before-sent before (size * size)
   pub powers : length table ≡ 2 * size + 2 * r
   pub places : length sources ≡ size * r
   pub within : (q : ℕ) → q < size * r → getD sources q 0 < size * r
   pub packed : length inverse ≡ size * r * rowBytes (size * r)
+
+pub record Lent (size r : ℕ) (odd : List ℕ) (even-sent : Bool) (even : List ℕ) (before-sent : Bool) (before out : List ℕ) : Type 0 where
+  pub odd-block : (length odd ≡ size * size) × Bits odd
+  pub even-block : Sent even-sent even (size * size)
+  pub before-block : Sent before-sent before (size * size)
   pub room : length out ≡ 2 * (size * r)

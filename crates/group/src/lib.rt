@@ -15,7 +15,7 @@ ghost use Rattle.staircase.specs.Design.{most-order};
 ghost use Rattle.staircase.specs.System.{rowBytes};
 ghost use Rattle.blocks.specs.Blocks.{sentBit};
 ghost use Rattle.solution.specs.Bits.{productBit};
-ghost use Rattle.group.specs.Group.{productParity, groupOf, Lent};
+ghost use Rattle.group.specs.Group.{productParity, groupOf, Tables, Lent};
 
 // Makes Y and P in `out` from the packed constant and the remainders of the blocks of the column words, to which it adds those of Y.
 fn group_bits(
@@ -55,7 +55,7 @@ fn group_in(
     c: &mut [u8],
     out: &mut [u8],
 )
-    requires { ⌜ Lent size r (now odd) «has_even» (now even) «has_before» (now before) (now table) (now sources) (now inverse) (now out)
+    requires { ⌜ Tables size r (now table) (now sources) (now inverse) × Lent size r (now odd) «has_even» (now even) «has_before» (now before) (now out)
         × (length (now columns) ≡ size) × (length (now rows) ≡ size) × (length (now c) ≡ rowBytes (size * r)) ⌝ }
     ensures { λ u. ⌜ now (out .exit) ≡ groupOf (now (table .entry)) (now (sources .entry)) (now (inverse .entry)) size r
         (sentBit «has_before» (now (before .entry))) (λ k. getD (now (odd .entry)) k 0) (sentBit «has_even» (now (even .entry))) ⌝ }
@@ -91,7 +91,7 @@ pub fn make_group(
     r: usize,
     out: &mut [u8],
 )
-    requires { ⌜ Lent size r (now odd) «has_even» (now even) «has_before» (now before) (now table) (now sources) (now inverse) (now out) ⌝ }
+    requires { ⌜ Tables size r (now table) (now sources) (now inverse) × Lent size r (now odd) «has_even» (now even) «has_before» (now before) (now out) ⌝ }
     ensures { λ u. ⌜ now (out .exit) ≡ groupOf (now (table .entry)) (now (sources .entry)) (now (inverse .entry)) size r
         (sentBit «has_before» (now (before .entry))) (λ k. getD (now (odd .entry)) k 0) (sentBit «has_even» (now (even .entry))) ⌝ }
 {

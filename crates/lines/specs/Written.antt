@@ -2,7 +2,8 @@
 --   chars                        the characters of bits
 --   bitsText, groupLineText      the line of a block, the line of a group
 --   linesText                    lines that each have a number, from a number on
---   blockLines, groupLines       those of blocks and of groups
+--   nextBlock, nextGroup         the line of a block, of a group, from the bits that are left
+--   blockLines, groupLines       the lines of blocks, of groups
 --   blockText, groupText         block text and group text whole
 --   refusalText, countsText      what a refusal prints, and the three numbers at the end of what `mend` prints
 -- A byte is a number below 256; 10 is the line feed and 32 the space. `dec` of formats is a number in decimal digits.
@@ -25,8 +26,7 @@ bitsText p vs = dec p ++ (32 ∷ (chars vs ++ (10 ∷ [])))
 unfoldable pub groupLineText : ℕ → List ℕ → List ℕ → List ℕ
 groupLineText p ys ps = dec p ++ (32 ∷ (chars ys ++ (32 ∷ (chars ps ++ (10 ∷ [])))))
 
--- "numbered from 1 in order": the lines of the numbers p to p + k - 1, by a rule for the line of a number and the bits that are left; each takes w of
--- them.
+-- The lines of the numbers p to p + k - 1, by a rule for the line of a number and the bits that are left; each takes w of them.
 unfoldable pub linesText : (ℕ → List ℕ → List ℕ) → ℕ → ℕ → ℕ → List ℕ → List ℕ
 linesText line w p zero bits = []
 linesText line w p (suc k) bits = line p bits ++ linesText line w (suc p) k (drop w bits)
@@ -39,6 +39,7 @@ nextBlock area p bits = bitsText p (take area bits)
 abbrev pub nextGroup : ℕ → ℕ → List ℕ → List ℕ
 nextGroup n p bits = groupLineText p (take n bits) (take n (drop n bits))
 
+-- "blocks numbered from 1 in order": here from p on.
 abbrev pub blockLines : ℕ → ℕ → ℕ → List ℕ → List ℕ
 blockLines area p k bits = linesText (nextBlock area) area p k bits
 

@@ -8,7 +8,7 @@ use Rattle.frames.proofs.group_at.Statement.{statement}
 use Rattle.frames.proofs.group_at.Tie as tie
 
 mul-area : tie.Need-mul-area
-mul-area c = omega (arith, small-product (c .before .before .before .before .before .args .size) (c .before .before .before .before .before .args .size) 512 512 (c .before .before .before .before .before .pre .0 .few-columns) (c .before .before .before .before .before .pre .0 .few-columns))
+mul-area c = omega (arith, small-product (c .before .before .before .before .before .args .size) (c .before .before .before .before .before .args .size) 512 512 (c .before .before .before .before .before .pre .0 .tables .few-columns) (c .before .before .before .before .before .pre .0 .tables .few-columns))
 
 mul-block-of : tie.Need-mul-block-of
 mul-block-of c = omega (arith, c .before .before .before .before .before .pre .0 .few-blocks)

@@ -21,10 +21,10 @@ abbrev μ-loop : tie.MeasureT-loop
 μ-loop info blocks table sources inverse size r red₀ w count i₀ red i = groups blocks - i
 
 mul-w : tie.Need-mul-w Inv-loop μ-loop
-mul-w c = omega (arith, c .before .before .before .before .before .pre .0 .small)
+mul-w c = omega (arith, c .before .before .before .before .before .pre .0 .tables .small)
 
 mul-w-2 : tie.Need-mul-w-2 Inv-loop μ-loop
-mul-w-2 c = omega (arith, c .before .before .before .before .before .pre .0 .small)
+mul-w-2 c = omega (arith, c .before .before .before .before .before .pre .0 .tables .small)
 
 group-count-requires : tie.Need-group-count-requires Inv-loop μ-loop
 group-count-requires c κs = c .before .before .before .before .before .pre .0 .few-blocks

@@ -14,8 +14,8 @@ column-sums-requires : tie.Need-column-sums-requires
 column-sums-requires c κs =
     let s = c .before .before .before .before .before .before .before .before .before .before .before in
     let n = s .args .size in
-    let l = s .pre .0 in
-    let w = s .pre .1 in (
+    let l = s .pre .1 in
+    let w = s .pre .2 in (
       square _ _ _ n (l .odd-block .0) w w,
       l .odd-block .1,
       λ e. (square _ _ _ n (l .even-block e .0) w w, l .even-block e .1),
@@ -26,8 +26,8 @@ row-sums-requires : tie.Need-row-sums-requires
 row-sums-requires c κs =
     let s = c .before .before .before .before .before .before .before .before .before .before .before .before .before .before .before in
     let n = s .args .size in
-    let l = s .pre .0 in
-    let w = s .pre .2 in
+    let l = s .pre .1 in
+    let w = s .pre .3 in
     let m = length (s .args .rows .now) in
     let odd : Sent (s .args .has-before) (s .args .odd .now) (m * m) = λ e. (square _ _ _ n (l .odd-block .0) w w, l .odd-block .1) in
     let before : Sent (s .args .has-before) (s .args .before .now) (m * m) = λ e. (square _ _ _ n (l .before-block e .0) w w, l .before-block e .1) in
@@ -36,16 +36,16 @@ row-sums-requires c κs =
 constant-bits-requires : tie.Need-constant-bits-requires
 constant-bits-requires c κs =
     let s = c .before .before .before .before .before .before .before .before .before .before .before .before .before .before .before .before .before .before .before .before .before in
-    let L = s .pre .0 in (
+    let T = s .pre .0 in (
       omega arith,
       omega arith,
-      L .places,
-      s .pre .3,
-      L .some-columns,
-      L .some-rows,
-      L .few-rows,
-      L .small,
-      L .within,
+      T .places,
+      s .pre .4,
+      T .some-columns,
+      T .some-rows,
+      T .few-rows,
+      T .small,
+      T .within,
     )
 
 mul-group-bits : tie.Need-mul-group-bits
@@ -73,16 +73,16 @@ group-bits-requires : tie.Need-group-bits-requires
 group-bits-requires c κs =
     let s = c .before .before .before .before .before .before .before .before .before .before .before .before .before .before .before .before .before .before .before .before .before .before .before .before .before .before .before .before in
     let a = s .args in
-    let L = s .pre .0 in (
-      L .packed,
-      c .before .before .before .before .before .before .constant-bits .ensures .0 ∙ s .pre .3,
+    let T = s .pre .0 in (
+      T .packed,
+      c .before .before .before .before .before .before .constant-bits .ensures .0 ∙ s .pre .4,
       part-length (a .table .now) (2 * a .size) (2 * a .size + a .r) (a .r) (omega arith) (omega arith),
       omega (arith, c .before .before .before .before .before .before .before .before .before .before .before .before .before .before .before .columns .given),
-      L .room,
-      L .some-columns,
-      L .some-rows,
-      L .few-rows,
-      L .small,
+      s .pre .1 .room,
+      T .some-columns,
+      T .some-rows,
+      T .few-rows,
+      T .small,
     )
 
 same-length : tie.Need-same-length
@@ -108,7 +108,7 @@ returns c =
     group-made (a .table .now) (a .sources .now) (a .inverse .now)
     (constant .last .1 .1 .1 .1 .1 .0) (columns .last .1 .1 .1 .1 .0) (rows .last .1 .1 .1 .1 .0) (a .size) (a .r)
     (sentBit (a .has-before) (a .before .now)) (λ k. getD (a .odd .now) k 0) (sentBit (a .has-even) (a .even .now))
-    (s .pre .0 .some-columns) (omega arith) (rw (s .pre .1) at (columns .ensures)) (rw (s .pre .2) at (rows .ensures)) (constant .ensures .1)
+    (s .pre .0 .some-columns) (omega arith) (rw (s .pre .2) at (columns .ensures)) (rw (s .pre .3) at (rows .ensures)) (constant .ensures .1)
     (made .last .1 .1 .1 .1 .1 .1 .0) (made .ensures)
 
 pub group-in-spec : {M : Type 1} → statement M

@@ -44,7 +44,7 @@ group-in-requires c κs =
     let s = c .before .before .before .before .before .before .before .before .before .before .before in
     let n = s .args .size in
     let w = (n * s .args .r + 7) / 8 in
-    (s .pre, part-length _ 0 n n (omega arith) (omega arith), part-length _ 0 n n (omega arith) (omega arith), part-length _ 0 w w (omega arith) (omega arith))
+    (s .pre .0, s .pre .1, part-length _ 0 n n (omega arith) (omega arith), part-length _ 0 n n (omega arith) (omega arith), part-length _ 0 w w (omega arith) (omega arith))
 
 same-length : tie.Need-same-length
 same-length c = omega arith

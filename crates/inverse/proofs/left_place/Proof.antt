@@ -1,4 +1,4 @@
--- W fits, and the planes of its columns are as the rows of A W ask.
+-- W fits, and the planes of its rows are as the rows of A W ask.
 -- Assumes nothing.
 use native.Mathlib.Omega.{arith}
 use borrow.Author.Needs.{needs}

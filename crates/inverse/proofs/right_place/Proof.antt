@@ -1,4 +1,4 @@
--- W fits, and the planes of its rows are as the columns of W A ask.
+-- W fits, and the planes of its columns are as the columns of W A ask.
 -- Assumes nothing.
 use native.Mathlib.Omega.{arith}
 use borrow.Author.Needs.{needs}
