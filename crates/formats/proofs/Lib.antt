@@ -1,3 +1,4 @@
+pub mod Bare
 pub mod Digits
 pub mod Items
 pub mod Lines

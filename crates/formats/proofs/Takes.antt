@@ -1,18 +1,20 @@
 -- How many values items take.
 --   takes, fit-length        the number of values
+--   spell-long, fit-long     a text has a byte at least for each item, and for each value
 --   takes-append             of two lists of items
 --   takes-lits, takes-bits   of fixed bytes and of bits
 --   passed-length            the values that a walk passes with
 --   part-takes .. line-takes those of a space and bits, with a line feed too, and of the line of a number and bits
 -- Assumes nothing.
-use Prim.Native.Nat.{ℕ, zero, suc, _+_}
+use Prim.Native.Nat.{ℕ, zero, suc, _+_, _≤_, _<_}
 use mathlib.Core.Path.{_≡_, refl, sym, ap, _∙_}
 use mathlib.Core.List.{List, [], _∷_, _++_}
 use native.Mathlib.Omega.{arith}
 use native.Mathlib.Nat.{zero-add, suc-add}
-use lib.ListN.{length}
+use lib.ListN.{length, length-append}
 use Rattle.formats.specs.Format.{Item, byte, num, bit, dec}
-use Rattle.formats.specs.Items.{lits, bits, bitsLine, past, walk, Fit}
+use Rattle.formats.specs.Items.{lits, bits, bitsLine, past, walk, spell, Fit}
+use Rattle.formats.proofs.Items.{dec-long}
 use Rattle.formats.proofs.Spelling.{Tidy, tidy-oks, walk-sound}
 
 unfoldable pub takes : List Item → ℕ
@@ -30,6 +32,28 @@ fit-length (num ∷ is) [] f = absurd f
 fit-length (num ∷ is) (v ∷ vs) f = ap suc (fit-length is vs (f .1))
 fit-length (bit ∷ is) [] f = absurd f
 fit-length (bit ∷ is) (v ∷ vs) f = ap suc (fit-length is vs (f .1))
+
+long-append : (n : ℕ) (p q : List ℕ) → 0 < length p → n ≤ length q → suc n ≤ length (p ++ q)
+long-append n p q h k = omega (arith, length-append p q)
+
+pub spell-long : (is : List Item) (vs : List ℕ) → Fit is vs → length is ≤ length (spell is vs)
+spell-long [] [] f = omega arith
+spell-long [] (v ∷ vs) f = absurd f
+spell-long (byte b ∷ is) vs f = let h = spell-long is vs f in omega arith
+spell-long (num ∷ is) [] f = absurd f
+spell-long (num ∷ is) (v ∷ vs) f = long-append (length is) (dec v) (spell is vs) (dec-long v) (spell-long is vs (f .1))
+spell-long (bit ∷ is) [] f = absurd f
+spell-long (bit ∷ is) (v ∷ vs) f = let h = spell-long is vs (f .1) in omega arith
+
+takes-few : (is : List Item) → takes is ≤ length is
+unfolding takes
+takes-few [] = omega arith
+takes-few (byte b ∷ is) = let h = takes-few is in omega arith
+takes-few (num ∷ is) = let h = takes-few is in omega arith
+takes-few (bit ∷ is) = let h = takes-few is in omega arith
+
+pub fit-long : (is : List Item) (vs : List ℕ) → Fit is vs → length vs ≤ length (spell is vs)
+fit-long is vs f = omega (arith, fit-length is vs f, takes-few is, spell-long is vs f)
 
 pub takes-append : (is js : List Item) → takes (is ++ js) ≡ takes is + takes js
 unfolding takes

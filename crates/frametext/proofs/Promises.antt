@@ -4,13 +4,12 @@
 --   blocks-hold, frame-holds          of an accepted text: the number of blocks, the lengths, bits alone, and how long it is at least
 --   blocks-left, frame-left           what the readers leave in slices of the right lengths
 -- Assumes nothing.
-use Prim.Native.Nat.{ℕ, _+_, _*_, _≤_, _<_}
+use Prim.Native.Nat.{ℕ, _+_, _*_, _≤_}
 use mathlib.Core.Path.{_≡_, refl, sym, ap, subst, _∙_}
 use mathlib.Core.List.{List, _∷_, _++_}
 use native.Mathlib.Omega.{arith}
-use native.Mathlib.Decide.{decLt}
-use lib.ListN.{length, getD, take, drop, take-append-drop, length-append, length-take, List·getD-eq-default}
-use lib.Seq.{take-at, drop-at, getD-take, getD-drop}
+use lib.ListN.{length, take, drop, take-append-drop, length-append}
+use lib.Seq.{take-at, drop-at}
 use Rattle.bch.specs.Polynomial.{Bits}
 use Rattle.formats.specs.Format as format
 use Rattle.formats.specs.Format.{Item, byte, Text, Longest, Scan, read, scan}
@@ -27,9 +26,10 @@ use Rattle.framescan.specs.FrameText.{groupNamesTail, blockFormat, frameFormat,
 use Rattle.lines.specs.Written.{blockNames}
 use Rattle.frametext.specs.Reader.{blockScan, blockRule, blockCount, blockInfo, readBlocksCall, frameScan, frameRule, frameCount, frameInfo, frameRed, readFrameCall}
 use Rattle.frametext.proofs.Texts.{clear-blocks, clear-frame, blocks-union, union-blocks, frame-union, union-frame, blocks-read, frame-read}
-use Rattle.formats.proofs.Takes.{fit-length, line-takes}
+use Rattle.formats.proofs.Takes.{fit-length, spell-long, line-takes}
+use Rattle.formats.proofs.Bare.{bits-drop, bits-take, fit-bits, bare-append, line-bare, lines-bare}
 use Rattle.formats.proofs.Lines.{lines-take}
-use Rattle.frametext.proofs.Lengths.{fit-bits, bare-append, spell-long, lines-bare, lines-long, line-bare, line-long, group-bare, group-long}
+use Rattle.frametext.proofs.Lengths.{lines-long, line-long, group-bare, group-long}
 use Rattle.frametext.proofs.Parts.{frame-parts}
 
 -- ---- a scan by its rule
@@ -154,16 +154,6 @@ pub record FrameHolds (M r L : ℕ) (vs ws s : List ℕ) : Type 0 where
   pub info-bits : Bits vs
   pub red-bits : Bits ws
   pub text-length : L * (M * M + 3) + groups L * (2 * (M * r) + 4) ≤ length s
-
-bits-drop : (n : ℕ) (l : List ℕ) → Bits l → Bits (drop n l)
-bits-drop n l h k = rw (getD-drop n l k 0) (h (n + k))
-
-bits-take : (n : ℕ) (l : List ℕ) → Bits l → Bits (take n l)
-bits-take n l h k = go (decLt k n)
-  where
-    go : Dec (k < n) → getD (take n l) k 0 < 2
-    go (yes a) = rw (getD-take n l k 0 a) (h k)
-    go (no a) = rw (List·getD-eq-default (take n l) 0 {n = k} (omega (arith, length-take n l))) (omega arith)
 
 -- An accepted text has 1 to 4,096 blocks with M × M bits each and at least M × M + 3 bytes, and G groups with twice M × r bits each and at least
 -- twice M × r + 4 bytes.

@@ -16,6 +16,7 @@ use Rattle.formats.specs.Format as format
 use Rattle.formats.specs.Format.{Text, Longest, Scan, scan}
 use Rattle.formats.specs.Items.{stuck, walk, spell, bitsLines}
 use Rattle.formats.proofs.Scan.{scan-complete, scan-sound}
+use Rattle.formats.proofs.Takes.{fit-long}
 use Rattle.readers.specs.Verdicts.{scanRule, kept}
 use Rattle.staircase.specs.Design.{order}
 use Rattle.staircase.specs.System.{rowBytes}
@@ -28,7 +29,7 @@ use Rattle.kittext.specs.Rendered.{kitBytes}
 use Rattle.kittext.proofs.Counting.{rows-count}
 use Rattle.kittext.proofs.KitTexts.{clear-kit, head-place, head-found, head-passed, kit-starts, kit-rest, any-place}
 use Rattle.kittext.proofs.Judged.{small, not-eleven, Found, two-lines, scan-stuck, shown, scan-found, rule-refused, accepted-is}
-use Rattle.kittext.proofs.Told.{kit-told, fit-long, rendered}
+use Rattle.kittext.proofs.Told.{kit-told, rendered}
 
 -- ---- accepted texts
 

@@ -14,6 +14,7 @@ use lib.Seq.{getD-take, getD-drop, getD-append-add, drop-drop}
 use Rattle.formats.specs.Format.{byte, dec}
 use Rattle.formats.specs.Items.{spell, Fit, bits, linesFrom, bitsLine, bitsLines}
 use Rattle.formats.proofs.Takes.{fit-length, line-takes}
+use Rattle.formats.proofs.Bare.{AllBits, bits-take, bits-drop, fit-bits, line-bare, lines-bare}
 use Rattle.formats.proofs.Parts.{Split, fit-split, lits-first}
 use Rattle.staircase.specs.Lists.{tabulate, concat}
 use Rattle.staircase.specs.System.{rowBytes, inverseEntry}
@@ -111,31 +112,6 @@ pub row-same : (n i : ℕ) (f g : ℕ → ℕ) → ((j : ℕ) → j < n → f j 
 row-same n i f g h =
     ap (λ (l : List ℕ). dec i ++ (32 ∷ (l ++ (10 ∷ [])))) (tabulate-same n (λ j. 48 + f j) (λ j. 48 + g j) (λ j l. ap (λ (v : ℕ). 48 + v) (h j l)))
 
--- bits
-abbrev pub AllBits : List ℕ → Type 0
-AllBits [] = Unit {0}
-AllBits (v ∷ l) = (v < 2) × AllBits l
-
-all-append : (xs ys : List ℕ) → AllBits xs → AllBits ys → AllBits (xs ++ ys)
-all-append [] ys a b = b
-all-append (x ∷ xs) ys a b = (a .0, all-append xs ys (a .1) b)
-
-all-take : (n : ℕ) (l : List ℕ) → AllBits l → AllBits (take n l)
-all-take zero l a = tt
-all-take (suc n) [] a = tt
-all-take (suc n) (x ∷ l) a = (a .0, all-take n l (a .1))
-
-all-drop : (n : ℕ) (l : List ℕ) → AllBits l → AllBits (drop n l)
-all-drop zero l a = a
-all-drop (suc n) [] a = tt
-all-drop (suc n) (x ∷ l) a = all-drop n l (a .1)
-
-run-bits : (n : ℕ) (ws : List ℕ) → Fit (bits n ++ (byte 10 ∷ [])) ws → AllBits ws
-run-bits zero [] h = tt
-run-bits zero (w ∷ ws) h = absurd h
-run-bits (suc n) [] h = absurd h
-run-bits (suc n) (w ∷ ws) h = (h .0, run-bits n ws (h .1))
-
 run-render : (n : ℕ) (ws : List ℕ) → Fit (bits n ++ (byte 10 ∷ [])) ws → spell (bits n ++ (byte 10 ∷ [])) ws ≡ tabulate n (λ j. 48 + getD ws j 0) ++ (10 ∷ [])
 unfolding tabulate
 run-render zero [] h = refl
@@ -143,19 +119,12 @@ run-render zero (w ∷ ws) h = absurd h
 run-render (suc n) [] h = absurd h
 run-render (suc n) (w ∷ ws) h = ap (λ (l : List ℕ). (48 + w) ∷ l) (run-render n ws (h .1))
 
-row-render : (n p : ℕ) (ws : List ℕ) → Fit (bitsLine n p) ws → (spell (bitsLine n p) ws ≡ rowText n p (λ j. getD ws j 0)) × AllBits ws
+row-render : (n p : ℕ) (ws : List ℕ) → Fit (bitsLine n p) ws → spell (bitsLine n p) ws ≡ rowText n p (λ j. getD ws j 0)
 unfolding bitsLine
-row-render n p ws h =
-    let r = lits-first (dec p) (Run n) ws h in
-    (r .1 ∙ ap (λ (l : List ℕ). dec p ++ (32 ∷ l)) (run-render n ws (r .0)), run-bits n ws (r .0))
+row-render n p ws h = let r = lits-first (dec p) (Run n) ws h in r .1 ∙ ap (λ (l : List ℕ). dec p ++ (32 ∷ l)) (run-render n ws (r .0))
 
 pub rows-bits : (n k p : ℕ) (ws : List ℕ) → Fit (bitsLines n p k) ws → AllBits ws
-unfolding linesFrom
-rows-bits n zero p [] h = tt
-rows-bits n zero p (w ∷ ws) h = absurd h
-rows-bits n (suc k) p ws h =
-    let S = fit-split (bitsLine n p) (bitsLines n (suc p) k) ws h in
-    rw (S .all) (all-append (S .us) (S .vs) (row-render n p (S .us) (S .left) .1) (rows-bits n k (suc p) (S .vs) (S .right)))
+rows-bits n k p ws h = fit-bits (bitsLines n p k) ws (lines-bare (bitsLine n) k p (line-bare n)) h
 
 rows-one : (n k p : ℕ) (ws : List ℕ) (S : Split (bitsLine n p) (bitsLines n (suc p) k) ws)
     → spell (bitsLines n (suc p) k) (S .vs) ≡ concat k (λ i. rowText n (suc p + i) (λ j. getD (S .vs) (i * n + j) 0))
@@ -163,7 +132,7 @@ rows-one : (n k p : ℕ) (ws : List ℕ) (S : Split (bitsLine n p) (bitsLines n 
 unfolding concat
 rows-one n k p ws S ih =
     S .spelt
-    ∙ ap₂ (λ (x y : List ℕ). x ++ y) (row-render n p (S .us) (S .left) .0 ∙ first) (ih ∙ concat-same k _ (λ i. rowText n (p + suc i) (λ j. getD ws (suc i * n + j) 0)) later)
+    ∙ ap₂ (λ (x y : List ℕ). x ++ y) (row-render n p (S .us) (S .left) ∙ first) (ih ∙ concat-same k _ (λ i. rowText n (p + suc i) (λ j. getD ws (suc i * n + j) 0)) later)
   where
     count : length (S .us) ≡ n
     count = fit-length (bitsLine n p) (S .us) (S .left) ∙ line-takes n p
@@ -202,15 +171,15 @@ zero-over d = let h = div-le-self 0 d in omega arith
 binary-at : (l : List ℕ) (r : ℕ) → AllBits l → binary l / 2 ^ r % 2 ≡ getD l r 0
 unfolding binary
 binary-at [] r a = zero-over (2 ^ r)
-binary-at (v ∷ l) zero a = low v (binary l) (a .0)
+binary-at (v ∷ l) zero a = low v (binary l) (a 0)
   where
     low : (v b : ℕ) → v < 2 → (v + 2 * b) / 1 % 2 ≡ v
     low v b h = omega arith
 binary-at (v ∷ l) (suc r) a =
     ap (λ (d : ℕ). (v + 2 * binary l) / d % 2) (pow-succ' 2 r)
     ∙ ap (λ (x : ℕ). x % 2) (sym (div-div-eq-div-mul (v + 2 * binary l) 2 (2 ^ r)))
-    ∙ ap (λ (x : ℕ). x / 2 ^ r % 2) (half v (binary l) (a .0))
-    ∙ binary-at l r (a .1)
+    ∙ ap (λ (x : ℕ). x / 2 ^ r % 2) (half v (binary l) (a 0))
+    ∙ binary-at l r (λ k. a (suc k))
   where
     half : (v b : ℕ) → v < 2 → (v + 2 * b) / 2 ≡ b
     half v b h = omega arith
@@ -252,7 +221,7 @@ inverse-of n vs a i j h l =
     let small : r < 8 = omega arith in
     let z : 8 * b + r ≡ j = omega arith in
     ap (λ (y : ℕ). y / 2 ^ r % 2) (rows-at n n vs i b h (omega arith) ∙ pack-at (rowBytes n) x b (omega arith))
-    ∙ binary-at (take 8 (drop (8 * b) x)) r (all-take 8 (drop (8 * b) x) (all-drop (8 * b) x (all-take n (drop (i * n) vs) (all-drop (i * n) vs a))))
+    ∙ binary-at (take 8 (drop (8 * b) x)) r (bits-take 8 (drop (8 * b) x) (bits-drop (8 * b) x (bits-take n (drop (i * n) vs) (bits-drop (i * n) vs a))))
     ∙ getD-take 8 (drop (8 * b) x) r 0 small
     ∙ getD-drop (8 * b) x r 0
     ∙ ap (λ (k : ℕ). getD x k 0) z

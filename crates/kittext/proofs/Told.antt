@@ -1,17 +1,15 @@
 -- What an accepted text shows: the values of its lines, its bytes, and the lists and the inverse that the reader leaves.
 --   Told, kit-told                  the values of the lists' lines and of the rows' lines, and the text of them
---   fit-long                        each value shows at least one byte
 --   rendered                        the text of the lists and the inverse
 -- Assumes nothing.
 use Prim.Native.Nat.{ℕ, _+_, _*_, _≤_, _<_}
 use mathlib.Core.Path.{_≡_, refl, sym, ap, ap₂, _∙_}
 use mathlib.Core.List.{List, [], _∷_, _++_, append-nil}
 use native.Mathlib.Omega.{arith}
-use lib.ListN.{length, getD, drop, length-append}
+use lib.ListN.{length, getD, drop}
 use Rattle.formats.specs.Format as format
-use Rattle.formats.specs.Format.{Item, byte, num, bit, dec, Scan, scan, end}
+use Rattle.formats.specs.Format.{Item, Scan, scan, end}
 use Rattle.formats.specs.Items.{Walk, stuck, past, walk, spell, Fit, bitsLines, seq, moved, scanAt}
-use Rattle.formats.proofs.Items.{dec-long}
 use Rattle.formats.proofs.Parts.{fit-split, lits-first}
 use Rattle.formats.proofs.Spelling.{continue, prefix, scan-seq, tidy-oks, walk-sound}
 use Rattle.readers.specs.Verdicts.{valuesOf}
@@ -143,16 +141,6 @@ module _ (s : List ℕ) (n : ℕ) (T : Told s n) where
 
   inverse-told : inverseOf s ≡ packRows n n (T .rs)
   inverse-told = inverse-shown s n (T .ps) (T .rs) (T .order-is) (T .values-are) pairs-are
-
--- each value shows at least one byte
-pub fit-long : (is : List Item) (ws : List ℕ) → Fit is ws → length ws ≤ length (spell is ws)
-fit-long [] [] h = omega arith
-fit-long [] (w ∷ ws) h = absurd h
-fit-long (byte b ∷ is) ws h = let i = fit-long is ws h in omega arith
-fit-long (num ∷ is) [] h = absurd h
-fit-long (num ∷ is) (w ∷ ws) h = let i = fit-long is ws (h .1) in omega (arith, dec-long w, length-append (dec w) (spell is ws))
-fit-long (bit ∷ is) [] h = absurd h
-fit-long (bit ∷ is) (w ∷ ws) h = let i = fit-long is ws (h .1) in omega arith
 
 -- ---- the text that the lists and the inverse show
 
