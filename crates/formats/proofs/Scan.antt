@@ -74,7 +74,8 @@ begins (fork b F G) L vs c (inr r) = begins G L vs c r
 begins (end l) L vs b r = b
 begins (opt l F) L vs b r = b
 
--- THE TEXTS ARE ACCEPTED, with their values.
+-- ---- the texts are accepted, with their values
+
 pub scan-complete : (F : Format) (L : ℕ) (vs s : List ℕ) → Clear F → Renders F L vs s → scan F s ≡ read L vs
 scan-complete (end l) L vs s c r = rw (r .0, r .1, r .2)
 scan-complete (i ▷ F) L vs s c (ws, q, us, t, sh, e, f, r) =
@@ -121,7 +122,8 @@ fork-refused : (t : Bool) (x y : Scan) (q : ℕ) → cond t (after [] 1 x) y ≡
 fork-refused true x y q e = let r = after-refused [] 1 x q e in inl (r .0, refl, r .1, r .2)
 fork-refused false x y q e = inr (refl, e)
 
--- WHAT IS ACCEPTED IS A TEXT: the values render to it.
+-- ---- what is accepted is a text: the values render to it
+
 pub scan-sound : (F : Format) (L : ℕ) (vs s : List ℕ) → Clear F → scan F s ≡ read L vs → Renders F L vs s
 scan-sound (end l) L vs [] c e = (cc, cc, refl)
 scan-sound (end l) L vs (x ∷ s) c e = let z : _≡_ {A = ℕ} 0 1 = cc in absurd (omega arith)
@@ -165,7 +167,8 @@ some-text (fork b F G) =
 at-start : (F : Format) (s : List ℕ) (q : ℕ) → q ≡ 0 → Shares (Text F) s q
 at-start F s q e = rw e (omega arith, some-text F)
 
--- THE PLACE IS SHARED: some text starts with the bytes before the place of a refusal.
+-- ---- the place is shared: some text starts with the bytes before the place of a refusal
+
 pub scan-shared : (F : Format) (s : List ℕ) (q : ℕ) → Clear F → scan F s ≡ refused q → Shares (Text F) s q
 scan-shared (end l) [] q c e = let z : _≡_ {A = ℕ} 0 1 = cc in absurd (omega arith)
 scan-shared (end l) (x ∷ s) q c e = at-start (end l) (x ∷ s) q cc
@@ -213,7 +216,8 @@ split-local n j s r =
     let e : suc (n + j) ≡ suc n + j = omega arith in
     rw (e, take-add (suc n) j s, append-assoc)
 
--- A REFUSAL DEPENDS ON NO BYTE AFTER ITS PLACE.
+-- ---- a refusal depends on no byte after its place
+
 pub scan-local : (F : Format) (s : List ℕ) (q : ℕ) (r : List ℕ) → Clear F → scan F s ≡ refused q → q < length s → scan F (take (suc q) s ++ r) ≡ refused q
 scan-local (end l) [] q r c e h = absurd (omega arith)
 scan-local (end l) (x ∷ s) q r c e h = e
@@ -242,7 +246,8 @@ scan-local (fork b F G) (x ∷ s) q r c e h =
         rw (t, z, f j d (omega arith)) (ap refused (omega arith))
     go f g (inr (t, d)) = rw t (g d h)
 
--- THE PLACE OF A REFUSAL IS THE LONGEST START that some text shares.
+-- ---- the place of a refusal is the longest start that some text shares
+
 pub scan-longest : (F : Format) (s : List ℕ) (q : ℕ) → Clear F → scan F s ≡ refused q → Longest (Text F) s q
 scan-longest F s q c e = record { shared = scan-shared F s q c e; most = λ j h. go j h (decLt q j) }
   where

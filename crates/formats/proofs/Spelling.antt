@@ -21,7 +21,8 @@ use Rattle.formats.specs.Items.{lits, seq, Walk, stuck, past, prep, stri
 use Rattle.formats.proofs.Digits.{Digits, digits-are}
 use Rattle.formats.proofs.Items.{Sound, Ok, Guard, item-sound, item-complete}
 
--- RENDERING.
+-- ---- rendering
+
 pub seq-renders : (is : List Item) (F : Format) (L : ℕ) (ws us t : List ℕ) → Fit is ws → Renders F L us t → Renders (seq is F) L (ws ++ us) (spell is ws ++ t)
 seq-renders [] F L [] us t h r = r
 seq-renders [] F L (w ∷ ws) us t h r = absurd h
@@ -52,7 +53,8 @@ pub renders-seq : (is : List Item) (F : Format) (L : ℕ) (vs s : List ℕ) → 
 renders-seq [] F L vs s r = ([], vs, s, tt, refl, refl, r)
 renders-seq (i ∷ is) F L vs s (ws, p, us, t, sh, e, f, r) = spelt-item i is F L vs s ws p us t sh e f (renders-seq is F L us t r)
 
--- CLEAR LISTS: a number is followed by a byte that is no digit.
+-- ---- clear lists: a number is followed by a byte that is no digit
+
 abbrev pub Tidy : List Item → Type 0
 Tidy [] = Unit {0}
 Tidy (byte b ∷ is) = (b < 256) × Tidy is
@@ -98,7 +100,8 @@ tidy-bitsLine n p h =
     tidy-append (lits (dec p)) ((byte 32 ∷ bits n) ++ (byte 10 ∷ [])) (tidy-dec p h)
     (tidy-append (byte 32 ∷ bits n) (byte 10 ∷ []) (omega arith, tidy-bits n) (omega arith, tt))
 
--- THE SCAN OVER A LIST is the walk, and then the scan of what follows.
+-- ---- the scan over a list is the walk, and then the scan of what follows
+
 abbrev pub prefix : List ℕ → Scan → Scan
 prefix ws (refused k) = refused k
 prefix ws (read l vs) = read l (ws ++ vs)
@@ -153,7 +156,8 @@ walk-item i is w p rest s at sh g e = rw (e, item-complete i w p rest sh g)
 drop-item : (p rest s : List ℕ) (at : ℕ) → drop at s ≡ p ++ rest → drop (at + length p) s ≡ rest
 drop-item p rest s at e = sym (drop-drop (length p) at s) ∙ ap (λ (l : List ℕ). drop (length p) l) e ∙ drop-append-seam p rest
 
--- A CLEAR LIST THAT IS SPELT IS PASSED, whatever follows it.
+-- ---- a clear list that is spelt is passed, whatever follows it
+
 pub walk-spell : (is : List Item) (ws t s : List ℕ) (at : ℕ) → Tidy is → Fit is ws → drop at s ≡ spell is ws ++ t → walk is s at ≡ past ws (at + length (spell is ws))
 unfolding walk
 walk-spell [] [] t s at h k e = ap (λ (n : ℕ). past [] n) (sym (add-zero at))
@@ -178,7 +182,8 @@ walk-spell (num ∷ byte b ∷ is) (v ∷ ws) t s at h k e =
     walk-item num (byte b ∷ is) (v ∷ []) (dec v) (b ∷ spell is ws ++ t) s at (v, k .0, refl, refl) (h .0) f
     ∙ ap (prep (v ∷ [])) (walk-spell (byte b ∷ is) ws t s (at + n) (h .1, h .2) (k .1) (drop-item (dec v) (b ∷ spell is ws ++ t) s at f) ∙ ap (λ (m : ℕ). past ws m) z)
 
--- WHAT IS PASSED IS SPELT.
+-- ---- what is passed is spelt
+
 abbrev pub Oks : List Item → Type 0
 Oks [] = Unit {0}
 Oks (i ∷ is) = Ok i × Oks is

@@ -64,7 +64,7 @@ pub record Longest (T : List ℕ → Type 0) (s : List ℕ) (k : ℕ) : Type 0 w
   pub shared : Shares T s k
   pub most : (j : ℕ) → Shares T s j → j ≤ k
 
--- THE SCAN.
+-- ---- the scan
 
 -- What stands at the front of a text: not the item, or the item with these values in so many bytes.
 pub data Piece : Type 0 where

@@ -14,7 +14,7 @@ use mathlib.Core.List.{List, [], _∷_, _++_}
 use lib.ListN.{drop, replicate}
 use Rattle.formats.specs.Format.{Item, byte, num, bit, Piece, none, got, item, Format, _▷_, dec, Scan, refused, read, scan}
 
--- LISTS OF ITEMS.
+-- ---- lists of items
 
 abbrev pub lits : List ℕ → List Item
 lits [] = []
@@ -40,7 +40,7 @@ abbrev pub seq : List Item → Format → Format
 seq [] F = F
 seq (i ∷ is) F = i ▷ seq is F
 
--- WHAT THEY SPELL.
+-- ---- what they spell
 
 -- The bytes that items with these values make.
 abbrev pub spell : List Item → List ℕ → List ℕ
@@ -65,7 +65,7 @@ Fit (bit ∷ is) (v ∷ vs) = (v < 2) × Fit is vs
 abbrev pub Spells : List Item → List ℕ → List ℕ → Type 0
 Spells is vs s = Fit is vs × (s ≡ spell is vs)
 
--- READING THEM AT A POSITION.
+-- ---- reading them at a position
 
 -- What is found: the place where they go wrong, or their values and the position after them.
 pub data Walk : Type 0 where
@@ -99,7 +99,7 @@ abbrev pub Passes : Walk → Type 0
 Passes (stuck q) = ⊥
 Passes (past ws q) = Unit {0}
 
--- THE SCAN FROM A POSITION ON.
+-- ---- the scan from a position on
 
 -- A scan's places, counted from the start of a text that `at` bytes precede.
 abbrev pub moved : ℕ → Scan → Scan

@@ -23,7 +23,8 @@ use Rattle.lines.specs.Written.{blockNames}
 use Rattle.framescan.specs.FrameText.{blockItems, groupItems, BlockText, FrameText}
 use Rattle.framefill.proofs.Takes.{tidy-groupLine}
 
--- CLEAR.
+-- ---- clear
+
 begins-row : (area p : ℕ) (F : Format) → p < 10000 → Begins (seq (bitsLine area p) F)
 unfolding bitsLine
 begins-row area p F h = let d = dec-head p h in rw (d .3) tt
@@ -68,7 +69,8 @@ clear-frame area order most l h =
     clear-seq (lits blockNames) (seq (bitsLine area 1) (frameTail area order (most - 1) 1)) (omega arith)
     (clear-seq (bitsLine area 1) (frameTail area order (most - 1) 1) (tidy-bitsLine area 1 (omega arith)) (clear-frameTail area order (most - 1) 1 (omega arith)))
 
--- BLOCK TEXT IS THE UNION.
+-- ---- block text is the union
+
 abbrev Lines : ℕ → ℕ → ℕ → ℕ → List ℕ → List ℕ → Type 0
 Lines area k i L vs s = (j : ℕ) × (j ≤ k) × (L ≡ i + j) × Spells (bitsLines area (suc i) j) vs s
 
@@ -143,7 +145,8 @@ union-blocks area most (suc j) vs s b =
         let r = lines-tail area (most - 1) 1 (suc j) j us (spell (bitsLines area 2 j) us) (omega (arith, b .few)) (omega arith) (n, refl) in
         rw (e, w) (seq-renders (Front area) (blockTail area (most - 1) 1) (suc j) ws us (spell (bitsLines area 2 j) us) m r)
 
--- FRAME TEXT IS THE UNION.
+-- ---- frame text is the union
+
 abbrev Groups : ℕ → ℕ → List Item
 Groups order L = groupItems order (groups L)
 
@@ -245,7 +248,8 @@ union-frame area order most (suc j) vs s b = go (b .few) (subst (λ (is : List I
         let S = fit-split (Front area) (bitsLines area 2 j ++ Groups order (suc j)) vs f in
         go2 h g (S .us) (S .vs) (S .left) (S .right) (S .all) (S .spelt)
 
--- WHAT THE SCAN ACCEPTS is a text of its number of blocks, with the values that it reads.
+-- ---- what the scan accepts is a text of its number of blocks, with the values that it reads
+
 pub blocks-read : (area most L : ℕ) (vs s : List ℕ) → 1 ≤ most → most < 10000 → scan (blockFormat area most) s ≡ read L vs → BlockText area most L vs s
 blocks-read area most L vs s l h e = blocks-union area most L vs s l (scan-sound (blockFormat area most) L vs s (clear-blocks area most l h) e)
 

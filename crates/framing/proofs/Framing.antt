@@ -11,6 +11,7 @@ use Prim.Native.Nat.{ℕ, _+_, _*_, _≤_}
 use native.Mathlib.Omega.{arith}
 use native.Mathlib.Nat.{mul-add}
 use lib.ListN.{length, replicate, length-replicate}
+use Rattle.staircase.specs.Design.{most-blocks}
 use Rattle.staircase.specs.Frame.{groups}
 use Rattle.staircase.specs.Rules.{Verdict, frameLengths, kitWork}
 use Rattle.staircase.specs.Rules.Verdict.{accepted, refused}
@@ -28,7 +29,7 @@ use Rattle.texts.proofs.Lines.{group-text-length}
 use Rattle.kittext.specs.Reader.{headNumber, readKitCall}
 use Rattle.frametext.specs.Reader.{blockRule, blockInfo, readBlocksCall}
 use Rattle.frametext.proofs.Promises.{blocks-left}
-use Rattle.programs.specs.Output.{printed, frameCall, frameOutput, Printed}
+use Rattle.programs.specs.Output.{printed, frameCall, frameOutput, Printed, most-output}
 use Rattle.programs.specs.Steps.{textRule, startRule, Started, Scanned, FrameReady, GroupsFit}
 use Rattle.programs.proofs.Judged.{stopped, called}
 use Rattle.programs.proofs.Printing.{printed-refused}
@@ -47,10 +48,10 @@ module _ (d : Design) (L : ℕ) (red : List ℕ) (F : GroupsFit d L (length red)
   pub group-bits : length red ≡ G * (2 * n)
   group-bits = F .red-length ∙ rw (g, e)
 
-  pub few-groups : G ≤ 4096
+  pub few-groups : G ≤ most-blocks
   few-groups = omega (arith, F .few)
 
-  pub groups-room : (room : ℕ) → 262144 ≤ room → 0 + length (groupText n G red) ≤ room
+  pub groups-room : (room : ℕ) → most-output ≤ room → 0 + length (groupText n G red) ≤ room
   groups-room room h =
       let k : G ≤ 2048 = omega (arith, F .few) in
       omega (arith, group-text-length n G red few-groups group-bits, mul-add G (2 * n) 7, F .short, group-bits)

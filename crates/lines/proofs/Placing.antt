@@ -14,7 +14,8 @@ use Rattle.lines.specs.Written.{chars, bitsText, groupLineText, refusalT
 use Rattle.lines.proofs.Chars.{length-chars}
 use Rattle.lines.proofs.Storing.{put-then}
 
--- THE LENGTHS.
+-- ---- the lengths
+
 pub snoc-length : (xs : List ℕ) (b : ℕ) → length (xs ++ (b ∷ [])) ≡ length xs + 1
 snoc-length xs b = length-append xs (b ∷ [])
 
@@ -45,7 +46,9 @@ counts-length rounds turned outside =
     let second = part-length (dec turned) 32 (dec outside ++ (10 ∷ [])) in
     omega (arith, first, second, snoc-length (dec outside) 10)
 
--- THE PARTS. Each is n bytes with one byte behind them.
+-- ---- the parts
+
+-- Each is n bytes with one byte behind them.
 pub put-snoc : (o xs : List ℕ) (b at n : ℕ) {o₁ o₂ : List ℕ} {i r : ℕ} → length xs ≡ n → (i ≡ at + n) × (o₁ ≡ sets o at xs)
     → (r ≡ i + 1) × (o₂ ≡ sets o₁ i (b ∷ [])) → (r ≡ at + (n + 1)) × (o₂ ≡ sets o at (xs ++ (b ∷ [])))
 put-snoc o xs b at n {o₁} {o₂} {i} {r} e p q =

@@ -14,6 +14,7 @@ use native.Mathlib.Omega.{arith}
 use native.Mathlib.Nat.{mul-add}
 use lib.ListN.{length, length-append}
 use lib.Seq.{sets, length-sets}
+use Rattle.staircase.specs.Design.{most-blocks}
 use Rattle.staircase.specs.Frame.{Frame, frameOf, groups}
 use Rattle.staircase.specs.Rules.{wordWork}
 use Rattle.staircase.specs.Rules.Verdict.{accepted, refused}
@@ -38,7 +39,7 @@ use Rattle.writers.proofs.Room.{puts-room, after-room}
 use Rattle.kittext.specs.Reader.{headNumber, readKitCall}
 use Rattle.frametext.specs.Reader.{frameRule, readFrameCall}
 use Rattle.frametext.proofs.Promises.{frame-holds, frame-left}
-use Rattle.programs.specs.Output.{printed, mendCall, mendText, mendOutput, Printed}
+use Rattle.programs.specs.Output.{most-input, printed, mendCall, mendText, mendOutput, Printed, most-output}
 use Rattle.programs.specs.Steps.{textRule, startRule, Scanned, SizesAre, MendReady, FrameFits}
 use Rattle.programs.specs.declared.Sizes.{Sizes}
 use Rattle.programs.proofs.Judged.{stopped, called}
@@ -54,7 +55,7 @@ mend-stopped kit text rule place e =
     stopped kit text (frameRule (headNumber kit 2) (headNumber kit 0 * headNumber kit 1) text) (mendCall kit text .verdict) _ rule place e
 
 -- a frame's bits are no more than its text's bytes
-short : (d : Design) (L : ℕ) (kit text : List ℕ) → Scanned true d L kit text → L * (d .size * d .size) + groups L * (2 * orderOf d) ≤ 32768
+short : (d : Design) (L : ℕ) (kit text : List ℕ) → Scanned true d L kit text → L * (d .size * d .size) + groups L * (2 * orderOf d) ≤ most-input
 short d L kit text B =
     let (a, c) = frame-scanned d L kit text B in
     let r : ℕ = d .m * d .t in
@@ -63,7 +64,7 @@ short d L kit text B =
     rw (ap (λ (k : ℕ). k * (d .size * d .size + 3) + groups k * (2 * (d .size * r) + 4)) c) (h .text-length) in
     omega (arith, t, B .started .text-short, mul-add L (d .size * d .size) 3, mul-add (groups L) (2 * (d .size * r)) 4)
 
-pub red-room : (d : Design) (L : ℕ) (kit text : List ℕ) → Scanned true d L kit text → (s : Sizes) → SizesAre s d L → s .red ≤ 32768
+pub red-room : (d : Design) (L : ℕ) (kit text : List ℕ) → Scanned true d L kit text → (s : Sizes) → SizesAre s d L → s .red ≤ most-input
 red-room d L kit text B s z = omega (arith, z .red-is, short d L kit text B)
 
 pub frame-fits : (d : Design) (L : ℕ) (kit text : List ℕ) (own parity inverse info red work : ℕ) → MendReady d L kit text own parity inverse info red work
@@ -86,24 +87,24 @@ module _ (d : Design) (L : ℕ) (info red : List ℕ) (F : FrameFits d L (length
     blocks-long : length (blockText area L info) ≤ 57355
     blocks-long = omega (arith, block-text-length area L info (F .few) block-bits, mul-add L area 6, F .few, F .short, block-bits)
 
-    pub block-room : (room : ℕ) → 262144 ≤ room → 0 + length (blockText area L info) ≤ room
+    pub block-room : (room : ℕ) → most-output ≤ room → 0 + length (blockText area L info) ≤ room
     block-room room h = omega (arith, blocks-long)
 
   module _ (G n : ℕ) (g : G ≡ groups L) (en : n ≡ d .size * (d .m * d .t)) where
     pub group-bits : length red ≡ G * (2 * n)
     group-bits = F .red-length ∙ rw (g, en)
 
-    pub few-groups : G ≤ 4096
+    pub few-groups : G ≤ most-blocks
     few-groups = omega (arith, F .few)
 
     groups-long : length (groupText n G red) ≤ 61458
     groups-long = omega (arith, group-text-length n G red few-groups group-bits, mul-add G (2 * n) 7, few-groups, F .short, group-bits)
 
-    pub groups-room : (area i : ℕ) → area ≡ d .size * d .size → i ≡ 0 + length (blockText area L info) → (room : ℕ) → 262144 ≤ room
+    pub groups-room : (area i : ℕ) → area ≡ d .size * d .size → i ≡ 0 + length (blockText area L info) → (room : ℕ) → most-output ≤ room
         → i + length (groupText n G red) ≤ room
     groups-room area i ea e room h = omega (arith, blocks-long area ea, groups-long)
 
-    pub lines-printed : (area i j r : ℕ) (o o₁ o₂ o₃ : List ℕ) (c : Counts) → area ≡ d .size * d .size → 262144 ≤ length o
+    pub lines-printed : (area i j r : ℕ) (o o₁ o₂ o₃ : List ℕ) (c : Counts) → area ≡ d .size * d .size → most-output ≤ length o
         → i ≡ 0 + length (blockText area L info) → o₁ ≡ sets o 0 (blockText area L info)
         → j ≡ i + length (groupText n G red) → o₂ ≡ sets o₁ i (groupText n G red)
         → r ≡ after o₂ j (countsText (c .rounds) (c .flips) (c .outside)) → o₃ ≡ puts o₂ j (countsText (c .rounds) (c .flips) (c .outside))

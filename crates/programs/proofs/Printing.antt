@@ -20,7 +20,7 @@ use Rattle.lines.proofs.Decimal.{dec-short}
 use Rattle.lines.proofs.Placing.{refusal-length}
 use Rattle.writers.specs.Room.{puts, after}
 use Rattle.writers.proofs.Room.{puts-room, after-room}
-use Rattle.programs.specs.Output.{printed, Printed, Output, outputIn, outputLength}
+use Rattle.programs.specs.Output.{printed, Printed, most-output, Output, outputIn, outputLength}
 
 -- a text that was written where there is room
 pub printed-text : (text t o new : List ℕ) (r : ℕ) → text ≡ t → 0 + length t ≤ length o → r ≡ 0 + length t → new ≡ sets o 0 t → Printed text r o new
@@ -30,7 +30,7 @@ pub printed-as : (text t o new : List ℕ) (r : ℕ) → text ≡ t → Printed 
 printed-as text t o new r e p = rw e p
 
 -- a refusal's two lines have at most 56 bytes
-pub printed-refusal : (rule place : ℕ) (o new : List ℕ) (r : ℕ) → 262144 ≤ length o
+pub printed-refusal : (rule place : ℕ) (o new : List ℕ) (r : ℕ) → most-output ≤ length o
     → r ≡ after o 0 (refusalText rule place) → new ≡ puts o 0 (refusalText rule place) → Printed (refusalText rule place) r o new
 printed-refusal rule place o new r h a b =
     let t : List ℕ = refusalText rule place in
@@ -44,10 +44,10 @@ pub printed-refused : (r : Refusal) (j : Judged) (t o new : List ℕ) (n : ℕ) 
 unfolding printed
 printed-refused r j t o new n e p = rw (refusal-judged r j e) p
 
-pub output-printed : (t : List ℕ) (n : ℕ) (old new : List ℕ) → 262144 ≤ length old → Printed t n old new → Output t n old new
+pub output-printed : (t : List ℕ) (n : ℕ) (old new : List ℕ) → most-output ≤ length old → Printed t n old new → Output t n old new
 unfolding outputIn outputLength
 output-printed t n old new h p =
-    let e = le-leb 262144 (length old) h in
+    let e = le-leb most-output (length old) h in
     record {
       count = rw e (p .count);
       within = p .within;
@@ -55,8 +55,8 @@ output-printed t n old new h p =
       bytes = rw e (p .bytes);
     }
 
-pub output-none : (t old : List ℕ) → length old < 262144 → Output t 0 old old
+pub output-none : (t old : List ℕ) → length old < most-output → Output t 0 old old
 unfolding outputIn outputLength
 output-none t old h =
-    let e = lt-leb 262144 (length old) h in
+    let e = lt-leb most-output (length old) h in
     record { count = rw e; within = omega arith; part = refl; bytes = rw e }

@@ -21,7 +21,9 @@ use Rattle.lines.proofs.Decimal.{dec-four}
 use Rattle.lines.proofs.Placing.{bits-length, group-length}
 use Rattle.lines.proofs.Storing.{sets-append, put-then}
 
--- WHAT IS LEFT. The bytes o are what the writing of `whole` into o₀ from `at` on has come to: `rest`, to be written from q on, is left of it.
+-- ---- what is left
+
+-- The bytes o are what the writing of `whole` into o₀ from `at` on has come to: `rest`, to be written from q on, is left of it.
 pub record Rest (o₀ : List ℕ) (at : ℕ) (whole o : List ℕ) (q : ℕ) (rest : List ℕ) : Type 0 where
   pub long : length o ≡ length o₀
   pub ends : q + length rest ≡ at + length whole
@@ -53,7 +55,8 @@ rest-room xs ys {o₀} {whole} {o} {rest} {at} {q} e h l = omega (arith, h .ends
 pub rest-end : {o₀ whole o rest : List ℕ} {at q : ℕ} → rest ≡ [] → Rest o₀ at whole o q rest → (q ≡ at + length whole) × (o ≡ sets o₀ at whole)
 rest-end {o₀} {whole} {o} {rest} {at} {q} e h = (omega (arith, h .ends, ap length e), ap (sets o q) (sym e) ∙ h .gives)
 
--- THE NEXT LINE, of the bits from a position on, and the lines behind it.
+-- ---- the next line, of the bits from a position on, and the lines behind it
+
 module _ (line : ℕ → List ℕ → List ℕ) (w : ℕ) where
   lines-next : (p k from : ℕ) (bits : List ℕ) → 0 < k
       → linesText line w p k (drop from bits) ≡ line p (drop from bits) ++ linesText line w (p + 1) (k - 1) (drop (from + w) bits)
@@ -136,7 +139,8 @@ pub one-less : (k w : ℕ) → 0 < k → k * w ≡ w + (k - 1) * w
 one-less zero w h = absurd (omega arith)
 one-less (suc k) w h = rw (sub-one (suc k)) (omega arith)
 
--- THE WHOLE TEXTS: the line of names, then the others.
+-- ---- the whole texts: the line of names, then the others
+
 pub block-text-parts : (area L : ℕ) (info : List ℕ) → length (blockText area L info) ≡ 11 + length (blockLines area 1 L info)
 unfolding blockText
 block-text-parts area L info = omega (arith, length-append blockNames (blockLines area 1 L info))
@@ -159,7 +163,8 @@ pub group-text-put : (o : List ℕ) (at n G : ℕ) (red : List ℕ) {o₁ o₂ :
 unfolding groupText
 group-text-put o at n G red a b = put-then o groupNames (groupLines n 1 G red) at a b
 
--- HOW LONG THEY ARE.
+-- ---- how long they are
+
 block-most : (area q : ℕ) (vs : List ℕ) → q < 10000 → area ≤ length vs → length (nextBlock area q vs) ≤ area + 6
 block-most area q vs h l = omega (arith, bits-length q (take area vs), dec-four q h, length-take-le area vs l)
 
