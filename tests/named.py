@@ -1,7 +1,7 @@
 #!/usr/bin/env python3
 """Checks that what the documents name is there, and that the wrong programs outside the gate still fit the code.
 
-- docs/PROMISES.md: each file, each definition or law named behind it, and each wrong program.
+- docs/PROMISES.md: each file, each definition or law named right behind it, and each wrong program.
 - docs/DECISIONS.md: each wrong program, as crate/name.
 - crates/*/more-fail/*.edit: the lines that it changes stand in its file, once.
 
