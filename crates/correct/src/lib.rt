@@ -12,7 +12,7 @@ ghost use Rattle.bch.specs.Polynomial.{Bits};
 ghost use Rattle.staircase.specs.Design.{most-blocks, wordLength};
 ghost use Rattle.staircase.specs.Frame.{blockAt, groups, frameOf};
 ghost use Rattle.staircase.specs.Frame.Site.{unsent, inRed};
-ghost use Rattle.staircase.specs.Decoder.{allSent, correction, flipAll, Progress, round};
+ghost use Rattle.staircase.specs.Decoder.{allSent, correction, flipAll, round};
 ghost use Rattle.design.specs.Answers.{Allowed};
 ghost use Rattle.design.specs.Sizes.{paramsOf, orderOf, listsOf};
 ghost use Rattle.rules.specs.Received.{ListsFit, FrameFits};

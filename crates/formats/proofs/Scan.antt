@@ -17,8 +17,7 @@ use borrow.Author.Tests.{eq-eqb, ne-eqb, eqb-true, eqb-false}
 use lib.ListN.{length, getD, take, drop, take-append-drop, length-drop, length-append}
 use lib.Seq.{take-add, drop-append-seam, drop-at, length-take-le}
 use lib.Dec.{eqb}
-use Rattle.formats.specs.Format.{dec, digit, Item, byte, num, bit, Shows, Piece, none, got, item}
-use Rattle.formats.specs.Format.{Format, end, _▷_, opt, fork, Renders, Text, Shares, Longest, Scan, refused, read, after, step, scan, Avoids, Begins, Clear}
+use Rattle.formats.specs.Format.{dec, digit, Item, byte, num, bit, Shows, Piece, none, got, item, Format, end, _▷_, opt, fork, Renders, Text, Shares, Longest, Scan, refused, read, after, step, scan, Avoids, Begins, Clear}
 use Rattle.formats.proofs.Digits.{Digits, digits-are}
 use Rattle.formats.proofs.Items.{Ok, Guard, item-sound, item-complete, item-none, item-local, first-byte, dec-long}
 

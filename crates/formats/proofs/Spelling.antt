@@ -7,7 +7,7 @@
 --   Oks, tidy-oks, Passed, walk-sound what is passed is spelt
 --   oks-bytes, spell-lits, fit-lits   the bytes that are spelt, as fixed bytes
 -- Assumes nothing.
-use Prim.Native.Nat.{ℕ, zero, suc, _+_, _<_}
+use Prim.Native.Nat.{ℕ, zero, suc, _+_, _%_, _<_}
 use mathlib.Core.Path.{_≡_, refl, sym, ap, _∙_}
 use mathlib.Core.Bool.{false}
 use mathlib.Core.List.{List, [], _∷_, _++_, append-assoc}
@@ -15,13 +15,16 @@ use native.Mathlib.Omega.{arith}
 use native.Mathlib.Nat.{add-zero, zero-add, add-assoc}
 use lib.ListN.{length, take, drop, length-append, take-append-drop}
 use lib.Seq.{drop-drop, drop-append-seam, length-take-le}
-use Rattle.formats.specs.Format.{dec, digit, Item, byte, num, bit, Shows, Piece, none, got, item}
-use Rattle.formats.specs.Format.{Format, Renders, Scan, refused, read, after, step, scan, Clear}
+use Rattle.formats.specs.Format.{dec, digit, Item, byte, num, bit, Shows, Piece, none, got, item, Format, Renders, Scan, refused, read, after, step, scan, Clear}
 use Rattle.formats.specs.Items.{lits, seq, Walk, stuck, past, prep, stride, walk, spell, Fit, bits, bitsLine, moved, scanAt}
 use Rattle.formats.proofs.Digits.{Digits, digits-are}
 use Rattle.formats.proofs.Items.{Sound, Ok, Guard, item-sound, item-complete}
 
 -- ---- rendering
+
+-- the character of a bit
+bit-char : (v : ℕ) → v < 2 → _≡_ {A = List ℕ} ((48 + v % 2) ∷ []) ((48 + v) ∷ [])
+bit-char v h = let e : 48 + v % 2 ≡ 48 + v = omega arith in ap (λ (c : ℕ). c ∷ []) e
 
 pub seq-renders : (is : List Item) (F : Format) (L : ℕ) (ws us t : List ℕ) → Fit is ws → Renders F L us t → Renders (seq is F) L (ws ++ us) (spell is ws ++ t)
 seq-renders [] F L [] us t h r = r
@@ -32,7 +35,7 @@ seq-renders (num ∷ is) F L (v ∷ ws) us t h r =
     (v ∷ [], dec v, ws ++ us, spell is ws ++ t, (v, h .0, refl, refl), refl, append-assoc (dec v) (spell is ws) t, seq-renders is F L ws us t (h .1) r)
 seq-renders (bit ∷ is) F L [] us t h r = absurd h
 seq-renders (bit ∷ is) F L (v ∷ ws) us t h r =
-    (v ∷ [], (48 + v) ∷ [], ws ++ us, spell is ws ++ t, (v, h .0, refl, refl), refl, refl, seq-renders is F L ws us t (h .1) r)
+    (v ∷ [], (48 + v % 2) ∷ [], ws ++ us, spell is ws ++ t, (v, h .0, refl, bit-char v (h .0)), refl, refl, seq-renders is F L ws us t (h .1) r)
 
 abbrev pub Spelt : List Item → Format → ℕ → List ℕ → List ℕ → Type 0
 Spelt is F L vs s = (ws : List ℕ) × (us : List ℕ) × (t : List ℕ) × Fit is ws × (vs ≡ ws ++ us) × (s ≡ spell is ws ++ t) × Renders F L us t
@@ -41,7 +44,7 @@ Spelt is F L vs s = (ws : List ℕ) × (us : List ℕ) × (t : List ℕ) × Fit 
 pub spell-item : (i : Item) (is : List Item) (w p us : List ℕ) → Shows i w p → Fit is us → (spell (i ∷ is) (w ++ us) ≡ p ++ spell is us) × Fit (i ∷ is) (w ++ us)
 spell-item (byte b) is w p us sh f = (rw (sh .0, sh .1), rw (sh .0) f)
 spell-item num is w p us sh f = (rw (sh .2, sh .3), rw (sh .2) (sh .1, f))
-spell-item bit is w p us sh f = (rw (sh .2, sh .3), rw (sh .2) (sh .1, f))
+spell-item bit is w p us sh f = (rw (sh .2, sh .3) (ap (λ (c : List ℕ). c ++ spell is us) (bit-char (sh .0) (sh .1))), rw (sh .2) (sh .1, f))
 
 spelt-item : (i : Item) (is : List Item) (F : Format) (L : ℕ) (vs s ws p us t : List ℕ)
     → Shows i ws p → vs ≡ ws ++ us → s ≡ p ++ t → Spelt is F L us t → Spelt (i ∷ is) F L vs s
@@ -169,8 +172,8 @@ walk-spell (byte b ∷ is) ws t s at h k e =
 walk-spell (bit ∷ is) [] t s at h k e = absurd k
 walk-spell (bit ∷ is) (v ∷ ws) t s at h k e =
     let z : at + 1 + length (spell is ws) ≡ at + suc (length (spell is ws)) = omega arith in
-    walk-item bit is (v ∷ []) ((48 + v) ∷ []) (spell is ws ++ t) s at (v, k .0, refl, refl) tt e
-    ∙ ap (prep (v ∷ [])) (walk-spell is ws t s (at + 1) h (k .1) (drop-item ((48 + v) ∷ []) (spell is ws ++ t) s at e) ∙ ap (λ (n : ℕ). past ws n) z)
+    walk-item bit is (v ∷ []) ((48 + v % 2) ∷ []) (spell is ws ++ t) s at (v, k .0, refl, bit-char v (k .0)) tt e
+    ∙ ap (prep (v ∷ [])) (walk-spell is ws t s (at + 1) h (k .1) (drop-item ((48 + v % 2) ∷ []) (spell is ws ++ t) s at e) ∙ ap (λ (n : ℕ). past ws n) z)
 walk-spell (num ∷ []) ws t s at h k e = absurd h
 walk-spell (num ∷ num ∷ is) ws t s at h k e = absurd h
 walk-spell (num ∷ bit ∷ is) ws t s at h k e = absurd h

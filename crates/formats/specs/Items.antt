@@ -1,6 +1,7 @@
 -- Lists of items: what they spell, how they are read at a position of a text, and the lines of a number and bits.
 --   lits, bits               fixed bytes; n bits
 --   linesFrom                lines that each have a number, from a number on
+--   fields                   the rest of a line behind its number: runs of bits, each behind a space, and the line feed
 --   bitsLine, bitsLines      a line of a number and n bits, and such lines
 --   seq                      the format of items and what follows them
 --   spell, Fit, Spells       the bytes that items with given values make
@@ -8,7 +9,7 @@
 --   onward, values, Passes   going on after a walk; its values; whether it passes
 --   scanAt, verdict          the scan of a format from a position on, places counted from the start of the text; a scan without its values
 -- Assumes nothing.
-use Prim.Native.Nat.{ℕ, zero, suc, _+_, _<_}
+use Prim.Native.Nat.{ℕ, zero, suc, _+_, _%_, _<_}
 use mathlib.Core.Path.{_≡_}
 use mathlib.Core.List.{List, [], _∷_, _++_}
 use lib.ListN.{drop, replicate}
@@ -28,9 +29,14 @@ unfoldable pub linesFrom : (ℕ → List Item) → ℕ → ℕ → List Item
 linesFrom line p zero = []
 linesFrom line p (suc k) = line p ++ linesFrom line (suc p) k
 
--- The line of the number p and n bits: the number, a space, the bits and the line feed.
+-- "one space between, a line feed after each line": behind the number of a line, runs of bits, each behind a space, and the line feed.
+abbrev pub fields : List ℕ → List Item
+fields [] = byte 10 ∷ []
+fields (n ∷ ns) = (byte 32 ∷ bits n) ++ fields ns
+
+-- The line of the number p and n bits.
 unfoldable pub bitsLine : ℕ → ℕ → List Item
-bitsLine n p = lits (dec p) ++ ((byte 32 ∷ bits n) ++ (byte 10 ∷ []))
+bitsLine n p = lits (dec p) ++ fields (n ∷ [])
 
 abbrev pub bitsLines : ℕ → ℕ → ℕ → List Item
 bitsLines n p k = linesFrom (bitsLine n) p k
@@ -42,14 +48,14 @@ seq (i ∷ is) F = i ▷ seq is F
 
 -- ---- what they spell
 
--- The bytes that items with these values make.
+-- The bytes that items with these values make: of a bit the character `0` or `1`, of any other number in its place that of its last bit.
 abbrev pub spell : List Item → List ℕ → List ℕ
 spell [] vs = []
 spell (byte b ∷ is) vs = b ∷ spell is vs
 spell (num ∷ is) [] = []
 spell (num ∷ is) (v ∷ vs) = dec v ++ spell is vs
 spell (bit ∷ is) [] = []
-spell (bit ∷ is) (v ∷ vs) = (48 + v) ∷ spell is vs
+spell (bit ∷ is) (v ∷ vs) = (48 + v % 2) ∷ spell is vs
 
 -- As many values as the items take, each in its range.
 abbrev pub Fit : List Item → List ℕ → Type 0

@@ -31,8 +31,8 @@ use Rattle.formats.proofs.Spelling.{tidy-bits, tidy-bitsLine}
 use Rattle.formats.proofs.Takes.{passed-length, part-takes, line-takes}
 use Rattle.formats.proofs.Lines.{lines-first, lines-whole, lines-end}
 use Rattle.staircase.proofs.Bounds.{stretch-end}
-use Rattle.framescan.specs.FrameText.{groupLine, groupLines}
-use Rattle.framefill.proofs.Takes.{group-takes, tidy-groupLine}
+use Rattle.texts.specs.FrameText.{groupLine, groupLines}
+use Rattle.texts.proofs.GroupLine.{group-takes, tidy-groupLine}
 
 -- ---- walks that pass
 

@@ -1,2 +1,1 @@
-pub mod Takes
 pub mod Filling

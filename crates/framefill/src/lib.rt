@@ -11,7 +11,7 @@ ghost use lib.ListN.{length, take, drop};
 ghost use Rattle.staircase.specs.Design.{most-blocks};
 ghost use Rattle.formats.specs.Format.{byte};
 ghost use Rattle.formats.specs.Items.{bits, bitsLine, bitsLines, past, values, Passes, walk};
-ghost use Rattle.framescan.specs.FrameText.{groupLine, groupLines};
+ghost use Rattle.texts.specs.FrameText.{groupLine, groupLines};
 use readers::Step;
 
 // Writes the bits at a position into the lent slice, one bit a byte, and answers the position after them. The text is known to have them.

@@ -29,8 +29,7 @@ use Rattle.readers.specs.declared.Step.{Step}
 use Rattle.readers.specs.declared.Step.the-variants.{Next, Refused}
 use Rattle.readers.proofs.Lines.{step-of, stops-first, goes-on}
 use Rattle.staircase.specs.Frame.{groups}
-use Rattle.framescan.specs.FrameText.{blockTail, groupNamesTail, groupLine, groupLines, groupTail, frameTail}
-use Rattle.lines.specs.Written.{blockNames}
+use Rattle.texts.specs.FrameText.{blockTail, groupNamesTail, groupLine, groupLines, groupTail, frameTail, blockNames}
 
 -- ---- items before a format
 

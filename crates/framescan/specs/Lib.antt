@@ -1,2 +1,1 @@
-pub mod FrameText
 pub mod Judged

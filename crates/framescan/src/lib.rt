@@ -3,7 +3,8 @@
 //   judge_frame(text, area, n)   the same for frame text, with Y and P of n bits
 //
 // A function that reads at a position answers the position after what it read, or the place where that goes wrong; each goes once through what it
-// reads. No argument of the two calls is required to be in any range. Contracts cite the formats of specs/FrameText.antt.
+// reads. No argument of the two calls is required to be in any range. Contracts cite the formats of
+// FrameText in the crate `texts`.
 ghost use mathlib.Core.Path.{_≡_};
 ghost use mathlib.Core.List.{_++_};
 ghost use Prim.Native.Nat.{_-_, _≤_, _<_};
@@ -11,8 +12,7 @@ ghost use Rattle.staircase.specs.Design.{most-blocks};
 ghost use Rattle.formats.specs.Format.{scan};
 ghost use Rattle.formats.specs.Items.{lits, bitsLine, walk, scanAt, verdict};
 ghost use Rattle.readers.specs.Answers.{stepOf};
-ghost use Rattle.framescan.specs.FrameText.{blockTail, blockFormat, groupLine, groupLines, groupTail, frameTail, frameFormat};
-ghost use Rattle.lines.specs.Written.{blockNames};
+ghost use Rattle.texts.specs.FrameText.{blockTail, blockFormat, groupLine, groupLines, groupTail, frameTail, frameFormat, blockNames};
 ghost use Rattle.framescan.specs.Judged.{foundScan};
 use readers::Step;
 

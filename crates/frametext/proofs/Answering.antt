@@ -12,10 +12,11 @@ use Rattle.formats.specs.Format as format
 use Rattle.formats.specs.Format.{Scan, read, scan}
 use Rattle.formats.specs.Items.{verdict}
 use Rattle.staircase.specs.Design.{most-blocks}
-use Rattle.readers.specs.Verdicts.{scanRule, mark, valuesOf}
-use Rattle.framescan.specs.FrameText.{blockFormat, frameFormat}
+use Rattle.texts.specs.Rules.{scanRule, mark, valuesOf}
+use Rattle.texts.specs.FrameText.{blockFormat, frameFormat}
 use Rattle.framescan.specs.Judged.{foundScan}
-use Rattle.frametext.specs.Reader.{blockScan, blockRule, blockCount, frameScan, frameRule, frameCount, blocksVerdict, CountIs}
+use Rattle.frametext.specs.Answers.{blocksVerdict, CountIs}
+use Rattle.texts.specs.FrameReader.{blockScan, blockRule, blockCount, frameScan, frameRule, frameCount}
 use Rattle.frametext.specs.declared.Blocks.{Blocks}
 use Rattle.frametext.specs.declared.Blocks.the-variants.{Read, Broken}
 use Rattle.framescan.specs.declared.Found.{Found}

@@ -22,18 +22,18 @@ use Rattle.design.specs.declared.Refusal.{Refusal}
 use Rattle.design.specs.Answers.{refusalVerdict, verdictOf}
 use Rattle.design.proofs.Answers.{check-refused, check-passed}
 use Rattle.staircase.proofs.Rules.{length-equal, frame-lengths}
-use Rattle.readers.specs.Verdicts.{scanRule, mark, valuesOf, kept}
-use Rattle.readers.proofs.Kept.{kept-old}
-use Rattle.framescan.specs.FrameText.{blockFormat, frameFormat, groupLines}
+use Rattle.texts.specs.Rules.{scanRule, mark, valuesOf, kept}
+use Rattle.texts.proofs.Kept.{kept-old}
+use Rattle.texts.specs.FrameText.{blockFormat, frameFormat, groupLines}
 use Rattle.framescan.specs.Judged.{foundScan}
-use Rattle.frametext.specs.Reader.{blockScan, blockRule, blockCount, blockInfo, readBlocksCall, blocksVerdict, CountIs}
-use Rattle.frametext.specs.Reader.{frameScan, frameRule, frameCount, frameInfo, frameRed, readFrameCall}
+use Rattle.frametext.specs.Answers.{blocksVerdict, CountIs}
+use Rattle.texts.specs.FrameReader.{blockScan, blockRule, blockCount, blockInfo, readBlocksCall, frameScan, frameRule, frameCount, frameInfo, frameRed, readFrameCall}
 use Rattle.frametext.specs.declared.Blocks.{Blocks}
 use Rattle.frametext.specs.declared.Blocks.the-variants.{Read, Refused}
 use Rattle.framescan.specs.declared.Found.{Found}
 use Rattle.framescan.specs.declared.Found.the-variants.{Count, Wrong}
 use Rattle.frametext.proofs.Answering.{found-wrong, found-count, blocks-found, blocks-told, frame-found, frame-told}
-use Rattle.frametext.proofs.Parts.{BlockParts, block-parts, FrameParts, frame-parts}
+use Rattle.texts.proofs.FrameParts.{BlockParts, block-parts, FrameParts, frame-parts}
 
 -- ---- the rule of a scan, and then another
 

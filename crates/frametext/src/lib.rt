@@ -9,13 +9,14 @@
 // second time is known to be there. So a refused call leaves every buffer as it was. Each pass is one step for each byte of the text. No argument is
 // required to be in any range: a design's sizes are at most 2^32, and a text that is accepted has at most 4,096 blocks, so the lengths fit.
 //
-// Contracts cite the definitions of specs/Reader.antt. proofs/Promises.antt says what these mean: the accepted texts are exactly the texts of the
+// Contracts cite FrameReader in the crate `texts`. FramePromises there says what its definitions mean: the accepted texts are exactly the texts of the
 // format with the bits that are read, and a refusal's place is the longest start that some text shares.
 ghost use mathlib.Core.Path.{_≡_};
 ghost use Prim.Native.Nat.{_*_};
-ghost use Rattle.readers.specs.Verdicts.{scanRule, mark};
+ghost use Rattle.texts.specs.Rules.{scanRule, mark};
 ghost use Rattle.framescan.specs.Judged.{foundScan};
-ghost use Rattle.frametext.specs.Reader.{blockRule, blockCount, readBlocksCall, frameRule, frameCount, readFrameCall, blocksVerdict, CountIs};
+ghost use Rattle.frametext.specs.Answers.{blocksVerdict, CountIs};
+ghost use Rattle.texts.specs.FrameReader.{blockRule, blockCount, readBlocksCall, frameRule, frameCount, readFrameCall};
 use design::Check;
 use design::Design;
 use design::Refusal;

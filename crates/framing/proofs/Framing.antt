@@ -24,14 +24,15 @@ use Rattle.design.specs.Answers.{refusalVerdict, verdictOf}
 use Rattle.design.specs.Sizes.{orderOf}
 use Rattle.answers.specs.declared.Judged.{Judged}
 use Rattle.answers.specs.Number.{judgedOf}
-use Rattle.lines.specs.Written.{groupText, refusalText}
-use Rattle.texts.proofs.Lines.{group-text-length}
-use Rattle.kittext.specs.Reader.{headNumber, readKitCall}
-use Rattle.frametext.specs.Reader.{blockRule, blockInfo, readBlocksCall}
-use Rattle.frametext.proofs.Promises.{blocks-left}
-use Rattle.programs.specs.Output.{printed, frameCall, frameOutput, Printed, most-output}
+use Rattle.texts.specs.FrameText.{groupText}
+use Rattle.texts.specs.Programs.{refusalText, printed, frameCall, frameOutput}
+use Rattle.printing.proofs.Lines.{group-text-length}
+use Rattle.texts.specs.KitReader.{headNumber, readKitCall}
+use Rattle.texts.specs.FrameReader.{blockRule, blockInfo, readBlocksCall}
+use Rattle.texts.proofs.FramePromises.{blocks-left}
+use Rattle.programs.specs.Output.{Printed, most-output}
 use Rattle.programs.specs.Steps.{textRule, startRule, Started, Scanned, FrameReady, GroupsFit}
-use Rattle.programs.proofs.Judged.{stopped, called}
+use Rattle.texts.proofs.Programs.{stopped, called}
 use Rattle.programs.proofs.Printing.{printed-refused}
 use Rattle.programs.proofs.Starting.{behind-kit}
 use Rattle.programs.proofs.Ready.{order-is, kit-left, blocks-scanned, few-blocks, red-short}

@@ -6,8 +6,9 @@ ghost use lib.ListN.{length};
 ghost use Rattle.staircase.specs.Frame.{groups};
 ghost use Rattle.design.specs.Answers.{verdictOf};
 ghost use Rattle.design.specs.Sizes.{orderOf};
-ghost use Rattle.lines.specs.Written.{groupText};
-ghost use Rattle.programs.specs.Output.{printed, frameOutput, Printed, most-output, Output};
+ghost use Rattle.texts.specs.FrameText.{groupText};
+ghost use Rattle.programs.specs.Output.{Printed, most-output, Output};
+ghost use Rattle.texts.specs.Programs.{printed, frameOutput};
 ghost use Rattle.programs.specs.Steps.{Scanned, RoomFor, FrameReady, GroupsFit};
 use design::Check;
 use design::Design;
@@ -34,7 +35,7 @@ fn put_encoded(out: &mut [u8], d: Design, blocks: u64, red: &[u8], made: Check) 
         }
         Check::Passed => {
             let groups = design::group_count(blocks);
-            texts::put_groups(out, 0, d.order(), groups as usize, red)
+            printing::put_groups(out, 0, d.order(), groups as usize, red)
         }
     }
 }

@@ -22,11 +22,13 @@ use Rattle.answers.specs.Number.{number, judgedOf, told}
 use Rattle.answers.proofs.Refused.{refusal-judged}
 use Rattle.kittext.specs.declared.KitScan.{KitScan}
 use Rattle.kittext.specs.declared.KitScan.the-variants as scan
-use Rattle.kittext.specs.Reader.{headNumber, kitScanVerdict, KitDesign}
+use Rattle.kittext.specs.Answers.{kitScanVerdict, KitDesign}
+use Rattle.texts.specs.KitReader.{headNumber}
 use Rattle.frametext.specs.declared.Blocks.{Blocks}
 use Rattle.frametext.specs.declared.Blocks.the-variants as blocks
-use Rattle.frametext.specs.Reader.{blockRule, blockCount, blockInfo, readBlocksCall, frameRule, frameCount, frameInfo, frameRed, readFrameCall, blocksVerdict, CountIs}
-use Rattle.readers.specs.Verdicts.{kept}
+use Rattle.frametext.specs.Answers.{blocksVerdict, CountIs}
+use Rattle.texts.specs.FrameReader.{blockRule, blockCount, blockInfo, readBlocksCall, frameRule, frameCount, frameInfo, frameRed, readFrameCall}
+use Rattle.texts.specs.Rules.{kept}
 use Rattle.hosttext.specs.Answers.{kitAnswer, blocksAnswer, scanBlocksFor, readBlocksFor, scanFrameFor, readFrameFor}
 
 pub told-by : (answer : Verdict → List ℕ) (l : List ℕ) {u v : Verdict} {n : ℕ} {k : List ℕ} → u ≡ v → (n ≡ number u) × (k ≡ told (answer u) l)

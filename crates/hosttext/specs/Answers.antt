@@ -8,9 +8,9 @@ use mathlib.Core.List.{List, [], _∷_}
 use Prim.Native.Nat.{ℕ, _*_}
 use Rattle.staircase.specs.Rules.{Verdict, _then_, designRules}
 use Rattle.staircase.specs.Rules.Verdict.{accepted, refused}
-use Rattle.readers.specs.Verdicts.{kept}
-use Rattle.kittext.specs.Reader.{headNumber}
-use Rattle.frametext.specs.Reader.{blockRule, blockInfo, BlocksRead, readBlocksCall, frameRule, frameInfo, frameRed, FrameRead, readFrameCall}
+use Rattle.texts.specs.Rules.{kept}
+use Rattle.texts.specs.KitReader.{headNumber}
+use Rattle.texts.specs.FrameReader.{blockRule, blockInfo, BlocksRead, readBlocksCall, frameRule, frameInfo, frameRed, FrameRead, readFrameCall}
 
 -- "m t M" of an accepted kit text; 0 where it is refused
 unfoldable pub kitAnswer : Verdict → List ℕ → List ℕ

@@ -6,9 +6,10 @@
 // A line is written from the position `at` on, where it has room, and the position after it is answered; where it has none, nothing is written and
 // the answer is `at`.
 ghost use mathlib.Core.Path.{_≡_};
-ghost use Rattle.lines.specs.Written.{bitsText, groupLineText, refusalText, countsText};
+ghost use Rattle.texts.specs.FrameText.{bitsText, groupLineText};
+ghost use Rattle.texts.specs.Programs.{refusalText, countsText, frameOutput, mendOutput};
 ghost use Rattle.writers.specs.Room.{after, puts};
-ghost use Rattle.programs.specs.Output.{frameOutput, mendOutput, Output};
+ghost use Rattle.programs.specs.Output.{Output};
 
 // The line of a block, its number and its bits; of a byte above 1 the last bit counts.
 #[no_mangle]

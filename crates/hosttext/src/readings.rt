@@ -5,8 +5,10 @@
 ghost use mathlib.Core.Path.{_≡_};
 ghost use mathlib.Core.List.{List};
 ghost use Prim.Native.Nat.{ℕ, _*_};
-ghost use Rattle.kittext.specs.Reader.{scanKit, readKitCall, kitScanVerdict, KitDesign};
-ghost use Rattle.frametext.specs.Reader.{blockCount, frameCount, blocksVerdict, CountIs};
+ghost use Rattle.kittext.specs.Answers.{kitScanVerdict, KitDesign};
+ghost use Rattle.texts.specs.KitReader.{scanKit, readKitCall};
+ghost use Rattle.frametext.specs.Answers.{blocksVerdict, CountIs};
+ghost use Rattle.texts.specs.FrameReader.{blockCount, frameCount};
 ghost use Rattle.answers.specs.Number.{number, told};
 ghost use Rattle.hosttext.specs.Answers.{kitAnswer, blocksAnswer, scanBlocksFor, readBlocksFor, scanFrameFor, readFrameFor};
 use answers::Judged;

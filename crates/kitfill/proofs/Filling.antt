@@ -12,21 +12,13 @@ use lib.Seq.{sets, sets-eq, take-at, drop-drop, drop-append-add}
 use Rattle.formats.specs.Items.{past, prep, walk, values, Passes}
 use Rattle.formats.proofs.Walking.{prep-nil, prep-prep}
 use Rattle.formats.proofs.Lines.{lines-whole, lines-end}
-use Rattle.kitscan.specs.KitText.{pairLine, pairLines}
-use Rattle.kitfill.specs.Bytes.{firsts, seconds, packs}
+use Rattle.texts.specs.KitText.{pairLine, pairLines}
+use Rattle.texts.proofs.Bytes.{halves, packs-length}
+use Rattle.texts.specs.KitReader.{firsts, seconds, packs}
 use Rattle.kitscan.specs.Answers.{lineWalk}
 use Rattle.kitscan.specs.declared.Line.{Line}
 use Rattle.kitscan.specs.declared.Line.the-variants.{Pair, NoPair}
 use Rattle.kitscan.proofs.ListLines.{pairs-wrong, pairs-next}
-
--- of pairs: how many there are, and one more
-halves : (k : ℕ) (l : List ℕ) → length l ≡ 2 * k → (length (firsts l) ≡ k) × (length (seconds l) ≡ k)
-unfolding firsts seconds
-halves zero [] e = (refl, refl)
-halves zero (a ∷ l) e = absurd (omega arith)
-halves (suc k) [] e = absurd (omega arith)
-halves (suc k) (a ∷ []) e = absurd (omega arith)
-halves (suc k) (a ∷ b ∷ l) e = let i = halves k l (omega arith) in (ap suc (i .0), ap suc (i .1))
 
 pairs-more : (k : ℕ) (l : List ℕ) (a b : ℕ) → length l ≡ 2 * k
     → (firsts (l ++ (a ∷ b ∷ [])) ≡ firsts l ++ (a ∷ [])) × (seconds (l ++ (a ∷ b ∷ [])) ≡ seconds l ++ (b ∷ []))
@@ -35,11 +27,6 @@ pairs-more k [] a b e = (refl, refl)
 pairs-more k (x ∷ []) a b e = absurd (omega arith)
 pairs-more zero (x ∷ y ∷ l) a b e = absurd (omega arith)
 pairs-more (suc k) (x ∷ y ∷ l) a b e = let i = pairs-more k l a b (omega arith) in (ap (λ (z : List ℕ). x ∷ z) (i .0), ap (λ (z : List ℕ). y ∷ z) (i .1))
-
-pub packs-length : (ds : List ℕ) → length (packs ds) ≡ 2 * length ds
-unfolding packs
-packs-length [] = refl
-packs-length (d ∷ ds) = let e = packs-length ds in omega arith
 
 packs-more : (ds : List ℕ) (a : ℕ) → packs (ds ++ (a ∷ [])) ≡ packs ds ++ ((a % 256) ∷ (a / 256 % 256) ∷ [])
 unfolding packs

@@ -12,7 +12,9 @@ use native.Mathlib.Nat.{zero-min, min-zero, suc-min-suc, suc-sub-suc, sub-zero, 
 use lib.ListN.{length, set, take, drop, getD, length-drop, drop-of-length-le}
 use lib.Seq.{sets, drop-cons, drop-drop, length-take-le, getD-take, getD-drop, take-nil}
 use Rattle.lines.proofs.Storing.{sets-append}
-use Rattle.kitfill.specs.Bytes.{binary, pack, lows}
+use Rattle.kitfill.specs.Bytes.{lows}
+use Rattle.texts.proofs.Bytes.{length-pack}
+use Rattle.texts.specs.KitReader.{binary, pack}
 
 -- at most eight bits make a byte
 binary-small : (k : ℕ) (l : List ℕ) → length l ≤ k → binary (lows l) < 2 ^ k
@@ -57,11 +59,6 @@ pack-snoc (suc b) vs =
     let e : 8 + b * 8 ≡ suc b * 8 = omega arith in
     ap (λ (l : List ℕ). binary (take 8 vs) ∷ l)
     (pack-snoc b (drop 8 vs) ∙ ap (λ (l : List ℕ). pack b (drop 8 vs) ++ (binary (take 8 l) ∷ [])) (drop-drop (b * 8) 8 vs ∙ ap (λ (k : ℕ). drop k vs) e))
-
-pub length-pack : (b : ℕ) (vs : List ℕ) → length (pack b vs) ≡ b
-unfolding pack
-length-pack zero vs = refl
-length-pack (suc b) vs = ap suc (length-pack b (drop 8 vs))
 
 lows-take : (n : ℕ) (l : List ℕ) → take n (lows l) ≡ lows (take n l)
 unfolding lows

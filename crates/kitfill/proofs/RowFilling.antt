@@ -22,8 +22,9 @@ use Rattle.readers.specs.declared.Step.{Step}
 use Rattle.readers.specs.declared.Step.the-variants.{Next, Refused}
 use Rattle.readers.specs.Answers.{stepOf, stepWalk}
 use Rattle.staircase.specs.System.{rowBytes}
-use Rattle.kitfill.specs.Bytes.{pack, packRows, lows}
-use Rattle.kitfill.proofs.Packing.{length-pack}
+use Rattle.kitfill.specs.Bytes.{lows}
+use Rattle.texts.proofs.Bytes.{packRows-length, length-pack}
+use Rattle.texts.specs.KitReader.{pack, packRows}
 use Rattle.kitfill.proofs.Filling.{put-behind}
 use Rattle.readers.proofs.Lines.{answer-past}
 
@@ -42,10 +43,10 @@ run-lows zero (v ∷ ws) t h = absurd h
 run-lows (suc n) [] t h = absurd h
 run-lows (suc n) (v ∷ ws) t h =
     let (a, b) = run-lows n ws t (h .1) in
-    let e : (48 + v) % 2 ≡ v = even v (h .0) in
+    let e : (48 + v % 2) % 2 ≡ v = even v (h .0) in
     (ap (λ (k : ℕ). k ∷ lows (take n (spell (bits n ++ (byte 10 ∷ [])) ws ++ t))) e ∙ ap (λ (l : List ℕ). v ∷ l) a, omega arith)
   where
-    even : (v : ℕ) → v < 2 → (48 + v) % 2 ≡ v
+    even : (v : ℕ) → v < 2 → (48 + v % 2) % 2 ≡ v
     even v l = omega arith
 
 -- i is the position of the space; then n bits and the line feed.
@@ -106,13 +107,6 @@ unfolding packRows
 packRows-more n zero [] vs e f = append-nil (pack (rowBytes n) (take n vs)) ∙ ap (pack (rowBytes n)) (take-all n vs (omega arith))
 packRows-more n zero (w ∷ ws) vs e f = absurd (omega arith)
 packRows-more n (suc p) ws vs e f = rows-front n p ws vs e (packRows-more n p (drop n ws) vs (omega (arith, length-drop n ws)) f)
-
-pub packRows-length : (n k : ℕ) (vs : List ℕ) → length (packRows n k vs) ≡ k * rowBytes n
-unfolding packRows
-packRows-length n zero vs = omega arith
-packRows-length n (suc k) vs =
-    let i = packRows-length n k (drop n vs) in
-    omega (arith, length-append (pack (rowBytes n) (take n vs)) (packRows n k (drop n vs)), length-pack (rowBytes n) (take n vs))
 
 -- a row's bytes stand in the inverse's
 pub row-room : (n p : ℕ) → p < n → p * rowBytes n + rowBytes n ≤ n * rowBytes n

@@ -14,8 +14,9 @@ ghost use Rattle.readers.specs.declared.Step.the-variants.{Next};
 ghost use Rattle.readers.specs.Answers.{stepOf};
 ghost use Rattle.staircase.specs.Design.{most-order};
 ghost use Rattle.staircase.specs.System.{rowBytes};
-ghost use Rattle.kitscan.specs.KitText.{pairLines};
-ghost use Rattle.kitfill.specs.Bytes.{firsts, seconds, packs, binary, pack, packRows, lows};
+ghost use Rattle.texts.specs.KitText.{pairLines};
+ghost use Rattle.kitfill.specs.Bytes.{lows};
+ghost use Rattle.texts.specs.KitReader.{firsts, seconds, packs, binary, pack, packRows};
 use kitscan::Line;
 use readers::Step;
 

@@ -16,7 +16,7 @@ use Rattle.readers.specs.declared.Field.the-variants.{Got, Stop}
 use Rattle.readers.specs.Answers.{stepOf, stepWalk, fieldWalk}
 use Rattle.readers.proofs.Fields.{walk-stops, walk-goes, field-stops, field-goes}
 use Rattle.readers.proofs.Lines.{step-prep}
-use Rattle.kitscan.specs.KitText.{twoNumbers, pairTail, pairLine, pairLines}
+use Rattle.texts.specs.KitText.{twoNumbers, pairTail, pairLine, pairLines}
 use Rattle.kitscan.specs.Answers.{lineWalk}
 use Rattle.kitscan.specs.declared.Line.{Line}
 use Rattle.kitscan.specs.declared.Line.the-variants.{Pair, NoPair}

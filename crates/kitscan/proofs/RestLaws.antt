@@ -14,11 +14,11 @@ use Rattle.formats.proofs.Parts.{seq-append}
 use Rattle.readers.specs.declared.Step.{Step}
 use Rattle.readers.specs.declared.Step.the-variants.{Next, Refused}
 use Rattle.readers.specs.Answers.{stepOf, stepWalk}
-use Rattle.readers.specs.Verdicts.{scanRule, valuesOf}
+use Rattle.texts.specs.Rules.{scanRule, valuesOf}
 use Rattle.readers.proofs.Lines.{answer-past}
 use Rattle.readers.proofs.Scans.{scan-end, scan-more, scan-stops, scan-goes, lits-stop, lits-go}
-use Rattle.kitscan.specs.KitText.{listNames, rowNames, pairLines, kitBody}
-use Rattle.kitscan.specs.Answers.{restFormat, tailItems, tailFormat, restRule, restVerdict, RestParts, TailIs}
+use Rattle.texts.specs.KitText.{listNames, rowNames, pairLines, kitBody, tailItems, restFormat}
+use Rattle.kitscan.specs.Answers.{tailFormat, restRule, restVerdict, RestParts, TailIs}
 use Rattle.kitscan.specs.declared.Rest.the-variants.{Whole, NotWhole}
 
 past-passes : (w : Walk) (ws : List ℕ) (q : ℕ) → w ≡ past ws q → Passes w

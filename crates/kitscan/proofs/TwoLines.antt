@@ -7,25 +7,24 @@
 use Prim.Native.Nat.{ℕ}
 use mathlib.Core.Path.{_≡_, sym, ap, _∙_}
 use mathlib.Core.List.{List, [], _∷_}
-use lib.ListN.{getD}
 use Rattle.formats.specs.Format.{byte, num}
-use Rattle.formats.specs.Items.{lits, Walk, stuck, past, prep, walk, values}
+use Rattle.formats.specs.Items.{lits, stuck, past, prep, walk}
 use Rattle.readers.proofs.Fields.{walk-stops, walk-goes, field-stops, field-goes}
 use Rattle.readers.specs.declared.Step.{Step}
 use Rattle.readers.specs.declared.Step.the-variants.{Next, Refused}
 use Rattle.readers.specs.declared.Field.{Field}
 use Rattle.readers.specs.declared.Field.the-variants.{Got, Stop}
 use Rattle.readers.specs.Answers.{stepWalk, fieldWalk}
-use Rattle.readers.specs.Verdicts.{walkRule, passed}
 use Rattle.staircase.specs.Rules.{Verdict, _then_, designRules}
-use Rattle.staircase.specs.Rules.Verdict.{accepted, refused}
+use Rattle.staircase.specs.Rules.Verdict.{refused}
 use Rattle.design.specs.declared.Design.{Design}
 use Rattle.design.specs.declared.Designed.{Designed}
 use Rattle.design.specs.declared.Designed.the-variants as designed
 use Rattle.design.specs.declared.Refusal.{Refusal}
 use Rattle.design.specs.Answers.{designVerdict, DesignIs, DesignAllowed}
-use Rattle.kitscan.specs.KitText.{names, twoNumbers, headItems}
-use Rattle.kitscan.specs.TwoLines.{headNumber, headRule}
+use Rattle.texts.proofs.TwoLines.{Shown, head-read, head-stuck}
+use Rattle.texts.specs.KitText.{names, twoNumbers, headItems}
+use Rattle.texts.specs.KitReader.{headNumber, headRule}
 use Rattle.kitscan.specs.Answers.{headWalk, lineWalk, frontRule, frontVerdict, FrontIs}
 use Rattle.kitscan.specs.declared.Head.{Head}
 use Rattle.kitscan.specs.declared.Head.the-variants.{Lines, NoLines}
@@ -54,29 +53,6 @@ module _ (s : List ℕ) (x : Step) (ex : stepWalk x ≡ walk (lits names) s 0) w
 
       pub lines-read : (t M e : ℕ) → z ≡ Pair t M e → past (m ∷ t ∷ M ∷ []) e ≡ walk headItems s 0
       lines-read t M e f = sym (ap (λ (w : Line). prep (m ∷ []) (lineWalk w)) f) ∙ from-first
-
--- what a text shows that starts with two lines
-pub record Shown (s : List ℕ) (m t M q : ℕ) : Type 0 where
-  pub rule : headRule s ≡ accepted
-  pub first : headNumber s 0 ≡ m
-  pub second : headNumber s 1 ≡ t
-  pub third : headNumber s 2 ≡ M
-  pub after : passed (walk headItems s 0) ≡ q
-
-pub head-read : (s : List ℕ) (m t M q : ℕ) → walk headItems s 0 ≡ past (m ∷ t ∷ M ∷ []) q → Shown s m t M q
-unfolding headRule headNumber walkRule passed
-head-read s m t M q e =
-    record {
-      rule = ap (walkRule 11) e;
-      first = ap (λ (w : Walk). getD (values w) 0 0) e;
-      second = ap (λ (w : Walk). getD (values w) 1 0) e;
-      third = ap (λ (w : Walk). getD (values w) 2 0) e;
-      after = ap passed e;
-    }
-
-pub head-stuck : (s : List ℕ) (q : ℕ) → walk headItems s 0 ≡ stuck q → headRule s ≡ refused 11 q
-unfolding headRule walkRule
-head-stuck s q e = ap (walkRule 11) e
 
 -- the two lines, and then rules 1 to 3
 module _ (s : List ℕ) (h : Head) (eh : headWalk h ≡ walk headItems s 0) where

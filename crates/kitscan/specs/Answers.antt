@@ -10,16 +10,16 @@ use Prim.Native.Nat.{ℕ}
 use mathlib.Core.Path.{_≡_}
 use mathlib.Core.List.{List, [], _∷_, _++_}
 use Rattle.formats.specs.Format as format
-use Rattle.formats.specs.Format.{Item, Format, end, read}
-use Rattle.formats.specs.Items.{Walk, stuck, past, walk, values, Passes, lits, seq, scanAt, bitsLines}
+use Rattle.formats.specs.Format.{Format, end, read}
+use Rattle.formats.specs.Items.{Walk, stuck, past, walk, values, Passes, seq, scanAt, bitsLines}
 use Rattle.readers.specs.declared.Step.{Step}
 use Rattle.readers.specs.declared.Step.the-variants.{Next, Refused}
-use Rattle.readers.specs.Verdicts.{scanRule, passed, valuesOf}
+use Rattle.texts.specs.Rules.{scanRule, passed, valuesOf}
 use Rattle.staircase.specs.Rules.{Verdict, _then_, designRules}
 use Rattle.staircase.specs.Rules.Verdict.{accepted, refused}
 use Rattle.design.specs.Answers.{refusalVerdict, Allowed}
-use Rattle.kitscan.specs.KitText.{headItems, rowNames, pairLines, kitBody}
-use Rattle.kitscan.specs.TwoLines.{headNumber, headRule}
+use Rattle.texts.specs.KitText.{tailItems, headItems, pairLines, restFormat}
+use Rattle.texts.specs.KitReader.{headNumber, headRule}
 use Rattle.kitscan.specs.declared.Head.{Head}
 use Rattle.kitscan.specs.declared.Head.the-variants.{Lines, NoLines}
 use Rattle.kitscan.specs.declared.Line.{Line}
@@ -56,13 +56,6 @@ FrontIs (Ruled r) s = Unit
 FrontIs (NoStart p) s = Unit
 
 -- ---- the rest, for n = M × r
-
-abbrev pub restFormat : ℕ → Format
-restFormat n = seq (kitBody n) (end 0)
-
--- what follows the lists' lines
-abbrev pub tailItems : ℕ → List Item
-tailItems n = lits rowNames ++ bitsLines n 0 n
 
 abbrev pub tailFormat : ℕ → Format
 tailFormat n = seq (tailItems n) (end 0)

@@ -1,3 +1,1 @@
-pub mod KitText
-pub mod TwoLines
 pub mod Answers

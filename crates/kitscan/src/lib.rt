@@ -4,13 +4,13 @@
 //   pair_line(text, at, p)    the line of a place of the lists, with its two entries
 //
 // Each function reads at a position of the whole text and answers the position after what it read, or the place where that goes wrong. An answer is
-// an enum; specs/Answers.antt says what its cases mean by the format of specs/KitText.antt, which contracts cite. Each goes once through what it reads.
+// an enum; specs/Answers.antt says what its cases mean by the format of KitText in the crate `texts`. Each goes once through what it reads.
 ghost use mathlib.Core.Path.{_≡_};
 ghost use Prim.Native.Nat.{_≤_, _<_};
 ghost use Rattle.staircase.specs.Design.{most-order};
 ghost use Rattle.formats.specs.Items.{walk, bitsLines};
 ghost use Rattle.readers.specs.Answers.{stepOf};
-ghost use Rattle.kitscan.specs.KitText.{twoNumbers, headItems, pairLine, pairLines};
+ghost use Rattle.texts.specs.KitText.{twoNumbers, headItems, pairLine, pairLines};
 ghost use Rattle.kitscan.specs.Answers.{headWalk, lineWalk, frontRule, frontVerdict, FrontIs, restRule, restVerdict, RestParts, TailIs};
 use design::Design;
 use design::Designed;

@@ -1,9 +1,2 @@
 pub mod ScanLaws
-pub mod Counting
 pub mod ReadLaws
-pub mod KitTexts
-pub mod Rendering
-pub mod Judged
-pub mod Told
-pub mod Promises
-pub mod Examples

@@ -10,8 +10,8 @@ use mathlib.Core.List.{List, _++_}
 use native.Mathlib.Omega.{arith}
 use lib.ListN.{length}
 use Rattle.formats.specs.Items.{Walk, stuck, past, walk, values, Passes, bitsLines}
-use Rattle.readers.specs.Verdicts.{valuesOf}
-use Rattle.readers.proofs.Kept.{kept-new, kept-old}
+use Rattle.texts.specs.Rules.{valuesOf}
+use Rattle.texts.proofs.Kept.{kept-new, kept-old}
 use Rattle.staircase.specs.Rules.{Verdict, _then_, kitLengths}
 use Rattle.staircase.specs.Rules.Verdict.{accepted, refused}
 use Rattle.staircase.specs.Design.{Params, order}
@@ -25,9 +25,9 @@ use Rattle.design.specs.Answers.{refusalVerdict, verdictOf}
 use Rattle.design.specs.Sizes.{paramsOf}
 use Rattle.design.proofs.Answers.{refused-then, passed-then, check-refused}
 use Rattle.staircase.proofs.Rules.{lengths-fit}
-use Rattle.kitscan.specs.KitText.{pairLines}
-use Rattle.kitfill.specs.Bytes.{firsts, seconds, packs, packRows}
-use Rattle.kittext.specs.Reader.{kitParams, bodyScan, bodyRule, selfOf, parityOf, inverseOf, readVerdict, readKitCall, kitScanVerdict, KitDesign}
+use Rattle.texts.specs.KitText.{pairLines}
+use Rattle.texts.specs.KitReader.{firsts, seconds, packs, packRows, kitParams, bodyScan, bodyRule, selfOf, parityOf, inverseOf, readVerdict, readKitCall}
+use Rattle.kittext.specs.Answers.{kitScanVerdict, KitDesign}
 use Rattle.kitscan.specs.Answers.{frontRule, frontVerdict, FrontIs, restRule, restVerdict, RestParts}
 use Rattle.kittext.specs.declared.KitScan.{KitScan}
 use Rattle.kittext.specs.declared.KitScan.the-variants.{Kit, Refused, Broken}
@@ -35,7 +35,7 @@ use Rattle.kitscan.specs.declared.Front.{Front}
 use Rattle.kitscan.specs.declared.Front.the-variants.{Starts, Ruled, NoStart}
 use Rattle.kitscan.specs.declared.Rest.{Rest}
 use Rattle.kitscan.specs.declared.Rest.the-variants.{Whole, NotWhole}
-use Rattle.kittext.proofs.Counting.{pairs-walked, self-shown, parity-shown, inverse-shown}
+use Rattle.texts.proofs.KitCounting.{pairs-walked, self-shown, parity-shown, inverse-shown}
 use Rattle.kittext.proofs.ScanLaws.{front-then, refusal-first, Opens, front-broken, front-refused, opens, small-order, order-is, body-is, rule-is, kit-design}
 
 -- ---- the call

@@ -8,7 +8,7 @@ use Prim.Native.Nat.{ℕ, _*_, _≤_, _<_}
 use mathlib.Core.Path.{_≡_, refl, sym, ap, _∙_}
 use mathlib.Core.List.{List}
 use Rattle.formats.specs.Items.{walk, scanAt}
-use Rattle.readers.specs.Verdicts.{scanRule, passed}
+use Rattle.texts.specs.Rules.{scanRule, passed}
 use Rattle.staircase.specs.Rules.{Verdict, _then_, designRules}
 use Rattle.staircase.specs.Rules.Verdict.{accepted, refused}
 use Rattle.staircase.specs.Design.{order}
@@ -17,9 +17,10 @@ use Rattle.design.specs.declared.Refusal.{Refusal}
 use Rattle.design.specs.declared.Check.the-variants as check
 use Rattle.design.specs.Answers.{refusalVerdict, verdictOf, Allowed}
 use Rattle.design.proofs.Answers.{refused-then}
-use Rattle.kitscan.specs.KitText.{headItems}
-use Rattle.kittext.specs.Reader.{headNumber, kitParams, headRule, bodyScan, bodyRule, scanKit, kitScanVerdict, KitDesign}
-use Rattle.kitscan.specs.Answers.{frontRule, frontVerdict, FrontIs, restFormat, restRule, restVerdict, RestParts}
+use Rattle.texts.specs.KitText.{headItems, restFormat}
+use Rattle.kittext.specs.Answers.{kitScanVerdict, KitDesign}
+use Rattle.texts.specs.KitReader.{headNumber, kitParams, headRule, bodyScan, bodyRule, scanKit}
+use Rattle.kitscan.specs.Answers.{frontRule, frontVerdict, FrontIs, restRule, restVerdict, RestParts}
 use Rattle.kittext.specs.declared.KitScan.the-variants.{Kit, Refused, Broken}
 use Rattle.kitscan.specs.declared.Front.{Front}
 use Rattle.kitscan.specs.declared.Front.the-variants.{Starts, Ruled, NoStart}

@@ -2,14 +2,15 @@
 //   scan_kit(text)                              the two lines (rule 11), rules 1 to 3, the rest (rule 11): the design, or the refusal
 //   read_kit(text, own, parity, inverse)        the same with rule 6 before the rest; a right text fills the three slices
 //
-// An answer is an enum. `kitScanVerdict` of specs/Reader.antt gives the table's number and place of each case, and both contracts say that the answer is
-// the verdict of the definition there, for every text and all slices. Places are those of document 01: "length of the longest start that some kit
-// text shares" (proofs/Promises.antt: `kit-place`).
+// An answer is an enum. `kitScanVerdict` of specs/Answers.antt gives the table's number and place of each case, and both contracts say that the answer
+// is the verdict of KitReader in the crate `texts`, for every text and all slices. Places are those of document 01: "length of the longest start that
+// some kit text shares" (KitPromises there: `kit-place-lines`, `kit-place-rest`).
 //
 // The rest is judged whole before a byte is written (the crate `kitscan`). The filling then reads the same lines again, knows that they are right, and
 // needs no refusal (the crate `kitfill`). Both go through the text once, so the work grows with the lengths of the text and of the slices.
 ghost use mathlib.Core.Path.{_≡_};
-ghost use Rattle.kittext.specs.Reader.{scanKit, readKitCall, kitScanVerdict, KitDesign};
+ghost use Rattle.kittext.specs.Answers.{kitScanVerdict, KitDesign};
+ghost use Rattle.texts.specs.KitReader.{scanKit, readKitCall};
 use design::Check;
 use design::Design;
 use design::Refusal;

@@ -4,14 +4,16 @@
 --   block-put .. counts-put        the parts of each line, one put behind another, are the line
 -- Assumes nothing.
 use Prim.Native.Nat.{ℕ, _+_}
-use mathlib.Core.Path.{_≡_, refl}
+use mathlib.Core.Path.{_≡_, refl, ap}
 use mathlib.Core.List.{List, [], _∷_, _++_}
 use native.Mathlib.Omega.{arith}
 use lib.ListN.{length, length-append}
 use lib.Seq.{sets, append-snoc}
 use Rattle.formats.specs.Format.{dec}
-use Rattle.lines.specs.Written.{chars, bitsText, groupLineText, refusalText, refusalNames, countsText, countNames}
-use Rattle.lines.proofs.Chars.{length-chars}
+use Rattle.lines.specs.Written.{chars}
+use Rattle.texts.specs.FrameText.{bitsText, groupLineText}
+use Rattle.texts.specs.Programs.{refusalText, refusalNames, countsText, countNames}
+use Rattle.lines.proofs.Chars.{length-chars, block-line, group-line}
 use Rattle.lines.proofs.Storing.{put-then}
 
 -- ---- the lengths
@@ -24,15 +26,14 @@ part-length : (xs : List ℕ) (b : ℕ) (ys : List ℕ) → length (xs ++ (b ∷
 part-length xs b ys = omega (arith, length-append xs (b ∷ ys))
 
 pub bits-length : (p : ℕ) (vs : List ℕ) → length (bitsText p vs) ≡ length (dec p) + 2 + length vs
-unfolding bitsText
-bits-length p vs = omega (arith, part-length (dec p) 32 (chars vs ++ (10 ∷ [])), snoc-length (chars vs) 10, length-chars vs)
+bits-length p vs =
+    omega (arith, ap length (block-line p vs), part-length (dec p) 32 (chars vs ++ (10 ∷ [])), snoc-length (chars vs) 10, length-chars vs)
 
 pub group-length : (p : ℕ) (ys ps : List ℕ) → length (groupLineText p ys ps) ≡ length (dec p) + 3 + (length ys + length ps)
-unfolding groupLineText
 group-length p ys ps =
     let first = part-length (dec p) 32 (chars ys ++ (32 ∷ (chars ps ++ (10 ∷ [])))) in
     let second = part-length (chars ys) 32 (chars ps ++ (10 ∷ [])) in
-    omega (arith, first, second, snoc-length (chars ps) 10, length-chars ys, length-chars ps)
+    omega (arith, ap length (group-line p ys ps), first, second, snoc-length (chars ps) 10, length-chars ys, length-chars ps)
 
 pub refusal-length : (rule place : ℕ) → length (refusalText rule place) ≡ 16 + (length (dec rule) + length (dec place))
 unfolding refusalText
@@ -71,19 +72,19 @@ pub block-put : (o : List ℕ) (at p : ℕ) (vs : List ℕ) {o₁ o₂ : List �
     → (i ≡ at + (length (dec p) + 1)) × (o₁ ≡ sets o at (dec p ++ (32 ∷ [])))
     → (r ≡ i + (length vs + 1)) × (o₂ ≡ sets o₁ i (chars vs ++ (10 ∷ [])))
     → (r ≡ at + length (bitsText p vs)) × (o₂ ≡ sets o at (bitsText p vs))
-unfolding bitsText
 block-put o at p vs {o₁} {o₂} {i} {r} a b =
-    put-part o (dec p) 32 at (length (dec p)) (chars vs ++ (10 ∷ [])) refl a (last-part (chars vs) 10 i (length vs) (length-chars vs) (b .0), b .1)
+    rw (block-line p vs)
+    (put-part o (dec p) 32 at (length (dec p)) (chars vs ++ (10 ∷ [])) refl a (last-part (chars vs) 10 i (length vs) (length-chars vs) (b .0), b .1))
 
 pub group-put : (o : List ℕ) (at p : ℕ) (ys ps : List ℕ) {o₁ o₂ o₃ : List ℕ} {i j r : ℕ}
     → (i ≡ at + (length (dec p) + 1)) × (o₁ ≡ sets o at (dec p ++ (32 ∷ [])))
     → (j ≡ i + (length ys + 1)) × (o₂ ≡ sets o₁ i (chars ys ++ (32 ∷ [])))
     → (r ≡ j + (length ps + 1)) × (o₃ ≡ sets o₂ j (chars ps ++ (10 ∷ [])))
     → (r ≡ at + length (groupLineText p ys ps)) × (o₃ ≡ sets o at (groupLineText p ys ps))
-unfolding groupLineText
 group-put o at p ys ps {o₁} {o₂} {o₃} {i} {j} {r} a b c =
-    put-part o (dec p) 32 at (length (dec p)) (chars ys ++ (32 ∷ (chars ps ++ (10 ∷ [])))) refl a
-    (put-part o₁ (chars ys) 32 i (length ys) (chars ps ++ (10 ∷ [])) (length-chars ys) b (last-part (chars ps) 10 j (length ps) (length-chars ps) (c .0), c .1))
+    rw (group-line p ys ps)
+    (put-part o (dec p) 32 at (length (dec p)) (chars ys ++ (32 ∷ (chars ps ++ (10 ∷ [])))) refl a
+    (put-part o₁ (chars ys) 32 i (length ys) (chars ps ++ (10 ∷ [])) (length-chars ys) b (last-part (chars ps) 10 j (length ps) (length-chars ps) (c .0), c .1)))
 
 -- Two numbers behind a line of names, and three.
 pub refusal-put : (o : List ℕ) (at rule place : ℕ) {o₁ o₂ o₃ : List ℕ} {i j r : ℕ}

@@ -15,7 +15,9 @@ ghost use Prim.Native.Nat.{_+_, _≤_};
 ghost use lib.ListN.{length};
 ghost use lib.Seq.{sets};
 ghost use Rattle.formats.specs.Format.{dec};
-ghost use Rattle.lines.specs.Written.{chars, bitsText, groupLineText, refusalText, countsText};
+ghost use Rattle.lines.specs.Written.{chars};
+ghost use Rattle.texts.specs.FrameText.{bitsText, groupLineText};
+ghost use Rattle.texts.specs.Programs.{refusalText, countsText};
 
 // The number of decimal digits of v.
 pub fn digits(v: u64) -> usize

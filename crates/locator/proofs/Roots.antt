@@ -19,9 +19,7 @@ use Rattle.bch.specs.Field.{power}
 use Rattle.bch.specs.Locator.{SolutionTable}
 use Rattle.bch.proofs.Sum.{⊕-comm, ⊕-self-left}
 use Rattle.bch.proofs.Powers.{powerTable-at}
-use Rattle.bch.proofs.Locator.{power-below, power-cycle, power-one-only, power-not-zero, log-power}
-use Rattle.bch.proofs.Locator.{quarter-powers, quarter-logs, quarter-halves, quarter-cubics}
-use Rattle.bch.proofs.Locator.{pair-sum, pair-defect, pair-halving, pair-root}
+use Rattle.bch.proofs.Locator.{power-below, power-cycle, power-one-only, power-not-zero, log-power, quarter-powers, quarter-logs, quarter-halves, quarter-cubics, pair-sum, pair-defect, pair-halving, pair-root}
 use Rattle.locator.specs.declared.Pair.the-variants.{At}
 use Rattle.locator.specs.Steps.{Field, LogIs, SolutionIs, PairOf, RootOf, ExponentsAre}
 

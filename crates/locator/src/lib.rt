@@ -20,8 +20,7 @@ ghost use lib.ListN.{length, take, drop};
 ghost use Rattle.bch.specs.Field.{power, valueAt};
 ghost use Rattle.bch.specs.Locator.{FieldTables, PowerIs, SyndromeTable, syndromes};
 ghost use Rattle.locator.specs.Located.{located, positionsOf, SumTable, Words, Tables};
-ghost use Rattle.locator.specs.Steps.{Field, LogIs, SolutionIs, NotOne, SingleIs, PairIs, TripleIs, TripleWith, CarryAre};
-ghost use Rattle.locator.specs.Steps.{RootOf, ExponentsAre, CubicRootOf};
+ghost use Rattle.locator.specs.Steps.{Field, LogIs, SolutionIs, NotOne, SingleIs, PairIs, TripleIs, TripleWith, CarryAre, RootOf, ExponentsAre, CubicRootOf};
 
 // The positions of at most three errors, the first in front.
 pub enum Located {

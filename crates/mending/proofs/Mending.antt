@@ -29,20 +29,21 @@ use Rattle.decoder.specs.declared.Counts.{Counts}
 use Rattle.decoder.specs.declared.Decoding.{Decoding}
 use Rattle.decoder.specs.declared.Decoding.the-variants as decoding
 use Rattle.decoder.specs.Answers.{correctedOf}
-use Rattle.lines.specs.Written.{blockText, groupText, refusalText, countsText}
+use Rattle.texts.specs.FrameText.{blockText, groupText}
+use Rattle.texts.specs.Programs.{refusalText, countsText, most-input, printed, mendCall, mendText, mendOutput}
 use Rattle.lines.proofs.Decimal.{dec-short}
 use Rattle.lines.proofs.Placing.{counts-length}
 use Rattle.lines.proofs.Storing.{sets-append}
-use Rattle.texts.proofs.Lines.{block-text-length, group-text-length}
+use Rattle.printing.proofs.Lines.{block-text-length, group-text-length}
 use Rattle.writers.specs.Room.{puts, after}
 use Rattle.writers.proofs.Room.{puts-room, after-room}
-use Rattle.kittext.specs.Reader.{headNumber, readKitCall}
-use Rattle.frametext.specs.Reader.{frameRule, readFrameCall}
-use Rattle.frametext.proofs.Promises.{frame-holds, frame-left}
-use Rattle.programs.specs.Output.{most-input, printed, mendCall, mendText, mendOutput, Printed, most-output}
+use Rattle.texts.specs.KitReader.{headNumber, readKitCall}
+use Rattle.texts.specs.FrameReader.{frameRule, readFrameCall}
+use Rattle.texts.proofs.FramePromises.{frame-holds, frame-left}
+use Rattle.programs.specs.Output.{Printed, most-output}
 use Rattle.programs.specs.Steps.{textRule, startRule, Scanned, SizesAre, MendReady, FrameFits}
 use Rattle.programs.specs.declared.Sizes.{Sizes}
-use Rattle.programs.proofs.Judged.{stopped, called}
+use Rattle.texts.proofs.Programs.{stopped, called}
 use Rattle.programs.proofs.Printing.{printed-as, printed-refused}
 use Rattle.programs.proofs.Starting.{behind-kit}
 use Rattle.programs.proofs.Ready.{order-is, kit-left, frame-scanned, few-blocks}

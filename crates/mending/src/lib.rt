@@ -7,7 +7,8 @@ ghost use Rattle.staircase.specs.Frame.{frameOf};
 ghost use Rattle.design.specs.Sizes.{orderOf};
 ghost use Rattle.decoder.specs.declared.Decoding.the-variants.{Decoded};
 ghost use Rattle.decoder.specs.Answers.{correctedOf};
-ghost use Rattle.programs.specs.Output.{printed, mendText, mendOutput, Printed, most-output, Output};
+ghost use Rattle.programs.specs.Output.{Printed, most-output, Output};
+ghost use Rattle.texts.specs.Programs.{printed, mendText, mendOutput};
 ghost use Rattle.programs.specs.Steps.{Scanned, RoomFor, MendReady, FrameFits};
 use decoder::Counts;
 use decoder::Decoding;
@@ -37,8 +38,8 @@ fn put_corrected(
         a (now (out .entry)) (now (out .exit)) ⌝ }
 {
     let groups = design::group_count(blocks);
-    let i = texts::put_blocks(out, 0, d.area(), blocks as usize, info);
-    let j = texts::put_groups(out, i, d.order(), groups as usize, red);
+    let i = printing::put_blocks(out, 0, d.area(), blocks as usize, info);
+    let j = printing::put_groups(out, i, d.order(), groups as usize, red);
     writers::count_lines(out, j, counts.rounds, counts.flips, counts.outside)
 }
 

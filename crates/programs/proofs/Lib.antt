@@ -1,4 +1,3 @@
-pub mod Judged
 pub mod Bounds
 pub mod Printing
 pub mod Starting

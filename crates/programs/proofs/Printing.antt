@@ -15,12 +15,12 @@ use Rattle.design.specs.Answers.{refusalVerdict}
 use Rattle.answers.specs.declared.Judged.{Judged}
 use Rattle.answers.specs.Number.{judgedOf}
 use Rattle.answers.proofs.Refused.{refusal-judged}
-use Rattle.lines.specs.Written.{refusalText}
+use Rattle.texts.specs.Programs.{refusalText, printed}
 use Rattle.lines.proofs.Decimal.{dec-short}
 use Rattle.lines.proofs.Placing.{refusal-length}
 use Rattle.writers.specs.Room.{puts, after}
 use Rattle.writers.proofs.Room.{puts-room, after-room}
-use Rattle.programs.specs.Output.{printed, Printed, most-output, Output, outputIn, outputLength}
+use Rattle.programs.specs.Output.{Printed, most-output, Output, outputIn, outputLength}
 
 -- a text that was written where there is room
 pub printed-text : (text t o new : List ℕ) (r : ℕ) → text ≡ t → 0 + length t ≤ length o → r ≡ 0 + length t → new ≡ sets o 0 t → Printed text r o new

@@ -22,10 +22,10 @@ use Rattle.staircase.specs.Rules.Verdict.{accepted}
 use Rattle.design.specs.declared.Design.{Design}
 use Rattle.design.specs.Sizes.{orderOf}
 use Rattle.design.proofs.Allowed.{r-small}
-use Rattle.kittext.specs.Reader.{kitParams, selfOf, parityOf, inverseOf, readKitCall}
-use Rattle.kittext.proofs.Promises.{kit-order-small, kit-read}
-use Rattle.frametext.specs.Reader.{blockRule, blockCount, frameRule, frameCount}
-use Rattle.frametext.proofs.Promises.{blocks-hold, frame-holds}
+use Rattle.texts.specs.KitReader.{kitParams, selfOf, parityOf, inverseOf, readKitCall}
+use Rattle.texts.proofs.KitPromises.{kit-order-small, kit-read}
+use Rattle.texts.specs.FrameReader.{blockRule, blockCount, frameRule, frameCount}
+use Rattle.texts.proofs.FramePromises.{blocks-hold, frame-holds}
 use Rattle.programs.specs.Steps.{textRule, textCount, Started, Scanned, SizesAre, RoomFor, Ready}
 use Rattle.programs.specs.declared.Sizes.{Sizes}
 use Rattle.programs.proofs.Bounds.{few-rows, few-red}

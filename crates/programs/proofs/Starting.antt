@@ -20,15 +20,17 @@ use Rattle.answers.specs.Number.{judgedOf}
 use Rattle.answers.proofs.Refused.{refusal-judged}
 use Rattle.kittext.specs.declared.KitScan.{KitScan}
 use Rattle.kittext.specs.declared.KitScan.the-variants as scan
-use Rattle.kittext.specs.Reader.{headNumber, scanKit, kitScanVerdict, KitDesign}
+use Rattle.kittext.specs.Answers.{kitScanVerdict, KitDesign}
+use Rattle.texts.specs.KitReader.{headNumber, scanKit}
 use Rattle.frametext.specs.declared.Blocks.{Blocks}
 use Rattle.frametext.specs.declared.Blocks.the-variants as blocks
-use Rattle.frametext.specs.Reader.{blocksVerdict, CountIs, blockRule, blockCount, frameRule, frameCount}
-use Rattle.programs.specs.Output.{most-input, inputRule}
+use Rattle.frametext.specs.Answers.{blocksVerdict, CountIs}
+use Rattle.texts.specs.FrameReader.{blockRule, blockCount, frameRule, frameCount}
+use Rattle.texts.specs.Programs.{most-input, inputRule}
 use Rattle.programs.specs.Steps.{textRule, textCount, startRule, Started, Scanned, StartIs}
 use Rattle.programs.specs.declared.Start.{Start}
 use Rattle.programs.specs.declared.Start.the-variants.{Go, Stop}
-use Rattle.programs.proofs.Judged.{long-kit, long-text, short-inputs, then-refused, then-on}
+use Rattle.texts.proofs.Programs.{long-kit, long-text, short-inputs, then-refused, then-on}
 
 -- the rule for the text of a kit whose numbers are those of the design
 abbrev kitRule : Bool → List ℕ → List ℕ → Verdict

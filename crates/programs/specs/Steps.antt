@@ -24,9 +24,9 @@ use Rattle.staircase.specs.Rules.Verdict.{accepted, refused}
 use Rattle.design.specs.declared.Design.{Design}
 use Rattle.design.specs.Answers.{Allowed}
 use Rattle.design.specs.Sizes.{orderOf}
-use Rattle.kittext.specs.Reader.{headNumber, scanKit}
-use Rattle.frametext.specs.Reader.{blockRule, blockCount, frameRule, frameCount}
-use Rattle.programs.specs.Output.{most-input, inputRule}
+use Rattle.texts.specs.KitReader.{headNumber, scanKit}
+use Rattle.texts.specs.FrameReader.{blockRule, blockCount, frameRule, frameCount}
+use Rattle.texts.specs.Programs.{most-input, inputRule}
 use Rattle.programs.specs.declared.Sizes.{Sizes}
 use Rattle.programs.specs.declared.Start.{Start}
 use Rattle.programs.specs.declared.Start.the-variants.{Go, Stop}

@@ -1,5 +1,5 @@
-// What the two programs share. What each prints is defined in specs/Output.antt, for every kit.txt and every standard input; the crates `framing` and
-// `mending` make it, and the programs themselves only read their inputs and write it.
+// What the two programs share. What each prints is defined in Programs of the crate `texts`, for every kit.txt and every standard input; the
+// crates `framing` and `mending` make it, and the programs themselves only read their inputs and write it.
 //   MOST_OUTPUT                            the bytes that an output may have
 //   begin(kit, text, framed)               rule 13 for both inputs, then the kit, then the text: the design and the number of blocks, or a refusal
 //   sizes_of(d, blocks)                    the lengths that readers and calls are lent
@@ -14,9 +14,9 @@ ghost use mathlib.Core.List.{List};
 ghost use Prim.Native.Nat.{ℕ, _*_, _≤_};
 ghost use lib.ListN.{length};
 ghost use Rattle.staircase.specs.Design.{most-blocks};
-ghost use Rattle.lines.specs.Written.{refusalText};
-ghost use Rattle.frametext.specs.Reader.{blocksVerdict, CountIs};
-ghost use Rattle.programs.specs.Output.{most-input, Printed, most-output};
+ghost use Rattle.texts.specs.Programs.{refusalText, most-input};
+ghost use Rattle.frametext.specs.Answers.{blocksVerdict, CountIs};
+ghost use Rattle.programs.specs.Output.{Printed, most-output};
 ghost use Rattle.programs.specs.Steps.{textRule, textCount, Started, StartIs, SizesAre, RoomFor};
 use design::Design;
 use frametext::Blocks;

@@ -3,9 +3,9 @@
 --   demand3   the theorem
 -- Assumes nothing.
 use mathlib.Core.Path.{_≡_, refl, sym, ap, _∙_, subst}
-use mathlib.Core.Bool.{Bool, true, false, cond}
-use mathlib.Core.Logic.{_≢_, inl, inr}
-use mathlib.Core.List.{List, _∷_}
+use mathlib.Core.Bool.{true}
+use mathlib.Core.Logic.{_≢_}
+use mathlib.Core.List.{List}
 use Prim.Native.Nat.{ℕ, zero, suc, _+_, _-_, _*_, _/_, _≤_, _<_}
 use native.Mathlib.Decide.{decLt}
 use native.Mathlib.Omega.{arith}
@@ -14,9 +14,9 @@ use borrow.Author.Tests.{le-ltb}
 use Rattle.bch.specs.Polynomial.{Bits}
 use Rattle.bch.specs.Code.{distance}
 use Rattle.staircase.specs.Design.{Params, Interleavers, params, wordLength, order, Limits, most-blocks, most-rounds}
-use Rattle.staircase.specs.Frame.{Frame, Site, bitAt, groups, rowSites, columnSites, words, read, inCode, outsideAmong, outside}
+use Rattle.staircase.specs.Frame.{Frame, Site, groups, rowSites, columnSites, words, read, inCode, outsideAmong, outside}
 use Rattle.staircase.specs.System.{redundancy}
-use Rattle.staircase.specs.Frame.Site.{unsent, inInfo, inRed}
+use Rattle.staircase.specs.Frame.Site.{inInfo, inRed}
 use Rattle.staircase.specs.Decoder.{Decoded, runRounds, default-rounds, roundsAllowed, decoded}
 use Rattle.staircase.specs.Rules.{Verdict, designRules, countRule, roundsRule, listLengths, infoLength, redLength, frameLengths, kitWork, wordWork, interleavers, listRule, kitRules, frameBits}
 use Rattle.staircase.specs.Rules.Verdict.{accepted}
@@ -25,7 +25,8 @@ use Rattle.staircase.specs.Demand2.{KitPasses, FitsOrder}
 use Rattle.staircase.specs.Demand3.{EachWord, SameBut, Demand3}
 use Rattle.staircase.proofs.Rules.{then-first, then-accepted, refuse-accepted, inRange, length-accepted, design-limits, lengths-accepted, bits-accepted}
 use Rattle.staircase.proofs.Member.{In}
-use Rattle.staircase.proofs.Flip.{Received}
+use Rattle.staircase.proofs.Flip.{Received, bitAt-bits}
+use Rattle.staircase.proofs.Outside.{all-inside}
 use Rattle.staircase.proofs.Correction.{Sound, outside-none, runRounds-restore}
 use Rattle.staircase.proofs.System.{Proper, order-positive}
 use Rattle.staircase.proofs.BchCode.{proper-of, apart-of}
@@ -33,23 +34,6 @@ use Rattle.staircase.proofs.Sites.{rowSites-distinct, columnSites-disti
 use Rattle.staircase.proofs.Redundancy.{redundancy-length, redundancy-bits, rows-in-code, columns-in-code, redundancy-only}
 use Rattle.staircase.proofs.Reach.{reach}
 use Rattle.staircase.proofs.Demand2.{kit-passes}
-
--- ---- counts and bits
-
--- where none is counted outside, each word is in the code
-all-inside : (s : Params) (f : Frame) (ws : List (List Site)) → outsideAmong s f ws ≡ 0 → (w : List Site) → In w ws → inCode s f w ≡ true
-unfolding outsideAmong
-all-inside s f (v ∷ ws) e w (inl h) = ap (inCode s f) h ∙ go (inCode s f v) (omega (arith, e))
-  where
-    go : (z : Bool) → _≡_ {A = ℕ} (cond z 0 1) 0 → z ≡ true
-    go true d = refl
-    go false d = absurd (omega arith)
-all-inside s f (v ∷ ws) e w (inr h) = all-inside s f ws (omega (arith, e)) w h
-
-frame-bits : (f : Frame) → Bits (f .info) → Bits (f .red) → (y : Site) → bitAt f y < 2
-frame-bits f h k unsent = omega arith
-frame-bits f h k (inInfo j) = h j
-frame-bits f h k (inRed j) = k j
 
 -- ---- the theorem
 
@@ -121,7 +105,7 @@ module _ (m t M : ℕ) (self parity w : List ℕ) (design : designRules m t M �
   madeBits = redundancy-bits s l L ok (kit .self) (kit .parity) w (kit .rightInverse) (kit .leftInverse) info infoBits
 
   frame-itself : Received frame frame
-  frame-itself = record { infoLength = refl; redLength = refl; binary = frame-bits frame infoBits madeBits }
+  frame-itself = record { infoLength = refl; redLength = refl; binary = bitAt-bits frame infoBits madeBits }
 
   sound : (v : List Site) → In v (words s l L) → Sound s (wordLength s) frame v
   sound =
@@ -181,7 +165,7 @@ module _ (m t M : ℕ) (self parity w : List ℕ) (design : designRules m t M �
   restores received li lr hi hr few k hk =
       let d : Decoded = runRounds s (words s l L) (roundsAllowed k) received in
       let same : d .frame ≡ frame =
-      restored k received (record { infoLength = li; redLength = lr; binary = frame-bits received hi hr })
+      restored k received (record { infoLength = li; redLength = lr; binary = bitAt-bits received hi hr })
       (each-word s L l ok (kit .self) (kit .parity) (λ x. distance (read frame x) (read received x) ≤ t) (few .rows) (few .columns)) in
       let none : outsideAmong s (d .frame) (words s l L) ≡ 0 =
       ap (λ (x : Frame). outsideAmong s x (words s l L)) same ∙ outside-none s (wordLength s) (apart-of limits) frame frame-itself (words s l L) sound in (

@@ -3,6 +3,7 @@
 --   place, buffer, site?    sites can be told apart
 --   flip-same, flip-other   a flipped bit is the other bit, and no other site is touched
 --   Received f x            x has the lengths of the frame f and holds bits
+--   bitAt-bits              buffers of bits have a bit at every site
 --   flipAll-received, flipAll-other   some sites flipped
 --   read-same, same-read    a word's bits are those of its sites
 --   read-bits, read-length, site-in   they are bits, one for each site; the site at a position
@@ -83,6 +84,11 @@ pub record Received (f x : Frame) : Type 0 where
   pub infoLength : length (x .info) ≡ length (f .info)
   pub redLength : length (x .red) ≡ length (f .red)
   pub binary : (y : Site) → bitAt x y < 2
+
+pub bitAt-bits : (x : Frame) → Bits (x .info) → Bits (x .red) → (y : Site) → bitAt x y < 2
+bitAt-bits x h k unsent = omega arith
+bitAt-bits x h k (inInfo j) = h j
+bitAt-bits x h k (inRed j) = k j
 
 flip-lengths : (x : Site) (f : Frame) → (length ((flip x f) .info) ≡ length (f .info)) × (length ((flip x f) .red) ≡ length (f .red))
 flip-lengths unsent f = (refl, refl)

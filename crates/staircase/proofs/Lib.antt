@@ -19,8 +19,11 @@ pub mod Redundancy
 pub mod Reach
 pub mod Rounds
 pub mod Outside
+pub mod Idle
 pub mod Rules
+pub mod Decoded
 pub mod BchCode
 pub mod Demand2
 pub mod Demand3
+pub mod Encoded
 pub mod Vectors

@@ -2,9 +2,11 @@
 --   outside-append         of two lists of words, one after the other
 --   outside-bound          no more than there are words
 --   outside-next           of one group more
+--   all-inside             where none is counted, each word is in the code
 -- Assumes nothing.
-use mathlib.Core.Path.{_≡_, sym, ap, _∙_}
+use mathlib.Core.Path.{_≡_, refl, sym, ap, _∙_}
 use mathlib.Core.Bool.{Bool, true, false, cond}
+use mathlib.Core.Logic.{inl, inr}
 use mathlib.Core.List.{List, [], _∷_, _++_}
 use Prim.Native.Nat.{ℕ, suc, _+_, _≤_}
 use native.Mathlib.Nat.{zero-add, add-assoc}
@@ -13,6 +15,7 @@ use lib.ListN.{length}
 use Rattle.staircase.specs.Lists.{concat}
 use Rattle.staircase.specs.Design.{Params}
 use Rattle.staircase.specs.Frame.{Frame, Site, inCode, outsideAmong}
+use Rattle.staircase.proofs.Member.{In}
 use Rattle.staircase.proofs.Tables.{concat-last}
 
 module _ (s : Params) (f : Frame) where
@@ -35,3 +38,12 @@ module _ (s : Params) (f : Frame) where
   pub outside-next : (n : ℕ) (g : ℕ → List (List Site))
       → outsideAmong s f (concat (suc n) g) ≡ outsideAmong s f (concat n g) + outsideAmong s f (g n)
   outside-next n g = ap (outsideAmong s f) (concat-last n g) ∙ outside-append (concat n g) (g n)
+
+  pub all-inside : (ws : List (List Site)) → outsideAmong s f ws ≡ 0 → (w : List Site) → In w ws → inCode s f w ≡ true
+  unfolding outsideAmong
+  all-inside (v ∷ ws) e w (inl h) = ap (inCode s f) h ∙ inside (inCode s f v) (omega (arith, e))
+    where
+      inside : (z : Bool) → _≡_ {A = ℕ} (cond z 0 1) 0 → z ≡ true
+      inside true d = refl
+      inside false d = absurd (omega arith)
+  all-inside (v ∷ ws) e w (inr h) = all-inside ws (omega (arith, e)) w h

@@ -21,8 +21,7 @@ use Rattle.staircase.specs.System.{Contents}
 use Rattle.staircase.specs.Frame.{rowSites, columnSites, read, block, frameOf}
 use Rattle.staircase.specs.Demand2.{Permutes}
 use Rattle.staircase.proofs.System.{Proper}
-use Rattle.staircase.proofs.Tables.{Binary}
-use Rattle.staircase.proofs.Tables.{tabulate-length, tabulate-at, tabulate-bits}
+use Rattle.staircase.proofs.Tables.{Binary, tabulate-length, tabulate-at, tabulate-bits}
 use Rattle.staircase.proofs.Redundancy.{block-binary, read-row, read-column}
 use Rattle.blocks.specs.Blocks.{partSum, columnSum, rowSum, Powers}
 use Rattle.blocks.proofs.Sums.{part-same}

@@ -11,7 +11,8 @@
 ghost use mathlib.Core.Path.{_≡_};
 ghost use Prim.Native.Nat.{_+_};
 ghost use lib.Dec.{leb};
-ghost use Rattle.lines.specs.Written.{bitsText, groupLineText, refusalText, countsText};
+ghost use Rattle.texts.specs.FrameText.{bitsText, groupLineText};
+ghost use Rattle.texts.specs.Programs.{refusalText, countsText};
 ghost use Rattle.writers.specs.Room.{puts, after};
 
 // Whether three parts of these lengths have room behind a position.

@@ -3,10 +3,7 @@
 use native.Mathlib.Omega.{arith}
 use mathlib.Core.Path.{_≡_, sym, ap, _∙_, subst}
 use mathlib.Core.List.{[], _∷_}
-use mathlib.Core.List.{[], _∷_}
 use Prim.Native.Nat.{ℕ, _+_, _-_, _*_, _<_}
-use lib.Arith.{digits-lt}
-use Rattle.staircase.specs.Frame.{Site}
 use lib.Arith.{digits-lt}
 use Rattle.staircase.specs.Frame.{Site}
 use Rattle.staircase.specs.Frame.Site.{inInfo}

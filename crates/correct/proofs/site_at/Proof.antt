@@ -9,7 +9,6 @@ use Rattle.staircase.specs.Frame.{Site}
 use Rattle.design.specs.Sizes.{paramsOf, listsOf}
 use Rattle.correct.proofs.Places.{red-below, word-first, word-second, word-red}
 use borrow.Author.Needs.{needs}
-use borrow.Author.Needs.{needs}
 use Rattle.correct.proofs.site_at.Statement.{statement}
 use Rattle.correct.proofs.site_at.Tie as tie
 

@@ -12,7 +12,6 @@ use Rattle.locator.specs.Located.{positionsOf}
 use Rattle.correct.specs.Sites.{sitesOf, listed, Inside, Below, wordSites}
 use Rattle.correct.proofs.Word.{listed-none, listed-one, listed-two, listed-three}
 use borrow.Author.Needs.{needs}
-use borrow.Author.Needs.{needs}
 use Rattle.correct.proofs.spots_of.Statement.{statement}
 use Rattle.correct.proofs.spots_of.Tie as tie
 

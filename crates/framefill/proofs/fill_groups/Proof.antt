@@ -1,7 +1,7 @@
 -- The loop's invariant: the bits of i groups are written, and the walk of all lines goes on behind them. The measure is the number of lines left.
 -- Assumes nothing.
 use Rattle.framefill.proofs.Filling.{none-filled, next-given, next-passes, all-filled, group-next}
-use Rattle.framescan.specs.FrameText.{groupLine, groupLines}
+use Rattle.texts.specs.FrameText.{groupLine, groupLines}
 use Rattle.formats.specs.Items.{prep, walk}
 use Rattle.staircase.proofs.Bounds.{stretch-end}
 use native.Mathlib.Omega.{arith}

@@ -2,7 +2,7 @@
 -- Assumes nothing.
 use Rattle.readers.proofs.Lines.{step-of, stops-first, goes-on}
 use Rattle.formats.specs.Items.{lits, bitsLine}
-use Rattle.lines.specs.Written.{blockNames}
+use Rattle.texts.specs.FrameText.{blockNames}
 use borrow.Author.Needs.{needs}
 use Rattle.framescan.proofs.front.Statement.{statement}
 use Rattle.framescan.proofs.front.Tie as tie

@@ -2,7 +2,7 @@
 -- Assumes nothing.
 use Rattle.formats.proofs.Lines.{lines-whole, lines-end}
 use Rattle.readers.proofs.Lines.{lines-wrong, lines-step}
-use Rattle.framescan.specs.FrameText.{groupLine, groupLines}
+use Rattle.texts.specs.FrameText.{groupLine, groupLines}
 use Rattle.readers.specs.Answers.{stepOf}
 use Rattle.formats.specs.Items.{walk}
 use borrow.Author.Needs.{needs}

@@ -1,7 +1,7 @@
 -- After i lines the text ends there, or goes on with the line of block i + 1.
 -- Assumes nothing.
 use Rattle.framescan.proofs.Judging.{tail-there, tail-over, tail-wrong, tail-next}
-use Rattle.framescan.specs.FrameText.{blockTail}
+use Rattle.texts.specs.FrameText.{blockTail}
 use Rattle.formats.specs.Items.{scanAt, verdict}
 use Rattle.staircase.specs.Design.{most-blocks}
 use borrow.Author.Needs.{needs}

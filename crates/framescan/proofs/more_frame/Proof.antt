@@ -1,7 +1,7 @@
 -- After i lines `g` begins the group text, or the text goes on with the line of block i + 1.
 -- Assumes nothing.
 use Rattle.framescan.proofs.Judging.{frame-group, frame-none, frame-cut, frame-next}
-use Rattle.framescan.specs.FrameText.{frameTail}
+use Rattle.texts.specs.FrameText.{frameTail}
 use Rattle.formats.specs.Items.{scanAt, verdict}
 use Rattle.staircase.specs.Design.{most-blocks}
 use borrow.Author.Needs.{needs}

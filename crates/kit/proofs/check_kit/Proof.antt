@@ -7,9 +7,8 @@ use Prim.Native.Nat.{ℕ, _*_}
 use lib.ListN.{length}
 use Rattle.staircase.specs.Rules.{lengthRule, kitWork}
 use Rattle.staircase.proofs.Bounds.{small-product}
-use Rattle.design.proofs.Answers.{check-passed}
+use Rattle.design.proofs.Answers.{check-passed, made-allowed}
 use Rattle.staircase.proofs.Rules.{length-equal, lengths-fit}
-use Rattle.design.proofs.Answers.{made-allowed}
 use Rattle.kit.proofs.Verdict.{kit-design, kit-lengths, kit-working, kit-content}
 use Rattle.kit.proofs.check_kit.Statement.{statement}
 use Rattle.kit.proofs.check_kit.Tie as tie

@@ -4,7 +4,8 @@ use native.Mathlib.Omega.{arith}
 use mathlib.Core.Path.{_≡_, ap, _∙_}
 use Prim.Native.Nat.{ℕ, _≤_, _<_}
 use lib.ListN.{take, drop}
-use Rattle.kitfill.specs.Bytes.{binary, lows}
+use Rattle.kitfill.specs.Bytes.{lows}
+use Rattle.texts.specs.KitReader.{binary}
 use Rattle.kitfill.proofs.Packing.{gather-none, gather-step}
 use Rattle.kitfill.proofs.gather.Statement.{statement}
 use Rattle.kitfill.proofs.gather.Tie as tie

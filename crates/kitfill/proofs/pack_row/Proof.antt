@@ -7,7 +7,8 @@ use mathlib.Core.List.{List}
 use Prim.Native.Nat.{ℕ, _≤_, _+_, _-_, _/_, _%_}
 use lib.ListN.{length, take, drop, set, length-set}
 use lib.Seq.{sets}
-use Rattle.kitfill.specs.Bytes.{pack, lows}
+use Rattle.kitfill.specs.Bytes.{lows}
+use Rattle.texts.specs.KitReader.{pack}
 use Rattle.kitfill.proofs.Packing.{pack-none, pack-more}
 use Rattle.kitfill.proofs.pack_row.Statement.{statement}
 use Rattle.kitfill.proofs.pack_row.Tie as tie

@@ -7,7 +7,7 @@ use Prim.Native.Nat.{_≤_, _-_}
 use Rattle.formats.specs.Items.{walk}
 use Rattle.formats.proofs.Lines.{lines-whole, lines-end}
 use Rattle.readers.specs.Answers.{stepOf}
-use Rattle.kitscan.specs.KitText.{pairLine, pairLines}
+use Rattle.texts.specs.KitText.{pairLine, pairLines}
 use Rattle.kitscan.proofs.ListLines.{pairs-wrong, pairs-step}
 use Rattle.kitscan.proofs.pairs.Statement.{statement}
 use Rattle.kitscan.proofs.pairs.Tie as tie

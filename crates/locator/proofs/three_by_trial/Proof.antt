@@ -8,7 +8,6 @@ use Rattle.locator.specs.declared.Triple.{Triple}
 use Rattle.locator.specs.Steps.{TripleIs, TripleWith}
 use Rattle.locator.proofs.Triples.{NotBefore, not-before-more, not-three}
 use borrow.Author.Needs.{needs}
-use borrow.Author.Needs.{needs}
 use Rattle.locator.proofs.three_by_trial.Statement.{statement}
 use Rattle.locator.proofs.three_by_trial.Tie as tie
 

@@ -4,8 +4,7 @@ use native.Mathlib.Omega.{arith}
 use borrow.Author.Needs.{needs}
 use mathlib.Core.Path.{sym, _∙_}
 use lib.ListN.{length}
-use Rattle.design.proofs.Answers.{check-passed}
-use Rattle.design.proofs.Answers.{made-allowed}
+use Rattle.design.proofs.Answers.{check-passed, made-allowed}
 use Rattle.words.proofs.Verdict.{frame-received, frame-working, words-design, words-frame, words-counted}
 use Rattle.words.proofs.check_words.Statement.{statement}
 use Rattle.words.proofs.check_words.Tie as tie

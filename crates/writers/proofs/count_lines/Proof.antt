@@ -4,7 +4,7 @@ use Rattle.lines.proofs.Placing.{counts-length}
 use Rattle.writers.proofs.Room.{told-room, told-put, told-kept}
 use native.Mathlib.Omega.{arith}
 use Rattle.lines.proofs.Decimal.{dec-short}
-use Rattle.lines.specs.Written.{countsText}
+use Rattle.texts.specs.Programs.{countsText}
 use borrow.Author.Needs.{needs}
 use Rattle.writers.proofs.count_lines.Statement.{statement}
 use Rattle.writers.proofs.count_lines.Tie as tie

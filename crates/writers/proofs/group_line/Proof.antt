@@ -4,7 +4,7 @@ use Rattle.lines.proofs.Placing.{group-length}
 use Rattle.writers.proofs.Room.{told-room, told-put, told-kept}
 use native.Mathlib.Omega.{arith}
 use Rattle.lines.proofs.Decimal.{dec-short}
-use Rattle.lines.specs.Written.{groupLineText}
+use Rattle.texts.specs.FrameText.{groupLineText}
 use borrow.Author.Needs.{needs}
 use Rattle.writers.proofs.group_line.Statement.{statement}
 use Rattle.writers.proofs.group_line.Tie as tie

@@ -3,7 +3,7 @@
 use Rattle.lines.proofs.Placing.{refusal-length}
 use Rattle.writers.proofs.Room.{told-room, told-put, told-kept}
 use native.Mathlib.Omega.{arith}
-use Rattle.lines.specs.Written.{refusalText}
+use Rattle.texts.specs.Programs.{refusalText}
 use borrow.Author.Needs.{needs}
 use Rattle.writers.proofs.refusal_lines.Statement.{statement}
 use Rattle.writers.proofs.refusal_lines.Tie as tie

@@ -5,8 +5,7 @@ use mathlib.Core.List.{List}
 use Prim.Native.Nat.{ℕ, _-_, _≤_}
 use native.Mathlib.Omega.{arith}
 use lib.ListN.{length, set, getD}
-use lib.Seq.{paste-zero, length-paste}
-use lib.Seq.{paste as pasting}
+use lib.Seq.{paste-zero, length-paste, paste as pasting}
 use Rattle.host.proofs.Answers.{pasted-none, pasted-more, pasted-all}
 use Rattle.host.proofs.calls.paste.Statement.{statement}
 use Rattle.host.proofs.calls.paste.Tie as tie

@@ -2,7 +2,7 @@
 -- Assumes nothing.
 use borrow.Author.Needs.{needs}
 use Rattle.staircase.specs.Rules.{Verdict}
-use Rattle.kittext.specs.Reader.{readKitCall}
+use Rattle.texts.specs.KitReader.{readKitCall}
 use Rattle.hosttext.specs.Answers.{kitAnswer}
 use Rattle.hosttext.proofs.Answers.{told-by}
 use Rattle.hosttext.proofs.readings.bauchleton_read_kit.Statement.{statement}

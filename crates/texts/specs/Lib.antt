@@ -1,0 +1,10 @@
+pub mod Rules
+pub mod KitText
+pub mod KitReader
+pub mod KitWriter
+pub mod FrameText
+pub mod FrameReader
+pub mod Programs
+pub mod FrameThenMend
+pub mod MendPrints
+pub mod TextsK
