@@ -1,4 +1,4 @@
-/* The calls of Bauchleton for a host in C. Link target/staticlib/libhost.a, and for the calls on texts target/staticlib/libhosttext.a.
+/* The calls of Bauchleton for a host in C. Link target/staticlib/libbauchleton.a, and for the calls on texts target/staticlib/libbauchleton_text.a.
 
    A slice is a pointer and a length; no two slices of a call may overlap. Buffers hold one bit a byte, lists two bytes an entry, low byte first; the
    inverse has M * r rows of (M * r + 7) / 8 bytes. docs/WORKING.md says how many working bytes to lend.
@@ -17,7 +17,7 @@
 extern "C" {
 #endif
 
-/* ---- Kits and frames: libhost.a ---- */
+/* ---- Kits and frames: libbauchleton.a ---- */
 
 /* answer, 4 entries: place, r, n, k */
 uint64_t bauchleton_design(uint64_t m, uint64_t t, uint64_t size, uint64_t *answer, size_t answer_length);
@@ -56,7 +56,7 @@ uint64_t bauchleton_show(uint64_t m, uint64_t t, uint64_t size, uint64_t blocks,
                          size_t info_length, const uint8_t *red, size_t red_length, uint8_t *out, size_t out_length, uint64_t *answer,
                          size_t answer_length);
 
-/* ---- Reading texts: libhosttext.a ---- */
+/* ---- Reading texts: libbauchleton_text.a ---- */
 
 /* answer, 4 entries: place, m, t, M */
 uint64_t bauchleton_scan_kit(const uint8_t *text, size_t text_length, uint64_t *answer, size_t answer_length);
@@ -75,7 +75,7 @@ uint64_t bauchleton_scan_frame(uint64_t m, uint64_t t, uint64_t size, const uint
 uint64_t bauchleton_read_frame(uint64_t m, uint64_t t, uint64_t size, const uint8_t *text, size_t text_length, uint8_t *info,
                                size_t info_length, uint8_t *red, size_t red_length, uint64_t *answer, size_t answer_length);
 
-/* ---- Writing texts: libhosttext.a ----
+/* ---- Writing texts: libbauchleton_text.a ----
    Each writes from position `at` of `out` on and answers the position after what it wrote, or writes nothing and answers `at` where there is no room. */
 
 size_t bauchleton_block_line(uint8_t *out, size_t out_length, size_t at, uint64_t number, const uint8_t *bits, size_t bits_length);
@@ -84,7 +84,7 @@ size_t bauchleton_group_line(uint8_t *out, size_t out_length, size_t at, uint64_
 size_t bauchleton_refusal_lines(uint8_t *out, size_t out_length, size_t at, uint64_t rule, uint64_t place);
 size_t bauchleton_count_lines(uint8_t *out, size_t out_length, size_t at, uint64_t rounds, uint64_t turned, uint64_t outside);
 
-/* ---- The programs: libhosttext.a ----
+/* ---- The programs: libbauchleton_text.a ----
    What `frame` and `mend` print for the bytes of kit.txt and of their standard input, written to the start of `out`; answers its length. An `out` of
    fewer than BAUCHLETON_OUTPUT bytes is left as it was, and the answer is 0. */
 

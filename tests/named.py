@@ -24,7 +24,7 @@ def stands(name, text):
 
 def promises():
     text = (ROOT / "docs/PROMISES.md").read_text()
-    cited = r"`([a-z]+/(?:specs|proofs|src)/[\w/]+\.(?:antt|rt))`(:(?: ?`[^`]+`,?)*)?"
+    cited = r"`([a-z_]+/(?:specs|proofs|src)/[\w/]+\.(?:antt|rt))`(:(?: ?`[^`]+`,?)*)?"
     found = list(re.finditer(cited, text))
     if len(found) < 50:
         yield f"docs/PROMISES.md: only {len(found)} files are cited"
@@ -46,7 +46,7 @@ def promises():
 
 def decisions():
     text = (ROOT / "docs/DECISIONS.md").read_text()
-    for crate, name in re.findall(r"`([a-z]+)/([a-z0-9_]+)`", text):
+    for crate, name in re.findall(r"`([a-z_]+)/([a-z0-9_]+)`", text):
         if crate != "tests" and (crate, name) not in EDITS:
             yield f"docs/DECISIONS.md: no wrong program {crate}/{name}"
 

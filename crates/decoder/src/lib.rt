@@ -1,4 +1,4 @@
-// The decoder: rules 1 to 7 and 10 of document 01's table, then rounds over the words of the received frame, in place (crate `rounds`).
+// The decoder: rules 1 to 7 and 10 of document 01's table, then rounds over the words of the received frame, in place (crate `decoder_rounds`).
 //   decode   corrects a frame, and counts rounds, flipped bits and words outside the code at the end
 ghost use mathlib.Core.Path.{_≡_};
 ghost use Prim.Native.Nat.{_+_, _*_, _^_, _≤_};
@@ -50,9 +50,9 @@ fn correct_in(
     ensures { λ a. ⌜ correctedOf (Decoding.Decoded a) (frameOf (now (info .exit)) (now (red .exit)))
         ≡ correctedFrame (paramsOf d) (listsOf d (now (own .entry)) (now (parity .entry))) blocks rounds (frameOf (now (info .entry)) (now (red .entry))) ⌝ }
 {
-    let limit = rounds::rounds_allowed(rounds);
-    rounds::fill_tables(d, positions, syndromes, field);
-    let made = rounds::run_rounds(
+    let limit = decoder_rounds::rounds_allowed(rounds);
+    decoder_rounds::fill_tables(d, positions, syndromes, field);
+    let made = decoder_rounds::run_rounds(
         d,
         blocks,
         limit,
@@ -66,7 +66,7 @@ fn correct_in(
         work,
         sums,
     );
-    let outside = rounds::outside_after(
+    let outside = decoder_rounds::outside_after(
         d,
         blocks,
         made,

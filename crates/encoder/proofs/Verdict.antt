@@ -21,7 +21,7 @@ use Rattle.design.specs.declared.Designed.the-variants as designed
 use Rattle.design.specs.Sizes.{paramsOf, listsOf}
 use Rattle.design.specs.Answers.{verdictOf, designVerdict, DesignIs, Allowed}
 use Rattle.design.proofs.Answers.{check-refused, check-passed, made-params, refused-design, made-design}
-use Rattle.frames.specs.Groups.{Encodable}
+use Rattle.encoder_frame.specs.Groups.{Encodable}
 use Rattle.encoder.specs.Checks.{contentRules, lengthRules, frameRules}
 
 module _ (d : Design) (L : ℕ) (own parity w info red : List ℕ) (work : ℕ) (allowed : Allowed d) (e : frameRules (paramsOf d) L own parity w info red work ≡ accepted) where

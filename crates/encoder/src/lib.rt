@@ -1,7 +1,7 @@
 // The encoder: rules 1 to 4 and 6 to 10 of document 01's table, then the redundancy of the frame, group by group.
 //   encode   makes the redundancy of a frame
 //
-// All rules are judged before the first byte is written, in the table's order. The crate `frames` makes the redundancy.
+// All rules are judged before the first byte is written, in the table's order. The crate `encoder_frame` makes the redundancy.
 ghost use mathlib.Core.Path.{_≡_};
 ghost use Prim.Native.Nat.{_≤_};
 ghost use lib.ListN.{length};
@@ -30,7 +30,7 @@ fn check_contents(
 {
     let n = d.order();
     let rb = d.row_bytes();
-    let working = lengths::check_length(lengths::WORKING, work.len(), n * rb);
+    let working = rules_lengths::check_length(rules_lengths::WORKING, work.len(), n * rb);
     let Check::Passed = working else {
         return working;
     };
@@ -56,11 +56,11 @@ fn check_lengths(
     ensures { λ a. ⌜ verdictOf a ≡ lengthRules (paramsOf d) blocks (now (own .entry)) (now (parity .entry)) (now (inverse .entry)) (now (info .entry))
         (now (red .entry)) (length (now (work .entry))) ⌝ }
 {
-    let kit = lengths::check_kit_lengths(d, own, parity, inverse);
+    let kit = rules_lengths::check_kit_lengths(d, own, parity, inverse);
     let Check::Passed = kit else {
         return kit;
     };
-    let frame = lengths::check_frame_lengths(d, blocks, info, red);
+    let frame = rules_lengths::check_frame_lengths(d, blocks, info, red);
     let Check::Passed = frame else {
         return frame;
     };
@@ -117,6 +117,6 @@ pub fn encode(
     let Check::Passed = frame else {
         return frame;
     };
-    frames::make_redundancy(d, blocks as usize, parity, inverse, info, red);
+    encoder_frame::make_redundancy(d, blocks as usize, parity, inverse, info, red);
     frame
 }

@@ -2,14 +2,15 @@
 //   check_kit       judges a kit
 //   check_content   rules 7 to 9
 //
-// The rules are judged one after the other, in the table's order; the crate `lengths` has rule 6, and `inverse` rule 9, which is most of the work.
+// The rules are judged one after the other, in the table's order; the crate `rules_lengths` has rule 6, and `kit_inverse` rule 9, which is most of
+// the work.
 ghost use mathlib.Core.Path.{_≡_};
 ghost use lib.ListN.{length};
 ghost use Rattle.staircase.specs.Rules.{kitRules};
 ghost use Rattle.staircase.specs.Calls.{kitVerdict};
 ghost use Rattle.design.specs.Sizes.{paramsOf, listsOf};
 ghost use Rattle.design.specs.Answers.{verdictOf};
-ghost use Rattle.inverse.specs.Fits.{KitSized};
+ghost use Rattle.kit_inverse.specs.Fits.{KitSized};
 use design::Check;
 use design::Design;
 use design::Designed;
@@ -29,7 +30,7 @@ pub fn check_content(d: Design, own: &[u8], parity: &[u8], inverse: &[u8], work:
     let Check::Passed = spare else {
         return spare;
     };
-    inverse::check_inverse(d, own, parity, inverse, work)
+    kit_inverse::check_inverse(d, own, parity, inverse, work)
 }
 
 // Judges a kit: rules 1 to 3 and 6 to 9, with the table's number and place of the first that refuses. The lists have two bytes an entry, the
@@ -49,13 +50,13 @@ pub fn check_kit(
     let Designed::Made(d) = designed else {
         return design::design_check(designed);
     };
-    let fit = lengths::check_kit_lengths(d, own, parity, inverse);
+    let fit = rules_lengths::check_kit_lengths(d, own, parity, inverse);
     let Check::Passed = fit else {
         return fit;
     };
     let n = d.order();
     let rb = d.row_bytes();
-    let working = lengths::check_length(lengths::WORKING, work.len(), n * rb);
+    let working = rules_lengths::check_length(rules_lengths::WORKING, work.len(), n * rb);
     let Check::Passed = working else {
         return working;
     };

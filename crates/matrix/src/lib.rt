@@ -11,7 +11,7 @@
 // of the rows 8 b to 8 b + 7 in it. So byte b of the packed row masks plane b, in all columns at once and along bytes that lie side by side, and
 // a byte that is 0 masks to nothing and is passed over: a row costs n for each of its bytes that are not 0.
 //
-// The crate `planes` brings a packed matrix into planes.
+// The crate `matrix_planes` brings a packed matrix into planes.
 //
 // n is the order, 1 to 4,096, and a packed row has rowBytes n bytes. Every function leaves the lengths of what it is lent as they are.
 ghost use mathlib.Core.Path.{_≡_};

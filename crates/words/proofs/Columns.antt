@@ -13,9 +13,9 @@ use lib.ListN.{length, getD, take, drop}
 use Rattle.bch.specs.Polynomial.{Bits, _⊕_}
 use Rattle.staircase.specs.Lists.{tabulate}
 use Rattle.staircase.proofs.Tables.{tabulate-length, tabulate-at, tabulate-bits}
-use Rattle.remainders.proofs.Rows.{row-at}
-use Rattle.blocks.specs.Blocks.{PartAdded}
-use Rattle.blocks.proofs.Sums.{part-same, Adds, adds-part}
+use Rattle.bch_remainders.proofs.Rows.{row-at}
+use Rattle.words_blocks.specs.Blocks.{PartAdded}
+use Rattle.words_blocks.proofs.Sums.{part-same, Adds, adds-part}
 
 pub columns-added : (bits table old new : List ℕ) (at from r : ℕ) → from + r ≤ length table
     → Adds (take (from + r - from) (drop from table)) (λ w v a j. getD (take (at + r * length old - at) (drop at bits)) (j * w + a) 0) old new

@@ -26,9 +26,9 @@ use Rattle.staircase.proofs.Tables.{tabulate-same}
 use Rattle.design.specs.declared.Design.{Design}
 use Rattle.design.specs.Sizes.{paramsOf, orderOf, listsOf}
 use Rattle.design.proofs.Allowed.{proper-of}
-use Rattle.blocks.specs.Blocks.{sent, blockBytes, sentBit, partSum, columnSum, rowSum, PartAdded}
-use Rattle.blocks.proofs.Blocks.{sent-odd, block-fits, block-is, odd-is}
-use Rattle.blocks.proofs.Sums.{added-twice}
+use Rattle.words_blocks.specs.Blocks.{sent, blockBytes, sentBit, partSum, columnSum, rowSum, PartAdded}
+use Rattle.words_blocks.proofs.Blocks.{sent-odd, block-fits, block-is, odd-is}
+use Rattle.words_blocks.proofs.Sums.{added-twice}
 use Rattle.rules.specs.Received.{Received}
 use Rattle.words.specs.Words.{rowRemainders, columnRemainders, blockRows, blockColumns, WordTable, BlocksLent, Sends}
 use Rattle.words.proofs.Remainders.{row-is, column-is}

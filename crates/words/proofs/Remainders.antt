@@ -23,9 +23,9 @@ use Rattle.staircase.specs.Demand2.{Permutes}
 use Rattle.staircase.proofs.System.{Proper}
 use Rattle.staircase.proofs.Tables.{Binary, tabulate-length, tabulate-at, tabulate-bits}
 use Rattle.staircase.proofs.Redundancy.{block-binary, read-row, read-column}
-use Rattle.blocks.specs.Blocks.{partSum, columnSum, rowSum, Powers}
-use Rattle.blocks.proofs.Sums.{part-same}
-use Rattle.blocks.proofs.Link.{SameBlock}
+use Rattle.words_blocks.specs.Blocks.{partSum, columnSum, rowSum, Powers}
+use Rattle.words_blocks.proofs.Sums.{part-same}
+use Rattle.words_blocks.proofs.Link.{SameBlock}
 
 -- ---- sums over a word, by any weights of its positions
 

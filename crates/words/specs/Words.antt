@@ -20,7 +20,7 @@ use Rattle.staircase.specs.Frame.{Frame, Site, rowSites, columnSites, read}
 use Rattle.staircase.specs.Rules.{entries}
 use Rattle.design.specs.declared.Design.{Design}
 use Rattle.design.specs.Sizes.{paramsOf}
-use Rattle.blocks.specs.Blocks.{sent, blockBytes, sentBit, columnSum, rowSum, Powers}
+use Rattle.words_blocks.specs.Blocks.{sent, blockBytes, sentBit, columnSum, rowSum, Powers}
 
 -- "A codeword is a word that the generator divides": a word is outside the code where its remainder is not 0
 unfoldable pub rowRemainders : Params → Interleavers → ℕ → Frame → ℕ → List ℕ

@@ -5,10 +5,10 @@
 //   check_received                      rules 6, 7 and 10 for a frame and its lists
 //   check_words                         the word checker: rules 1 to 4, 6, 7 and 10, then the count
 //
-// The remainder of a word is a sum of entries of a table of powers of x, one for each of its ones (crate `remainders`), and a word is in the code
-// where its remainder is 0. All words of a group are summed at once, part by part: the blocks (crate `blocks`), then X and Q or Y and P. Y and P
-// stand in the redundancy row by row, a row for each position and a column for each word. X and Q have the same form once they are spread
-// into the working bytes: byte b × M + a is row a, column b, and stands in Y or P where the list sends it. Nothing of the frame is changed.
+// The remainder of a word is a sum of entries of a table of powers of x, one for each of its ones (crate `bch_remainders`), and a word is in the code
+// where its remainder is 0. All words of a group are summed at once, part by part: the blocks (crate `words_blocks`), then X and Q or Y and P. Y and
+// P stand in the redundancy row by row, a row for each position and a column for each word. X and Q have the same form once they are spread into the
+// working bytes: byte b × M + a is row a, column b, and stands in Y or P where the list sends it. Nothing of the frame is changed.
 ghost use mathlib.Core.Path.{_≡_};
 ghost use mathlib.Core.Bool.{cond};
 ghost use Prim.Native.Nat.{_+_, _*_, _^_, _≤_, _<_};
@@ -23,7 +23,7 @@ ghost use Rattle.staircase.specs.Calls.{countedBy, wordsCall};
 ghost use Rattle.design.specs.Answers.{verdictOf, Allowed};
 ghost use Rattle.design.specs.Sizes.{paramsOf, orderOf, listsOf};
 ghost use Rattle.rules.specs.Received.{Received};
-ghost use Rattle.blocks.specs.Blocks.{PartAdded};
+ghost use Rattle.words_blocks.specs.Blocks.{PartAdded};
 ghost use Rattle.words.specs.Words.{rowRemainders, columnRemainders, nonzeros, groupWords, blockRows, blockColumns, WordTable, BlocksLent, Sends};
 ghost use Rattle.words.specs.Checks.{contentRules, receivedRules, frameRules, countedOf};
 use design::Check;
@@ -56,7 +56,7 @@ fn add_columns(sums: &mut [u32], bits: &[u8], at: usize, table: &[u32], from: us
     ensures { λ u. ⌜ PartAdded (now (table .entry)) from r (λ w a j. getD (now (bits .entry)) (at + (j * w + a)) 0) (now (sums .entry)) (now (sums .exit)) ⌝ }
 {
     let n = r * sums.len();
-    remainders::add_rows(sums, &bits[at..at + n], &table[from..from + r]);
+    bch_remainders::add_rows(sums, &bits[at..at + n], &table[from..from + r]);
 }
 
 // The same for columns of X, which the self list makes of Y's bytes; or of Q, by the parity list from P's.
@@ -86,10 +86,10 @@ fn block_rows(info: &[u8], blocks: usize, i: usize, table: &[u32], rows: &mut [u
     ensures { λ u. ⌜ now (rows .exit) ≡ blockRows (now (table .entry)) (length (now (rows .entry))) blocks (now (info .entry)) i ⌝ }
 {
     let area = rows.len() * rows.len();
-    let before = blocks::block_of(info, area, blocks, 2 * i);
-    let odd = blocks::block_of(info, area, blocks, 2 * i + 1);
-    let has_before = blocks::is_sent(blocks, 2 * i);
-    blocks::row_sums(before, has_before, odd, table, rows);
+    let before = words_blocks::block_of(info, area, blocks, 2 * i);
+    let odd = words_blocks::block_of(info, area, blocks, 2 * i + 1);
+    let has_before = words_blocks::is_sent(blocks, 2 * i);
+    words_blocks::row_sums(before, has_before, odd, table, rows);
 }
 
 // Makes `columns` the remainders of the blocks of a group's column words.
@@ -98,10 +98,10 @@ fn block_columns(info: &[u8], blocks: usize, i: usize, table: &[u32], columns: &
     ensures { λ u. ⌜ now (columns .exit) ≡ blockColumns (now (table .entry)) (length (now (columns .entry))) blocks (now (info .entry)) i ⌝ }
 {
     let area = columns.len() * columns.len();
-    let odd = blocks::block_of(info, area, blocks, 2 * i + 1);
-    let even = blocks::block_of(info, area, blocks, 2 * i + 2);
-    let has_even = blocks::is_sent(blocks, 2 * i + 2);
-    blocks::column_sums(odd, even, has_even, table, columns);
+    let odd = words_blocks::block_of(info, area, blocks, 2 * i + 1);
+    let even = words_blocks::block_of(info, area, blocks, 2 * i + 2);
+    let has_even = words_blocks::is_sent(blocks, 2 * i + 2);
+    words_blocks::column_sums(odd, even, has_even, table, columns);
 }
 
 // Makes `rows` the remainders of the row words of the group that i groups precede. The working bytes are one for each entry of a list, and free
@@ -273,7 +273,7 @@ fn check_contents(
         ≡ contentRules (paramsOf d) (now (own .entry)) (now (parity .entry)) (now (info .entry)) (now (red .entry)) (length (now (work .entry))) ⌝ }
 {
     let n = d.order();
-    let working = lengths::check_length(lengths::WORKING, work.len(), n);
+    let working = rules_lengths::check_length(rules_lengths::WORKING, work.len(), n);
     let Check::Passed = working else {
         return working;
     };
@@ -303,11 +303,11 @@ pub fn check_received(
     ensures { λ a. ⌜ verdictOf a ≡ receivedRules (paramsOf d) blocks (now (own .entry)) (now (parity .entry)) (now (info .entry)) (now (red .entry))
         (length (now (work .entry))) ⌝ }
 {
-    let lists = lengths::check_list_lengths(d, own, parity);
+    let lists = rules_lengths::check_list_lengths(d, own, parity);
     let Check::Passed = lists else {
         return lists;
     };
-    let frame = lengths::check_frame_lengths(d, blocks, info, red);
+    let frame = rules_lengths::check_frame_lengths(d, blocks, info, red);
     let Check::Passed = frame else {
         return frame;
     };
@@ -351,7 +351,7 @@ fn count_received(
 {
     let bits = d.n();
     let mut table = [0u32; 1024];
-    positions::fill_table(d, &mut table[0..bits]);
+    words_positions::fill_table(d, &mut table[0..bits]);
     count_outside(d, blocks, own, parity, info, red, &table[0..bits], work)
 }
 

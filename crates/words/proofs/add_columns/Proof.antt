@@ -4,7 +4,7 @@ use borrow.Author.Needs.{needs}
 use mathlib.Core.Path.{sym, ap, _∙_}
 use Prim.Native.Nat.{ℕ, _+_, _-_, _*_}
 use lib.ListN.{length}
-use Rattle.remainders.proofs.Rows.{row-length, row-bits}
+use Rattle.bch_remainders.proofs.Rows.{row-length, row-bits}
 use Rattle.words.proofs.Columns.{columns-added}
 use Rattle.words.proofs.add_columns.Statement.{statement}
 use Rattle.words.proofs.add_columns.Tie as tie

@@ -6,7 +6,7 @@ use mathlib.Core.Path.{sym, _∙_}
 use Prim.Native.Nat.{_+_, _*_}
 use lib.ListN.{length}
 use Rattle.staircase.proofs.Bounds.{small-product}
-use Rattle.blocks.proofs.Blocks.{sent-odd}
+use Rattle.words_blocks.proofs.Blocks.{sent-odd}
 use Rattle.words.proofs.Groups.{block-lent, rows-of-blocks}
 use Rattle.words.proofs.block_rows.Statement.{statement}
 use Rattle.words.proofs.block_rows.Tie as tie

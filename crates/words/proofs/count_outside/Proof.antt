@@ -2,7 +2,7 @@
 -- Assumes nothing.
 use native.Mathlib.Omega.{arith}
 use borrow.Author.Needs.{needs}
-use Rattle.blocks.proofs.Sums.{part-length}
+use Rattle.words_blocks.proofs.Sums.{part-length}
 use Rattle.words.proofs.count_outside.Statement.{statement}
 use Rattle.words.proofs.count_outside.Tie as tie
 

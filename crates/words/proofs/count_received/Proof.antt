@@ -8,7 +8,7 @@ use lib.ListN.{length}
 use Rattle.bch.specs.Code.{generator}
 use Rattle.bch.specs.Powers.{PositionPowers}
 use Rattle.design.proofs.Allowed.{bits-small}
-use Rattle.positions.proofs.Parts.{part-fits, part-is}
+use Rattle.words_positions.proofs.Parts.{part-fits, part-is}
 use Rattle.words.proofs.count_received.Statement.{statement}
 use Rattle.words.proofs.count_received.Tie as tie
 

@@ -1,0 +1,55 @@
+// Designs and kits for a host in C.
+//   bauchleton_design      rules 1 to 3, and the sizes of a design
+//   bauchleton_check_kit   the kit checker
+ghost use mathlib.Core.Path.{_≡_};
+ghost use mathlib.Core.List.{[], _∷_};
+ghost use lib.ListN.{length};
+ghost use Rattle.staircase.specs.Design.{params};
+ghost use Rattle.staircase.specs.Rules.{designRules};
+ghost use Rattle.staircase.specs.Calls.{kitVerdict};
+ghost use Rattle.rules_verdict.specs.Number.{number, placeOf, told};
+ghost use Rattle.bauchleton.specs.Answers.{designAnswer};
+use crate::tells::tell_check;
+use design::Design;
+use design::Designed;
+use rules_verdict::Judged;
+use rules_verdict::of_refusal;
+use rules_verdict::tell_four;
+
+// Judges a design. `answer` has four entries: the place, r, n and k.
+#[no_mangle]
+pub extern "C" fn bauchleton_design(m: u64, t: u64, size: u64, answer: &mut [u64]) -> u64
+    ensures { λ a. ⌜ (a ≡ number (designRules m t size))
+        × (now (answer .exit) ≡ told (designAnswer (designRules m t size) (params m t size)) (now (answer .entry))) ⌝ }
+{
+    match Design::new(m, t, size) {
+        Designed::Made(d) => tell_four(
+            Judged { rule: 0, place: 0 },
+            d.r() as u64,
+            d.n() as u64,
+            d.k() as u64,
+            answer,
+        ),
+        Designed::Refused(r) => tell_four(of_refusal(r), 0, 0, 0, answer),
+    }
+}
+
+// Judges a kit. `answer` has one entry: the place.
+#[no_mangle]
+pub extern "C" fn bauchleton_check_kit(
+    m: u64,
+    t: u64,
+    size: u64,
+    own: &[u8],
+    parity: &[u8],
+    inverse: &[u8],
+    work: &mut [u8],
+    answer: &mut [u64],
+) -> u64
+    ensures { λ a.
+        let v = kitVerdict m t size (now (own .entry)) (now (parity .entry)) (now (inverse .entry)) (length (now (work .entry))) in
+        ⌜ (a ≡ number v) × (now (answer .exit) ≡ told (placeOf v ∷ []) (now (answer .entry))) ⌝ }
+{
+    let c = kit::check_kit(m, t, size, own, parity, inverse, work);
+    tell_check(c, answer)
+}

@@ -1,0 +1,78 @@
+// What the answer of a call tells a host in C: the number of the rule that refuses, and the entries of the slice that is lent for the rest.
+//   tell_check      a check's verdict: the kit checker and the encoder
+//   tell_words      the word checker's answer
+//   tell_decoding   the decoder's
+//   tell_looped     the loopback's
+ghost use mathlib.Core.Path.{_≡_};
+ghost use mathlib.Core.List.{[], _∷_};
+ghost use Rattle.staircase.specs.Frame.{Frame};
+ghost use Rattle.design.specs.Answers.{verdictOf};
+ghost use Rattle.words.specs.Checks.{countedOf};
+ghost use Rattle.decoder.specs.Answers.{correctedOf};
+ghost use Rattle.loopback.specs.Link.{resultOf};
+ghost use Rattle.rules_verdict.specs.Number.{number, placeOf, told};
+ghost use Rattle.bauchleton.specs.Answers.{wordsAnswer, correctedAnswer, outcomeNumber, outcomeAnswer};
+use decoder::Decoding;
+use design::Check;
+use loopback::Looped;
+use rules_verdict::Judged;
+use rules_verdict::of_check;
+use rules_verdict::of_refusal;
+use rules_verdict::tell_five;
+use rules_verdict::tell_four;
+use rules_verdict::tell_place;
+use rules_verdict::tell_two;
+use words::WordCount;
+
+// Tells a check's verdict.
+pub fn tell_check(c: Check, answer: &mut [u64]) -> u64
+    ensures { λ n. ⌜ (n ≡ number (verdictOf c)) × (now (answer .exit) ≡ told (placeOf (verdictOf c) ∷ []) (now (answer .entry))) ⌝ }
+{
+    tell_place(of_check(c), answer)
+}
+
+// Tells the word checker's answer.
+pub fn tell_words(a: WordCount, answer: &mut [u64]) -> u64
+    ensures { λ n. ⌜ (n ≡ number (countedOf a .verdict)) × (now (answer .exit) ≡ told (wordsAnswer (countedOf a)) (now (answer .entry))) ⌝ }
+{
+    match a {
+        WordCount::Counted(n) => tell_two(Judged { rule: 0, place: 0 }, n, answer),
+        WordCount::Refused(r) => tell_two(of_refusal(r), 0, answer),
+    }
+}
+
+// Tells the decoder's answer.
+pub fn tell_decoding(a: Decoding, answer: &mut [u64]) -> u64
+    ensures { λ n. ⌜ ((f : Frame) → (n ≡ number (correctedOf a f .verdict))
+        × (now (answer .exit) ≡ told (correctedAnswer (correctedOf a f)) (now (answer .entry)))) ⌝ }
+{
+    match a {
+        Decoding::Decoded(c) => tell_four(
+            Judged { rule: 0, place: 0 },
+            c.rounds,
+            c.flips,
+            c.outside,
+            answer,
+        ),
+        Decoding::Refused(r) => tell_four(of_refusal(r), 0, 0, 0, answer),
+    }
+}
+
+// Tells the loopback's answer.
+pub fn tell_looped(a: Looped, answer: &mut [u64]) -> u64
+    ensures { λ n. ⌜ ((f : Frame) → (n ≡ outcomeNumber (resultOf a f .outcome))
+        × (now (answer .exit) ≡ told (outcomeAnswer (resultOf a f .outcome)) (now (answer .entry)))) ⌝ }
+{
+    match a {
+        Looped::NotEncoded(r) => tell_five(of_refusal(r), 1, 0, 0, 0, answer),
+        Looped::NotDecoded(r) => tell_five(of_refusal(r), 2, 0, 0, 0, answer),
+        Looped::Done(counts) => tell_five(
+            Judged { rule: 0, place: 0 },
+            0,
+            counts.rounds,
+            counts.flips,
+            counts.outside,
+            answer,
+        ),
+    }
+}

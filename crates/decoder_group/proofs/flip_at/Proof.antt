@@ -1,0 +1,110 @@
+-- Each arm is given which bit it is.
+-- Assumes nothing.
+use mathlib.Core.Path.{sym, ap, subst}
+use native.Mathlib.Nat.{le-of-suc-le-suc}
+use native.Mathlib.Omega.{arith}
+use lib.ListN.{length}
+use Rattle.staircase.specs.Frame.{frameOf}
+use Rattle.staircase.specs.Decoder.{flipAll}
+use Rattle.decoder_group.specs.declared.Spot.{Spot}
+use Rattle.decoder_group.specs.Sites.{sitesOf, Inside}
+use borrow.Author.Needs.{needs}
+use Rattle.decoder_group.proofs.flip_at.Statement.{statement}
+use Rattle.decoder_group.proofs.flip_at.Tie as tie
+
+enum-told : tie.Need-enum-told
+enum-told c = search needs
+
+enum-told-2 : tie.Need-enum-told-2
+enum-told-2 c = search needs
+
+enum-known-at : tie.Need-enum-known-at
+enum-known-at c = search needs
+
+slice-read-info : tie.Need-slice-read-info
+unfolding Inside
+slice-read-info c =
+    let start = c .before .before .before .before in
+    let at = c .before .before .at in
+    omega (arith, subst (λ (z : Spot). Inside z (length (start .args .info .now)) (length (start .args .red .now))) (at .given .1) (start .pre .0))
+
+sub-info : tie.Need-sub-info
+sub-info c = le-of-suc-le-suc (c .before .before .before .before .pre .1 _)
+
+slice-write-info : tie.Need-slice-write-info
+unfolding Inside
+slice-write-info c =
+    let start = c .before .before .before .before in
+    let at = c .before .before .at in
+    omega (arith, subst (λ (z : Spot). Inside z (length (start .args .info .now)) (length (start .args .red .now))) (at .given .1) (start .pre .0))
+
+enum-known-at-2 : tie.Need-enum-known-at-2
+enum-known-at-2 c = search needs
+
+slice-read-red : tie.Need-slice-read-red
+unfolding Inside
+slice-read-red c =
+    let start = c .before .before .before .before in
+    let at2 = c .before .before .at2 in
+    omega (arith, subst (λ (z : Spot). Inside z (length (start .args .info .now)) (length (start .args .red .now))) (at2 .given .1) (start .pre .0))
+
+sub-red : tie.Need-sub-red
+sub-red c = le-of-suc-le-suc (c .before .before .before .before .pre .2 _)
+
+slice-write-red : tie.Need-slice-write-red
+unfolding Inside
+slice-write-red c =
+    let start = c .before .before .before .before in
+    let at2 = c .before .before .at2 in
+    omega (arith, subst (λ (z : Spot). Inside z (length (start .args .info .now)) (length (start .args .red .now))) (at2 .given .1) (start .pre .0))
+
+returns : tie.Need-returns
+unfolding sitesOf flipAll
+returns c =
+    let start = c .before .before in
+    ap (λ (z : Spot). flipAll (sitesOf z) (frameOf (start .args .info .now) (start .args .red .now))) (sym (c .enum-told .given .1))
+
+returns-2 : tie.Need-returns-2
+unfolding sitesOf flipAll
+returns-2 c =
+    let start = c .before .before in
+    ap (λ (z : Spot). flipAll (sitesOf z) (frameOf (start .args .info .now) (start .args .red .now))) (sym (c .enum-told2 .given .1))
+
+same-length : tie.Need-same-length
+same-length c = search needs
+
+returns-3 : tie.Need-returns-3
+unfolding sitesOf flipAll
+returns-3 c =
+    let start = c .before .before .before .before in
+    ap (λ (z : Spot). flipAll (sitesOf z) (frameOf (start .args .info .now) (start .args .red .now))) (sym (c .before .before .at .given .1))
+
+same-length-2 : tie.Need-same-length-2
+same-length-2 c = search needs
+
+returns-4 : tie.Need-returns-4
+unfolding sitesOf flipAll
+returns-4 c =
+    let start = c .before .before .before .before in
+    ap (λ (z : Spot). flipAll (sitesOf z) (frameOf (start .args .info .now) (start .args .red .now))) (sym (c .before .before .at2 .given .1))
+
+pub flip-at-spec : {M : Type 1} → statement M
+flip-at-spec =
+    tie.close
+    (tie.spec
+    enum-told
+    enum-told-2
+    enum-known-at
+    slice-read-info
+    sub-info
+    slice-write-info
+    enum-known-at-2
+    slice-read-red
+    sub-red
+    slice-write-red
+    returns
+    returns-2
+    same-length
+    returns-3
+    same-length-2
+    returns-4)

@@ -1,0 +1,44 @@
+-- The group is stretch i of the redundancy.
+-- Assumes nothing.
+use native.Mathlib.Omega.{arith}
+use mathlib.Core.Path.{_≡_, sym, ap, subst}
+use mathlib.Core.List.{[], _∷_}
+use Prim.Native.Nat.{ℕ, _+_, _*_, _<_}
+use Rattle.staircase.specs.Frame.{groups}
+use Rattle.staircase.specs.Frame.Site.{inRed}
+use lib.Arith.{digits-lt}
+use Rattle.staircase.proofs.Bounds.{small-product}
+use Rattle.design.specs.Sizes.{orderOf}
+use Rattle.decoder_group.specs.Sites.{sitesOf, Inside}
+use borrow.Author.Needs.{needs}
+use Rattle.decoder_group.proofs.group_site.Statement.{statement}
+use Rattle.decoder_group.proofs.group_site.Tie as tie
+
+order-requires : tie.Need-order-requires
+order-requires c κs = search needs
+
+mul-t6 : tie.Need-mul-t6
+mul-t6 c = search needs
+
+mul-t7 : tie.Need-mul-t7
+mul-t7 c =
+    let a = c .before .args in omega (arith, small-product (a .i) (2 * c .order .result) 4096 8589934592 (omega arith) (omega arith))
+
+add-t8 : tie.Need-add-t8
+add-t8 c =
+    let start = c .before in
+    let a = start .args in omega (arith, small-product (a .i) (2 * c .order .result) 4096 8589934592 (omega arith) (omega arith), c .order .ensures)
+
+returns : tie.Need-returns
+unfolding sitesOf Inside
+returns c =
+    let start = c .before in
+    let a = start .args in
+    let z = orderOf (a .d) in
+    let e : c .order .result ≡ z = c .order .ensures .0 in (
+      ap (λ (y : ℕ). inRed (a .i * (2 * y) + a .k) ∷ []) e,
+      λ n. subst (λ (y : ℕ). a .i * (2 * y) + a .k < groups (a .blocks) * (2 * z)) (sym e) (digits-lt {q = a .i} {m = groups (a .blocks)} {r = a .k} {c = 2 * z} (start .pre .1) (start .pre .2)),
+    )
+
+pub group-site-spec : {M : Type 1} → statement M
+group-site-spec = tie.close (tie.spec order-requires mul-t6 mul-t7 add-t8 returns)

@@ -1,0 +1,138 @@
+-- Each arm is given which positions are located.
+-- Assumes nothing.
+use mathlib.Core.Path.{subst}
+use Prim.Native.Nat.{ℕ}
+use lib.ListN.{getD}
+use Rattle.staircase.specs.Design.{wordLength}
+use Rattle.staircase.specs.Frame.{Site}
+use Rattle.staircase.specs.Frame.Site.{unsent}
+use Rattle.design.specs.Sizes.{paramsOf, listsOf}
+use Rattle.decoder_locator.specs.declared.Located.{Located}
+use Rattle.decoder_locator.specs.Located.{positionsOf}
+use Rattle.decoder_group.specs.Sites.{sitesOf, listed, Inside, Below, wordSites}
+use Rattle.decoder_group.proofs.Word.{listed-none, listed-one, listed-two, listed-three}
+use borrow.Author.Needs.{needs}
+use Rattle.decoder_group.proofs.spots_of.Statement.{statement}
+use Rattle.decoder_group.proofs.spots_of.Tie as tie
+
+enum-told : tie.Need-enum-told
+enum-told c = search needs
+
+enum-known-found : tie.Need-enum-known-found
+enum-known-found c = search needs
+
+site-at-requires : tie.Need-site-at-requires
+unfolding Below positionsOf
+site-at-requires c κs =
+    let start = c .before .before .before .before .before in
+    let s = start .pre in
+    let b = subst (λ (z : Located). Below (wordLength (paramsOf (start .args .d))) (positionsOf z)) (c .before .found .given .1) (s .5) in
+    (s .0, s .1, s .2, s .3, s .4, b .0)
+
+enum-known-found-2 : tie.Need-enum-known-found-2
+enum-known-found-2 c = search needs
+
+site-at-requires-2 : tie.Need-site-at-requires-2
+unfolding Below positionsOf
+site-at-requires-2 c κs =
+    let start = c .before .before .before .before .before in
+    let s = start .pre in
+    let b = subst (λ (z : Located). Below (wordLength (paramsOf (start .args .d))) (positionsOf z)) (c .before .found2 .given .1) (s .5) in
+    (s .0, s .1, s .2, s .3, s .4, b .0)
+
+site-at-requires-3 : tie.Need-site-at-requires-3
+unfolding Below positionsOf
+site-at-requires-3 c κs =
+    let start = c .before .before .before .before .before .before in
+    let found2 = c .before .before .found2 in
+    let s = start .pre in
+    let b = subst (λ (z : Located). Below (wordLength (paramsOf (start .args .d))) (positionsOf z)) (found2 .given .1) (s .5) in
+    (s .0, s .1, s .2, s .3, s .4, b .1 .0)
+
+enum-known-found-3 : tie.Need-enum-known-found-3
+enum-known-found-3 c = search needs
+
+site-at-requires-4 : tie.Need-site-at-requires-4
+unfolding Below positionsOf
+site-at-requires-4 c κs =
+    let start = c .before .before .before .before .before in
+    let s = start .pre in
+    let b = subst (λ (z : Located). Below (wordLength (paramsOf (start .args .d))) (positionsOf z)) (c .before .found3 .given .1) (s .5) in
+    (s .0, s .1, s .2, s .3, s .4, b .0)
+
+site-at-requires-5 : tie.Need-site-at-requires-5
+unfolding Below positionsOf
+site-at-requires-5 c κs =
+    let start = c .before .before .before .before .before .before in
+    let found3 = c .before .before .found3 in
+    let s = start .pre in
+    let b = subst (λ (z : Located). Below (wordLength (paramsOf (start .args .d))) (positionsOf z)) (found3 .given .1) (s .5) in
+    (s .0, s .1, s .2, s .3, s .4, b .1 .0)
+
+site-at-requires-6 : tie.Need-site-at-requires-6
+unfolding Below positionsOf
+site-at-requires-6 c κs =
+    let start = c .before .before .before .before .before .before .before in
+    let found3 = c .before .before .before .found3 in
+    let s = start .pre in
+    let b = subst (λ (z : Located). Below (wordLength (paramsOf (start .args .d))) (positionsOf z)) (found3 .given .1) (s .5) in
+    (s .0, s .1, s .2, s .3, s .4, b .1 .1 .0)
+
+returns : tie.Need-returns
+unfolding listed sitesOf Inside
+returns c =
+    let start = c .before .before .before .before in
+    let a = start .args in
+    let v : ℕ → Site = λ j. getD (wordSites (paramsOf (a .d)) (listsOf (a .d) (a .own .now) (a .parity .now)) (a .blocks) (a .i) (a .column) (a .a)) j unsent in
+    let q = listed-none v (c .enum-told .given .1) in
+    (q .0, q .1, (tt, tt, tt))
+
+returns-2 : tie.Need-returns-2
+unfolding listed sitesOf Inside
+returns-2 c =
+    let start = c .before .before .before .before .before .before in
+    let found = c .before .before .found in
+    let a = start .args in
+    let v : ℕ → Site = λ j. getD (wordSites (paramsOf (a .d)) (listsOf (a .d) (a .own .now) (a .parity .now)) (a .blocks) (a .i) (a .column) (a .a)) j unsent in
+    let q = listed-one v (found .given .1) (c .site-at .ensures .0) in
+    (q .0, q .1, (c .site-at .ensures .1, tt, tt))
+
+returns-3 : tie.Need-returns-3
+unfolding listed sitesOf Inside
+returns-3 c =
+    let start = c .before .before .before .before .before .before .before in
+    let found2 = c .before .before .before .found2 in
+    let a = start .args in
+    let v : ℕ → Site = λ j. getD (wordSites (paramsOf (a .d)) (listsOf (a .d) (a .own .now) (a .parity .now)) (a .blocks) (a .i) (a .column) (a .a)) j unsent in
+    let q = listed-two v (found2 .given .1) (c .before .site-at2 .ensures .0) (c .site-at3 .ensures .0) in
+    (q .0, q .1, (c .before .site-at2 .ensures .1, c .site-at3 .ensures .1, tt))
+
+returns-4 : tie.Need-returns-4
+unfolding listed sitesOf Inside
+returns-4 c =
+    let start = c .before .before .before .before .before .before .before .before in
+    let found3 = c .before .before .before .before .found3 in
+    let site-at4 = c .before .before .site-at4 in
+    let a = start .args in
+    let v : ℕ → Site = λ j. getD (wordSites (paramsOf (a .d)) (listsOf (a .d) (a .own .now) (a .parity .now)) (a .blocks) (a .i) (a .column) (a .a)) j unsent in
+    let q = listed-three v (found3 .given .1) (site-at4 .ensures .0) (c .before .site-at5 .ensures .0) (c .site-at6 .ensures .0) in
+    (q .0, q .1, (site-at4 .ensures .1, c .before .site-at5 .ensures .1, c .site-at6 .ensures .1))
+
+pub spots-of-spec : {M : Type 1} → statement M
+spots-of-spec =
+    tie.close
+    (tie.spec
+    enum-told
+    enum-known-found
+    site-at-requires
+    enum-known-found-2
+    site-at-requires-2
+    site-at-requires-3
+    enum-known-found-3
+    site-at-requires-4
+    site-at-requires-5
+    site-at-requires-6
+    returns
+    returns-2
+    returns-3
+    returns-4)

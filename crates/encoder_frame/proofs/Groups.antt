@@ -1,0 +1,89 @@
+-- Laws of the groups of a frame.
+--   groupFrom-length                    a group has 2 M r bits
+--   written, written-none, written-more, written-all   a buffer that a loop fills group by group
+--   groups-are                          the groups are the redundancy of the frame's definition
+-- Assumes nothing.
+use mathlib.Core.Path.{_≡_, sym, ap, ap₂, _∙_}
+use mathlib.Core.List.{List, _++_, append-nil, append-assoc}
+use Prim.Native.Nat.{ℕ, _+_, _-_, _*_, _<_}
+use native.Mathlib.Nat.{zero-mul, add-mul, one-mul, add-sub-cancel-left}
+use native.Mathlib.Numerals.{add-one}
+use native.Mathlib.Omega.{arith}
+use lib.ListN.{length, getD, take, drop, length-append}
+use lib.Seq.{take-at, drop-at, drop-drop, drop-length}
+use Rattle.bch.specs.Polynomial.{Bits}
+use Rattle.staircase.specs.Lists.{tabulate, concat}
+use Rattle.staircase.specs.Design.{Params, Interleavers, order}
+use Rattle.staircase.specs.System.{Contents, preimage, groupRedundancy, redundancy}
+use Rattle.staircase.specs.Frame.{groups, block}
+use Rattle.staircase.specs.Demand2.{Permutes}
+use Rattle.staircase.proofs.System.{Proper}
+use Rattle.staircase.proofs.Tables.{tabulate-length, concat-last, concat-same, concat-length}
+use Rattle.staircase.proofs.Redundancy.{block-binary}
+use Rattle.words_blocks.specs.Blocks.{sent, blockBytes, sentBit, Powers}
+use Rattle.words_blocks.proofs.Blocks.{sent-odd, block-is, odd-is}
+use Rattle.encoder_group.specs.Group.{selfBit, parityBit, groupOf}
+use Rattle.encoder_group.proofs.Link.{group-is}
+use Rattle.encoder_frame.specs.Groups.{groupFrom}
+
+groupOf-length : (table sources inverse : List ℕ) (size r : ℕ) (before odd even : Contents) → length (groupOf table sources inverse size r before odd even) ≡ 2 * (size * r)
+unfolding groupOf
+groupOf-length table sources inverse size r before odd even =
+    let y : Contents = selfBit table sources inverse size r before odd even in
+    let p : Contents = parityBit table size r odd even y in
+    length-append (tabulate (size * r) y) (tabulate (size * r) p) ∙ ap₂ (λ (j k : ℕ). j + k) (tabulate-length (size * r) y) (tabulate-length (size * r) p) ∙ omega arith
+
+pub groupFrom-length : (table sources inverse : List ℕ) (size r L : ℕ) (info : List ℕ) (i : ℕ) → length (groupFrom table sources inverse size r L info i) ≡ 2 * (size * r)
+unfolding groupFrom
+groupFrom-length table sources inverse size r L info i =
+    groupOf-length table sources inverse size r (sentBit (sent L (2 * i)) (blockBytes L (size * size) info (2 * i)))
+    (λ k. getD (blockBytes L (size * size) info (2 * i + 1)) k 0) (sentBit (sent L (2 * i + 2)) (blockBytes L (size * size) info (2 * i + 2)))
+
+-- ---- group by group
+
+-- the first i stretches of w bytes by the rule, the rest as it was
+unfoldable pub written : (ℕ → List ℕ) → List ℕ → ℕ → ℕ → List ℕ
+written f l w i = concat i f ++ drop (i * w) l
+
+module _ (f : ℕ → List ℕ) (l : List ℕ) (w : ℕ) where
+  pub written-none : l ≡ written f l w 0
+  unfolding written concat
+  written-none = sym (ap (λ (k : ℕ). drop k l) (zero-mul w))
+
+  pub written-all : (i n : ℕ) → i ≡ n → length l ≡ n * w → written f l w i ≡ concat n f
+  unfolding written
+  written-all i n e long =
+      ap (λ (k : ℕ). concat k f ++ drop (k * w) l) e ∙ ap (λ (k : ℕ). concat n f ++ drop k l) (sym long) ∙ ap (λ (t : List ℕ). concat n f ++ t) (drop-length l)
+      ∙ append-nil (concat n f)
+
+  module _ (wide : (k : ℕ) → length (f k) ≡ w) where
+    -- stretch i was lent and came back as ys
+    pub written-more : (xs ys : List ℕ) (i : ℕ) → xs ≡ written f l w i → ys ≡ f i
+        → take (i * w) xs ++ (ys ++ drop (i * w + w - i * w) (drop (i * w) xs)) ≡ written f l w (i + 1)
+    unfolding written
+    written-more xs ys i e d =
+        let p : List ℕ = concat i f in
+        let long : length p ≡ i * w = concat-length i w f wide in
+        let next : i * w + w ≡ (i + 1) * w = sym (add-mul i 1 w ∙ ap (λ (k : ℕ). i * w + k) (one-mul w)) in
+        rw (e, d, take-at p (drop (i * w) l) (i * w) long, drop-at p (drop (i * w) l) (i * w) long, add-sub-cancel-left (i * w) w, drop-drop w (i * w) l)
+        (sym (append-assoc p (f i) (drop (i * w + w) l))
+        ∙ ap₂ _++_ (sym (concat-last i f) ∙ ap (λ (k : ℕ). concat k f) (sym (add-one i))) (ap (λ (k : ℕ). drop k l) next))
+
+-- ---- the redundancy of the frame
+
+module _ (s : Params) (ok : Proper s) (l : Interleavers) (pp : Permutes (order s) (λ p. getD (l .parity) p 0)) (table sources w : List ℕ)
+    (P : Powers s table) (at : (q : ℕ) → q < order s → getD sources q 0 ≡ preimage (l .parity) (order s) q)
+    (L : ℕ) (info : List ℕ) (long : length info ≡ L * (s .M * s .M)) (bits : Bits info) where
+  group-same : (i : ℕ) → i < groups L → groupFrom table sources w (s .M) (s .r) L info i ≡ groupRedundancy s l w L info i
+  unfolding groupFrom groupRedundancy
+  group-same i h =
+      group-is s ok table P l pp sources at
+      (sentBit (sent L (2 * i)) (blockBytes L (s .M * s .M) info (2 * i))) (λ k. getD (blockBytes L (s .M * s .M) info (2 * i + 1)) k 0)
+      (sentBit (sent L (2 * i + 2)) (blockBytes L (s .M * s .M) info (2 * i + 2)))
+      (block s L info (2 * i)) (block s L info (2 * i + 1)) (block s L info (2 * i + 2))
+      (block-binary s L info bits (2 * i)) (block-binary s L info bits (2 * i + 1)) (block-binary s L info bits (2 * i + 2))
+      (λ k m. block-is s L info long k m (2 * i)) (λ k m. odd-is s L info long k m (2 * i + 1) (sent-odd L i h)) (λ k m. block-is s L info long k m (2 * i + 2)) w
+
+  pub groups-are : concat (groups L) (groupFrom table sources w (s .M) (s .r) L info) ≡ redundancy s l w L info
+  unfolding redundancy
+  groups-are = concat-same (groups L) (groupFrom table sources w (s .M) (s .r) L info) (groupRedundancy s l w L info) group-same

@@ -1,0 +1,126 @@
+-- The table and the places of the parity list are as the groups ask, and the groups are the redundancy.
+-- Assumes nothing.
+use native.Mathlib.Omega.{arith}
+use borrow.Author.Needs.{needs}
+use mathlib.Core.Path.{_≡_, _∙_, subst⁻¹}
+use Prim.Native.Nat.{ℕ}
+use lib.ListN.{length, getD}
+use Rattle.staircase.specs.Rules.{entries}
+use Rattle.staircase.specs.Demand2.{Permutes}
+use Rattle.words_positions.proofs.Parts.{part-fits, part-is}
+use Rattle.design.proofs.Allowed.{bits-small}
+use Rattle.encoder_frame.proofs.Whole.{red-long, frame-ready, frame-made}
+use Rattle.encoder_frame.proofs.make_redundancy.Statement.{statement}
+use Rattle.encoder_frame.proofs.make_redundancy.Tie as tie
+
+order-requires : tie.Need-order-requires
+order-requires c κs = search needs
+
+r-requires : tie.Need-r-requires
+r-requires c κs = search needs
+
+n-requires : tie.Need-n-requires
+n-requires c κs = search needs
+
+cast-size : tie.Need-cast-size
+cast-size c = search needs
+
+sub-fill-table : tie.Need-sub-fill-table
+sub-fill-table c = search needs
+
+part-table-start : tie.Need-part-table-start
+part-table-start c = search needs
+
+part-table-end : tie.Need-part-table-end
+part-table-end c = let s = c .before .before .before .before .before .before .before .before in omega (arith, bits-small (s .args .d) (s .pre .allowed))
+
+fill-table-requires : tie.Need-fill-table-requires
+fill-table-requires c κs = search needs
+
+sub-fill-inverse : tie.Need-sub-fill-inverse
+sub-fill-inverse c = search needs
+
+part-sources-start : tie.Need-part-sources-start
+part-sources-start c = search needs
+
+part-sources-end : tie.Need-part-sources-end
+part-sources-end c = search needs
+
+fill-inverse-requires : tie.Need-fill-inverse-requires
+fill-inverse-requires c κs =
+    let s = c .before .before .before .before .before .before .before .before .before .before .before .before in
+    let order = c .before .before .before .before .before .before .before .order in (
+      omega (arith, s .pre .parityLength, order .ensures .0),
+      omega arith,
+      omega (arith, s .pre .allowed .order-high, order .ensures .0),
+      subst⁻¹ (λ (k : ℕ). Permutes k (λ p. getD (entries k (s .args .parity .now)) p 0)) (order .ensures .0) (s .pre .parityPermutes),
+    )
+
+sub-make-groups : tie.Need-sub-make-groups
+sub-make-groups c = search needs
+
+part-make-groups-start : tie.Need-part-make-groups-start
+part-make-groups-start c = search needs
+
+part-make-groups-end : tie.Need-part-make-groups-end
+part-make-groups-end c =
+    let x = c .before .before .before .before .before .fill-table in
+    let all : length (x .last .1 .0) ≡ c .before .before .before .before .before .before .before .before .n .result = omega arith in
+    part-fits (x .last .1 .0) _ _ all
+
+sub-make-groups-2 : tie.Need-sub-make-groups-2
+sub-make-groups-2 c = search needs
+
+part-make-groups-start-2 : tie.Need-part-make-groups-start-2
+part-make-groups-start-2 c = search needs
+
+part-make-groups-end-2 : tie.Need-part-make-groups-end-2
+part-make-groups-end-2 c = let f = c .before .before .before .before .fill-inverse in part-fits (f .last .1 .1 .0) _ _ (f .ensures .0)
+
+make-groups-requires : tie.Need-make-groups-requires
+make-groups-requires c κs =
+    let h = c .before .before .before .before .before .before .before .before .before .before .before .before .before .before .before .before .before .before .before .pre in
+    let r = c .before .before .before .before .before .before .before .before .before .before .before .before .before .r .ensures .0 in
+    let x = c .before .before .before .before .before .before .before .before .before .fill-table in
+    let f = c .before .before .before .before .before .before .fill-inverse in
+    let all : length (x .last .1 .0) ≡ c .before .before .before .before .before .before .before .before .before .before .before .before .n .result = omega arith in (
+      frame-ready h r (c .before .before .before .before .before .before .before .before .before .before .before .before .before .before .order .ensures .0) (part-is (x .last .1 .0) _ _ all) (part-is (f .last .1 .1 .0) _ _ (f .ensures .0)) (all ∙ c .before .before .before .before .before .before .before .before .before .before .before .before .n .ensures .0) (f .ensures .0) (f .ensures .1),
+      red-long h r,
+    )
+
+same-length : tie.Need-same-length
+same-length c = search needs
+
+returns : tie.Need-returns
+returns c =
+    let x = c .before .before .before .before .before .before .before .before .before .before .before .before .fill-table in
+    let f = c .before .before .before .before .before .before .before .before .before .fill-inverse in
+    let all : length (x .last .1 .0) ≡ c .before .before .before .before .before .before .before .before .before .before .before .before .before .before .before .n .result = omega arith in
+    frame-made (c .before .before .before .before .before .before .before .before .before .before .before .before .before .before .before .before .before .before .before .before .before .before .pre) (c .before .before .before .before .before .before .before .before .before .before .before .before .before .before .before .before .r .ensures .0) (c .before .before .before .before .before .before .before .before .before .before .before .before .before .before .before .before .before .order .ensures .0) (part-is (x .last .1 .0) _ _ all) (part-is (f .last .1 .1 .0) _ _ (f .ensures .0))
+    (all ∙ c .before .before .before .before .before .before .before .before .before .before .before .before .before .before .before .n .ensures .0) (f .ensures .0) (f .ensures .1) (x .ensures .0) (c .before .before .make-groups .ensures)
+
+pub make-redundancy-spec : {M : Type 1} → statement M
+make-redundancy-spec =
+    tie.close
+    (tie.spec
+    order-requires
+    r-requires
+    n-requires
+    cast-size
+    sub-fill-table
+    part-table-start
+    part-table-end
+    fill-table-requires
+    sub-fill-inverse
+    part-sources-start
+    part-sources-end
+    fill-inverse-requires
+    sub-make-groups
+    part-make-groups-start
+    part-make-groups-end
+    sub-make-groups-2
+    part-make-groups-start-2
+    part-make-groups-end-2
+    make-groups-requires
+    same-length
+    returns)

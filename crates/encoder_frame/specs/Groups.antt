@@ -1,0 +1,41 @@
+-- The groups of a frame by what code has at hand: parts of the information, the table of powers of x, and the places that the parity list brings.
+--   groupFrom   the group that i groups precede
+--   Ready       what is asked of the sizes and slices of a frame
+--   Encodable   what the encoder's rules leave of a design, its kit and a frame
+-- Assumes nothing.
+use mathlib.Core.Path.{_≡_}
+use mathlib.Core.List.{List}
+use Prim.Native.Nat.{ℕ, _+_, _*_, _≤_}
+use lib.ListN.{length, getD}
+use Rattle.bch.specs.Polynomial.{Bits}
+use Rattle.staircase.specs.Design.{most-blocks}
+use Rattle.staircase.specs.System.{rowBytes}
+use Rattle.staircase.specs.Demand2.{Permutes}
+use Rattle.staircase.specs.Frame.{groups}
+use Rattle.staircase.specs.Rules.{entries}
+use Rattle.design.specs.declared.Design.{Design}
+use Rattle.design.specs.Answers.{Allowed}
+use Rattle.design.specs.Sizes.{orderOf}
+use Rattle.words_blocks.specs.Blocks.{sent, blockBytes, sentBit}
+use Rattle.encoder_group.specs.Group.{groupOf, Tables}
+
+unfoldable pub groupFrom : List ℕ → List ℕ → List ℕ → ℕ → ℕ → ℕ → List ℕ → ℕ → List ℕ
+groupFrom table sources inverse size r L info i =
+    groupOf table sources inverse size r (sentBit (sent L (2 * i)) (blockBytes L (size * size) info (2 * i)))
+    (λ k. getD (blockBytes L (size * size) info (2 * i + 1)) k 0) (sentBit (sent L (2 * i + 2)) (blockBytes L (size * size) info (2 * i + 2)))
+
+pub record Ready (L size r : ℕ) (info table sources inverse : List ℕ) : Type 0 where
+  pub few-blocks : L ≤ most-blocks
+  pub tables : Tables size r table sources inverse
+  pub blocks : length info ≡ L * (size * size)
+  pub bits : Bits info
+
+pub record Encodable (d : Design) (L : ℕ) (parity inverse info red : List ℕ) : Type 0 where
+  pub allowed : Allowed d
+  pub few-blocks : L ≤ most-blocks
+  pub parityLength : length parity ≡ 2 * orderOf d
+  pub inverseLength : length inverse ≡ orderOf d * rowBytes (orderOf d)
+  pub infoLength : length info ≡ L * (d .size * d .size)
+  pub redLength : length red ≡ groups L * (2 * orderOf d)
+  pub parityPermutes : Permutes (orderOf d) (λ p. getD (entries (orderOf d) parity) p 0)
+  pub bits : Bits info

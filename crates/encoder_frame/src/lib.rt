@@ -1,0 +1,117 @@
+// Makes the redundancy of a frame, group by group.
+//   make_redundancy(..)   of a frame whose arguments have passed all rules
+//
+// A group needs three blocks, which are parts of the lent information, and its redundancy is written through a lent part of the redundancy: nothing
+// of the frame is copied. The table of powers of x and the places that the parity list brings are made once for all groups.
+ghost use mathlib.Core.Path.{_≡_};
+ghost use mathlib.Core.List.{List};
+ghost use Prim.Native.Nat.{ℕ, _*_, _<_};
+ghost use lib.ListN.{length};
+ghost use Rattle.staircase.specs.Lists.{concat};
+ghost use Rattle.staircase.specs.Frame.{groups};
+ghost use Rattle.staircase.specs.System.{redundancy};
+ghost use Rattle.design.specs.Sizes.{paramsOf, listsOf};
+ghost use Rattle.encoder_frame.specs.Groups.{groupFrom, Ready, Encodable};
+use design::Design;
+
+// Makes the redundancy of the group that i groups precede.
+fn group_at(
+    info: &[u8],
+    blocks: usize,
+    i: usize,
+    table: &[u32],
+    sources: &[u16],
+    inverse: &[u8],
+    size: usize,
+    r: usize,
+    out: &mut [u8],
+)
+    requires { ⌜ Ready blocks size r (now info) (now table) (now sources) (now inverse) × (i < groups blocks) × (length (now out) ≡ 2 * (size * r)) ⌝ }
+    ensures { λ u. ⌜ now (out .exit) ≡ groupFrom (now (table .entry)) (now (sources .entry)) (now (inverse .entry)) size r blocks (now (info .entry)) i ⌝ }
+{
+    let area = size * size;
+    let before = words_blocks::block_of(info, area, blocks, 2 * i);
+    let odd = words_blocks::block_of(info, area, blocks, 2 * i + 1);
+    let even = words_blocks::block_of(info, area, blocks, 2 * i + 2);
+    let has_before = words_blocks::is_sent(blocks, 2 * i);
+    let has_even = words_blocks::is_sent(blocks, 2 * i + 2);
+    encoder_group::make_group(
+        odd,
+        even,
+        has_even,
+        before,
+        has_before,
+        table,
+        sources,
+        inverse,
+        size,
+        r,
+        out,
+    );
+}
+
+// Makes the redundancy of all groups, one after the other.
+fn make_groups(
+    info: &[u8],
+    blocks: usize,
+    table: &[u32],
+    sources: &[u16],
+    inverse: &[u8],
+    size: usize,
+    r: usize,
+    red: &mut [u8],
+)
+    requires { ⌜ Ready blocks size r (now info) (now table) (now sources) (now inverse) × (length (now red) ≡ groups blocks * (2 * (size * r))) ⌝ }
+    ensures { λ u. ⌜ now (red .exit)
+        ≡ concat (groups blocks) (groupFrom (now (table .entry)) (now (sources .entry)) (now (inverse .entry)) size r blocks (now (info .entry))) ⌝ }
+{
+    let w = 2 * (size * r);
+    let count = design::group_count(blocks as u64) as usize;
+    for i in 0..count {
+        let from = i * w;
+        group_at(
+            info,
+            blocks,
+            i,
+            table,
+            sources,
+            inverse,
+            size,
+            r,
+            &mut red[from..from + w],
+        );
+    }
+}
+
+// Makes the redundancy of a frame whose arguments have passed all rules. The self list has done its part in the inverse.
+pub fn make_redundancy(
+    d: Design,
+    blocks: usize,
+    parity: &[u8],
+    inverse: &[u8],
+    info: &[u8],
+    red: &mut [u8],
+)
+    requires { ⌜ Encodable d blocks (now parity) (now inverse) (now info) (now red) ⌝ }
+    ensures { λ u. ⌜ ((own : List ℕ)
+        → now (red .exit) ≡ redundancy (paramsOf d) (listsOf d own (now (parity .entry))) (now (inverse .entry)) blocks (now (info .entry))) ⌝ }
+{
+    let n = d.order();
+    let r = d.r();
+    let bits = d.n();
+    let size = d.size as usize;
+    let mut table = [0u32; 1024];
+    words_positions::fill_table(d, &mut table[0..bits]);
+    let mut sources = [0u16; 4096];
+    kit_system::fill_inverse(parity, n, &mut sources[0..n]);
+    make_groups(
+        info,
+        blocks,
+        &table[0..bits],
+        &sources[0..n],
+        inverse,
+        size,
+        r,
+        red,
+    );
+}

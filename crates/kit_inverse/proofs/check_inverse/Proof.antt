@@ -1,0 +1,77 @@
+-- The first r of the last 2 r powers are those of X and Y.
+-- Assumes nothing.
+use native.Mathlib.Omega.{arith}
+use borrow.Author.Needs.{needs}
+use mathlib.Core.Path.{_≡_, ap, _∙_}
+use Prim.Native.Nat.{ℕ, _*_, _-_, _≤_}
+use lib.ListN.{length, take}
+use Rattle.design.specs.Sizes.{paramsOf}
+use Rattle.words_positions.proofs.Parts.{part-within, middle-is}
+use Rattle.design.proofs.Allowed.{r-small}
+use Rattle.kit_inverse.proofs.Link.{part-of}
+use Rattle.kit_inverse.proofs.check_inverse.Statement.{statement}
+use Rattle.kit_inverse.proofs.check_inverse.Tie as tie
+
+r-requires : tie.Need-r-requires
+r-requires c κs = search needs
+
+mul-fill-table : tie.Need-mul-fill-table
+mul-fill-table c = search needs
+
+sub-fill-table : tie.Need-sub-fill-table
+sub-fill-table c = search needs
+
+part-powers-start : tie.Need-part-powers-start
+part-powers-start c = search needs
+
+part-powers-end : tie.Need-part-powers-end
+part-powers-end c = omega (arith, r-small (c .before .before .before .before .before .args .d) (c .before .before .before .before .before .pre .sized .allowed))
+
+fill-table-requires : tie.Need-fill-table-requires
+fill-table-requires c κs = search needs
+
+sub-judge : tie.Need-sub-judge
+sub-judge c = search needs
+
+part-judge-start : tie.Need-part-judge-start
+part-judge-start c = search needs
+
+part-judge-end : tie.Need-part-judge-end
+part-judge-end c =
+    let f = c .before .before .fill-table in
+    let q : c .before .before .before .before .r .result ≤ length (f .last .1 .0) = omega arith in
+    part-within (f .last .1 .0) _ _ q
+
+judge-requires : tie.Need-judge-requires
+judge-requires c κs =
+    let a = c .before .before .before .before .before .before .before .before .before .before .before .args in
+    let h = c .before .before .before .before .before .before .before .before .before .before .before .pre in
+    let f = c .before .before .before .before .fill-table in
+    let r = c .before .before .before .before .before .before .r in
+    let d : r .result - 0 ≡ a .d .m * a .d .t = omega arith in
+    let q : r .result ≤ length (f .last .1 .0) = omega arith in
+    let w : length (f .last .1 .0) ≡ 2 * (a .d .m * a .d .t) = omega arith in
+    (h, part-of (paramsOf (a .d)) (f .last .1 .0) _ (f .ensures .0) w (middle-is (f .last .1 .0) _ 0 (r .result) (omega arith) q ∙ ap (λ (k : ℕ). take k (f .last .1 .0)) d) (c .before .judge-arg .given .2 ∙ d))
+
+same-length : tie.Need-same-length
+same-length c = search needs
+
+returns : tie.Need-returns
+returns c = search needs
+
+pub check-inverse-spec : {M : Type 1} → statement M
+check-inverse-spec =
+    tie.close
+    (tie.spec
+    r-requires
+    mul-fill-table
+    sub-fill-table
+    part-powers-start
+    part-powers-end
+    fill-table-requires
+    sub-judge
+    part-judge-start
+    part-judge-end
+    judge-requires
+    same-length
+    returns)

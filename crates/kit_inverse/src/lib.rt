@@ -1,0 +1,89 @@
+// Rule 9 of document 01's table: A W and W A are the identity.
+//   check_inverse(d, own, parity, inverse, work)   judges the inverse of a kit
+//
+// The crate `kit_products` finds the first wrong entry of each product. Here are made what it is lent: the powers of x that the bits of X and Y
+// carry, and a copy of W in planes, which is the one matrix of working bytes.
+ghost use mathlib.Core.Path.{_≡_};
+ghost use Prim.Native.Nat.{_*_};
+ghost use Rattle.staircase.specs.Lists.{firstWhere};
+ghost use Rattle.staircase.specs.System.{systemEntry, inverseEntry};
+ghost use Rattle.staircase.specs.Rules.{wrongEntry, inverseRule};
+ghost use Rattle.design.specs.Sizes.{paramsOf, orderOf, listsOf};
+ghost use Rattle.design.specs.Answers.{verdictOf};
+ghost use Rattle.kit_system.specs.Lines.{PartOf};
+ghost use Rattle.kit_inverse.specs.Fits.{KitFits};
+use design::Check;
+use design::Design;
+use design::Refusal;
+
+// The place of the first wrong entry of A W, or n².
+fn left_place(
+    d: Design,
+    own: &[u8],
+    parity: &[u8],
+    inverse: &[u8],
+    part: &[u32],
+    work: &mut [u8],
+) -> usize
+    requires { ⌜ KitFits d (now own) (now parity) (now inverse) (now work) × PartOf (paramsOf d) (now part) ⌝ }
+    ensures { λ a. ⌜ a ≡ firstWhere (orderOf d * orderOf d)
+        (wrongEntry (orderOf d) (systemEntry (paramsOf d) (listsOf d (now (own .entry)) (now (parity .entry)))) (inverseEntry (now (inverse .entry)) (orderOf d))) ⌝ }
+{
+    let n = d.order();
+    matrix_planes::planes_of_rows(inverse, n, work);
+    kit_products::left_place(own, parity, n, part, d.size as usize, &work[..])
+}
+
+// The place of the first wrong entry of W A, or n².
+fn right_place(
+    d: Design,
+    own: &[u8],
+    parity: &[u8],
+    inverse: &[u8],
+    part: &[u32],
+    work: &mut [u8],
+) -> usize
+    requires { ⌜ KitFits d (now own) (now parity) (now inverse) (now work) × PartOf (paramsOf d) (now part) ⌝ }
+    ensures { λ a. ⌜ a ≡ firstWhere (orderOf d * orderOf d)
+        (wrongEntry (orderOf d) (inverseEntry (now (inverse .entry)) (orderOf d)) (systemEntry (paramsOf d) (listsOf d (now (own .entry)) (now (parity .entry))))) ⌝ }
+{
+    let n = d.order();
+    matrix_planes::planes_of_columns(inverse, n, work);
+    kit_products::right_place(own, parity, n, part, d.size as usize, &work[..])
+}
+
+// Rule 9 with the powers of x: A W first, then W A.
+fn judge(
+    d: Design,
+    own: &[u8],
+    parity: &[u8],
+    inverse: &[u8],
+    part: &[u32],
+    work: &mut [u8],
+) -> Check
+    requires { ⌜ KitFits d (now own) (now parity) (now inverse) (now work) × PartOf (paramsOf d) (now part) ⌝ }
+    ensures { λ a. ⌜ verdictOf a ≡ inverseRule (paramsOf d) (listsOf d (now (own .entry)) (now (parity .entry))) (now (inverse .entry)) ⌝ }
+{
+    let n = d.order();
+    let all = n * n;
+    let x = left_place(d, own, parity, inverse, part, work);
+    if x < all {
+        return Check::Refused(Refusal::Inverse(x as u64));
+    }
+    let y = right_place(d, own, parity, inverse, part, work);
+    if y < all {
+        return Check::Refused(Refusal::Inverse((all + y) as u64));
+    }
+    Check::Passed
+}
+
+// Rule 9 for a kit that fits. X and Y are the first r of the last 2 r bits of a word.
+pub fn check_inverse(d: Design, own: &[u8], parity: &[u8], inverse: &[u8], work: &mut [u8]) -> Check
+    requires { ⌜ KitFits d (now own) (now parity) (now inverse) (now work) ⌝ }
+    ensures { λ a. ⌜ verdictOf a ≡ inverseRule (paramsOf d) (listsOf d (now (own .entry)) (now (parity .entry))) (now (inverse .entry)) ⌝ }
+{
+    let r = d.r();
+    let mut powers = [0u32; 64];
+    words_positions::fill_table(d, &mut powers[0..2 * r]);
+    judge(d, own, parity, inverse, &powers[0..r], work)
+}

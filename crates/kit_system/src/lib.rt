@@ -1,0 +1,86 @@
+// Rows and columns of the system A, packed, one at a time. A row and a column have at most 2 r ones.
+//   fill_inverse   the inverse of a permutation
+//   system_line    one packed row or column of A
+//
+// A bit of Y is a bit of one column word and, through the self list, of one row word. What it adds to the r parity bits of either word is the power
+// of x that its position carries, so a row or column of A takes r digits of powers side by side and r digits where a list sends them: a row
+// one digit of each power, a column the digits of one. Nothing of A is kept.
+ghost use mathlib.Core.Path.{_≡_};
+ghost use Prim.Native.Nat.{ℕ, _+_, _*_, _-_, _/_, _%_, _≤_, _<_};
+ghost use lib.ListN.{length, getD};
+ghost use Rattle.staircase.specs.Design.{most-order};
+ghost use Rattle.staircase.specs.System.{preimage};
+ghost use Rattle.staircase.specs.Rules.{entries};
+ghost use Rattle.staircase.specs.Demand2.{Permutes};
+ghost use Rattle.matrix.specs.Packed.{packedBit};
+ghost use Rattle.kit_system.specs.Lines.{stackOf, digit, lineDigit, lineEntry};
+
+// Fills `out` with the inverse of a list of n entries that is a permutation: entry q is the place that the list sends to q.
+pub fn fill_inverse(list: &[u8], n: usize, out: &mut [u16])
+    requires { ⌜ (length (now list) ≡ 2 * n) × (length (now out) ≡ n) × (n ≤ most-order) × Permutes n (λ p. getD (entries n (now list)) p 0) ⌝ }
+    ensures { λ u. ⌜ (length (now (out .exit)) ≡ n)
+        × ((q : ℕ) → q < n → getD (now (out .exit)) q 0 ≡ preimage (entries n (now (list .entry))) n q) ⌝ }
+{
+    for p in 0..n {
+        let e = rules::entry(list, p);
+        out[e] = p as u16;
+    }
+}
+
+// Digit a of power b, the highest first: what bit b of X or Y adds to bit a of the parity.
+fn digit_at(part: &[u32], b: usize, a: usize) -> u8
+    requires { ⌜ (length (now part) ≤ 32) × (b < length (now part)) × (a < length (now part)) ⌝ }
+    ensures { λ v. ⌜ (v ≡ digit (now (part .entry)) b a) × (v < 2) ⌝ }
+{
+    ((part[b] >> (part.len() - 1 - a)) % 2) as u8
+}
+
+// Digit b of power a for a column, digit a of power b for a row.
+fn line_digit(part: &[u32], column: bool, a: usize, b: usize) -> u8
+    requires { ⌜ (length (now part) ≤ 32) × (a < length (now part)) × (b < length (now part)) ⌝ }
+    ensures { λ v. ⌜ (v ≡ lineDigit (now (part .entry)) column a b) × (v < 2) ⌝ }
+{
+    if column {
+        return digit_at(part, a, b);
+    }
+    digit_at(part, b, a)
+}
+
+// Where the list sends place b × size + a, as an entry of the stack.
+fn sent(list: &[u8], n: usize, size: usize, r: usize, b: usize, a: usize) -> usize
+    requires { ⌜ (n ≡ size * r) × (b < r) × (a < size) × (length (now list) ≡ 2 * n) × (n ≤ most-order)
+        × ((q : ℕ) → q < n → getD (entries n (now list)) q 0 < n) ⌝ }
+    ensures { λ k. ⌜ (k ≡ stackOf size r (getD (entries n (now (list .entry))) (b * size + a) 0)) × (k < n) ⌝ }
+{
+    let y = rules::entry(list, b * size + a);
+    y % size * r + y / size
+}
+
+// Makes `out` row e of A, for the self list and the place p that the parity list sends to entry e; where `column` is true column e, for the parity
+// list and the place p that the self list sends to it. The work grows with r and the bytes of `out`.
+pub fn system_line(
+    out: &mut [u8],
+    list: &[u8],
+    n: usize,
+    part: &[u32],
+    size: usize,
+    column: bool,
+    p: usize,
+    e: usize,
+)
+    requires { ⌜ (n ≡ size * length (now part)) × (e < n) × (p < n) × (length (now list) ≡ 2 * n) × (n ≤ 8 * length (now out)) × (length (now out) ≤ 512)
+        × (length (now part) ≤ 32) × ((q : ℕ) → q < n → getD (entries n (now list)) q 0 < n) ⌝ }
+    ensures { λ u. ⌜ (length (now (out .exit)) ≡ length (now (out .entry)))
+        × ((k : ℕ) → packedBit (now (out .exit)) k
+        ≡ lineEntry (now (part .entry)) column (entries n (now (list .entry))) size p e k) ⌝ }
+{
+    let r = part.len();
+    matrix::clear(out);
+    for b in 0..r {
+        let v = line_digit(part, column, e % r, b);
+        matrix::add_bit(out, e / r * r + b, v);
+        let w = line_digit(part, column, p / size, b);
+        let k = sent(list, n, size, r, b, p % size);
+        matrix::add_bit(out, k, w);
+    }
+}

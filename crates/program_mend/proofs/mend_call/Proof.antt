@@ -1,0 +1,73 @@
+-- Kit and frame are read, the decoder is called, and what it answers is printed.
+-- Assumes nothing.
+use mathlib.Core.Path.{_∙_}
+use Rattle.program.proofs.Printing.{printed-as}
+use Rattle.program_mend.proofs.Mending.{frame-fits, mend-printed}
+use borrow.Author.Needs.{needs}
+use Rattle.program_mend.proofs.mend_call.Statement.{statement}
+use Rattle.program_mend.proofs.mend_call.Tie as tie
+
+read-kit-requires : tie.Need-read-kit-requires
+read-kit-requires c κs = search needs
+
+read-frame-requires : tie.Need-read-frame-requires
+read-frame-requires c κs = search needs
+
+cast-decode : tie.Need-cast-decode
+cast-decode c = search needs
+
+cast-decode-2 : tie.Need-cast-decode-2
+cast-decode-2 c = search needs
+
+cast-decode-3 : tie.Need-cast-decode-3
+cast-decode-3 c = search needs
+
+decode-requires : tie.Need-decode-requires
+decode-requires c κs = search needs
+
+put-decoded-requires : tie.Need-put-decoded-requires
+put-decoded-requires c κs = (frame-fits _ _ _ _ _ _ _ _ _ _ (c .before .before .before .before .before .before .before .before .before .before .before .before .before .before .before .before .before .before .before .before .before .before .before .before .before .before .before .before .before .before .before .before .before .before .before .before .before .before .before .before .before .before .before .before .pre .0) _ _ (c .before .before .before .before .before .before .before .before .before .decode .kept .1 .1 .1 .1 .1 .1 .1 .0 ∙ c .before .before .before .before .before .before .before .before .before .before .before .before .before .before .before .before .before .before .before .before .before .before .read-frame .kept .1 .1 .0) (c .before .before .before .before .before .before .before .before .before .decode .kept .1 .1 .1 .1 .1 .1 .1 .1 .0 ∙ c .before .before .before .before .before .before .before .before .before .before .before .before .before .before .before .before .before .before .before .before .before .before .read-frame .kept .1 .1 .1 .0), c .before .before .before .before .before .before .before .before .before .before .before .before .before .before .before .before .before .before .before .before .before .before .before .before .before .before .before .before .before .before .before .before .before .before .before .before .before .before .before .before .before .before .before .before .pre .1)
+
+same-length : tie.Need-same-length
+same-length c = search (needs, c .before .before .before .before .before .before .before .before .before .before .before .before .before .before .before .before .before .before .before .before .before .before .before .before .before .before .before .before .before .before .before .before .before .before .read-kit .kept)
+
+same-length-2 : tie.Need-same-length-2
+same-length-2 c = search (needs, c .before .before .before .before .before .before .before .before .before .before .before .before .before .before .before .before .before .before .before .before .before .before .before .before .before .before .before .before .before .before .before .before .before .before .read-kit .kept)
+
+same-length-3 : tie.Need-same-length-3
+same-length-3 c = search (needs, c .before .before .before .before .before .before .before .before .before .before .before .before .before .before .before .before .before .before .before .before .before .before .before .before .before .before .before .before .before .before .before .before .before .before .read-kit .kept)
+
+same-length-4 : tie.Need-same-length-4
+same-length-4 c = search needs
+
+same-length-5 : tie.Need-same-length-5
+same-length-5 c = search needs
+
+same-length-6 : tie.Need-same-length-6
+same-length-6 c = search needs
+
+same-length-7 : tie.Need-same-length-7
+same-length-7 c = search needs
+
+returns : tie.Need-returns
+returns c = let k = c .before .before .before .before .before .before .before .before .before .before .before .before .before .before .before .before .before .before .before .before .before .before .before .before .before .before .before .before .before .before .before .before .before .before .read-kit .ensures .1 .1 in let b = c .before .before .before .before .before .before .before .before .before .before .before .before .before .before .before .before .before .before .before .before .before .before .before .before .before .read-frame .ensures .1 .1 in printed-as _ _ _ _ _ (mend-printed _ _ _ _ _ _ _ _ _ _ (c .before .before .before .before .before .before .before .before .before .before .before .before .before .before .before .before .before .before .before .before .before .before .before .before .before .before .before .before .before .before .before .before .before .before .before .before .before .before .before .before .before .before .before .before .before .before .before .pre .0) _ _ _ _ (k .0) (k .1 .0) (b .0) (b .1) _ _ _ (c .before .before .before .before .before .before .before .before .before .before .before .before .decode .ensures)) (c .before .before .put-decoded .ensures)
+
+pub mend-call-spec : {M : Type 1} → statement M
+mend-call-spec =
+    tie.close
+    (tie.spec
+    read-kit-requires
+    read-frame-requires
+    cast-decode
+    cast-decode-2
+    cast-decode-3
+    decode-requires
+    put-decoded-requires
+    same-length
+    same-length-2
+    same-length-3
+    same-length-4
+    same-length-5
+    same-length-6
+    same-length-7
+    returns)

@@ -1,0 +1,59 @@
+-- The length that is due is that of the rule, and fits.
+-- Assumes nothing.
+use native.Mathlib.Omega.{arith}
+use borrow.Author.Needs.{needs}
+use mathlib.Core.Path.{ap₂, _∙_}
+use Prim.Native.Nat.{ℕ, _*_}
+use lib.ListN.{length}
+use Rattle.staircase.specs.Rules.{lengthRule, kitLengths}
+use Rattle.staircase.proofs.Bounds.{small-product}
+use Rattle.design.proofs.Answers.{refused-then, passed-then}
+use Rattle.rules_lengths.proofs.check_kit_lengths.Statement.{statement}
+use Rattle.rules_lengths.proofs.check_kit_lengths.Tie as tie
+
+check-list-lengths-requires : tie.Need-check-list-lengths-requires
+check-list-lengths-requires c κs = search needs
+
+enum-told : tie.Need-enum-told
+enum-told c = search needs
+
+enum-told-2 : tie.Need-enum-told-2
+enum-told-2 c = search needs
+
+returns : tie.Need-returns
+unfolding kitLengths
+returns c = refused-then _ (c .before .before .check-list-lengths .ensures) (c .enum-told2 .given .1)
+
+order-requires : tie.Need-order-requires
+order-requires c κs = search needs
+
+row-bytes-requires : tie.Need-row-bytes-requires
+row-bytes-requires c κs = search needs
+
+mul-check-length : tie.Need-mul-check-length
+mul-check-length c =
+    omega (arith, small-product (c .before .order .result) (c .row-bytes .result) 4294967295 536870912 (omega arith) (omega arith))
+
+check-length-requires : tie.Need-check-length-requires
+check-length-requires c κs = search needs
+
+returns-2 : tie.Need-returns-2
+unfolding kitLengths
+returns-2 c =
+    let a = c .before .before .before .before .before .before .before .before .before .args in
+    let z = c .check-length .ensures ∙ ap₂ (λ (k b : ℕ). lengthRule 3 (length (a .inverse .now)) (k * b)) (c .before .before .order .ensures .0) (c .before .row-bytes .ensures .0) in
+    z ∙ passed-then _ (c .before .before .before .before .before .check-list-lengths .ensures) (c .before .before .before .enum-told .given .1)
+
+pub check-kit-lengths-spec : {M : Type 1} → statement M
+check-kit-lengths-spec =
+    tie.close
+    (tie.spec
+    check-list-lengths-requires
+    enum-told
+    enum-told-2
+    returns
+    order-requires
+    row-bytes-requires
+    mul-check-length
+    check-length-requires
+    returns-2)

@@ -1,0 +1,63 @@
+-- The lengths that are due are those of the rule.
+-- Assumes nothing.
+use borrow.Author.Needs.{needs}
+use mathlib.Core.Path.{_≡_, ap, _∙_}
+use Prim.Native.Nat.{ℕ, _*_}
+use lib.ListN.{length}
+use Rattle.staircase.specs.Rules.{lengthRule, listLengths}
+use Rattle.design.proofs.Answers.{refused-then, passed-then}
+use Rattle.design.specs.Sizes.{orderOf}
+use Rattle.rules_lengths.proofs.check_list_lengths.Statement.{statement}
+use Rattle.rules_lengths.proofs.check_list_lengths.Tie as tie
+
+order-requires : tie.Need-order-requires
+order-requires c κs = search needs
+
+mul-check-length : tie.Need-mul-check-length
+mul-check-length c = search needs
+
+check-length-requires : tie.Need-check-length-requires
+check-length-requires c κs = search needs
+
+enum-told : tie.Need-enum-told
+enum-told c = search needs
+
+enum-told-2 : tie.Need-enum-told-2
+enum-told-2 c = search needs
+
+returns : tie.Need-returns
+unfolding listLengths
+returns c =
+    let a = c .before .before .before .before .before .before .args in
+    let e : c .before .before .before .order .result ≡ orderOf (a .d) = c .before .before .before .order .ensures .0 in
+    let x = c .before .before .check-length .ensures ∙ ap (λ (k : ℕ). lengthRule 1 (length (a .own .now)) (2 * k)) e in
+    refused-then _ x (c .enum-told2 .given .1)
+
+mul-check-length-2 : tie.Need-mul-check-length-2
+mul-check-length-2 c = search needs
+
+check-length-requires-2 : tie.Need-check-length-requires-2
+check-length-requires-2 c κs = search needs
+
+returns-2 : tie.Need-returns-2
+unfolding listLengths
+returns-2 c =
+    let a = c .before .before .before .before .before .before .before .args in
+    let e : c .before .before .before .before .order .result ≡ orderOf (a .d) = c .before .before .before .before .order .ensures .0 in
+    let x = c .before .before .before .check-length .ensures ∙ ap (λ (k : ℕ). lengthRule 1 (length (a .own .now)) (2 * k)) e in
+    let y = c .check-length2 .ensures ∙ ap (λ (k : ℕ). lengthRule 2 (length (a .parity .now)) (2 * k)) e in
+    y ∙ passed-then _ x (c .before .enum-told .given .1)
+
+pub check-list-lengths-spec : {M : Type 1} → statement M
+check-list-lengths-spec =
+    tie.close
+    (tie.spec
+    order-requires
+    mul-check-length
+    check-length-requires
+    enum-told
+    enum-told-2
+    returns
+    mul-check-length-2
+    check-length-requires-2
+    returns-2)

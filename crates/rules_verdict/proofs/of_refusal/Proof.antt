@@ -1,0 +1,104 @@
+-- Each case by its definition.
+-- Assumes nothing.
+use borrow.Author.Needs.{needs}
+use mathlib.Core.Path.{sym, ap}
+use Rattle.design.specs.declared.Refusal.{Refusal}
+use Rattle.design.specs.Answers.{refusalVerdict}
+use Rattle.rules_verdict.specs.Number.{number, placeOf, judgedOf}
+use Rattle.rules_verdict.proofs.of_refusal.Statement.{statement}
+use Rattle.rules_verdict.proofs.of_refusal.Tie as tie
+
+enum-known-r : tie.Need-enum-known-r
+enum-known-r c = search needs
+
+enum-known-r-2 : tie.Need-enum-known-r-2
+enum-known-r-2 c = search needs
+
+enum-known-r-3 : tie.Need-enum-known-r-3
+enum-known-r-3 c = search needs
+
+enum-known-r-4 : tie.Need-enum-known-r-4
+enum-known-r-4 c = search needs
+
+enum-known-r-5 : tie.Need-enum-known-r-5
+enum-known-r-5 c = search needs
+
+enum-known-r-6 : tie.Need-enum-known-r-6
+enum-known-r-6 c = search needs
+
+enum-known-r-7 : tie.Need-enum-known-r-7
+enum-known-r-7 c = search needs
+
+enum-known-r-8 : tie.Need-enum-known-r-8
+enum-known-r-8 c = search needs
+
+enum-known-r-9 : tie.Need-enum-known-r-9
+enum-known-r-9 c = search needs
+
+enum-known-r-10 : tie.Need-enum-known-r-10
+enum-known-r-10 c = search needs
+
+returns : tie.Need-returns
+unfolding number placeOf refusalVerdict
+returns c = sym (ap (λ (r : Refusal). judgedOf (refusalVerdict r)) (c .before .r .given .1))
+
+returns-2 : tie.Need-returns-2
+unfolding number placeOf refusalVerdict
+returns-2 c = sym (ap (λ (r : Refusal). judgedOf (refusalVerdict r)) (c .before .r2 .given .1))
+
+returns-3 : tie.Need-returns-3
+unfolding number placeOf refusalVerdict
+returns-3 c = sym (ap (λ (r : Refusal). judgedOf (refusalVerdict r)) (c .before .r3 .given .1))
+
+returns-4 : tie.Need-returns-4
+unfolding number placeOf refusalVerdict
+returns-4 c = sym (ap (λ (r : Refusal). judgedOf (refusalVerdict r)) (c .before .r4 .given .1))
+
+returns-5 : tie.Need-returns-5
+unfolding number placeOf refusalVerdict
+returns-5 c = sym (ap (λ (r : Refusal). judgedOf (refusalVerdict r)) (c .before .r5 .given .1))
+
+returns-6 : tie.Need-returns-6
+unfolding number placeOf refusalVerdict
+returns-6 c = sym (ap (λ (r : Refusal). judgedOf (refusalVerdict r)) (c .before .r6 .given .1))
+
+returns-7 : tie.Need-returns-7
+unfolding number placeOf refusalVerdict
+returns-7 c = sym (ap (λ (r : Refusal). judgedOf (refusalVerdict r)) (c .before .r7 .given .1))
+
+returns-8 : tie.Need-returns-8
+unfolding number placeOf refusalVerdict
+returns-8 c = sym (ap (λ (r : Refusal). judgedOf (refusalVerdict r)) (c .before .r8 .given .1))
+
+returns-9 : tie.Need-returns-9
+unfolding number placeOf refusalVerdict
+returns-9 c = sym (ap (λ (r : Refusal). judgedOf (refusalVerdict r)) (c .before .r9 .given .1))
+
+returns-10 : tie.Need-returns-10
+unfolding number placeOf refusalVerdict
+returns-10 c = sym (ap (λ (r : Refusal). judgedOf (refusalVerdict r)) (c .before .r10 .given .1))
+
+pub of-refusal-spec : {M : Type 1} → statement M
+of-refusal-spec =
+    tie.close
+    (tie.spec
+    enum-known-r
+    enum-known-r-2
+    enum-known-r-3
+    enum-known-r-4
+    enum-known-r-5
+    enum-known-r-6
+    enum-known-r-7
+    enum-known-r-8
+    enum-known-r-9
+    enum-known-r-10
+    returns
+    returns-2
+    returns-3
+    returns-4
+    returns-5
+    returns-6
+    returns-7
+    returns-8
+    returns-9
+    returns-10)

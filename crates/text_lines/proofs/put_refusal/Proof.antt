@@ -1,0 +1,40 @@
+-- The line of names, the number with the space behind it, the place with the line feed behind it.
+-- Assumes nothing.
+use native.Mathlib.Omega.{arith}
+use Rattle.text_lines.proofs.Placing.{refusal-put}
+use borrow.Author.Needs.{needs}
+use Rattle.text_lines.proofs.put_refusal.Statement.{statement}
+use Rattle.text_lines.proofs.put_refusal.Tie as tie
+
+slice-aggregate-put-bytes : tie.Need-slice-aggregate-put-bytes
+slice-aggregate-put-bytes c = search needs
+
+put-bytes-requires : tie.Need-put-bytes-requires
+put-bytes-requires c κs = omega arith
+
+put-field-requires : tie.Need-put-field-requires
+put-field-requires c κs = omega (arith, c .before .before .before .put-bytes .ensures .0)
+
+put-field-requires-2 : tie.Need-put-field-requires-2
+put-field-requires-2 c κs = omega (arith, c .before .before .before .before .before .before .before .put-bytes .ensures .0, c .before .before .before .put-field .ensures .0)
+
+same-length : tie.Need-same-length
+same-length c = search needs
+
+returns : tie.Need-returns
+returns c =
+    let a = c .before .before .before .before .before .before .before .before .before .before .before .before .before .before .args in
+    refusal-put (a .out .now) (a .at) (a .rule) (a .place)
+    (c .before .before .before .before .before .before .before .before .before .before .put-bytes .ensures)
+    (c .before .before .before .before .before .before .put-field .ensures) (c .before .before .put-field2 .ensures)
+
+pub put-refusal-spec : {M : Type 1} → statement M
+put-refusal-spec =
+    tie.close
+    (tie.spec
+    slice-aggregate-put-bytes
+    put-bytes-requires
+    put-field-requires
+    put-field-requires-2
+    same-length
+    returns)

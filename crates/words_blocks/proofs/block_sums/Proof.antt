@@ -1,0 +1,42 @@
+-- The sums are made from 0 by an addition for each block.
+-- Assumes nothing.
+use borrow.Author.Needs.{needs}
+use native.Mathlib.Omega.{arith}
+use mathlib.Core.Path.{_≡_}
+use lib.ListN.{length}
+use Rattle.words_blocks.specs.Blocks.{sentBit}
+use Rattle.words_blocks.proofs.Sums.{square, blocks-added}
+use Rattle.words_blocks.proofs.block_sums.Statement.{statement}
+use Rattle.words_blocks.proofs.block_sums.Tie as tie
+
+clear-requires : tie.Need-clear-requires
+clear-requires c κs = search needs
+
+add-block-requires : tie.Need-add-block-requires
+add-block-requires c κs =
+    let s = c .before .before .before .before .before .before .before .before .before in
+    let n = length (s .args .sums .now) in
+    let wide : length (c .before .before .before .clear .last .0) ≡ n = omega (arith, c .before .before .sums .given) in
+    (λ e. (square _ _ _ n (s .pre .0 e .0) wide wide, s .pre .0 e .1), omega (arith, wide, s .pre .2))
+
+add-block-requires-2 : tie.Need-add-block-requires-2
+add-block-requires-2 c κs =
+    let s = c .before .before .before .before .before .before .before .before .before .before .before .before .before in
+    let n = length (s .args .sums .now) in
+    let wide : length (c .before .before .before .add-block .last .0) ≡ n = omega (arith, c .before .before .before .before .before .before .sums .given, c .before .before .sums2 .given) in
+    (λ e. (square _ _ _ n (s .pre .1 e .0) wide wide, s .pre .1 e .1), omega (arith, wide, s .pre .2))
+
+same-length : tie.Need-same-length
+same-length c = search needs
+
+returns : tie.Need-returns
+returns c =
+    let a = c .before .before .before .before .before .before .before .before .before .before .before .before .before .before .before .before .args in
+    let cleared = c .before .before .before .before .before .before .before .before .before .before .clear in
+    let one = c .before .before .before .before .before .before .add-block in
+    let two = c .before .before .add-block2 in
+    blocks-added (a .column) (a .table .now) (length (a .sums .now)) (sentBit (a .has-first) (a .first .now)) (sentBit (a .has-second) (a .second .now))
+    (cleared .last .0) (one .last .0) (two .last .0) (cleared .ensures) (one .ensures) (two .ensures)
+
+pub block-sums-spec : {M : Type 1} → statement M
+block-sums-spec = tie.close (tie.spec clear-requires add-block-requires add-block-requires-2 same-length returns)

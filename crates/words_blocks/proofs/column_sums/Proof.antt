@@ -1,0 +1,19 @@
+-- The sum is that of a column word's blocks, of which the odd one is always sent.
+-- Assumes nothing.
+use borrow.Author.Needs.{needs}
+use Rattle.words_blocks.specs.Blocks.{sentBit, columnSum, bitPlace, blockSum}
+use Rattle.words_blocks.proofs.column_sums.Statement.{statement}
+use Rattle.words_blocks.proofs.column_sums.Tie as tie
+
+block-sums-requires : tie.Need-block-sums-requires
+block-sums-requires c κs = search needs
+
+same-length : tie.Need-same-length
+same-length c = search needs
+
+returns : tie.Need-returns
+unfolding sentBit columnSum bitPlace blockSum
+returns c = c .before .before .block-sums .ensures
+
+pub column-sums-spec : {M : Type 1} → statement M
+column-sums-spec = tie.close (tie.spec block-sums-requires same-length returns)

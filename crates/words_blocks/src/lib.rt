@@ -1,0 +1,111 @@
+// The blocks of a frame as parts of the lent information, and the remainders of the blocks of a group's words.
+//   is_sent(blocks, b)        whether block b of a frame is sent
+//   block_of(info, ..)        its bytes
+//   column_sums, row_sums     the remainders of the blocks of a group's column words and row words
+//
+// The remainder of a word is a sum of entries of a table of powers of x, one for each of its ones (crate `bch_remainders`), and a word's blocks are
+// its first 2 × size positions. Column words run across the rows of a block and are added row by row, row words lie in a row each; a block that is
+// not sent adds nothing.
+ghost use mathlib.Core.Path.{_≡_};
+ghost use Prim.Native.Nat.{ℕ, _+_, _*_, _≤_, _<_};
+ghost use lib.ListN.{length, getD};
+ghost use Rattle.bch.specs.Polynomial.{_⊕_, Bits};
+ghost use Rattle.bch.specs.Powers.{xorSum};
+ghost use Rattle.staircase.specs.Lists.{tabulate};
+ghost use Rattle.words_blocks.specs.Blocks.{sent, blockBytes, sentBit, Sent, columnSum, rowSum, bitPlace, blockSum, PartAdded};
+
+// Whether block b of a frame of `blocks` blocks is sent.
+pub fn is_sent(blocks: usize, b: usize) -> bool
+    ensures { λ a. ⌜ a ≡ sent blocks b ⌝ }
+{
+    if b < 1 {
+        return false;
+    }
+    b - 1 < blocks
+}
+
+// The bytes of block b, none where it is not sent.
+pub fn block_of(info: &[u8], area: usize, blocks: usize, b: usize) -> &[u8]
+    requires { ⌜ length (now info) ≡ blocks * area ⌝ }
+    ensures { λ r. ⌜ now r ≡ blockBytes blocks area (now (info .entry)) b ⌝ }
+{
+    let here = is_sent(blocks, b);
+    if !here {
+        return &info[0..0];
+    }
+    let at = (b - 1) * area;
+    &info[at..at + area]
+}
+
+// Adds to each of the lent entries of `acc` the entries of `part` at the ones of its row of `block`. The block has a row for each entry of `acc`,
+// one after the other, and a column for each entry of `part`. One step for each bit of the block.
+fn add_dots(acc: &mut [u32], block: &[u8], part: &[u32])
+    requires { ⌜ (length (now block) ≡ length (now acc) * length (now part)) × Bits (now block) ⌝ }
+    ensures { λ u. ⌜ (length (now (acc .exit)) ≡ length (now (acc .entry)))
+        × ((a : ℕ) → a < length (now (acc .entry)) → getD (now (acc .exit)) a 0 ≡ getD (now (acc .entry)) a 0
+        ⊕ xorSum (length (now (part .entry))) (λ j. getD (now (block .entry)) (a * length (now (part .entry)) + j) 0 * getD (now (part .entry)) j 0)) ⌝ }
+{
+    let w = part.len();
+    for a in 0..acc.len() {
+        let from = a * w;
+        acc[a] = acc[a] ^ bch_remainders::dot(&block[from..from + w], part);
+    }
+}
+
+// Adds to each of `sums` the entries of the table from entry `from` on, as many as there are sums, at the ones of its column of a block where
+// `column` is true, else of its row. A block that is not sent adds nothing.
+fn add_block(sums: &mut [u32], block: &[u8], sent: bool, column: bool, table: &[u32], from: usize)
+    requires { ⌜ Sent sent (now block) (length (now sums) * length (now sums)) × (from + length (now sums) ≤ length (now table)) ⌝ }
+    ensures { λ u. ⌜ PartAdded (now (table .entry)) from (length (now (sums .entry)))
+        (λ w a j. sentBit sent (now (block .entry)) (bitPlace column w a j)) (now (sums .entry)) (now (sums .exit)) ⌝ }
+{
+    if !sent {
+        return;
+    }
+    let part = &table[from..from + sums.len()];
+    if column {
+        bch_remainders::add_rows(sums, block, part);
+        return;
+    }
+    add_dots(sums, block, part);
+}
+
+// Makes `sums` the remainders of the two blocks of a group's column words where `column` is true, else of its row words.
+fn block_sums(
+    first: &[u8],
+    has_first: bool,
+    second: &[u8],
+    has_second: bool,
+    column: bool,
+    table: &[u32],
+    sums: &mut [u32],
+)
+    requires { ⌜ Sent «has_first» (now first) (length (now sums) * length (now sums)) × Sent «has_second» (now second) (length (now sums) * length (now sums))
+        × (2 * length (now sums) ≤ length (now table)) ⌝ }
+    ensures { λ u. ⌜ now (sums .exit) ≡ tabulate (length (now (sums .entry)))
+        (blockSum column (now (table .entry)) (length (now (sums .entry))) (sentBit «has_first» (now (first .entry))) (sentBit «has_second» (now (second .entry)))) ⌝ }
+{
+    bch_remainders::clear(sums);
+    add_block(sums, first, has_first, column, table, 0);
+    add_block(sums, second, has_second, column, table, sums.len());
+}
+
+// Makes `columns` the remainders of the blocks of a group's column words.
+pub fn column_sums(odd: &[u8], even: &[u8], has_even: bool, table: &[u32], columns: &mut [u32])
+    requires { ⌜ (length (now odd) ≡ length (now columns) * length (now columns)) × Bits (now odd)
+        × Sent «has_even» (now even) (length (now columns) * length (now columns)) × (2 * length (now columns) ≤ length (now table)) ⌝ }
+    ensures { λ u. ⌜ now (columns .exit) ≡ tabulate (length (now (columns .entry)))
+        (columnSum (now (table .entry)) (length (now (columns .entry))) (λ k. getD (now (odd .entry)) k 0) (sentBit «has_even» (now (even .entry)))) ⌝ }
+{
+    block_sums(odd, true, even, has_even, true, table, columns);
+}
+
+// Makes `rows` the remainders of the blocks of a group's row words.
+pub fn row_sums(before: &[u8], has_before: bool, odd: &[u8], table: &[u32], rows: &mut [u32])
+    requires { ⌜ (length (now odd) ≡ length (now rows) * length (now rows)) × Bits (now odd)
+        × Sent «has_before» (now before) (length (now rows) * length (now rows)) × (2 * length (now rows) ≤ length (now table)) ⌝ }
+    ensures { λ u. ⌜ now (rows .exit) ≡ tabulate (length (now (rows .entry)))
+        (rowSum (now (table .entry)) (length (now (rows .entry))) (sentBit «has_before» (now (before .entry))) (λ k. getD (now (odd .entry)) k 0)) ⌝ }
+{
+    block_sums(before, has_before, odd, true, false, table, rows);
+}
