@@ -1,9 +1,12 @@
 #!/usr/bin/env python3
-"""Checks that what the documents name is there, and that the wrong programs outside the gate still fit the code.
+"""Checks that what the documents name is there, that crates stand in layers, and that the wrong programs outside the gate still fit the code.
 
 - docs/PROMISES.md: each file, each definition or law named right behind it, and each wrong program.
 - docs/DECISIONS.md: each wrong program, as crate/name.
+- docs/ARCHITECTURE.md: each crate is in the table, in the order of crates.txt.
+- crates.txt: a crate stands below those that it knows, and the crates of a family, FAMILY and FAMILY_PART, stand together.
 - crates/*/more-fail/*.edit: the lines that it changes stand in its file, once.
+- `use` lines of .rt and .antt files: a module is named once, and what is named is used.
 
     python3 tests/named.py
 
@@ -23,7 +26,8 @@ def stands(name, text):
 
 
 def promises():
-    text = (ROOT / "docs/PROMISES.md").read_text()
+    # a line that is indented and begins no item goes on with the one before
+    text = re.sub(r"\n +(?!- )", " ", (ROOT / "docs/PROMISES.md").read_text())
     cited = r"`([a-z_]+/(?:specs|proofs|src)/[\w/]+\.(?:antt|rt))`(:(?: ?`[^`]+`,?)*)?"
     found = list(re.finditer(cited, text))
     if len(found) < 50:
@@ -37,11 +41,12 @@ def promises():
             if not stands(name, file.read_text()):
                 yield f"docs/PROMISES.md: {match[1]} has no {name}"
     programs = {name for _, name in EDITS} | {crate.name for crate in CRATES.iterdir()}
-    for line in text.splitlines():
-        cells = line.split("|")
-        for name in re.findall(r"`([a-z0-9_]+)`", cells[4]) if line.startswith("| `") and len(cells) > 5 else []:
-            if name not in programs:
-                yield f"docs/PROMISES.md: no wrong program {name}"
+    ruled = re.findall(r"- Rules out: (.*)", text)
+    if len(ruled) < 25:
+        yield f"docs/PROMISES.md: only {len(ruled)} contracts name what they rule out"
+    for name in re.findall(r"`([a-z0-9_]+)`", " ".join(ruled)):
+        if name not in programs:
+            yield f"docs/PROMISES.md: no wrong program {name}"
 
 
 def decisions():
@@ -49,6 +54,52 @@ def decisions():
     for crate, name in re.findall(r"`([a-z_]+)/([a-z0-9_]+)`", text):
         if crate != "tests" and (crate, name) not in EDITS:
             yield f"docs/DECISIONS.md: no wrong program {crate}/{name}"
+
+
+def listed():
+    """The crates of crates.txt with what they know, in its order."""
+    for line in (ROOT / "crates.txt").read_text().splitlines():
+        name, colon, deps = line.split("#")[0].partition(":")
+        if colon:
+            yield name.strip(), deps.split()
+
+
+def layers():
+    seen, families = [], []
+    for name, deps in listed():
+        for dep in deps:
+            if (CRATES / dep).is_dir() and dep not in seen:
+                yield f"crates.txt: {name} knows {dep}, which does not stand above it"
+        seen.append(name)
+        family = name.split("_")[0]
+        if family in families[:-1]:
+            yield f"crates.txt: {name} stands apart from its family"
+        if not families or families[-1] != family:
+            families.append(family)
+    rows = re.findall(r"^\| (`\w+`(?:, `\w+`)*) \|", (ROOT / "docs/ARCHITECTURE.md").read_text().split("## The crates")[1].split("\n## ")[0], re.M)
+    if [name for row in rows for name in re.findall(r"`(\w+)`", row)] != seen:
+        yield "docs/ARCHITECTURE.md: its table does not have the crates of crates.txt, in that order"
+
+
+def uses():
+    """Names in `use` lines. An operator `_+_` is used where its signs stand."""
+    named = re.compile(r"^(?:ghost )?use ([^{;\s]+?)(?:\.\{(.*)\})?(?: as (\S+?))?;?$")
+    for file in sorted(CRATES.glob("*/*/**/*")):
+        if file.suffix not in (".rt", ".antt"):
+            continue
+        lines = file.read_text().splitlines()
+        found = [match for line in lines if (match := named.match(line))]
+        comment = "//" if file.suffix == ".rt" else "--"
+        body = "\n".join(re.sub(rf"(?<!\S){comment}.*", "", line) for line in lines if not named.match(line))
+        modules = [match[1] for match in found if match[2]]
+        for module in sorted({m for m in modules if modules.count(m) > 1}):
+            yield f"{file.relative_to(ROOT)}: {module} is named twice"
+        for match in found:
+            names = match[2].split(", ") if match[2] else [match[3] or match[1].split("::")[-1]]
+            for name in names:
+                signs = [sign for sign in name.split("_") if sign] if name[:1] == "_" or name[-1:] == "_" else [name.split(" as ")[-1]]
+                if not all(sign in body if not sign[0].isalnum() else re.search(rf"(?<![\w·′-]){re.escape(sign)}(?![\w·′-])", body) for sign in signs):
+                    yield f"{file.relative_to(ROOT)}: {name} is not used"
 
 
 def edits():
@@ -61,6 +112,6 @@ def edits():
                 yield f"{edit.relative_to(ROOT)}: what it changes does not stand once in its file"
 
 
-missing = [line for check in (promises, decisions, edits) for line in check()]
+missing = [line for check in (promises, decisions, layers, uses, edits) for line in check()]
 print("\n".join(missing) if missing else "what the documents and the edits name is there")
 sys.exit(1 if missing else 0)
