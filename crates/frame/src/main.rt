@@ -16,5 +16,5 @@ fn main() {
     let n = text_read.count;
     let mut out = program_io::output_bytes();
     let m = program_frame::frame_output(&kit[..k], &text[..n], &mut out);
-    io::write_all(libc::STDOUT_FILENO, &out[..m]);
+    program_io::write_output(&out[..m]);
 }

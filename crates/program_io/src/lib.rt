@@ -1,10 +1,13 @@
-// What the two programs read: kit.txt and standard input.
+// What the two programs read and write: kit.txt, standard input, standard output.
 //   input_bytes, output_bytes   arrays for an input and for what is printed
 //   read_kit                    kit.txt in the folder in which the program runs
 //   read_text                   standard input
+//   write_output                standard output
 //
-// An input is read up to one byte more than rule 13 lets through. One that cannot be opened or read is told on standard error, with its name and the
-// system's reason. What is read no contract can say.
+// An input is read to its end, or up to one byte more than rule 13 lets through and no further. An input that cannot be opened or read, and an output
+// that cannot be written whole, are told on standard error, each with its name and the system's reason: the start of a text may be a text, so an input
+// that breaks off must not pass for a shorter one. A call that a signal interrupts before it moves a byte has not failed, and is made again. What is
+// read and written no contract can say.
 ghost use mathlib.Core.Path.{_≡_};
 ghost use lib.ListN.{length};
 ghost use Rattle.io.specs.Counts.{Counts};
@@ -28,24 +31,54 @@ pub fn output_bytes() -> [u8; 262144]
     [0; 262144]
 }
 
-// Whether an input can be read to its end: a last read that fails tells an unreadable file from a short one.
-fn readable(fd: i32, name: &[u8]) -> bool {
-    let mut more = [0u8; 1];
-    if libc::read(fd, &mut more) < 0 {
+// The most calls in a row that a signal may interrupt. If the last is interrupted too, that is told as a failure.
+const MOST_TRIES: usize = 1000;
+
+// Whether a signal interrupted the read or the write that answered `moved`, before it moved a byte.
+fn interrupted(moved: isize) -> bool {
+    moved < 0 && os::errno() == libc::EINTR
+}
+
+// What one read into the start of `bytes` answers; it is made again where a signal interrupts it.
+fn read_once(fd: i32, bytes: &mut [u8]) -> isize {
+    for _ in 1..MOST_TRIES {
+        let got = libc::read(fd, bytes);
+        if !interrupted(got) {
+            return got;
+        }
+    }
+    libc::read(fd, bytes)
+}
+
+// Whether a read that got no byte met the input's end. If not, it failed, which is told.
+fn ended(got: isize, name: &[u8]) -> bool {
+    if got < 0 {
         os::fail(name);
         return false;
     }
     true
 }
 
-// Reads an input into the start of `bytes`.
+// Reads an input into the start of `bytes`, to its end or until they are full.
 fn read_input(fd: i32, name: &[u8], bytes: &mut [u8]) -> Input
     ensures { λ a. ⌜ Counts (a .count) (now (bytes .exit)) ⌝ }
 {
-    let count = io::read_full(fd, bytes);
+    let mut count = 0;
+    while count < bytes.len() {
+        let rest = &mut bytes[count..];
+        let got = read_once(fd, rest);
+        let more = io::count(got, rest);
+        if more == 0 {
+            return Input {
+                readable: ended(got, name),
+                count: count,
+            };
+        }
+        count += more;
+    }
     Input {
-        readable: readable(fd, name),
-        count: count,
+        readable: true,
+        count: bytes.len(),
     }
 }
 
@@ -72,4 +105,36 @@ pub fn read_text(bytes: &mut [u8]) -> Input
     ensures { λ a. ⌜ Counts (a .count) (now (bytes .exit)) ⌝ }
 {
     read_input(libc::STDIN_FILENO, b"standard input", bytes)
+}
+
+// What one write of `bytes` to standard output answers; it is made again where a signal interrupts it.
+fn write_once(bytes: &[u8]) -> isize {
+    for _ in 1..MOST_TRIES {
+        let put = libc::write(libc::STDOUT_FILENO, bytes);
+        if !interrupted(put) {
+            return put;
+        }
+    }
+    libc::write(libc::STDOUT_FILENO, bytes)
+}
+
+// Writes `bytes` to standard output, and answers whether it took them all. A write that takes nothing has failed.
+fn written(bytes: &[u8]) -> bool {
+    let mut done = 0;
+    while done < bytes.len() {
+        let rest = &bytes[done..];
+        let taken = io::count(write_once(rest), rest);
+        if taken == 0 {
+            return false;
+        }
+        done += taken;
+    }
+    true
+}
+
+// Writes `bytes` to standard output and closes it: some file systems tell only then that what they took is lost. A failure is told.
+pub fn write_output(bytes: &[u8]) {
+    if !written(bytes) || libc::close(libc::STDOUT_FILENO) < 0 {
+        os::fail(b"standard output");
+    }
 }
