@@ -402,13 +402,10 @@ impl Case<'_> {
         (info, red)
     }
     fn loopback(&mut self, l: &Lent) {
-        let looped =
+        let result =
             loopback(&l.kit(), l.blocks, l.rounds, (&l.info_errors, &l.red_errors), &l.info, l.red.len(), l.kit_work);
-        let (number, told) = match looped.result {
-            Ok((rounds, turned, outside)) => (0, vec![0, 0, rounds, turned, outside]),
-            Err((which, (number, place))) => (number, vec![place, which, 0, 0, 0]),
-        };
-        let (info, red) = looped.left.unwrap_or((l.info.clone(), l.red.clone()));
+        let (number, told) = answered(&result, |(_, _, (rounds, turned, outside))| vec![*rounds, *turned, *outside], 4);
+        let (info, red) = result.map_or((l.info.clone(), l.red.clone()), |(info, red, _)| (info, red));
         let same = [&l.own, &l.parity, &l.inverse, &l.info_errors, &l.red_errors];
         let buffers = same.iter().map(|b| b.to_vec()).chain([info, red]).collect();
         let lent: Vec<&[u8]> = same.iter().map(|b| &b[..]).chain([&l.info[..], &l.red[..]]).collect();

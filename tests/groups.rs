@@ -666,7 +666,11 @@ fn loopbacks(case: &mut Case) {
         lent.rounds = rounds;
         case.loopback(&lent);
     }
-    // refused by the encoder, with rounds that the decoder would refuse too
+    // old redundancy that is no bits: rule 5 leaves it, as it leaves the information
+    lent.red.fill(200);
+    lent.rounds = 65;
+    case.loopback(&lent);
+    // refused by the encoder too: rules 1 to 4 before 5, 6 to 10 after it
     let mut wrong = lent.clone();
     match case.rng.below(6) {
         0 => wrong.inverse[0] ^= 1,

@@ -4,6 +4,7 @@
 - docs/PROMISES.md: each file, each definition or law named right behind it, and each wrong program.
 - docs/DECISIONS.md: each wrong program, as crate/name.
 - docs/ARCHITECTURE.md: each crate is in the table, in the order of crates.txt.
+- README.md: its program in Rattle is crates/example, which the gate proves and runs.
 - crates.txt: a crate stands below those that it knows, and the crates of a family, FAMILY and FAMILY_PART, stand together.
 - crates/*/more-fail/*.edit: the lines that it changes stand in its file, once.
 - `use` lines of .rt and .antt files: a module is named once, and what is named is used.
@@ -102,6 +103,11 @@ def uses():
                     yield f"{file.relative_to(ROOT)}: {name} is not used"
 
 
+def example():
+    if f"```rust\n{(CRATES / 'example/src/main.rt').read_text()}```" not in (ROOT / "README.md").read_text():
+        yield "README.md: its program in Rattle is not crates/example/src/main.rt"
+
+
 def edits():
     for edit in sorted(CRATES.glob("*/more-fail/*.edit")):
         file = None
@@ -112,6 +118,6 @@ def edits():
                 yield f"{edit.relative_to(ROOT)}: what it changes does not stand once in its file"
 
 
-missing = [line for check in (promises, decisions, layers, uses, edits) for line in check()]
+missing = [line for check in (promises, decisions, layers, example, uses, edits) for line in check()]
 print("\n".join(missing) if missing else "what the documents and the edits name is there")
 sys.exit(1 if missing else 0)

@@ -632,18 +632,17 @@ fn mend(shape: &Shape, frame: &mut [u8], rounds: u64) -> Counts {
     }
 }
 
-/// The loopback: encode, turn the bits that the patterns name, decode in place. The first part of the
-/// answer is information and redundancy as they are left, if the encoder didn't refuse.
-pub struct Looped {
-    pub left: Option<(Vec<u8>, Vec<u8>)>,
-    pub result: Result<Counts, (u64, Refusal)>,
-}
-
-pub fn loopback(kit: &Kit, blocks: u64, rounds: u64, errors: (&[u8], &[u8]), info: &[u8], red: usize, work: usize) -> Looped {
-    let red = match encode(kit, blocks, info, red, work) {
-        Ok(red) => red,
-        Err(refusal) => return Looped { left: None, result: Err((1, refusal)) },
-    };
+/// The loopback: encode, turn the bits that the patterns name, decode in place. Its rules rise: 1 to 4, the
+/// decoder's 5, and 6 to 10 of the encoder; a refused call leaves everything.
+pub fn loopback(
+    kit: &Kit, blocks: u64, rounds: u64, errors: (&[u8], &[u8]), info: &[u8], red: usize, work: usize,
+) -> Answer<(Vec<u8>, Vec<u8>, Counts)> {
+    let d = design(kit.m, kit.t, kit.size)?;
+    block_count(blocks)?;
+    if rounds > 64 {
+        return Err((5, rounds));
+    }
+    let red = encode(kit, blocks, info, red, work)?;
     let turn = |buffer: &[u8], pattern: &[u8]| -> Vec<u8> {
         let turns = pattern.iter().map(|&byte| (byte != 0) as u8).chain(std::iter::repeat(0));
         buffer.iter().zip(turns).map(|(bit, turn)| bit ^ turn).collect()
@@ -658,11 +657,7 @@ pub fn loopback(kit: &Kit, blocks: u64, rounds: u64, errors: (&[u8], &[u8]), inf
         info: turn(info, errors.0),
         red: turn(&red, errors.1),
     };
-    let order = (kit.m * kit.t * kit.size) as usize;
-    match decode(&copy, rounds, order) {
-        Ok((info, red, counts)) => Looped { left: Some((info, red)), result: Ok(counts) },
-        Err(refusal) => Looped { left: Some((copy.info, copy.red)), result: Err((2, refusal)) },
-    }
+    decode(&copy, rounds, d.word_work())
 }
 
 /// "A block or a group is shown as the stretch of whichever buffer holds it": rules 1 to 4 and 6.

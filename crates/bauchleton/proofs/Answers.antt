@@ -1,6 +1,6 @@
 -- Laws of what the calls tell.
 --   design-made, design-refused       a design's answer
---   corrected-told, result-told       the decoder and the loopback
+--   corrected-told                    a call that decodes
 --   show-told                         showing
 --   part-block, part-group            what is shown
 --   pasted-none                       a stretch that does not fit
@@ -29,14 +29,11 @@ use Rattle.design.specs.Answers.{refusalVerdict, designVerdict, DesignIs}
 use Rattle.decoder.specs.declared.Decoding.{Decoding}
 use Rattle.decoder.specs.declared.Decoding.the-variants as decoding
 use Rattle.decoder.specs.Answers.{correctedOf}
-use Rattle.loopback.specs.declared.Looped.{Looped}
-use Rattle.loopback.specs.declared.Looped.the-variants as looped
-use Rattle.loopback.specs.Link.{Result, resultOf}
 use Rattle.rules_verdict.specs.declared.Judged.{Judged}
 use Rattle.rules_verdict.specs.Number.{number, placeOf, judgedOf, told}
 use Rattle.rules_verdict.proofs.Refused.{refusal-whole}
 use Rattle.rules_verdict.proofs.Stores.{told-alike, judged-told}
-use Rattle.bauchleton.specs.Answers.{designAnswer, correctedAnswer, outcomeNumber, outcomeAnswer, showAnswer, shownPart, pasted}
+use Rattle.bauchleton.specs.Answers.{designAnswer, correctedAnswer, showAnswer, shownPart, pasted}
 
 -- ---- designs
 
@@ -75,20 +72,6 @@ pub corrected-told : (l : List ℕ) (d : Decoding) {f : Frame} {y : Corrected} {
 corrected-told l d {f = f} e h =
     let t = told-alike (λ (z : Corrected). number (z .verdict)) correctedAnswer l e h in
     (t .0, sym (corrected-left d f) ∙ ap (λ (z : Corrected). z .frame) e, t .1)
-
--- that of the loopback's result likewise
-result-left : (a : Looped) (f : Frame) → resultOf a f .frame ≡ f
-unfolding resultOf
-result-left (looped.NotEncoded r) f = refl
-result-left (looped.NotDecoded r) f = refl
-result-left (looped.Done c) f = refl
-
-pub result-told : (l : List ℕ) (d : Looped) {f : Frame} {y : Result} {a : ℕ} {k : List ℕ} → resultOf d f ≡ y
-    → (a ≡ outcomeNumber (resultOf d f .outcome)) × (k ≡ told (outcomeAnswer (resultOf d f .outcome)) l)
-    → (a ≡ outcomeNumber (y .outcome)) × (f ≡ y .frame) × (k ≡ told (outcomeAnswer (y .outcome)) l)
-result-told l d {f = f} e h =
-    let t = told-alike (λ (z : Result). outcomeNumber (z .outcome)) (λ (z : Result). outcomeAnswer (z .outcome)) l e h in
-    (t .0, sym (result-left d f) ∙ ap (λ (z : Result). z .frame) e, t .1)
 
 -- ---- showing
 

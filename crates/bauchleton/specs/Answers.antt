@@ -1,9 +1,7 @@
 -- What each call stores into the slice that it is lent for its answer: the refusal's place, then what the call tells, 0 where it is refused.
 --   designAnswer      of a design: r, n and k
 --   wordsAnswer       of the word checker: the words outside the code
---   correctedAnswer   of the decoder: its three counts
---   outcomeNumber     of the loopback: the number that it answers
---   outcomeAnswer     which call was refused, and the decoder's three counts
+--   correctedAnswer   of the decoder and the loopback: three counts
 --   showAnswer        of showing: the length of the stretch
 --   shownPart         what is shown: a block or a group
 --   pasted            a lent slice after a stretch was copied to its start, which is only done where it fits
@@ -18,9 +16,7 @@ use Rattle.staircase.specs.Rules.{Verdict, Part}
 use Rattle.staircase.specs.Rules.Verdict.{accepted, refused}
 use Rattle.staircase.specs.Rules.Part.{block, group}
 use Rattle.staircase.specs.Calls.{Counted, Corrected, Shown}
-use Rattle.loopback.specs.Link.{Outcome}
-use Rattle.loopback.specs.Link.Outcome.{notEncoded, notDecoded, done}
-use Rattle.rules_verdict.specs.Number.{number, placeOf}
+use Rattle.rules_verdict.specs.Number.{placeOf}
 
 -- "r = m × t, n = 2M + 2r, k = 2M + r"
 unfoldable pub designAnswer : Verdict → Params → List ℕ
@@ -34,17 +30,6 @@ wordsAnswer c = placeOf (c .verdict) ∷ c .outside ∷ []
 -- "The result: rounds made .., bits turned .., words outside the code at the end"
 abbrev pub correctedAnswer : Corrected → List ℕ
 correctedAnswer c = placeOf (c .verdict) ∷ c .counts .rounds ∷ c .counts .flips ∷ c .counts .outside ∷ []
-
-unfoldable pub outcomeNumber : Outcome → ℕ
-outcomeNumber (notEncoded v) = number v
-outcomeNumber (notDecoded v) = number v
-outcomeNumber (done c) = 0
-
--- after the place 1 for the encoder, 2 for the decoder, 0 for neither
-unfoldable pub outcomeAnswer : Outcome → List ℕ
-outcomeAnswer (notEncoded v) = placeOf v ∷ 1 ∷ 0 ∷ 0 ∷ 0 ∷ []
-outcomeAnswer (notDecoded v) = placeOf v ∷ 2 ∷ 0 ∷ 0 ∷ 0 ∷ []
-outcomeAnswer (done c) = 0 ∷ 0 ∷ c .rounds ∷ c .flips ∷ c .outside ∷ []
 
 -- "A block or a group is shown as the stretch of whichever buffer holds it"
 abbrev pub showAnswer : Shown → List ℕ

@@ -12,10 +12,9 @@ ghost use Rattle.staircase.specs.Calls.{encodeCall, wordsCall, decodeCall, show
 ghost use Rattle.loopback.specs.Link.{loopbackCall};
 ghost use Rattle.show.specs.Answers.{partOf};
 ghost use Rattle.rules_verdict.specs.Number.{number, placeOf, told};
-ghost use Rattle.bauchleton.specs.Answers.{wordsAnswer, correctedAnswer, outcomeNumber, outcomeAnswer, showAnswer, shownPart, pasted};
+ghost use Rattle.bauchleton.specs.Answers.{wordsAnswer, correctedAnswer, showAnswer, shownPart, pasted};
 use crate::tells::tell_check;
 use crate::tells::tell_decoding;
-use crate::tells::tell_looped;
 use crate::tells::tell_words;
 use rules_verdict::of_check;
 use rules_verdict::tell_two;
@@ -115,8 +114,7 @@ pub extern "C" fn bauchleton_decode(
     tell_decoding(a, answer)
 }
 
-// Encodes, turns the bits that the patterns name, and decodes. `answer` has five entries: the place, which call was refused (1 the encoder, 2 the
-// decoder, 0 neither), and the decoder's three counts.
+// Encodes, turns the bits that the patterns name, and decodes. `answer` has four entries, as the decoder's.
 #[no_mangle]
 pub extern "C" fn bauchleton_loopback(
     m: u64,
@@ -137,8 +135,8 @@ pub extern "C" fn bauchleton_loopback(
     ensures { λ a.
         let l = loopbackCall m t size blocks rounds (now (own .entry)) (now (parity .entry)) (now (inverse .entry)) (now («info_errors» .entry))
         (now («red_errors» .entry)) (now (info .entry)) (now (red .entry)) (length (now (work .entry))) in
-        ⌜ (a ≡ outcomeNumber (l .outcome)) × (frameOf (now (info .exit)) (now (red .exit)) ≡ l .frame)
-        × (now (answer .exit) ≡ told (outcomeAnswer (l .outcome)) (now (answer .entry))) ⌝ }
+        ⌜ (a ≡ number (l .verdict)) × (frameOf (now (info .exit)) (now (red .exit)) ≡ l .frame)
+        × (now (answer .exit) ≡ told (correctedAnswer l) (now (answer .entry))) ⌝ }
 {
     let a = loopback::loopback(
         m,
@@ -155,7 +153,7 @@ pub extern "C" fn bauchleton_loopback(
         red,
         work,
     );
-    tell_looped(a, answer)
+    tell_decoding(a, answer)
 }
 
 // Copies block `which`, where `kind` is 0, or else group `which` of a frame to the start of `out`, where it fits. `answer` has two entries: the

@@ -1,24 +1,20 @@
 // What the answer of a call tells a host in C: the number of the rule that refuses, and the entries of the slice that is lent for the rest.
 //   tell_check      a check's verdict: the kit checker and the encoder
 //   tell_words      the word checker's answer
-//   tell_decoding   the decoder's
-//   tell_looped     the loopback's
+//   tell_decoding   the decoder's and the loopback's
 ghost use mathlib.Core.Path.{_≡_};
 ghost use mathlib.Core.List.{[], _∷_};
 ghost use Rattle.staircase.specs.Frame.{Frame};
 ghost use Rattle.design.specs.Answers.{verdictOf};
 ghost use Rattle.words.specs.Checks.{countedOf};
 ghost use Rattle.decoder.specs.Answers.{correctedOf};
-ghost use Rattle.loopback.specs.Link.{resultOf};
 ghost use Rattle.rules_verdict.specs.Number.{number, placeOf, told};
-ghost use Rattle.bauchleton.specs.Answers.{wordsAnswer, correctedAnswer, outcomeNumber, outcomeAnswer};
+ghost use Rattle.bauchleton.specs.Answers.{wordsAnswer, correctedAnswer};
 use decoder::Decoding;
 use design::Check;
-use loopback::Looped;
 use rules_verdict::Judged;
 use rules_verdict::of_check;
 use rules_verdict::of_refusal;
-use rules_verdict::tell_five;
 use rules_verdict::tell_four;
 use rules_verdict::tell_place;
 use rules_verdict::tell_two;
@@ -41,7 +37,7 @@ pub fn tell_words(a: WordCount, answer: &mut [u64]) -> u64
     }
 }
 
-// Tells the decoder's answer.
+// Tells the answer of a call that decodes.
 pub fn tell_decoding(a: Decoding, answer: &mut [u64]) -> u64
     ensures { λ n. ⌜ ((f : Frame) → (n ≡ number (correctedOf a f .verdict))
         × (now (answer .exit) ≡ told (correctedAnswer (correctedOf a f)) (now (answer .entry)))) ⌝ }
@@ -55,24 +51,5 @@ pub fn tell_decoding(a: Decoding, answer: &mut [u64]) -> u64
             answer,
         ),
         Decoding::Refused(r) => tell_four(of_refusal(r), 0, 0, 0, answer),
-    }
-}
-
-// Tells the loopback's answer.
-pub fn tell_looped(a: Looped, answer: &mut [u64]) -> u64
-    ensures { λ n. ⌜ ((f : Frame) → (n ≡ outcomeNumber (resultOf a f .outcome))
-        × (now (answer .exit) ≡ told (outcomeAnswer (resultOf a f .outcome)) (now (answer .entry)))) ⌝ }
-{
-    match a {
-        Looped::NotEncoded(r) => tell_five(of_refusal(r), 1, 0, 0, 0, answer),
-        Looped::NotDecoded(r) => tell_five(of_refusal(r), 2, 0, 0, 0, answer),
-        Looped::Done(counts) => tell_five(
-            Judged { rule: 0, place: 0 },
-            0,
-            counts.rounds,
-            counts.flips,
-            counts.outside,
-            answer,
-        ),
     }
 }

@@ -26,13 +26,12 @@ fn tell_kit(a: KitScan, answer: &mut [u64]) -> u64
         × (now (answer .exit) ≡ told (kitAnswer (kitScanVerdict a) s) (now (answer .entry)))) ⌝ }
 {
     match a {
-        KitScan::Kit(d) => tell_four(
-            Judged { rule: 0, place: 0 },
-            d.m as u64,
-            d.t as u64,
-            d.size as u64,
-            answer,
-        ),
+        KitScan::Kit(d) => {
+            let m = d.m() as u64;
+            let t = d.t() as u64;
+            let size = d.size() as u64;
+            tell_four(Judged { rule: 0, place: 0 }, m, t, size, answer)
+        }
         KitScan::Refused(r) => tell_four(of_refusal(r), 0, 0, 0, answer),
         KitScan::Broken(p) => tell_four(Judged { rule: 11, place: p }, 0, 0, 0, answer),
     }

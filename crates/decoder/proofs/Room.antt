@@ -27,11 +27,11 @@ module _ (d : Design) (h : Allowed d) where
   pub syndromes-room : (n : ℕ) → n ≡ wordLength (paramsOf d) → n + 128 ≤ 1152
   syndromes-room n e = omega (arith, bits-small d h)
 
-  pub field-is : 4 * ((1 * 2 ^ d .m) % 2 ^ 64) ≡ 4 * 2 ^ d .m
-  field-is = ap (λ (z : ℕ). 4 * z) (shl-one (d .m) (h .m-high))
+  pub field-is : (m : ℕ) → m ≡ d .m → 4 * ((1 * 2 ^ m) % 2 ^ 64) ≡ 4 * 2 ^ d .m
+  field-is m e = rw e (ap (λ (z : ℕ). 4 * z) (shl-one (d .m) (h .m-high)))
 
-  pub field-room : 4 * ((1 * 2 ^ d .m) % 2 ^ 64) ≤ 4096
-  field-room = omega (arith, field-is, pow-mono {i = d .m} {j = 10} (h .m-high))
+  pub field-room : (m : ℕ) → m ≡ d .m → 4 * ((1 * 2 ^ m) % 2 ^ 64) ≤ 4096
+  field-room m e = omega (arith, field-is m e, pow-mono {i = d .m} {j = 10} (h .m-high))
 
-  pub sums-room : d .size ≤ 512
-  sums-room = omega (arith, h .M-high)
+  pub sums-room : (M : ℕ) → M ≡ d .size → M ≤ 512
+  sums-room M e = omega (arith, h .M-high)

@@ -1,5 +1,6 @@
 // The decoder: rules 1 to 7 and 10 of document 01's table, then rounds over the words of the received frame, in place (crate `decoder_rounds`).
-//   decode   corrects a frame, and counts rounds, flipped bits and words outside the code at the end
+//   decode          corrects a frame, and counts rounds, flipped bits and words outside the code at the end
+//   refused_frame   a refusal as the decoder's answer
 ghost use mathlib.Core.Path.{_≡_};
 ghost use Prim.Native.Nat.{_+_, _*_, _^_, _≤_};
 ghost use lib.ListN.{length};
@@ -126,8 +127,8 @@ fn correct_frame(
         ≡ correctedFrame (paramsOf d) (listsOf d (now (own .entry)) (now (parity .entry))) blocks rounds (frameOf (now (info .entry)) (now (red .entry))) ⌝ }
 {
     let bits = d.n();
-    let size = d.size as usize;
-    let powers = 1 << (d.m as usize);
+    let size = d.size();
+    let powers = 1 << d.m();
     let mut positions = position_entries();
     let mut syndromes = syndrome_entries();
     let mut field = field_entries();
@@ -174,8 +175,8 @@ fn check_frame(
     words::check_received(d, blocks, own, parity, info, red, work)
 }
 
-// A refused check as the decoder's answer.
-fn refused_frame(a: Check) -> Decoding
+// A refused check as the decoder's answer; for calls that end in a decoding.
+pub fn refused_frame(a: Check) -> Decoding
     ensures { λ c. ⌜ ((f : Frame) → correctedOf c f ≡ refusedFrame (verdictOf a) f) ⌝ }
 {
     match a {

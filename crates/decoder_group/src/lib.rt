@@ -118,7 +118,7 @@ fn site_at(
     ensures { λ x. ⌜ (sitesOf x ≡ getD (wordSites (paramsOf d) (listsOf d (now (own .entry)) (now (parity .entry))) blocks i column a) p unsent ∷ [])
         × Inside x (blocks * (d .size * d .size)) (groups blocks * (2 * orderOf d)) ⌝ }
 {
-    let size = d.size as usize;
+    let size = d.size();
     if p < size {
         let k = line_bit(size, column, a, p);
         return block_site(d, blocks, first_block(column, i), k);
@@ -269,14 +269,7 @@ fn correct_word(
     if remainder == 0 {
         return 0;
     }
-    let found = decoder_locator::locate(
-        d.m as usize,
-        d.t as usize,
-        remainder,
-        positions,
-        syndromes,
-        field,
-    );
+    let found = decoder_locator::locate(d.m(), d.t(), remainder, positions, syndromes, field);
     let spots = spots_of(d, blocks, i, column, a, own, parity, found);
     if !all_sent(spots) {
         return 0;

@@ -49,7 +49,7 @@ pub fn fill_tables(d: Design, positions: &mut [u32], syndromes: &mut [u32], fiel
     ensures { λ a. ⌜ Tables (d .m) (d .t) (now (positions .exit)) (now (syndromes .exit)) (now (field .exit))
         × (length (now (positions .exit)) ≡ length (now (positions .entry))) ⌝ }
 {
-    let m = d.m as usize;
+    let m = d.m();
     let bits = positions.len();
     words_positions::fill_table(d, positions);
     bch_field::fill_field(m, field);

@@ -1,6 +1,7 @@
 // The design of a feed-forward staircase code, the refusals, and those rules of document 01's table that speak of numbers alone.
 //   Design::new(m, t, size)                     rules 1 to 3: the design, or its refusal
-//   r, n, k, order, area, row_bytes             the sizes of a design
+//   m, t, size                                  the three numbers of a design
+//   r, n, k, order, area, row_bytes             its sizes
 //   check_count(blocks), check_rounds(rounds)   rules 4 and 5
 //   design_check(a)                             the answer of `Design::new` as a check's
 //   MOST_BLOCKS, group_count                    the most blocks of a frame; the groups of a frame
@@ -8,8 +9,8 @@
 // An answer is an enum. `refusalVerdict`, `verdictOf` and `designVerdict` of specs/ give the table's number and place of each case, and each
 // contract says that the answer is the verdict of the rule in the crate `staircase`, for every argument that the `requires` line lets in.
 //
-// `Design::new` tests the ranges before it multiplies, so any three numbers may be given. A design's fields have the smallest types that hold
-// the limits, so its sizes fit whatever the fields hold.
+// `Design::new` tests the ranges before it multiplies, so any three numbers may be given. A design's fields are private, so another crate has no
+// design but those that rules 1 to 3 accept. They have the smallest types that hold the limits, so its sizes fit whatever the fields hold.
 ghost use mathlib.Core.Path.{_≡_};
 ghost use Prim.Native.Nat.{_+_, _*_, _/_, _≤_, _<_};
 ghost use Rattle.staircase.specs.Design.{most-blocks};
@@ -39,9 +40,9 @@ pub enum Check {
 
 // A design: its field's degree m, the errors t that a word may have, and M, the rows and columns of a block, as `size`.
 pub struct Design {
-    pub m: u8,
-    pub t: u8,
-    pub size: u16,
+    m: u8,
+    t: u8,
+    size: u16,
 }
 
 // The answer of `Design::new`.
@@ -108,7 +109,28 @@ impl Design {
         })
     }
 
-    // r, the redundancy bits of a word. Constant work, as in the functions below.
+    // m, the degree of the design's field. Constant work, as in the functions below.
+    pub fn m(self) -> usize
+        ensures { λ a. ⌜ a ≡ self .m ⌝ }
+    {
+        self.m as usize
+    }
+
+    // t, the errors that a word may have.
+    pub fn t(self) -> usize
+        ensures { λ a. ⌜ a ≡ self .t ⌝ }
+    {
+        self.t as usize
+    }
+
+    // M, the rows and columns of a block.
+    pub fn size(self) -> usize
+        ensures { λ a. ⌜ a ≡ self .size ⌝ }
+    {
+        self.size as usize
+    }
+
+    // r, the redundancy bits of a word.
     pub fn r(self) -> usize
         ensures { λ a. ⌜ (a ≡ self .m * self .t) × (a < 65536) ⌝ }
     {

@@ -99,7 +99,7 @@ pub fn make_redundancy(
     let n = d.order();
     let r = d.r();
     let bits = d.n();
-    let size = d.size as usize;
+    let size = d.size();
     let mut table = [0u32; 1024];
     words_positions::fill_table(d, &mut table[0..bits]);
     let mut sources = [0u16; 4096];

@@ -31,7 +31,7 @@ fn left_place(
 {
     let n = d.order();
     matrix_planes::planes_of_rows(inverse, n, work);
-    kit_products::left_place(own, parity, n, part, d.size as usize, &work[..])
+    kit_products::left_place(own, parity, n, part, d.size(), &work[..])
 }
 
 // The place of the first wrong entry of W A, or n².
@@ -49,7 +49,7 @@ fn right_place(
 {
     let n = d.order();
     matrix_planes::planes_of_columns(inverse, n, work);
-    kit_products::right_place(own, parity, n, part, d.size as usize, &work[..])
+    kit_products::right_place(own, parity, n, part, d.size(), &work[..])
 }
 
 // Rule 9 with the powers of x: A W first, then W A.

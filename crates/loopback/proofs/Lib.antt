@@ -1,2 +1,3 @@
 pub mod Link
 pub mod Restores
+pub mod Demand1

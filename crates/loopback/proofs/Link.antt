@@ -1,9 +1,11 @@
 -- The two calls of the loopback, one after the other.
---   turned-length, turned-bits              a buffer with some bits turned
---   filled-next                             the byte that a filling loop comes to
---   looped-refused, looped-decoded          the answer at a refused encoder, and after the decoder
---   decoding-done, decoding-refused         the decoder's answer as the loopback's
---   own-length, working-fits                the decoder's working bytes, as many as a list has entries, are among the encoder's
+--   turned-length, turned-bits   a buffer with some bits turned
+--   filled-next                  the byte that a filling loop comes to
+--   numbers-accepted             rules 1 to 5 accept what demand 3 takes for given, at an allowed number of rounds
+--   loopback-numbers             the result where rules 1 to 5 refuse
+--   loopback-encoder             where the encoder does
+--   own-length, working-fits     the decoder's working bytes, as many as a list has entries, are among the encoder's
+--   loopback-decoded             the result after the decoder, which accepts the frame
 -- Assumes nothing.
 use mathlib.Core.Path.{_≡_, refl, sym, ap, ap₂, _∙_, subst}
 use mathlib.Core.Bool.{Bool, true, false, cond}
@@ -12,32 +14,34 @@ use mathlib.Core.List.{List, _++_}
 use Prim.Native.Nat.{ℕ, _+_, _-_, _*_, _≤_, _<_}
 use native.Mathlib.Decide.{decLt}
 use native.Mathlib.Omega.{arith}
-use lib.Dec.{eqb}
+use borrow.Author.Tests.{le-ltb, ltb-false}
+use lib.Dec.{eqb, ltb}
 use lib.ListN.{length, getD, drop, List·getD-eq-default}
 use lib.Seq.{getD-append-add, getD-drop}
 use Rattle.bch.specs.Polynomial.{Bits}
 use Rattle.staircase.specs.Lists.{tabulate}
-use Rattle.staircase.specs.Design.{Params, params, order}
-use Rattle.staircase.specs.System.{rowBytes}
-use Rattle.staircase.specs.Frame.{Frame, frameOf}
-use Rattle.staircase.specs.Rules.{Verdict, _then_, designRules, countRule, lengthRule, kitLengths, frameLengths, kitWork, wordWork, interleavers, kitRules, bitRule}
+use Rattle.staircase.specs.Design.{Params, Interleavers, params, order, most-blocks, most-rounds}
+use Rattle.staircase.specs.System.{rowBytes, redundancy}
+use Rattle.staircase.specs.Frame.{Frame, frameOf, outside}
+use Rattle.staircase.specs.Decoder.{Decoded, decoded}
+use Rattle.staircase.specs.Rules.{Verdict, _then_, designRules, countRule, roundsRule, lengthRule, kitLengths, frameLengths, kitWork, wordWork, interleavers, kitRules, bitRule}
 use Rattle.staircase.specs.Rules.Verdict.{accepted, refused}
-use Rattle.staircase.specs.Calls.{encodedBy, encodeVerdict, encodeCall, decodeCall}
+use Rattle.staircase.specs.Calls.{encodedBy, encodeVerdict, encodeCall, Corrected, correctedBy, decodeVerdict, decodeCall}
+use Rattle.staircase.specs.Demand3.{Kit, Given}
 use Rattle.staircase.proofs.Fill.{filled}
 use Rattle.staircase.proofs.Bounds.{small-product}
 use Rattle.staircase.proofs.Tables.{tabulate-length, tabulate-at}
-use Rattle.staircase.proofs.Rules.{then-first, then-rest, design-limits, length-equal, lengths-fit}
+use Rattle.staircase.proofs.Rules.{then-first, then-rest, then-accepted, refuse-false, refuse-accepted, inRange, design-limits}
 use Rattle.staircase.proofs.BchCode.{proper-of}
+use Rattle.staircase.proofs.Demand3.{decode-admits, made-length, made-bits}
+use Rattle.staircase.proofs.Encoded.{encodedBy-verdict, encode-accepted, encode-work}
 use Rattle.design.specs.declared.Refusal.{Refusal}
+use Rattle.design.specs.declared.Check.{Check}
 use Rattle.design.specs.declared.Check.the-variants as check
-use Rattle.design.specs.Answers.{refusalVerdict, verdictOf}
-use Rattle.design.proofs.Answers.{check-refused}
-use Rattle.decoder.specs.declared.Counts.{Counts}
-use Rattle.decoder.specs.declared.Decoding.the-variants as decoding
-use Rattle.decoder.specs.Answers.{correctedOf}
-use Rattle.loopback.specs.declared.Looped.the-variants as looped
-use Rattle.loopback.specs.Link.{turned, Result, unlessAccepted, afterDecoding, loopbackCall, resultOf}
-use Rattle.loopback.specs.Link.Outcome.{notEncoded}
+use Rattle.design.specs.Answers.{verdictOf}
+use Rattle.design.proofs.Answers.{refused-then, check-refused}
+use Rattle.decoder.specs.Answers.{refusedFrame}
+use Rattle.loopback.specs.Link.{turned, numberRules, loopbackVerdict, loopbackCall}
 
 -- ---- turned bits
 
@@ -65,83 +69,122 @@ filled-next f l i =
     ap (λ (z : ℕ). getD (tabulate i f ++ drop i l) z 0) e ∙ getD-append-add (tabulate i f) (drop i l) 0 0 ∙ getD-drop i l 0 0
     ∙ ap (λ (z : ℕ). getD l z 0) (let q : i + 0 ≡ i = omega arith in q)
 
--- ---- refusals
+-- ---- the verdict
 
-refused-first : (v : Verdict) (a b : Result) → v ≢ accepted → unlessAccepted v a b ≡ a
-refused-first accepted a b h = absurd (h refl)
-refused-first (refused n p) a b h = refl
+pub numbers-accepted : (K : Kit) (L : ℕ) (info old : List ℕ) → Given K L info old → (k : ℕ) → k ≤ most-rounds → numberRules (K .m) (K .t) (K .M) L k ≡ accepted
+unfolding numberRules countRule roundsRule
+numbers-accepted K L info old G k h =
+    then-accepted (G .design)
+    (then-accepted (refuse-accepted 4 L (inRange 1 most-blocks L (G .some) (G .few))) (refuse-accepted 5 k (le-ltb most-rounds k h)))
 
-refusal-first : (r : Refusal) (a b : Result) → unlessAccepted (refusalVerdict r) a b ≡ a
-unfolding verdictOf
-refusal-first r a b = refused-first (refusalVerdict r) a b (check-refused {x = check.Refused r} {r = r} refl)
+module _ (m t M L k : ℕ) (self parity w infoErrors redErrors info red : List ℕ) (work : ℕ) where
+  abbrev K : Kit
+  K = record { m = m; t = t; M = M; self = self; parity = parity; inverse = w }
 
-pub decoding-done : (c : Counts) (f : Frame) → resultOf (looped.Done c) f ≡ afterDecoding (correctedOf (decoding.Decoded c) f)
-unfolding resultOf afterDecoding correctedOf
-decoding-done c f = refl
-
-pub decoding-refused : (r : Refusal) (f : Frame) → resultOf (looped.NotDecoded r) f ≡ afterDecoding (correctedOf (decoding.Refused r) f)
-unfolding resultOf afterDecoding correctedOf
-decoding-refused r f = sym (refusal-first r _ _)
-
-module _ (m t M L k : ℕ) (own parity w infoErrors redErrors info red : List ℕ) (work : ℕ) where
-  pub looped-refused : (r : Refusal) (after : List ℕ) → refusalVerdict r ≡ (encodeCall m t M L own parity w info red work) .verdict
-      → after ≡ (encodeCall m t M L own parity w info red work) .red
-      → resultOf (looped.NotEncoded r) (frameOf info after) ≡ loopbackCall m t M L k own parity w infoErrors redErrors info red work
-  unfolding resultOf loopbackCall
-  looped-refused r after v e =
-      let past : Result = afterDecoding (decodeCall m t M L k own parity (turned infoErrors info)
-      (turned redErrors ((encodeCall m t M L own parity w info red work) .red)) (wordWork (params m t M))) in
-      ap (λ (z : List ℕ). record { outcome = notEncoded (refusalVerdict r); frame = frameOf info z }) e
-      ∙ sym (refusal-first r (record { outcome = notEncoded (refusalVerdict r); frame = frameOf info ((encodeCall m t M L own parity w info red work) .red) }) past)
-      ∙ ap (λ (z : Verdict). unlessAccepted z (record { outcome = notEncoded z; frame = frameOf info ((encodeCall m t M L own parity w info red work) .red) }) past) v
-
-  pub looped-decoded : (x : Result) (after : List ℕ) (n : ℕ) → (encodeCall m t M L own parity w info red work) .verdict ≡ accepted
-      → after ≡ (encodeCall m t M L own parity w info red work) .red
-      → x ≡ afterDecoding (decodeCall m t M L k own parity (turned infoErrors info) (turned redErrors after) n) → n ≡ wordWork (params m t M)
-      → x ≡ loopbackCall m t M L k own parity w infoErrors redErrors info red work
-  unfolding loopbackCall
-  looped-decoded x after n v e h q =
-      let made : List ℕ = (encodeCall m t M L own parity w info red work) .red in
-      let past : Result = afterDecoding (decodeCall m t M L k own parity (turned infoErrors info) (turned redErrors made) (wordWork (params m t M))) in
-      h
-      ∙ ap₂ (λ (y : List ℕ) (z : ℕ). afterDecoding (decodeCall m t M L k own parity (turned infoErrors info) (turned redErrors y) z)) e q
-      ∙ sym (ap (λ (z : Verdict). unlessAccepted z (record { outcome = notEncoded z; frame = frameOf info made }) past) v)
-
--- ---- what the encoder's rules leave
-
-verdict-of : (v : Verdict) (old new : List ℕ) → (encodedBy v old new) .verdict ≡ v
-verdict-of accepted old new = refl
-verdict-of (refused n p) old new = refl
-
-module _ (m t M L : ℕ) (own parity w info red : List ℕ) (work : ℕ) (v : (encodeCall m t M L own parity w info red work) .verdict ≡ accepted) where
   abbrev s : Params
   s = params m t M
 
-  abbrev rest : Verdict
-  rest = kitRules s (interleavers s own parity) w then bitRule 0 info
+  abbrev l : Interleavers
+  l = interleavers (params m t M) self parity
 
-  all : encodeVerdict m t M L own parity w info red work ≡ accepted
-  unfolding encodeCall
-  all = sym (verdict-of (encodeVerdict m t M L own parity w info red work) red _) ∙ v
+  abbrev received : Frame
+  received = frameOf (turned infoErrors info) (turned redErrors (redundancy (params m t M) (interleavers (params m t M) self parity) w L info))
 
-  design : designRules m t M ≡ accepted
-  unfolding encodeVerdict
-  design = then-first (designRules m t M) _ all
+  abbrev d : Decoded
+  d = decoded s l L k received
 
-  lengths : (kitLengths s own parity w then frameLengths s L info red then lengthRule 6 work (kitWork s) then rest) ≡ accepted
-  unfolding encodeVerdict
-  lengths = then-rest (countRule L) _ (then-rest (designRules m t M) _ all)
+  -- a refused call counts nothing and leaves the frame
+  refused-result : (v : Verdict) → v ≢ accepted → loopbackVerdict m t M L k self parity w info red work ≡ v
+      → refusedFrame v (frameOf info red) ≡ loopbackCall m t M L k self parity w infoErrors redErrors info red work
+  unfolding loopbackCall refusedFrame
+  refused-result v h e =
+      stays v h ∙ sym (ap (λ (x : Verdict). correctedBy x (frameOf info red) d (outside s l L (d .frame))) e)
+    where
+      stays : (x : Verdict) → x ≢ accepted → refusedFrame x (frameOf info red) ≡ correctedBy x (frameOf info red) d (outside s l L (d .frame))
+      stays accepted n = absurd (n refl)
+      stays (refused n p) z = refl
 
-  pub own-length : length own ≡ 2 * order (params m t M)
-  own-length = lengths-fit s own parity w (then-first (kitLengths s own parity w) _ lengths) .selfLength
+  -- refused by rules 1 to 5
+  pub loopback-numbers : (x : Check) → verdictOf x ≡ numberRules m t M L k → {r : Refusal} → x ≡ check.Refused r
+      → refusedFrame (verdictOf x) (frameOf info red) ≡ loopbackCall m t M L k self parity w infoErrors redErrors info red work
+  unfolding loopbackVerdict
+  loopback-numbers x v e =
+      refused-result (verdictOf x) (check-refused e)
+      (sym (refused-then (kitLengths s self parity w then frameLengths s L info red then lengthRule 6 work (kitWork s) then kitRules s l w then bitRule 0 info) v e))
 
-  pub working-fits : order (params m t M) ≤ work
-  unfolding kitWork
-  working-fits =
-      let e : work ≡ order s * rowBytes (order s) =
-      length-equal 6 work (kitWork s)
-      (then-first (lengthRule 6 work (kitWork s)) rest (then-rest (frameLengths s L info red) _ (then-rest (kitLengths s own parity w) _ lengths))) in
-      let ok = proper-of (design-limits m t M design) in
-      let p = small-product 1 1 M (m * t) (ok .mpos) (ok .rpos) in
-      let one : 1 ≤ rowBytes (order s) = omega (arith, p) in
-      omega (arith, e, small-product (order s) 1 (order s) (rowBytes (order s)) (omega arith) one)
+  module _ (ok : numberRules m t M L k ≡ accepted) where
+    counted : (countRule L then roundsRule k) ≡ accepted
+    unfolding numberRules
+    counted = then-rest (designRules m t M) (countRule L then roundsRule k) ok
+
+    few-rounds : k ≤ most-rounds
+    unfolding roundsRule
+    few-rounds = ltb-false most-rounds k (refuse-false (ltb most-rounds k) 5 k (then-rest (countRule L) (roundsRule k) counted))
+
+    -- the encoder's rules 1 to 4 are passed, so that the others decide
+    verdict-encodes : loopbackVerdict m t M L k self parity w info red work ≡ encodeVerdict m t M L self parity w info red work
+    unfolding loopbackVerdict encodeVerdict numberRules
+    verdict-encodes =
+        let rest : Verdict = kitLengths s self parity w then frameLengths s L info red then lengthRule 6 work (kitWork s) then kitRules s l w then bitRule 0 info in
+        ap (λ (v : Verdict). v then rest) ok
+        ∙ sym (ap (λ (v : Verdict). v then countRule L then rest) (then-first (designRules m t M) (countRule L then roundsRule k) ok)
+        ∙ ap (λ (v : Verdict). v then rest) (then-first (countRule L) (roundsRule k) counted))
+
+    encoder-verdict : encodeCall m t M L self parity w info red work .verdict ≡ encodeVerdict m t M L self parity w info red work
+    unfolding encodeCall
+    encoder-verdict = encodedBy-verdict (encodeVerdict m t M L self parity w info red work) red (redundancy s l w L info)
+
+    -- refused by the encoder, which leaves the redundancy
+    pub loopback-encoder : (x : Check) (after : List ℕ) → verdictOf x ≡ encodeCall m t M L self parity w info red work .verdict
+        → after ≡ encodeCall m t M L self parity w info red work .red → {r : Refusal} → x ≡ check.Refused r
+        → refusedFrame (verdictOf x) (frameOf info after) ≡ loopbackCall m t M L k self parity w infoErrors redErrors info red work
+    unfolding encodeCall
+    loopback-encoder x after v a e =
+        let n : verdictOf x ≢ accepted = check-refused e in
+        let u : Verdict = encodeVerdict m t M L self parity w info red work in
+        ap (λ (z : List ℕ). refusedFrame (verdictOf x) (frameOf info z)) (a ∙ red-stays u (λ z. n (v ∙ encoder-verdict ∙ z)))
+        ∙ refused-result (verdictOf x) n (verdict-encodes ∙ sym (v ∙ encoder-verdict))
+      where
+        red-stays : (u : Verdict) → u ≢ accepted → encodedBy u red (redundancy s l w L info) .red ≡ red
+        red-stays accepted h = absurd (h refl)
+        red-stays (refused n p) h = refl
+
+    -- encoded: the decoder's answer
+    module _ (v : encodeCall m t M L self parity w info red work .verdict ≡ accepted) where
+      accepts : encodeVerdict m t M L self parity w info red work ≡ accepted
+      accepts = sym encoder-verdict ∙ v
+
+      G : Given K L info red
+      G = encode-accepted K L info red work accepts
+
+      made-red : encodeCall m t M L self parity w info red work .red ≡ redundancy s l w L info
+      unfolding encodeCall
+      made-red = ap (λ (x : Verdict). encodedBy x red (redundancy s l w L info) .red) accepts
+
+      pub own-length : length self ≡ 2 * order (params m t M)
+      own-length = G .fits .selfLength
+
+      pub working-fits : order (params m t M) ≤ work
+      unfolding kitWork
+      working-fits =
+          let e : work ≡ order s * rowBytes (order s) = encode-work K L info red work accepts in
+          let ok = proper-of (design-limits m t M (G .design)) in
+          let p = small-product 1 1 M (m * t) (ok .mpos) (ok .rpos) in
+          let one : 1 ≤ rowBytes (order s) = omega (arith, p) in
+          omega (arith, e, small-product (order s) 1 (order s) (rowBytes (order s)) (omega arith) one)
+
+      pub loopback-decoded : (x : Corrected) (after : List ℕ) (n : ℕ) → after ≡ encodeCall m t M L self parity w info red work .red → n ≡ wordWork (params m t M)
+          → x ≡ decodeCall m t M L k self parity (turned infoErrors info) (turned redErrors after) n
+          → x ≡ loopbackCall m t M L k self parity w infoErrors redErrors info red work
+      unfolding loopbackCall decodeCall
+      loopback-decoded x after n a q e =
+          let made : List ℕ = redundancy s l w L info in
+          let i : List ℕ = turned infoErrors info in
+          let o : List ℕ = turned redErrors made in
+          let ev : decodeVerdict m t M L k self parity i o (wordWork s) ≡ accepted =
+          decode-admits K L info red G k few-rounds i o (turned-length infoErrors info ∙ G .info-fits) (turned-length redErrors made ∙ made-length K L info red G)
+          (turned-bits infoErrors info (G .bits)) (turned-bits redErrors made (made-bits K L info red G)) in
+          e
+          ∙ ap₂ (λ (z : List ℕ) (y : ℕ). decodeCall m t M L k self parity i (turned redErrors z) y) (a ∙ made-red) q
+          ∙ ap (λ (z : Verdict). correctedBy z received d (outside s l L (d .frame))) ev
+          ∙ sym (ap (λ (z : Verdict). correctedBy z (frameOf info red) d (outside s l L (d .frame))) (verdict-encodes ∙ accepts))

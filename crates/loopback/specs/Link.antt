@@ -1,10 +1,8 @@
 -- The loopback: a frame is encoded, the link turns bits of it, and what it delivers is decoded.
---   turned           a buffer with the bits turned that a pattern names
---   Outcome, Result  which call was refused, or the decoder's counts; and the frame that is left
---   unlessAccepted   a result by a verdict
---   afterDecoding    the decoder's result as the loopback's
---   loopbackCall     what the loopback answers and leaves, by the two calls
---   resultOf         what the code's answer says
+--   turned            a buffer with the bits turned that a pattern names
+--   numberRules       rules 1 to 5
+--   loopbackVerdict   rules 1 to 10, in rising order
+--   loopbackCall      what the loopback answers and leaves
 -- Assumes nothing.
 use mathlib.Core.Bool.{cond}
 use mathlib.Core.List.{List}
@@ -12,44 +10,33 @@ use Prim.Native.Nat.{ℕ, _-_}
 use lib.Dec.{eqb}
 use lib.ListN.{length, getD}
 use Rattle.staircase.specs.Lists.{tabulate}
-use Rattle.staircase.specs.Design.{params}
-use Rattle.staircase.specs.Frame.{Frame, frameOf}
-use Rattle.staircase.specs.Rules.{Verdict, wordWork}
-use Rattle.staircase.specs.Rules.Verdict.{accepted, refused}
-use Rattle.staircase.specs.Calls.{Encoded, encodeCall, Counts, Corrected, decodeCall}
-use Rattle.design.specs.Answers.{refusalVerdict}
-use Rattle.loopback.specs.declared.Looped.{Looped}
-use Rattle.loopback.specs.declared.Looped.the-variants as looped
+use Rattle.staircase.specs.Design.{Params, Interleavers, params}
+use Rattle.staircase.specs.Frame.{Frame, frameOf, outside}
+use Rattle.staircase.specs.System.{redundancy}
+use Rattle.staircase.specs.Decoder.{Decoded, decoded}
+use Rattle.staircase.specs.Rules.{Verdict, _then_, designRules, countRule, roundsRule, lengthRule, kitLengths, frameLengths, kitWork, interleavers, kitRules, bitRule}
+use Rattle.staircase.specs.Calls.{Corrected, correctedBy}
 
 -- "with any of their bits turned": byte k of the pattern turns bit k unless it is 0; what the pattern is too short to name stays
 unfoldable pub turned : List ℕ → List ℕ → List ℕ
 turned errors b = tabulate (length b) (λ k. cond (eqb (getD errors k 0) 0) (getD b k 0) (1 - getD b k 0))
 
-pub data Outcome : Type 0 where
-  notEncoded : Verdict → Outcome
-  notDecoded : Verdict → Outcome
-  done : Counts → Outcome
+unfoldable pub numberRules : ℕ → ℕ → ℕ → ℕ → ℕ → Verdict
+numberRules m t M L k = designRules m t M then countRule L then roundsRule k
 
-pub record Result : Type 0 where
-  pub outcome : Outcome
-  pub frame : Frame
+-- "Checks run in rising order": the decoder's rule 5 among those of the encoder, and before anything is written
+unfoldable pub loopbackVerdict : ℕ → ℕ → ℕ → ℕ → ℕ → List ℕ → List ℕ → List ℕ → List ℕ → List ℕ → ℕ → Verdict
+loopbackVerdict m t M L k self parity w info red work =
+    let s : Params = params m t M in
+    numberRules m t M L k
+    then kitLengths s self parity w then frameLengths s L info red then lengthRule 6 work (kitWork s)
+    then kitRules s (interleavers s self parity) w then bitRule 0 info
 
--- one result where a call was refused, another where it was accepted
-abbrev pub unlessAccepted : Verdict → Result → Result → Result
-unlessAccepted accepted a b = b
-unlessAccepted (refused n p) a b = a
-
-unfoldable pub afterDecoding : Corrected → Result
-afterDecoding c =
-    unlessAccepted (c .verdict) (record { outcome = notDecoded (c .verdict); frame = c .frame }) (record { outcome = done (c .counts); frame = c .frame })
-
-unfoldable pub loopbackCall : ℕ → ℕ → ℕ → ℕ → ℕ → List ℕ → List ℕ → List ℕ → List ℕ → List ℕ → List ℕ → List ℕ → ℕ → Result
+-- the result is the decoder's, on the encoder's frame with the named bits turned; a refused call leaves both buffers as they were
+unfoldable pub loopbackCall : ℕ → ℕ → ℕ → ℕ → ℕ → List ℕ → List ℕ → List ℕ → List ℕ → List ℕ → List ℕ → List ℕ → ℕ → Corrected
 loopbackCall m t M L k self parity w infoErrors redErrors info red work =
-    let e : Encoded = encodeCall m t M L self parity w info red work in
-    unlessAccepted (e .verdict) (record { outcome = notEncoded (e .verdict); frame = frameOf info (e .red) })
-    (afterDecoding (decodeCall m t M L k self parity (turned infoErrors info) (turned redErrors (e .red)) (wordWork (params m t M))))
-
-unfoldable pub resultOf : Looped → Frame → Result
-resultOf (looped.NotEncoded r) f = record { outcome = notEncoded (refusalVerdict r); frame = f }
-resultOf (looped.NotDecoded r) f = record { outcome = notDecoded (refusalVerdict r); frame = f }
-resultOf (looped.Done c) f = record { outcome = done (record { rounds = c .rounds; flips = c .flips; outside = c .outside }); frame = f }
+    let s : Params = params m t M in
+    let l : Interleavers = interleavers s self parity in
+    let received : Frame = frameOf (turned infoErrors info) (turned redErrors (redundancy s l w L info)) in
+    let d : Decoded = decoded s l L k received in
+    correctedBy (loopbackVerdict m t M L k self parity w info red work) (frameOf info red) d (outside s l L (d .frame))

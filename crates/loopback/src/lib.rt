@@ -1,28 +1,22 @@
 // The bench's self test: encodes a frame, turns the bits that a pattern names, and decodes what the link would deliver.
 //   loopback   the three steps on the lent buffers
 //
-// It is the encoder's call followed by the decoder's, on the same buffers, so its contract is made of theirs. Demand 3's last part holds of it
+// It is the encoder's call followed by the decoder's, on the same buffers. The number of rounds is asked before anything is written, and nothing that
+// the encoder accepts is refused by the decoder, so a refused call leaves the buffers as they were. Demand 3's last part holds of it
 // (`loopback-restores` in proofs/Restores.antt): where the patterns leave no word with more than t wrong bits, the frame comes back.
 ghost use mathlib.Core.Path.{_≡_};
 ghost use mathlib.Core.Bool.{cond};
 ghost use Prim.Native.Nat.{_-_, _≤_};
 ghost use lib.Dec.{eqb};
 ghost use lib.ListN.{length, getD};
-ghost use Rattle.staircase.specs.Frame.{Frame, frameOf};
+ghost use Rattle.staircase.specs.Frame.{frameOf};
 ghost use Rattle.staircase.specs.Calls.{decodeCall};
 ghost use Rattle.decoder.specs.Answers.{correctedOf};
-ghost use Rattle.loopback.specs.Link.{turned, afterDecoding, loopbackCall, resultOf};
-use decoder::Counts;
+ghost use Rattle.design.specs.Answers.{verdictOf};
+ghost use Rattle.loopback.specs.Link.{turned, numberRules, loopbackCall};
 use decoder::Decoding;
 use design::Check;
-use design::Refusal;
-
-// The answer of the loopback: the refusal of the encoder or of the decoder, or the decoder's counts.
-pub enum Looped {
-    NotEncoded(Refusal),
-    NotDecoded(Refusal),
-    Done(Counts),
-}
+use design::Design;
 
 // Byte k of a pattern, 0 past its end.
 fn error_at(errors: &[u8], k: usize) -> u8
@@ -57,14 +51,19 @@ fn turn_bits(errors: &[u8], bits: &mut [u8])
     }
 }
 
-// The decoder's answer as the loopback's.
-fn decoding_looped(a: Decoding) -> Looped
-    ensures { λ c. ⌜ ((f : Frame) → resultOf c f ≡ afterDecoding (correctedOf a f)) ⌝ }
+// Rules 1 to 5.
+fn check_numbers(m: u64, t: u64, size: u64, blocks: u64, rounds: u64) -> Check
+    ensures { λ a. ⌜ verdictOf a ≡ numberRules m t size blocks rounds ⌝ }
 {
-    match a {
-        Decoding::Decoded(c) => Looped::Done(c),
-        Decoding::Refused(r) => Looped::NotDecoded(r),
-    }
+    let designed = design::design_check(Design::new(m, t, size));
+    let Check::Passed = designed else {
+        return designed;
+    };
+    let count = design::check_count(blocks);
+    let Check::Passed = count else {
+        return count;
+    };
+    design::check_rounds(rounds)
 }
 
 // The decoder's call with the first n of the lent working bytes.
@@ -100,8 +99,8 @@ fn decode_front(
 }
 
 // Encodes the lent information, turns the bits of the frame that the two patterns name, and decodes it in at most `rounds` rounds, 0 standing for
-// 7. Byte k of a pattern that is not 0 turns bit k of its buffer; a pattern may have any length. A refusal of the encoder leaves both buffers as
-// they were, one of the decoder leaves the turned frame. The working bytes are as many as the inverse's. The work is that of the two calls.
+// 7. Byte k of a pattern that is not 0 turns bit k of its buffer; a pattern may have any length. The answer is the decoder's: its counts, or the
+// first of rules 1 to 10 that refuses; a refused call leaves both buffers as they were. The working bytes are as many as the inverse's. The work is that of the two calls.
 pub fn loopback(
     m: u64,
     t: u64,
@@ -116,11 +115,15 @@ pub fn loopback(
     info: &mut [u8],
     red: &mut [u8],
     work: &mut [u8],
-) -> Looped
-    ensures { λ a. ⌜ resultOf a (frameOf (now (info .exit)) (now (red .exit)))
+) -> Decoding
+    ensures { λ a. ⌜ correctedOf a (frameOf (now (info .exit)) (now (red .exit)))
         ≡ loopbackCall m t size blocks rounds (now (own .entry)) (now (parity .entry)) (now (inverse .entry)) (now («info_errors» .entry))
         (now («red_errors» .entry)) (now (info .entry)) (now (red .entry)) (length (now (work .entry))) ⌝ }
 {
+    let numbers = check_numbers(m, t, size, blocks, rounds);
+    let Check::Passed = numbers else {
+        return decoder::refused_frame(numbers);
+    };
     let encoded = encoder::encode(
         m,
         t,
@@ -133,12 +136,11 @@ pub fn loopback(
         red,
         work,
     );
-    if let Check::Refused(r) = encoded {
-        return Looped::NotEncoded(r);
-    }
+    let Check::Passed = encoded else {
+        return decoder::refused_frame(encoded);
+    };
     turn_bits(info_errors, info);
     turn_bits(red_errors, red);
     let n = own.len() / 2;
-    let decoded = decode_front(m, t, size, blocks, rounds, own, parity, info, red, work, n);
-    decoding_looped(decoded)
+    decode_front(m, t, size, blocks, rounds, own, parity, info, red, work, n)
 }

@@ -62,9 +62,9 @@ fn frame_call(
     text_kit::read_kit(kit, own, parity, inverse);
     text_frame::read_blocks(text, d, info);
     let made = encoder::encode(
-        d.m as u64,
-        d.t as u64,
-        d.size as u64,
+        d.m() as u64,
+        d.t() as u64,
+        d.size() as u64,
         blocks,
         own,
         parity,

@@ -89,9 +89,9 @@ fn mend_call(
     text_kit::read_kit(kit, own, parity, inverse);
     text_frame::read_frame(text, d, info, red);
     let made = decoder::decode(
-        d.m as u64,
-        d.t as u64,
-        d.size as u64,
+        d.m() as u64,
+        d.t() as u64,
+        d.size() as u64,
         blocks,
         0,
         own,

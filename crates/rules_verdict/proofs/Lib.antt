@@ -1,2 +1,3 @@
 pub mod Refused
 pub mod Stores
+pub mod Demand1

@@ -6,6 +6,7 @@
 // Blocks stand in the information and groups in the redundancy, one after another and all of one size, so a stretch starts at
 // (number - 1) × size. A frame whose lengths pass rule 6 has that stretch whole, and no byte is copied: the answer is a part of the slice lent.
 ghost use mathlib.Core.Path.{_≡_};
+ghost use mathlib.Core.Bool.{cond};
 ghost use Prim.Native.Nat.{_-_, _*_, _≤_};
 ghost use lib.ListN.{take, drop};
 ghost use Rattle.staircase.specs.Design.{most-blocks};
@@ -78,8 +79,19 @@ fn stretch_of(bytes: &[u8], n: usize, number: u64) -> &[u8]
     &bytes[at..at + n]
 }
 
+// One of two slices. Proved by hand: a slice is handed back at a shorter lifetime than its own.
+fn pick<'a, 'b: 'a>(x: &'a [u8], y: &'b [u8], first: bool) -> &'a [u8]
+    ensures { λ r. ⌜ now r ≡ cond first (now (x .entry)) (now (y .entry)) ⌝ }
+{
+    if first {
+        return x;
+    } else {
+        return y;
+    }
+}
+
 // The block or the group, of the buffer that holds it.
-fn shown_part<'a>(d: Design, part: Part, info: &'a [u8], red: &'a [u8]) -> &'a [u8]
+fn shown_part<'a, 'b: 'a>(d: Design, part: Part, info: &'a [u8], red: &'b [u8]) -> &'a [u8]
     requires { ⌜ HasPart (paramsOf d) (partOf part) (now info) (now red) ⌝ }
     ensures { λ r. ⌜ now r ≡ stretch (paramsOf d) (partOf part) (now (info .entry)) (now (red .entry)) ⌝ }
 {
@@ -87,7 +99,7 @@ fn shown_part<'a>(d: Design, part: Part, info: &'a [u8], red: &'a [u8]) -> &'a [
     let group_size = 2 * d.order();
     match part {
         Part::Block(b) => stretch_of(info, block_size, b),
-        Part::Group(i) => stretch_of(red, group_size, i),
+        Part::Group(i) => pick(info, stretch_of(red, group_size, i), false),
     }
 }
 
@@ -113,14 +125,14 @@ pub fn check_show(
 
 // The block or the group of the frame of `blocks` blocks in the lent information and redundancy: M × M bytes of the one or 2 M r of the other, as
 // they stand there, and no byte where `check_show` of the same arguments refuses. Constant work.
-pub fn show<'a>(
+pub fn show<'a, 'b: 'a>(
     m: u64,
     t: u64,
     size: u64,
     blocks: u64,
     part: Part,
     info: &'a [u8],
-    red: &'a [u8],
+    red: &'b [u8],
 ) -> &'a [u8]
     ensures { λ r. ⌜ now r ≡ (showCall m t size blocks (partOf part) (now (info .entry)) (now (red .entry))) .bits ⌝ }
 {

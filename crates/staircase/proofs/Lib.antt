@@ -8,6 +8,8 @@ pub mod Fill
 pub mod Matrix
 pub mod Parity
 pub mod System
+pub mod Solvable
+pub mod Solution
 pub mod Entries
 pub mod Flip
 pub mod Errors
@@ -26,4 +28,5 @@ pub mod BchCode
 pub mod Demand2
 pub mod Demand3
 pub mod Encoded
+pub mod Demand1
 pub mod Vectors

@@ -1,7 +1,7 @@
 -- Sums of bits, and matrices over the bits.
 --   bitSum-comm .. bitSum-equal     the sum of two bits
 --   sumBits-same .. sumBits-swap    sums of many
---   apply, apply-product, apply-identity   a matrix at a vector
+--   apply-product, apply-identity   a matrix at a vector
 --   linear-units    a linear function of a vector, by its values at the unit vectors
 --   sum-of-units    a vector is the sum of unit vectors
 -- Assumes nothing.
@@ -15,7 +15,7 @@ use lib.Dec.{eqb}
 use borrow.Author.Tests.{eq-eqb, ne-eqb}
 use Rattle.bch.proofs.Sum.{bit-ind}
 use Rattle.staircase.specs.Lists.{bitSum, sumBits}
-use Rattle.staircase.specs.System.{Contents, zeros, unit, product, identity}
+use Rattle.staircase.specs.System.{Contents, zeros, unit, apply, product, identity}
 
 bitSum-comm : (a b : ℕ) → bitSum a b ≡ bitSum b a
 bitSum-comm a b = omega arith
@@ -99,14 +99,12 @@ sumBits-swap (suc n) m f =
 abbrev BitMatrix : (ℕ → ℕ → ℕ) → Type 0
 BitMatrix a = (i j : ℕ) → a i j < 2
 
-abbrev pub apply : ℕ → (ℕ → ℕ → ℕ) → Contents → Contents
-apply n a v i = sumBits n (λ j. a i j * v j)
-
 pub apply-product : (n : ℕ) (a b : ℕ → ℕ → ℕ) (v : Contents) → BitMatrix a → BitMatrix b → ((k : ℕ) → v k < 2)
     → (i : ℕ) → apply n a (apply n b v) i ≡ apply n (product n a b) v i
 unfolding product
 apply-product n a b v ha hb hv i =
-    sumBits-same n (λ j. a i j * sumBits n (λ k. b j k * v k)) (λ j. sumBits n (λ k. a i j * (b j k * v k))) (λ j l. sumBits-mul n (a i j) (λ k. b j k * v k) (ha i j))
+    sumBits-same n (λ j. a i j * sumBits n (λ k. b j k * v k)) (λ j. sumBits n (λ k. a i j * (b j k * v k)))
+    (λ j l. sumBits-mul n (a i j) (λ k. b j k * v k) (ha i j))
     ∙ sumBits-swap n n (λ j k. a i j * (b j k * v k))
     ∙ sumBits-same n (λ k. sumBits n (λ j. a i j * (b j k * v k))) (λ k. sumBits n (λ j. a i j * b j k) * v k)
     (λ k l. sumBits-same n (λ j. a i j * (b j k * v k)) (λ j. v k * (a i j * b j k)) (λ j m. omega arith)
@@ -121,7 +119,8 @@ unit-other j k d = ap (λ (z : Bool). cond z 1 0) (ne-eqb k j d)
 pub apply-identity : (n : ℕ) (a : ℕ → ℕ → ℕ) (v : Contents) → ((k : ℕ) → v k < 2) → (i : ℕ) → i < n
     → ((j : ℕ) → j < n → a i j ≡ identity i j) → apply n a v i ≡ v i
 apply-identity n a v hv i l h =
-    sumBits-one n (λ j. a i j * v j) i l (subst (λ (z : ℕ). z < 2) (sym here) (hv i)) (λ k m d. ap (λ (z : ℕ). z * v k) (h k m ∙ ap (λ (z : Bool). cond z 1 0) (ne-eqb i k (λ e. d (sym e)))) ∙ zero-mul (v k))
+    sumBits-one n (λ j. a i j * v j) i l (subst (λ (z : ℕ). z < 2) (sym here) (hv i))
+    (λ k m d. ap (λ (z : ℕ). z * v k) (h k m ∙ ap (λ (z : Bool). cond z 1 0) (ne-eqb i k (λ e. d (sym e)))) ∙ zero-mul (v k))
     ∙ here
   where
     here : a i i * v i ≡ v i

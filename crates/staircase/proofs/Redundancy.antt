@@ -22,11 +22,13 @@ use Rattle.staircase.specs.Lists.{tabulate}
 use Rattle.staircase.specs.Design.{Params, Interleavers, order}
 use Rattle.staircase.specs.Word.{rowInfo, rowWord, columnInfo, columnWord}
 use Rattle.staircase.specs.System.{Contents, columnParity, systemEntry, inverseEntry, product, identity, selfEntry, groupBits, groupRedundancy, redundancy}
+use Rattle.staircase.specs.Solvable.{Completes}
 use Rattle.staircase.specs.Frame.{Frame, Site, bitAt, groups, blockAt, selfAt, parityAt, rowSites, columnSites, read, inCode, block}
 use Rattle.staircase.specs.Demand2.{Permutes}
 use Rattle.staircase.specs.Demand3.{SameBut}
 use Rattle.staircase.proofs.Stretches.{four, four-map, four-same}
-use Rattle.staircase.proofs.System.{Proper, place-lt, columnParity-lt, self-bit, group-rows, group-columns, only-y, only-p}
+use Rattle.staircase.proofs.System.{Proper, place-lt, columnParity-lt}
+use Rattle.staircase.proofs.Solution.{selfEntry-lt, group-completes, group-alone}
 use Rattle.staircase.proofs.Sites.{block-ind, red-ind}
 use Rattle.staircase.proofs.Tables.{Binary, tabulate-length, tabulate-at, concat-length, concat-at}
 
@@ -42,7 +44,8 @@ module _ (s : Params) (L : ℕ) where
       block-ind s L (λ (x : Site). bitAt (record { info = info; red = [] }) x < 2) b k (omega arith) (λ c e l. h (c * (s .M * s .M) + k))
 
   -- two lists of information that agree outside block c have every other block in common
-  pub block-same : (info other : List ℕ) (c : ℕ) → SameBut (s .M * s .M) c info other → (b : ℕ) → b ≢ c + 1 → (k : ℕ) → k < s .M * s .M → block s L info b k ≡ block s L other b k
+  pub block-same : (info other : List ℕ) (c : ℕ) → SameBut (s .M * s .M) c info other
+      → (b : ℕ) → b ≢ c + 1 → (k : ℕ) → k < s .M * s .M → block s L info b k ≡ block s L other b k
   block-same info other c h b d k m =
       block-ind s L (λ (x : Site). bitAt (record { info = info; red = [] }) x ≡ bitAt (record { info = other; red = [] }) x) b k refl
       (λ j e l. h (j * (s .M * s .M) + k) (λ q. d (let z : j ≡ c = sym (digits-div j m) ∙ q in omega (arith, z, e))))
@@ -103,7 +106,8 @@ module _ (s : Params) (l : Interleavers) (L : ℕ) (ok : Proper s)
   unfolding redundancy
   redundancy-length info = concat-length (groups L) (2 * order s) (groupRedundancy s l w L info) (group-length info)
 
-  pub redundancy-at : (info : List ℕ) (i q : ℕ) → i < groups L → q < 2 * order s → getD (redundancy s l w L info) (i * (2 * order s) + q) 0 ≡ getD (groupRedundancy s l w L info i) q 0
+  pub redundancy-at : (info : List ℕ) (i q : ℕ) → i < groups L → q < 2 * order s
+      → getD (redundancy s l w L info) (i * (2 * order s) + q) 0 ≡ getD (groupRedundancy s l w L info i) q 0
   unfolding redundancy
   redundancy-at info i q hi hq = concat-at (groups L) (2 * order s) (groupRedundancy s l w L info) (group-length info) i q hi hq
 
@@ -150,15 +154,21 @@ module _ (s : Params) (l : Interleavers) (L : ℕ) (ok : Proper s)
 
     -- ---- all words of the encoder's frame are in the code
 
+    completes : (i : ℕ) (hi : i < groups L) → Completes s l (F info i hi) (O info i hi) (E info i hi) (Y info i hi) (P info i hi)
+    completes i hi =
+        group-completes s l ok ps pp w aw wa (F info i hi) (O info i hi) (E info i hi) (small (2 * i)) (small (2 * i + 1)) (small (2 * i + 2))
+
     pub rows-in-code : (i a : ℕ) → i < groups L → a < s .M → inCode s (record { info = info; red = made }) (rowSites s l L i a) ≡ true
     rows-in-code i a hi ha =
-        ap (isCodeword (s .g) (s .r)) (read-row s l L ok ps pp info made i a ha (Y info i hi) (P info i hi) (redundancy-self info i hi) (redundancy-parity info i hi))
-        ∙ group-rows s l ok ps pp w aw wa (F info i hi) (O info i hi) (E info i hi) (small (2 * i)) (small (2 * i + 1)) (small (2 * i + 2)) a ha
+        ap (isCodeword (s .g) (s .r))
+        (read-row s l L ok ps pp info made i a ha (Y info i hi) (P info i hi) (redundancy-self info i hi) (redundancy-parity info i hi))
+        ∙ completes i hi .rows a ha
 
     pub columns-in-code : (i a : ℕ) → i < groups L → a < s .M → inCode s (record { info = info; red = made }) (columnSites s L i a) ≡ true
     columns-in-code i a hi ha =
-        ap (isCodeword (s .g) (s .r)) (read-column s l L ok ps pp info made i a ha (Y info i hi) (P info i hi) (redundancy-self info i hi) (redundancy-parity info i hi))
-        ∙ group-columns s l ok ps pp w aw wa (F info i hi) (O info i hi) (E info i hi) (small (2 * i)) (small (2 * i + 1)) (small (2 * i + 2)) a ha
+        ap (isCodeword (s .g) (s .r))
+        (read-column s l L ok ps pp info made i a ha (Y info i hi) (P info i hi) (redundancy-self info i hi) (redundancy-parity info i hi))
+        ∙ completes i hi .columns a ha
 
     -- ---- lists that agree at each place of Y and of P are equal
 
@@ -178,14 +188,8 @@ module _ (s : Params) (l : Interleavers) (L : ℕ) (ok : Proper s)
         → other ≡ made
     redundancy-only other len ho rows columns =
         agree other len
-        (λ i q hi hq.
-        only-y s l ok ps pp w aw wa (F info i hi) (O info i hi) (E info i hi) (small (2 * i)) (small (2 * i + 1)) (small (2 * i + 2))
-        (y i) (p i) (hy i) (hp i) (λ a ha. row-code i a hi ha) (λ a ha. column-code i a hi ha) q hq
-        ∙ sym (redundancy-self info i hi q hq))
-        (λ i q hi hq.
-        only-p s l ok ps pp w aw wa (F info i hi) (O info i hi) (E info i hi) (small (2 * i)) (small (2 * i + 1)) (small (2 * i + 2))
-        (y i) (p i) (hy i) (hp i) (λ a ha. row-code i a hi ha) (λ a ha. column-code i a hi ha) q hq
-        ∙ sym (redundancy-parity info i hi q hq))
+        (λ i q hi hq. alone i hi q hq .0 ∙ sym (redundancy-self info i hi q hq))
+        (λ i q hi hq. alone i hi q hq .1 ∙ sym (redundancy-parity info i hi q hq))
       where
         y : ℕ → Contents
         y i q = getD other (i * (2 * order s) + q) 0
@@ -193,17 +197,22 @@ module _ (s : Params) (l : Interleavers) (L : ℕ) (ok : Proper s)
         p : ℕ → Contents
         p i q = getD other (i * (2 * order s) + order s + q) 0
 
-        hy : (i : ℕ) → Binary (y i)
-        hy i q = ho (i * (2 * order s) + q)
+        group : (i : ℕ) (hi : i < groups L) → Completes s l (F info i hi) (O info i hi) (E info i hi) (y i) (p i)
+        group i hi =
+            record {
+              bits = λ q. ho (i * (2 * order s) + order s + q);
+              rows = λ a ha.
+                  ap (isCodeword (s .g) (s .r)) (sym (read-row s l L ok ps pp info other i a ha (y i) (p i) (λ q m. refl) (λ q m. refl)))
+                  ∙ rows i a hi ha;
+              columns = λ a ha.
+                  ap (isCodeword (s .g) (s .r)) (sym (read-column s l L ok ps pp info other i a ha (y i) (p i) (λ q m. refl) (λ q m. refl)))
+                  ∙ columns i a hi ha;
+            }
 
-        hp : (i : ℕ) → Binary (p i)
-        hp i q = ho (i * (2 * order s) + order s + q)
-
-        row-code : (i a : ℕ) → (hi : i < groups L) → a < s .M → isCodeword (s .g) (s .r) (rowWord s l (F info i hi) (O info i hi) (y i) (p i) a) ≡ true
-        row-code i a hi ha = ap (isCodeword (s .g) (s .r)) (sym (read-row s l L ok ps pp info other i a ha (y i) (p i) (λ q m. refl) (λ q m. refl))) ∙ rows i a hi ha
-
-        column-code : (i a : ℕ) → (hi : i < groups L) → a < s .M → isCodeword (s .g) (s .r) (columnWord s (O info i hi) (E info i hi) (y i) (p i) a) ≡ true
-        column-code i a hi ha = ap (isCodeword (s .g) (s .r)) (sym (read-column s l L ok ps pp info other i a ha (y i) (p i) (λ q m. refl) (λ q m. refl))) ∙ columns i a hi ha
+        alone : (i : ℕ) (hi : i < groups L) (q : ℕ) → q < order s → (y i q ≡ Y info i hi q) × (p i q ≡ P info i hi q)
+        alone i hi =
+            group-alone s l ok ps pp w aw wa (F info i hi) (O info i hi) (E info i hi) (small (2 * i)) (small (2 * i + 1)) (small (2 * i + 2))
+            (y i) (p i) (λ q. ho (i * (2 * order s) + q)) (group i hi)
 
     pub redundancy-bits : Bits made
     redundancy-bits k = go (decLt k (length made))
@@ -212,7 +221,8 @@ module _ (s : Params) (l : Interleavers) (L : ℕ) (ok : Proper s)
         go (yes h) =
             red-ind s L l ok ps pp (λ (k : ℕ). getD made k 0 < 2)
             (λ i q hi hq. subst (λ (z : ℕ). z < 2) (sym (redundancy-self info i hi q hq))
-            (self-bit s l ok ps pp w aw wa (F info i hi) (O info i hi) (E info i hi) (small (2 * i)) (small (2 * i + 1)) (small (2 * i + 2)) q))
-            (λ i q hi hq. subst (λ (z : ℕ). z < 2) (sym (redundancy-parity info i hi q hq)) (columnParity-lt s l ok (O info i hi) (E info i hi) (Y info i hi) q))
+            (selfEntry-lt s l w (F info i hi) (O info i hi) (E info i hi) q))
+            (λ i q hi hq. subst (λ (z : ℕ). z < 2) (sym (redundancy-parity info i hi q hq))
+            (columnParity-lt s l ok (O info i hi) (E info i hi) (Y info i hi) q))
             k (subst (λ (z : ℕ). k < z) (redundancy-length info) h)
         go (no h) = subst (λ (z : ℕ). z < 2) (sym (List·getD-eq-default made 0 {n = k} (omega arith))) (omega arith)

@@ -1,6 +1,6 @@
 -- The vectors of specs/RowsK.antt and specs/SecondKit.antt, by computation. Two kinds of steps would be long, and go by laws: the products of the
 -- second kit, whose A is read from its rows, and the search for two errors, which ends at the codeword that is named here.
---   rowsK       document 01's rows under kit K
+--   rowsK       document 01's rows under kit K, and more of its refusals, of the word checker and of showing
 --   secondKit   the second kit
 -- Assumes nothing.
 use mathlib.Core.Path.{_≡_, refl, sym, ap, ap₂, _∙_}
@@ -23,7 +23,7 @@ use Rattle.staircase.specs.System.{preimage, columnParity, rowParity, re
 use Rattle.staircase.specs.Decoder.{choices, flipBits, firstCorrecting, errorPositions, allSent, correction, flipAll, correctWord, correctWords, round, runRounds, decoded}
 use Rattle.staircase.specs.Rules.{Verdict, _then_, refuseFirst, sizeRule, longRule, largeRule, designRules, countRule, roundsRule, listLengths, kitLengths, redLength, frameLengths, kitWork, wordWork, entries, interleavers, badEntry, listRule, spareRow, spareRule, wrongEntry, inverseRule, kitRules, bitRule, frameBits}
 use Rattle.staircase.specs.Rules.Verdict.{accepted}
-use Rattle.staircase.specs.Calls.{kitVerdict, encodeVerdict, encodedBy, encodeCall, decodeVerdict, decodeCall}
+use Rattle.staircase.specs.Calls.{kitVerdict, encodeVerdict, encodedBy, encodeCall, wordsVerdict, wordsCall, decodeVerdict, decodeCall, showVerdict, showCall}
 use Rattle.staircase.specs.RowsK.{RowsK}
 use Rattle.staircase.specs.SecondKit.{paramsS, selfS, parityS, inverseS, systemS, infoS, redS, paramsT, listsT, receivedT, correctionT, correction0T, correction1T, SecondKit}
 use Rattle.staircase.proofs.Search.{firstWhere-before}
@@ -35,7 +35,7 @@ use Rattle.staircase.proofs.Correction.{nearest-errors}
 use Rattle.staircase.proofs.BchCode.{apart-of}
 
 pub rowsK : RowsK
-unfolding _⊕_ _⊗_ timesX iterate polyAtDigits polyAt horner remainder bitsOf fieldPoly valueAt leastFrom minimalPoly generator isCodeword parity sumBits tabulate concat firstWhere rowInfo rowWord columnInfo columnWord preimage columnParity rowParity residual systemEntry constantEntry inverseEntry product selfEntry groupBits rowSites columnSites words outsideAmong outside groupRedundancy redundancy choices flipBits firstCorrecting errorPositions correction flipAll correctWord correctWords round runRounds decoded refuseFirst sizeRule longRule largeRule designRules countRule roundsRule listLengths kitLengths frameLengths kitWork wordWork entries badEntry listRule spareRow spareRule wrongEntry inverseRule kitRules bitRule frameBits kitVerdict encodeVerdict encodeCall decodeVerdict decodeCall
+unfolding _⊕_ _⊗_ timesX iterate polyAtDigits polyAt horner remainder bitsOf fieldPoly valueAt leastFrom minimalPoly generator isCodeword parity sumBits tabulate concat firstWhere rowInfo rowWord columnInfo columnWord preimage columnParity rowParity residual systemEntry constantEntry inverseEntry product selfEntry groupBits rowSites columnSites words outsideAmong outside groupRedundancy redundancy choices flipBits firstCorrecting errorPositions correction flipAll correctWord correctWords round runRounds decoded refuseFirst sizeRule longRule largeRule designRules countRule roundsRule listLengths kitLengths frameLengths kitWork wordWork entries badEntry listRule spareRow spareRule wrongEntry inverseRule kitRules bitRule frameBits kitVerdict encodeVerdict encodeCall wordsVerdict wordsCall decodeVerdict decodeCall showVerdict showCall
 rowsK =
     record {
       x9 = refl;
@@ -59,6 +59,27 @@ rowsK =
       long4 = refl;
       fits204 = refl;
       large205 = refl;
+      noBlocks = refl;
+      manyBlocks = refl;
+      manyRounds = refl;
+      shortSelf = refl;
+      shortParity = refl;
+      shortInverse = refl;
+      shortInfo = refl;
+      shortRed = refl;
+      noWork = refl;
+      selfRefused = refl;
+      parityRefused = refl;
+      spareRefused = refl;
+      infoRefused = refl;
+      redRefused = refl;
+      allInCode = refl;
+      bothOutside = refl;
+      uncounted = refl;
+      blockShown = refl;
+      groupShown = refl;
+      blockRefused = refl;
+      groupRefused = refl;
     }
 
 -- ---- the second kit passes

@@ -3,9 +3,11 @@ pub mod Design
 pub mod Word
 pub mod Frame
 pub mod System
+pub mod Solvable
 pub mod Decoder
 pub mod Rules
 pub mod Calls
+pub mod Demand1
 pub mod Demand2
 pub mod Demand3
 pub mod RowsK

@@ -1,11 +1,14 @@
--- Document 01, "Rows to check under K": every starred row, and the row of the design limits, as equations about the definitions. Kit K is the one
--- whose text document 01 prints whole: m 4, t 1, M 1, so that a block is one bit, a word has 10 bits and a list 4 entries.
+-- Document 01, "Rows to check under K": every starred row, and the row of the design limits, as equations about the definitions; then rows of
+-- rules 4 to 8 and 10 of its table, of the word checker and of showing. Kit K is the one whose text document 01 prints whole: m 4, t 1, M 1, so that
+-- a block is one bit, a word has 10 bits and a list 4 entries.
 --   paramsK                    the sizes of K's design
 --   selfK, parityK, inverseK   K's slices
 --   plain                      the list 0 1 2 3
 --   matrix n a                 the rows of an n × n matrix
 --   kitK                       the kit checker's verdict on the slices of a kit of this design
 --   encodedK, decodedK         the encoder's call and the decoder's call under K
+--   refusedK                   what a refused call of the decoder leaves
+--   countedK, shownK           the word checker's call, and showing a part of the frame of blocks 0, 1
 --   RowsK                      the rows; `rowsK` in proofs/Vectors.antt shows them
 -- Assumes nothing.
 use mathlib.Core.Path.{_≡_}
@@ -16,9 +19,10 @@ use Rattle.bch.specs.Code.{generator, parity}
 use Rattle.staircase.specs.Lists.{tabulate}
 use Rattle.staircase.specs.Design.{Params, params}
 use Rattle.staircase.specs.System.{systemEntry, inverseEntry, product, identity}
-use Rattle.staircase.specs.Rules.{Verdict, designRules, redLength, kitWork, wordWork, interleavers}
+use Rattle.staircase.specs.Rules.{Verdict, Part, designRules, redLength, kitWork, wordWork, interleavers}
 use Rattle.staircase.specs.Rules.Verdict.{accepted, refused}
-use Rattle.staircase.specs.Calls.{kitVerdict, Encoded, encodeCall, Corrected, decodeCall}
+use Rattle.staircase.specs.Rules.Part.{block, group}
+use Rattle.staircase.specs.Calls.{kitVerdict, Encoded, encodeCall, Counted, wordsCall, Corrected, decodeCall, Shown, showCall}
 
 abbrev pub paramsK : Params
 paramsK = params 4 1 1
@@ -50,6 +54,18 @@ encodedK L info = encodeCall 4 1 1 L selfK parityK inverseK info (replicate (red
 -- L blocks and a number of rounds
 abbrev pub decodedK : ℕ → ℕ → List ℕ → List ℕ → Corrected
 decodedK L rounds info red = decodeCall 4 1 1 L rounds selfK parityK info red (wordWork paramsK)
+
+-- a refused call of the decoder: both buffers as they were, and nothing counted
+abbrev pub refusedK : ℕ → ℕ → List ℕ → List ℕ → Corrected
+refusedK n p info red =
+    record { verdict = refused n p; frame = record { info = info; red = red }; counts = record { rounds = 0; flips = 0; outside = 0 } }
+
+abbrev pub countedK : ℕ → List ℕ → List ℕ → Counted
+countedK L info red = wordsCall 4 1 1 L selfK parityK info red (wordWork paramsK)
+
+-- of the frame of blocks 0, 1
+abbrev pub shownK : Part → Shown
+shownK part = showCall 4 1 1 2 part (0 ∷ 1 ∷ []) (0 ∷ 0 ∷ 0 ∷ 1 ∷ 0 ∷ 1 ∷ 1 ∷ 0 ∷ [])
 
 pub record RowsK : Type 0 where
   -- "remainders: x^9 is 1010, x^8 is 0101", of information × x^4
@@ -104,3 +120,36 @@ pub record RowsK : Type 0 where
   pub long4 : designRules 4 1 4 ≡ refused 2 16
   pub fits204 : designRules 10 2 204 ≡ accepted
   pub large205 : designRules 10 2 205 ≡ refused 3 4100
+  -- "4 count: the number; L .. out of range"
+  pub noBlocks : encodedK 0 [] ≡ record { verdict = refused 4 0; red = [] }
+  pub manyBlocks : encodedK 4097 [] ≡ record { verdict = refused 4 4097; red = replicate (redLength paramsK 4097) 255 }
+  -- "5 rounds: the number; above 64"; "lent buffers stay untouched", here blocks 0, 1 with group 0001 0111
+  pub manyRounds : decodedK 2 65 (0 ∷ 1 ∷ []) (0 ∷ 0 ∷ 0 ∷ 1 ∷ 0 ∷ 1 ∷ 1 ∷ 1 ∷ []) ≡ refusedK 5 65 (0 ∷ 1 ∷ []) (0 ∷ 0 ∷ 0 ∷ 1 ∷ 0 ∷ 1 ∷ 1 ∷ 1 ∷ [])
+  -- "6 length: 1 self, 2 parity, 3 inverse, 4 information, 5 redundancy, 6 working; first slice of a wrong length": each one byte short, and no
+  -- working bytes
+  pub shortSelf : kitK (1 ∷ 0 ∷ 0 ∷ 0 ∷ 2 ∷ 0 ∷ 3 ∷ []) parityK inverseK ≡ refused 6 1
+  pub shortParity : kitK selfK (3 ∷ 0 ∷ 0 ∷ 0 ∷ 1 ∷ 0 ∷ 2 ∷ []) inverseK ≡ refused 6 2
+  pub shortInverse : kitK selfK parityK (5 ∷ 10 ∷ 11 ∷ []) ≡ refused 6 3
+  pub shortInfo : encodedK 2 (0 ∷ []) ≡ record { verdict = refused 6 4; red = replicate 8 255 }
+  pub shortRed : decodedK 2 0 (0 ∷ 1 ∷ []) (0 ∷ 0 ∷ 0 ∷ 1 ∷ 0 ∷ 1 ∷ 1 ∷ []) ≡ refusedK 6 5 (0 ∷ 1 ∷ []) (0 ∷ 0 ∷ 0 ∷ 1 ∷ 0 ∷ 1 ∷ 1 ∷ [])
+  pub noWork : kitVerdict 4 1 1 selfK parityK inverseK 0 ≡ refused 6 6
+  -- "7 list: the entry's position in its list; for parity plus M × r; first entry too large or seen earlier in its list": the self list 1 0 2 2,
+  -- the parity list 3 0 4 2
+  pub selfRefused : kitK (1 ∷ 0 ∷ 0 ∷ 0 ∷ 2 ∷ 0 ∷ 2 ∷ 0 ∷ []) parityK inverseK ≡ refused 7 3
+  pub parityRefused : kitK selfK (3 ∷ 0 ∷ 0 ∷ 0 ∷ 4 ∷ 0 ∷ 2 ∷ 0 ∷ []) inverseK ≡ refused 7 6
+  -- "8 spare: row; first row of W with a spare bit of 1": bit 4 of row 2
+  pub spareRefused : kitK selfK parityK (5 ∷ 10 ∷ 27 ∷ 2 ∷ []) ≡ refused 8 2
+  -- "10 bit: byte; for redundancy plus the information length; first byte above 1"
+  pub infoRefused : encodedK 2 (0 ∷ 7 ∷ []) ≡ record { verdict = refused 10 1; red = replicate 8 255 }
+  pub redRefused : decodedK 2 0 (0 ∷ 1 ∷ []) (0 ∷ 0 ∷ 0 ∷ 1 ∷ 0 ∷ 2 ∷ 1 ∷ 0 ∷ []) ≡ refusedK 10 7 (0 ∷ 1 ∷ []) (0 ∷ 0 ∷ 0 ∷ 1 ∷ 0 ∷ 2 ∷ 1 ∷ 0 ∷ [])
+  -- "The word checker counts the words outside the code": none for blocks 0, 1 with the encoder's group, both for blocks 0, 0 with group 0000 0101,
+  -- and nothing where it refuses
+  pub allInCode : countedK 2 (0 ∷ 1 ∷ []) (0 ∷ 0 ∷ 0 ∷ 1 ∷ 0 ∷ 1 ∷ 1 ∷ 0 ∷ []) ≡ record { verdict = accepted; outside = 0 }
+  pub bothOutside : countedK 2 (0 ∷ 0 ∷ []) (0 ∷ 0 ∷ 0 ∷ 0 ∷ 0 ∷ 1 ∷ 0 ∷ 1 ∷ []) ≡ record { verdict = accepted; outside = 2 }
+  pub uncounted : countedK 2 (0 ∷ 0 ∷ []) (0 ∷ 0 ∷ 0 ∷ 0 ∷ 0 ∷ 1 ∷ 0 ∷ 2 ∷ []) ≡ record { verdict = refused 10 9; outside = 0 }
+  -- "A block or a group is shown as the stretch of whichever buffer holds it"
+  pub blockShown : shownK (block 2) ≡ record { verdict = accepted; bits = 1 ∷ [] }
+  pub groupShown : shownK (group 1) ≡ record { verdict = accepted; bits = 0 ∷ 0 ∷ 0 ∷ 1 ∷ 0 ∷ 1 ∷ 1 ∷ 0 ∷ [] }
+  -- "4 count: the number; .. the block or group to be shown, out of range"; "it is empty exactly when refused"
+  pub blockRefused : shownK (block 3) ≡ record { verdict = refused 4 3; bits = [] }
+  pub groupRefused : shownK (group 0) ≡ record { verdict = refused 4 0; bits = [] }

@@ -5,6 +5,7 @@
 --   residual                       A y + c
 --   systemEntry, constantEntry     the entries of A and of c
 --   rowBytes, inverseEntry         the packed inverse
+--   apply                          a square matrix of bits at a vector
 --   product, identity              products of square matrices of bits
 --   selfEntry, groupBits           Y = W c, and the group
 --   groupRedundancy, redundancy    of a frame's information
@@ -70,6 +71,10 @@ rowBytes n = (n + 7) / 8
 -- "column j is bit j mod 8 of byte j/8 rounded down"
 unfoldable pub inverseEntry : List ℕ → ℕ → ℕ → ℕ → ℕ
 inverseEntry w n i j = getD w (i * rowBytes n + j / 8) 0 / 2 ^ (j % 8) % 2
+
+-- an n × n matrix at a vector: entry i is 1 exactly when row i and the vector share an odd number of ones
+abbrev pub apply : ℕ → (ℕ → ℕ → ℕ) → Contents → Contents
+apply n a v i = sumBits n (λ j. a i j * v j)
 
 -- "An entry of a product is 1 exactly when a row and a column share an odd number of ones"
 unfoldable pub product : ℕ → (ℕ → ℕ → ℕ) → (ℕ → ℕ → ℕ) → ℕ → ℕ → ℕ

@@ -2,7 +2,7 @@
 // theorems on them in proofs/:
 //   Bounds, Search, Permutation, Tables, Member, Fill      numbers, tests and lists
 //   Stretches                                              words of four stretches
-//   Matrix, Parity, System, Entries                        the system of a group
+//   Matrix, Parity, System, Solvable, Solution, Entries    the system of a group
 //   Flip, Errors, Correction                               correcting words, for any list of words
 //   Sites, Positions, Apart, Redundancy, Reach             the words of a frame, and its redundancy
 //   Rounds, Outside, Rules                                 rounds, counts and the table's rules

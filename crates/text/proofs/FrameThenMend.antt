@@ -18,7 +18,7 @@ use Rattle.staircase.specs.System.{redundancy}
 use Rattle.staircase.specs.Rules.{Verdict, _then_, redLength, kitWork, wordWork, interleavers}
 use Rattle.staircase.specs.Rules.Verdict.{accepted, refused}
 use Rattle.staircase.specs.Calls.{Encoded, encodeVerdict, encodeCall, Corrected, decodeCall}
-use Rattle.staircase.specs.Demand3.{EachWord}
+use Rattle.staircase.specs.Demand3.{sizes, lists, Given, EachWord}
 use Rattle.staircase.proofs.Rules.{then-accepted}
 use Rattle.text.specs.FrameText.{blockItems, groupItems, BlockText, FrameText, blockText, groupText}
 use Rattle.text.specs.Programs.{refusalText, countsText, most-input, inputRule, printed, judged, frameCall, frameOutput, mendCall, mendText, mendOutput}
@@ -26,9 +26,10 @@ use Rattle.text.specs.KitReader.{headNumber, kitParams, scanKit, selfOf,
 use Rattle.text.specs.FrameReader.{blockRule, blockCount, blockInfo, frameRule, frameCount, frameInfo, frameRed}
 use Rattle.text.proofs.FramePromises.{blocks-accepted, blocks-hold, BlocksHold, frame-accepted, frame-holds}
 use Rattle.text.proofs.FrameLengths.{groups-fit, frame-length, same-count}
-use Rattle.text.specs.FrameThenMend.{frameVerdict, sent, madeFrame, copyFrame, FrameThenMend}
+use Rattle.text.specs.FrameThenMend.{frameVerdict, sent, kitOf, madeFrame, copyFrame, FrameThenMend}
 use Rattle.text.proofs.Programs.{long-text, short-inputs, then-refused, Admitted, judged-accepted}
-use Rattle.staircase.proofs.Encoded.{encodedBy-verdict, Encodes, encode-accepted, encode-made, made-length, made-bits, made-restored, made-idle}
+use Rattle.staircase.proofs.Demand3.{encode-made, made-length, made-bits, made-restored}
+use Rattle.staircase.proofs.Encoded.{encodedBy-verdict, encode-accepted, made-idle}
 
 -- two lists joined, by the length of the first
 pub append-same : (a b c d : List ℕ) → length a ≡ length b → a ++ c ≡ b ++ d → (a ≡ b) × (c ≡ d)
@@ -83,13 +84,13 @@ module _ (kit text : List ℕ) (ok : frameVerdict kit text ≡ accepted) where
   unfolding frameVerdict
   A = judged-accepted kit text (blockRule M text) (frameCall kit text .verdict) ok
 
-  E : Encodes m t M L (selfOf kit) (parityOf kit) (inverseOf kit) info old
+  G : Given (kitOf kit) L info old
   unfolding frameCall encodeCall
-  E =
+  G =
       let s : Params = kitParams kit in
       let v : Verdict = encodeVerdict m t M L (selfOf kit) (parityOf kit) (inverseOf kit) info old (kitWork s) in
       let new : List ℕ = redundancy s (interleavers s (selfOf kit) (parityOf kit)) (inverseOf kit) L info in
-      encode-accepted m t M L (selfOf kit) (parityOf kit) (inverseOf kit) info old (kitWork s)
+      encode-accepted (kitOf kit) L info old (kitWork s)
       (sym (encodedBy-verdict v old new) ∙ A .call-ok)
 
   abbrev red : List ℕ
@@ -99,13 +100,13 @@ module _ (kit text : List ℕ) (ok : frameVerdict kit text ≡ accepted) where
 
   red-is : frameCall kit text .red ≡ red
   unfolding frameCall
-  red-is = ap (λ (z : Encoded). z .red) (encode-made m t M L (selfOf kit) (parityOf kit) (inverseOf kit) info old E)
+  red-is = ap (λ (z : Encoded). z .red) (encode-made (kitOf kit) L info old G info old (G .bits) (G .info-fits) (G .old-fits))
 
   red-fits : length red ≡ groups L * (2 * (M * (m * t)))
-  red-fits = made-length m t M L (selfOf kit) (parityOf kit) (inverseOf kit) info old E
+  red-fits = made-length (kitOf kit) L info old G
 
   red-bits : Bits red
-  red-bits = made-bits m t M L (selfOf kit) (parityOf kit) (inverseOf kit) info old E
+  red-bits = made-bits (kitOf kit) L info old G
 
   -- the two texts
 
@@ -182,13 +183,13 @@ module _ (kit text : List ℕ) (ok : frameVerdict kit text ≡ accepted) where
       mends h =
           mend-sends (sent kit text) h (read-back .0) (sym (read-back .1)) 1 0
           (ap₂ (λ (i o : List ℕ). decodeCall m t M L 0 (selfOf kit) (parityOf kit) i o (wordWork (kitParams kit))) (sym (parts .0)) (sym (parts .1))
-          ∙ made-idle m t M L (selfOf kit) (parityOf kit) (inverseOf kit) info old E 0 (omega arith))
+          ∙ made-idle (kitOf kit) L info old G 0 (omega arith))
 
       refuses : most-input < length (sent kit text) → mendOutput kit (sent kit text) ≡ refusalText 13 2
       refuses h = long-refused kit (sent kit text) (A .kit-short) h
 
       restores : (copy : List ℕ) → length copy ≡ length (sent kit text) → length copy ≤ most-input → frameRule M (m * t) copy ≡ accepted
-          → EachWord (kitParams kit) (interleavers (kitParams kit) (selfOf kit) (parityOf kit)) L
+          → EachWord (sizes (kitOf kit)) (lists (kitOf kit)) L
           (λ x. distance (read (madeFrame kit text) x) (read (copyFrame kit copy) x) ≤ t)
           → (rounds : ℕ) × (turned : ℕ) × (mendOutput kit copy ≡ sent kit text ++ countsText rounds turned 0)
       restores copy long short accepts near =
@@ -197,9 +198,9 @@ module _ (kit text : List ℕ) (ok : frameVerdict kit text ≡ accepted) where
           let count : frameCount M (m * t) copy ≡ L =
           same-count (M * M) (M * (m * t)) most-blocks (frameCount M (m * t) copy) L (frameInfo M (m * t) copy ++ frameRed M (m * t) copy)
           (info ++ red) copy (sent kit text) F whole long in
-          let near′ = subst (λ (z : List ℕ). EachWord (kitParams kit) (interleavers (kitParams kit) (selfOf kit) (parityOf kit)) L
+          let near′ = subst (λ (z : List ℕ). EachWord (sizes (kitOf kit)) (lists (kitOf kit)) L
           (λ x. distance (read (frameOf info z) x) (read (copyFrame kit copy) x) ≤ t)) red-is near in
-          let r = made-restored m t M L (selfOf kit) (parityOf kit) (inverseOf kit) info old E (frameInfo M (m * t) copy) (frameRed M (m * t) copy)
+          let r = made-restored (kitOf kit) L info old G (copyFrame kit copy)
           (h .info-length ∙ ap (λ (k : ℕ). k * (M * M)) count ∙ sym (holds .info-length))
           (h .red-length ∙ ap (λ (k : ℕ). groups k * (2 * (M * (m * t)))) count ∙ sym red-fits) (h .info-bits) (h .red-bits) near′ 0 (omega arith) in
           (r .0, r .1, mend-sends copy short accepts count (r .0) (r .1) (r .2))

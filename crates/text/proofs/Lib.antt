@@ -20,3 +20,4 @@ pub mod Programs
 pub mod FrameThenMend
 pub mod MendPrints
 pub mod ProgramExamples
+pub mod Demand1

@@ -2,6 +2,7 @@
 -- `frame-then-mend` in proofs/FrameThenMend.antt.
 --   frameVerdict      the rules of `frame`; where they accept it prints group text, else the two lines of the refusal
 --   sent              block text followed by what `frame` prints
+--   kitOf             the kit that a kit text shows
 --   madeFrame, copyFrame   the frame of the blocks and the encoder's redundancy, and the one that a frame text shows
 --   FrameThenMend     the claim
 -- Assumes nothing.
@@ -11,11 +12,11 @@ use Prim.Native.Nat.{ℕ, _*_, _≤_, _<_}
 use lib.ListN.{length}
 use Rattle.bch.specs.Code.{distance}
 use Rattle.staircase.specs.Frame.{Frame, frameOf, read}
-use Rattle.staircase.specs.Rules.{Verdict, _then_, interleavers}
+use Rattle.staircase.specs.Rules.{Verdict, _then_}
 use Rattle.staircase.specs.Rules.Verdict.{accepted}
-use Rattle.staircase.specs.Demand3.{EachWord}
+use Rattle.staircase.specs.Demand3.{Kit, sizes, lists, EachWord}
 use Rattle.text.specs.Programs.{countsText, refusalText, most-input, inputRule, frameCall, frameOutput, mendOutput}
-use Rattle.text.specs.KitReader.{headNumber, kitParams, scanKit, selfOf, parityOf}
+use Rattle.text.specs.KitReader.{headNumber, scanKit, selfOf, parityOf, inverseOf}
 use Rattle.text.specs.FrameText.{frameBytes}
 use Rattle.text.specs.FrameReader.{blockRule, blockCount, blockInfo, frameRule, frameCount, frameInfo, frameRed}
 
@@ -25,6 +26,17 @@ frameVerdict kit text = inputRule kit text then scanKit kit then blockRule (head
 -- "block text followed by group text in that form"
 abbrev pub sent : List ℕ → List ℕ → List ℕ
 sent kit text = text ++ frameOutput kit text
+
+abbrev pub kitOf : List ℕ → Kit
+kitOf kit =
+    record {
+      m = headNumber kit 0;
+      t = headNumber kit 1;
+      M = headNumber kit 2;
+      self = selfOf kit;
+      parity = parityOf kit;
+      inverse = inverseOf kit;
+    }
 
 -- M and r of the kit
 abbrev pub kitM : List ℕ → ℕ
@@ -56,6 +68,6 @@ pub record FrameThenMend (kit text : List ℕ) : Type 0 where
   -- demand 3: of a frame text of the same length, with at most t wrong bits in each word, `mend` prints the blocks and groups that were sent, and
   -- counts no word outside
   pub restores : (copy : List ℕ) → length copy ≡ length (sent kit text) → length copy ≤ most-input → frameRule (kitM kit) (kitR kit) copy ≡ accepted
-      → EachWord (kitParams kit) (interleavers (kitParams kit) (selfOf kit) (parityOf kit)) (blockCount (kitM kit) text)
-      (λ x. distance (read (madeFrame kit text) x) (read (copyFrame kit copy) x) ≤ headNumber kit 1)
+      → EachWord (sizes (kitOf kit)) (lists (kitOf kit)) (blockCount (kitM kit) text)
+      (λ x. distance (read (madeFrame kit text) x) (read (copyFrame kit copy) x) ≤ kitOf kit .t)
       → (rounds : ℕ) × (turned : ℕ) × (mendOutput kit copy ≡ sent kit text ++ countsText rounds turned 0)

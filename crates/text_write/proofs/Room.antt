@@ -2,17 +2,18 @@
 --   no-fit, last-fits                  `has_room`
 --   puts-room .. after-none            what is left, and what is answered
 --   told-room, told-put, told-kept     the same, by what the test of the room told
+--   puts-length, after-counts          the buffer stays as long, and what is answered counts bytes of it
 -- Assumes nothing.
 use Prim.Native.Nat.{ℕ, _+_, _-_, _≤_, _<_}
-use mathlib.Core.Path.{_≡_, sym, _∙_}
+use mathlib.Core.Path.{_≡_, sym, ap, _∙_}
 use mathlib.Core.List.{List}
 use mathlib.Core.Bool.{Bool, true, false}
 use native.Mathlib.Omega.{arith}
 use native.Mathlib.Decide.{decLt}
 use borrow.Author.Tests.{le-leb, lt-leb, leb-true, leb-false}
 use lib.Dec.{leb}
-use lib.ListN.{length}
-use lib.Seq.{sets}
+use lib.ListN.{length, take}
+use lib.Seq.{sets, length-sets, length-take-le}
 use Rattle.text_write.specs.Room.{puts, after}
 
 -- Three parts behind a position: no room for them, and room exactly if there is room for the last behind the others.
@@ -57,3 +58,22 @@ pub told-kept : (o : List ℕ) (at : ℕ) (t : List ℕ) {n : ℕ} {b : Bool} �
 told-kept o at t {n} e h l =
     let none : length o < at + length t = omega (arith, leb-false (at + n) (length o) (sym e ∙ h), l) in
     (sym (after-none o at t none), sym (puts-none o at t none))
+
+-- ---- for a caller who lends on what is written, `&out[..r]`
+
+pub puts-length : (o : List ℕ) (at : ℕ) (t : List ℕ) → length (puts o at t) ≡ length o
+puts-length o at t = go (decLt (length o) (at + length t))
+  where
+    go : Dec (length o < at + length t) → length (puts o at t) ≡ length o
+    go (yes h) = ap length (puts-none o at t h)
+    go (no h) = ap length (puts-room o at t (omega arith)) ∙ length-sets o at t
+
+pub after-counts : (o : List ℕ) (at : ℕ) (t : List ℕ) {r : ℕ} {l : List ℕ} → r ≡ after o at t → l ≡ puts o at t → at ≤ length o
+    → (r ≤ length l) × (r ≡ length (take r l))
+after-counts o at t {r} {l} e f h =
+    let within : r ≤ length l = omega (arith, e, ap length f, puts-length o at t, low (decLt (length o) (at + length t))) in
+    (within, sym (length-take-le r l within))
+  where
+    low : Dec (length o < at + length t) → after o at t ≤ length o
+    low (yes k) = omega (arith, after-none o at t k)
+    low (no k) = omega (arith, after-room o at t (omega arith))

@@ -127,7 +127,7 @@ pub fn row_remainders(
     let r = d.r();
     let n = work.len();
     let y = i * (2 * n);
-    let x = 2 * (d.size as usize);
+    let x = 2 * d.size();
     block_rows(info, blocks, i, table, rows);
     add_spread(rows, own, red, y, table, x, r, work);
     add_spread(rows, parity, red, y + n, table, x + r, r, work);
@@ -152,7 +152,7 @@ pub fn column_remainders(
     let r = d.r();
     let n = d.order();
     let y = i * (2 * n);
-    let x = 2 * (d.size as usize);
+    let x = 2 * d.size();
     block_columns(info, blocks, i, table, columns);
     add_columns(columns, red, y, table, x, r);
     add_columns(columns, red, y + n, table, x + r, r);
@@ -244,7 +244,7 @@ pub fn count_outside(
     ensures { λ a. ⌜ a
         ≡ outside (paramsOf d) (listsOf d (now (own .entry)) (now (parity .entry))) blocks (frameOf (now (info .entry)) (now (red .entry))) ⌝ }
 {
-    let size = d.size as usize;
+    let size = d.size();
     let mut sums = [0u32; 512];
     count_groups(
         d,

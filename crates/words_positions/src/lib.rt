@@ -17,6 +17,8 @@ pub fn fill_table(d: Design, table: &mut [u32])
     ensures { λ u. ⌜ PositionPowers (generator (d .m) (d .t)) (d .m * d .t) (now (table .exit)) × (length (now (table .exit)) ≡ length (now (table .entry))) ⌝ }
 {
     let r = d.r();
-    let g = bch_remainders::generator_of(d.m as usize, d.t as usize);
+    let m = d.m();
+    let t = d.t();
+    let g = bch_remainders::generator_of(m, t);
     bch_remainders::fill_positions(g, r, 1 << r, table);
 }

@@ -11,11 +11,11 @@ use Rattle.decoder.proofs.correct_frame.Tie as tie
 n-requires : tie.Need-n-requires
 n-requires c κs = search needs
 
-cast-size : tie.Need-cast-size
-cast-size c = search needs
+size-requires : tie.Need-size-requires
+size-requires c κs = search needs
 
-cast-powers : tie.Need-cast-powers
-cast-powers c = search needs
+m-requires : tie.Need-m-requires
+m-requires c κs = search needs
 
 shl-powers : tie.Need-shl-powers
 shl-powers c = search needs
@@ -48,31 +48,33 @@ slice-aggregate-correct-in-2 : tie.Need-slice-aggregate-correct-in-2
 slice-aggregate-correct-in-2 c = sym (lent _ 1152 (c .before .before .before .before .before .before .before .syndrome-entries .result) (c .before .before .before .before .before .before .before .syndrome-entries .ensures) (syndromes-room _ (c .before .before .before .before .before .before .before .before .before .before .before .before .before .before .before .before .before .pre .0 .allowed) _ (c .before .before .before .before .before .before .before .before .before .before .before .n .ensures .0)) .1)
 
 mul-field : tie.Need-mul-field
-mul-field c = omega (arith, field-room _ (c .before .before .before .before .before .before .before .before .before .before .before .before .before .before .before .before .before .pre .0 .allowed))
+mul-field c = omega (arith, field-room _ (c .before .before .before .before .before .before .before .before .before .before .before .before .before .before .before .before .before .pre .0 .allowed) _ (c .before .before .before .before .before .before .before .before .before .m .ensures))
 
 array-borrow-prefix-field : tie.Need-array-borrow-prefix-field
-array-borrow-prefix-field c = lent _ 4096 (c .before .before .before .before .before .before .field-entries .result) (c .before .before .before .before .before .before .field-entries .ensures) (field-room _ (c .before .before .before .before .before .before .before .before .before .before .before .before .before .before .before .before .before .pre .0 .allowed)) .0
+array-borrow-prefix-field c = lent _ 4096 (c .before .before .before .before .before .before .field-entries .result) (c .before .before .before .before .before .before .field-entries .ensures) (field-room _ (c .before .before .before .before .before .before .before .before .before .before .before .before .before .before .before .before .before .pre .0 .allowed) _ (c .before .before .before .before .before .before .before .before .before .m .ensures)) .0
 
 slice-aggregate-correct-in-3 : tie.Need-slice-aggregate-correct-in-3
-slice-aggregate-correct-in-3 c = sym (lent _ 4096 (c .before .before .before .before .before .before .before .field-entries .result) (c .before .before .before .before .before .before .before .field-entries .ensures) (field-room _ (c .before .before .before .before .before .before .before .before .before .before .before .before .before .before .before .before .before .before .pre .0 .allowed)) .1)
+slice-aggregate-correct-in-3 c = sym (lent _ 4096 (c .before .before .before .before .before .before .before .field-entries .result) (c .before .before .before .before .before .before .before .field-entries .ensures) (field-room _ (c .before .before .before .before .before .before .before .before .before .before .before .before .before .before .before .before .before .before .pre .0 .allowed) _ (c .before .before .before .before .before .before .before .before .before .before .m .ensures)) .1)
 
 array-borrow-prefix-sums : tie.Need-array-borrow-prefix-sums
-array-borrow-prefix-sums c = lent _ 512 (c .before .before .before .before .before .before .sum-entries .result) (c .before .before .before .before .before .before .sum-entries .ensures) (sums-room _ (c .before .before .before .before .before .before .before .before .before .before .before .before .before .before .before .before .before .before .pre .0 .allowed)) .0
+array-borrow-prefix-sums c = lent _ 512 (c .before .before .before .before .before .before .sum-entries .result) (c .before .before .before .before .before .before .sum-entries .ensures) (sums-room _ (c .before .before .before .before .before .before .before .before .before .before .before .before .before .before .before .before .before .before .pre .0 .allowed) _ (c .before .before .before .before .before .before .before .before .before .before .before .size .ensures)) .0
 
 slice-aggregate-correct-in-4 : tie.Need-slice-aggregate-correct-in-4
-slice-aggregate-correct-in-4 c = sym (lent _ 512 (c .before .before .before .before .before .before .before .sum-entries .result) (c .before .before .before .before .before .before .before .sum-entries .ensures) (sums-room _ (c .before .before .before .before .before .before .before .before .before .before .before .before .before .before .before .before .before .before .before .pre .0 .allowed)) .1)
+slice-aggregate-correct-in-4 c = sym (lent _ 512 (c .before .before .before .before .before .before .before .sum-entries .result) (c .before .before .before .before .before .before .before .sum-entries .ensures) (sums-room _ (c .before .before .before .before .before .before .before .before .before .before .before .before .before .before .before .before .before .before .before .pre .0 .allowed) _ (c .before .before .before .before .before .before .before .before .before .before .before .before .size .ensures)) .1)
 
 correct-in-requires : tie.Need-correct-in-requires
 correct-in-requires c κs =
     let p = c .before .before .before .before .before .before .before .before .before .before .before .before .before .before .before .before .before .before .before .pre in
-    let n = c .before .before .before .before .before .before .before .before .before .before .before .before .before .n .ensures .0 in (
+    let n = c .before .before .before .before .before .before .before .before .before .before .before .before .before .n .ensures .0 in
+    let M = c .before .before .before .before .before .before .before .before .before .before .before .before .size .ensures in
+    let m = c .before .before .before .before .before .before .before .before .before .before .before .m .ensures in (
       p .0,
       p .1,
       p .2,
       lent _ 1024 (c .before .before .before .before .before .before .before .before .before .before .position-entries .result) (c .before .before .before .before .before .before .before .before .before .before .position-entries .ensures) (positions-room _ (p .0 .allowed) _ n) .1 ∙ n,
       lent _ 1152 (c .before .before .before .before .before .before .before .before .before .syndrome-entries .result) (c .before .before .before .before .before .before .before .before .before .syndrome-entries .ensures) (syndromes-room _ (p .0 .allowed) _ n) .1 ∙ ap (λ (z : ℕ). z + 128) n,
-      lent _ 4096 (c .before .before .before .before .before .before .before .before .field-entries .result) (c .before .before .before .before .before .before .before .before .field-entries .ensures) (field-room _ (p .0 .allowed)) .1 ∙ field-is _ (p .0 .allowed),
-      lent _ 512 (c .before .before .before .before .before .before .before .sum-entries .result) (c .before .before .before .before .before .before .before .sum-entries .ensures) (sums-room _ (p .0 .allowed)) .1,
+      lent _ 4096 (c .before .before .before .before .before .before .before .before .field-entries .result) (c .before .before .before .before .before .before .before .before .field-entries .ensures) (field-room _ (p .0 .allowed) _ m) .1 ∙ field-is _ (p .0 .allowed) _ m,
+      lent _ 512 (c .before .before .before .before .before .before .before .sum-entries .result) (c .before .before .before .before .before .before .before .sum-entries .ensures) (sums-room _ (p .0 .allowed) _ M) .1 ∙ M,
     )
 
 same-length : tie.Need-same-length
@@ -92,8 +94,8 @@ correct-frame-spec =
     tie.close
     (tie.spec
     n-requires
-    cast-size
-    cast-powers
+    size-requires
+    m-requires
     shl-powers
     position-entries-requires
     syndrome-entries-requires

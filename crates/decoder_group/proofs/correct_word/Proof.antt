@@ -14,25 +14,25 @@ returns c =
     let a = start .args in
     zero-corrected (p .0) (p .1) (a .column) (a .a) (a .remainder) (p .3) (c .if1 .taken)
 
-cast-locate : tie.Need-cast-locate
-cast-locate c = search needs
+m-requires : tie.Need-m-requires
+m-requires c κs = search needs
 
-cast-locate-2 : tie.Need-cast-locate-2
-cast-locate-2 c = search needs
+t-requires : tie.Need-t-requires
+t-requires c κs = search needs
 
 locate-requires : tie.Need-locate-requires
 locate-requires c κs =
     let start = c .before .before .before .before .before .before .before .before .before .before in
     let p = start .pre in
     let a = start .args in
-    (p .0 .tables, remainder-small (p .0) (p .1) (a .column) (a .a) (a .remainder) (p .3))
+    rw (c .before .m .ensures, c .t .ensures) (p .0 .tables, remainder-small (p .0) (p .1) (a .column) (a .a) (a .remainder) (p .3))
 
 spots-of-requires : tie.Need-spots-of-requires
 spots-of-requires c κs =
     let start = c .before .before .before .before .before .before .before .before .before .before .before in
     let p = start .pre in
     let a = start .args in
-    (p .0 .allowed, p .0 .few-blocks, p .0 .group, p .2, p .0 .lists, located-below (p .0) (p .1) (a .column) (a .a) (a .remainder) (p .3) (c .locate .result) (c .locate .ensures))
+    (p .0 .allowed, p .0 .few-blocks, p .0 .group, p .2, p .0 .lists, located-below (p .0) (p .1) (a .column) (a .a) (a .remainder) (p .3) (c .locate .result) (rw (c .before .t .ensures) at (c .locate .ensures)))
 
 all-sent-requires : tie.Need-all-sent-requires
 all-sent-requires c κs = search needs
@@ -44,7 +44,7 @@ returns-2 c =
     let a = start .args in
     let locate = c .before .before .before .locate in
     let spots-of = c .before .before .spots-of in
-    none-corrected (p .0) (p .1) (a .column) (a .a) (a .remainder) (p .3) (locate .result) (locate .ensures) (spots-of .ensures .0)
+    none-corrected (p .0) (p .1) (a .column) (a .a) (a .remainder) (p .3) (locate .result) (rw (c .before .before .before .before .t .ensures) at (locate .ensures)) (spots-of .ensures .0)
     (sym (c .before .all-sent .ensures) ∙ not-true (c .before .all-sent .result) (c .if2 .taken))
 
 flip-all-requires : tie.Need-flip-all-requires
@@ -68,7 +68,7 @@ returns-3 c =
     let locate = c .before .before .before .before .before .before .before .before .before .before .locate in
     let spots-of = c .before .before .before .before .before .before .before .before .before .spots-of in
     let all-sent = c .before .before .before .before .before .before .before .before .all-sent in
-    all-corrected (p .0) (p .1) (a .column) (a .a) (a .remainder) (p .3) (locate .result) (locate .ensures) (spots-of .ensures .0)
+    all-corrected (p .0) (p .1) (a .column) (a .a) (a .remainder) (p .3) (locate .result) (rw (c .before .before .before .before .before .before .before .before .before .before .before .t .ensures) at (locate .ensures)) (spots-of .ensures .0)
     (sym (all-sent .ensures) ∙ not-false (all-sent .result) (c .before .before .before .before .before .before .before .if2 .left)) (c .before .before .before .before .flip-all .ensures) (spots-of .ensures .1)
 
 pub correct-word-spec : {M : Type 1} → statement M
@@ -76,8 +76,8 @@ correct-word-spec =
     tie.close
     (tie.spec
     returns
-    cast-locate
-    cast-locate-2
+    m-requires
+    t-requires
     locate-requires
     spots-of-requires
     all-sent-requires

@@ -12,8 +12,8 @@ use borrow.Author.Needs.{needs}
 use Rattle.decoder_group.proofs.site_at.Statement.{statement}
 use Rattle.decoder_group.proofs.site_at.Tie as tie
 
-cast-size : tie.Need-cast-size
-cast-size c = search needs
+size-requires : tie.Need-size-requires
+size-requires c κs = search needs
 
 line-bit-requires : tie.Need-line-bit-requires
 line-bit-requires c κs = search needs
@@ -22,18 +22,19 @@ first-block-requires : tie.Need-first-block-requires
 first-block-requires c κs = search needs
 
 block-site-requires : tie.Need-block-site-requires
-block-site-requires c κs = search needs
+block-site-requires c κs = rw (← c .before .before .before .size .ensures) (search needs)
 
 returns : tie.Need-returns
 returns c =
     let start = c .before .before .before .before .before .before .before in
     let if1 = c .before .before .before .if1 in
     let line-bit = c .before .before .line-bit in
+    let M = c .before .before .before .before .size .ensures in
     let a = start .args in
     let s = paramsOf (a .d) in
     let l = listsOf (a .d) (a .own .now) (a .parity .now) in (
       c .block-site .ensures .0
-          ∙ ap (λ (z : Site). z ∷ []) (word-first s l (a .blocks) (a .i) (a .a) (a .column) (if1 .taken) (c .before .first-block .ensures .0) (line-bit .ensures .0)),
+          ∙ ap (λ (z : Site). z ∷ []) (word-first s l (a .blocks) (a .i) (a .a) (a .column) (rw M at (if1 .taken)) (c .before .first-block .ensures .0) (rw M at (line-bit .ensures .0))),
       c .block-site .ensures .1 _,
     )
 
@@ -50,7 +51,7 @@ add-block-site : tie.Need-add-block-site
 add-block-site c = search needs
 
 block-site-requires-2 : tie.Need-block-site-requires-2
-block-site-requires-2 c κs = search needs
+block-site-requires-2 c κs = rw (← c .before .before .before .before .size .ensures) (search needs)
 
 returns-2 : tie.Need-returns-2
 returns-2 c =
@@ -58,12 +59,13 @@ returns-2 c =
     let if1 = c .before .before .before .before .if1 in
     let if2 = c .before .before .before .if2 in
     let line-bit2 = c .before .before .line-bit2 in
+    let M = c .before .before .before .before .before .size .ensures in
     let a = start .args in
     let s = paramsOf (a .d) in
     let l = listsOf (a .d) (a .own .now) (a .parity .now) in (
       c .block-site2 .ensures .0
           ∙ ap (λ (z : Site). z ∷ [])
-          (word-second s l (a .blocks) (a .i) (a .a) (a .column) (if1 .left) (if2 .taken) (c .before .first-block2 .ensures .0) (line-bit2 .ensures .0)),
+          (word-second s l (a .blocks) (a .i) (a .a) (a .column) (rw M at (if1 .left)) (rw M at (if2 .taken)) (c .before .first-block2 .ensures .0) (rw M at (line-bit2 .ensures .0))),
       c .block-site2 .ensures .1 _,
     )
 
@@ -81,7 +83,8 @@ group-bit-requires : tie.Need-group-bit-requires
 group-bit-requires c κs =
     let start = c .before .before .before .before .before .before in
     let a = start .args in
-    (start .pre .4, omega (arith, c .place .ensures .0, red-below (a .d .size) (a .d .m * a .d .t) (a .a) (a .p) (start .pre .5) (c .before .if2 .left) (start .pre .3)))
+    let M = c .before .before .before .size .ensures in
+    (start .pre .4, omega (arith, rw M at (c .place .ensures .0), red-below (a .d .size) (a .d .m * a .d .t) (a .a) (a .p) (start .pre .5) (rw M at (c .before .if2 .left)) (start .pre .3)))
 
 group-site-requires : tie.Need-group-site-requires
 group-site-requires c κs = let s = c .before .before .before .before .before .before .before .pre in (s .1, s .2, c .group-bit .ensures .1)
@@ -91,12 +94,13 @@ returns-3 c =
     let start = c .before .before .before .before .before .before .before .before in
     let if2 = c .before .before .before .if2 in
     let place = c .before .before .place in
+    let M = c .before .before .before .before .before .size .ensures in
     let a = start .args in
     let s = paramsOf (a .d) in
     let l = listsOf (a .d) (a .own .now) (a .parity .now) in (
       c .group-site .ensures .0
           ∙ ap (λ (z : Site). z ∷ [])
-          (word-red s l (a .blocks) (a .i) (a .a) (a .column) (if2 .left) (start .pre .5) (start .pre .3) (place .ensures .0) (c .before .group-bit .ensures .0)),
+          (word-red s l (a .blocks) (a .i) (a .a) (a .column) (rw M at (if2 .left)) (start .pre .5) (start .pre .3) (rw M at (place .ensures .0)) (c .before .group-bit .ensures .0)),
       c .group-site .ensures .1 _,
     )
 
@@ -104,7 +108,7 @@ pub site-at-spec : {M : Type 1} → statement M
 site-at-spec =
     tie.close
     (tie.spec
-    cast-size
+    size-requires
     line-bit-requires
     first-block-requires
     block-site-requires

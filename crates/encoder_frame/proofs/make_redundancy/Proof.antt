@@ -22,8 +22,8 @@ r-requires c κs = search needs
 n-requires : tie.Need-n-requires
 n-requires c κs = search needs
 
-cast-size : tie.Need-cast-size
-cast-size c = search needs
+size-requires : tie.Need-size-requires
+size-requires c κs = search needs
 
 sub-fill-table : tie.Need-sub-fill-table
 sub-fill-table c = search needs
@@ -83,7 +83,8 @@ make-groups-requires c κs =
     let r = c .before .before .before .before .before .before .before .before .before .before .before .before .before .r .ensures .0 in
     let x = c .before .before .before .before .before .before .before .before .before .fill-table in
     let f = c .before .before .before .before .before .before .fill-inverse in
-    let all : length (x .last .1 .0) ≡ c .before .before .before .before .before .before .before .before .before .before .before .before .n .result = omega arith in (
+    let all : length (x .last .1 .0) ≡ c .before .before .before .before .before .before .before .before .before .before .before .before .n .result = omega arith in
+    rw (c .before .before .before .before .before .before .before .before .before .before .before .size .ensures) (
       frame-ready h r (c .before .before .before .before .before .before .before .before .before .before .before .before .before .before .order .ensures .0) (part-is (x .last .1 .0) _ _ all) (part-is (f .last .1 .1 .0) _ _ (f .ensures .0)) (all ∙ c .before .before .before .before .before .before .before .before .before .before .before .before .n .ensures .0) (f .ensures .0) (f .ensures .1),
       red-long h r,
     )
@@ -97,7 +98,7 @@ returns c =
     let f = c .before .before .before .before .before .before .before .before .before .fill-inverse in
     let all : length (x .last .1 .0) ≡ c .before .before .before .before .before .before .before .before .before .before .before .before .before .before .before .n .result = omega arith in
     frame-made (c .before .before .before .before .before .before .before .before .before .before .before .before .before .before .before .before .before .before .before .before .before .before .pre) (c .before .before .before .before .before .before .before .before .before .before .before .before .before .before .before .before .r .ensures .0) (c .before .before .before .before .before .before .before .before .before .before .before .before .before .before .before .before .before .order .ensures .0) (part-is (x .last .1 .0) _ _ all) (part-is (f .last .1 .1 .0) _ _ (f .ensures .0))
-    (all ∙ c .before .before .before .before .before .before .before .before .before .before .before .before .before .before .before .n .ensures .0) (f .ensures .0) (f .ensures .1) (x .ensures .0) (c .before .before .make-groups .ensures)
+    (all ∙ c .before .before .before .before .before .before .before .before .before .before .before .before .before .before .before .n .ensures .0) (f .ensures .0) (f .ensures .1) (x .ensures .0) (rw (c .before .before .before .before .before .before .before .before .before .before .before .before .before .before .size .ensures) at (c .before .before .make-groups .ensures))
 
 pub make-redundancy-spec : {M : Type 1} → statement M
 make-redundancy-spec =
@@ -106,7 +107,7 @@ make-redundancy-spec =
     order-requires
     r-requires
     n-requires
-    cast-size
+    size-requires
     sub-fill-table
     part-table-start
     part-table-end

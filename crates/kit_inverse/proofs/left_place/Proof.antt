@@ -19,8 +19,8 @@ planes-of-rows-requires c κs =
     let e = c .before .order .ensures .0 in
     (omega (arith, order-positive (c .before .before .before .before .before .before .before .args .d) (s .allowed)), omega (arith, s .allowed .order-high), s .inverseLength ∙ ap (λ (k : ℕ). k * rowBytes k) (sym e), s .workLength ∙ ap (λ (k : ℕ). k * rowBytes k) (sym e))
 
-cast-left-place : tie.Need-cast-left-place
-cast-left-place c = search needs
+size-requires : tie.Need-size-requires
+size-requires c κs = search needs
 
 left-place-requires : tie.Need-left-place-requires
 left-place-requires c κs =
@@ -28,7 +28,7 @@ left-place-requires c κs =
     let h = c .before .before .before .before .before .before .before .before .before .before .before .before .pre in
     let o = c .before .before .before .before .before .before .order in
     let t = c .before .before .before .before .planes-of-rows in
-    sides (a .d) (a .own .now) (a .parity .now) (a .inverse .now) (a .work .now) (h .0) (o .result) (o .ensures .0) (a .part .now) (h .1) _ (t .ensures .0)
+    rw (c .before .size .ensures) (sides (a .d) (a .own .now) (a .parity .now) (a .inverse .now) (a .work .now) (h .0) (o .result) (o .ensures .0) (a .part .now) (h .1) _ (t .ensures .0))
 
 same-length : tie.Need-same-length
 same-length c = search needs
@@ -39,7 +39,7 @@ returns c =
     let h = c .before .before .before .before .before .before .before .before .before .before .before .before .before .pre in
     let o = c .before .before .before .before .before .before .before .order in
     let t = c .before .before .before .before .before .planes-of-rows in
-    c .left-place .ensures ∙ left-found (a .d) (a .own .now) (a .parity .now) (a .inverse .now) (a .work .now) (h .0) (o .result) (o .ensures .0) (a .part .now) (h .1) _ (t .ensures .1)
+    rw (c .before .before .size .ensures) at (c .left-place .ensures) ∙ left-found (a .d) (a .own .now) (a .parity .now) (a .inverse .now) (a .work .now) (h .0) (o .result) (o .ensures .0) (a .part .now) (h .1) _ (t .ensures .1)
 
 pub left-place-spec : {M : Type 1} → statement M
 left-place-spec =
@@ -47,7 +47,7 @@ left-place-spec =
     (tie.spec
     order-requires
     planes-of-rows-requires
-    cast-left-place
+    size-requires
     left-place-requires
     same-length
     returns)

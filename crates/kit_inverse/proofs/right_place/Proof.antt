@@ -19,8 +19,8 @@ planes-of-columns-requires c κs =
     let e = c .before .order .ensures .0 in
     (omega (arith, order-positive (c .before .before .before .before .before .before .before .args .d) (s .allowed)), omega (arith, s .allowed .order-high), s .inverseLength ∙ ap (λ (k : ℕ). k * rowBytes k) (sym e), s .workLength ∙ ap (λ (k : ℕ). k * rowBytes k) (sym e))
 
-cast-right-place : tie.Need-cast-right-place
-cast-right-place c = search needs
+size-requires : tie.Need-size-requires
+size-requires c κs = search needs
 
 right-place-requires : tie.Need-right-place-requires
 right-place-requires c κs =
@@ -28,7 +28,7 @@ right-place-requires c κs =
     let h = c .before .before .before .before .before .before .before .before .before .before .before .before .pre in
     let o = c .before .before .before .before .before .before .order in
     let t = c .before .before .before .before .planes-of-columns in
-    sides (a .d) (a .own .now) (a .parity .now) (a .inverse .now) (a .work .now) (h .0) (o .result) (o .ensures .0) (a .part .now) (h .1) _ (t .ensures .0)
+    rw (c .before .size .ensures) (sides (a .d) (a .own .now) (a .parity .now) (a .inverse .now) (a .work .now) (h .0) (o .result) (o .ensures .0) (a .part .now) (h .1) _ (t .ensures .0))
 
 same-length : tie.Need-same-length
 same-length c = search needs
@@ -39,7 +39,7 @@ returns c =
     let h = c .before .before .before .before .before .before .before .before .before .before .before .before .before .pre in
     let o = c .before .before .before .before .before .before .before .order in
     let t = c .before .before .before .before .before .planes-of-columns in
-    c .right-place .ensures ∙ right-found (a .d) (a .own .now) (a .parity .now) (a .inverse .now) (a .work .now) (h .0) (o .result) (o .ensures .0) (a .part .now) (h .1) _ (t .ensures .1)
+    rw (c .before .before .size .ensures) at (c .right-place .ensures) ∙ right-found (a .d) (a .own .now) (a .parity .now) (a .inverse .now) (a .work .now) (h .0) (o .result) (o .ensures .0) (a .part .now) (h .1) _ (t .ensures .1)
 
 pub right-place-spec : {M : Type 1} → statement M
 right-place-spec =
@@ -47,7 +47,7 @@ right-place-spec =
     (tie.spec
     order-requires
     planes-of-columns-requires
-    cast-right-place
+    size-requires
     right-place-requires
     same-length
     returns)

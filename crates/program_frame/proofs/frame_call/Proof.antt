@@ -12,14 +12,14 @@ read-kit-requires c κs = search needs
 read-blocks-requires : tie.Need-read-blocks-requires
 read-blocks-requires c κs = search needs
 
-cast-encode : tie.Need-cast-encode
-cast-encode c = search needs
+m-requires : tie.Need-m-requires
+m-requires c κs = search needs
 
-cast-encode-2 : tie.Need-cast-encode-2
-cast-encode-2 c = search needs
+t-requires : tie.Need-t-requires
+t-requires c κs = search needs
 
-cast-encode-3 : tie.Need-cast-encode-3
-cast-encode-3 c = search needs
+size-requires : tie.Need-size-requires
+size-requires c κs = search needs
 
 encode-requires : tie.Need-encode-requires
 encode-requires c κs = search needs
@@ -49,7 +49,7 @@ same-length-7 : tie.Need-same-length-7
 same-length-7 c = search needs
 
 returns : tie.Need-returns
-returns c = let k = c .before .before .before .before .before .before .before .before .before .before .before .before .before .before .before .before .before .before .before .before .before .before .before .before .before .before .before .before .before .read-kit .ensures .1 .1 in let e = c .before .before .before .before .before .before .before .before .before .encode .ensures in printed-as _ _ _ _ _ (frame-printed _ _ _ _ _ _ _ _ _ _ (c .before .before .before .before .before .before .before .before .before .before .before .before .before .before .before .before .before .before .before .before .before .before .before .before .before .before .before .before .before .before .before .before .before .before .before .before .before .before .before .before .before .before .pre .0) _ _ _ _ (k .0) (k .1 .0) (k .1 .1) (c .before .before .before .before .before .before .before .before .before .before .before .before .before .before .before .before .before .before .before .before .before .read-blocks .ensures .1 .1) _ _ (e .0) (e .1)) (c .before .before .put-encoded .ensures)
+returns c = let k = c .before .before .before .before .before .before .before .before .before .before .before .before .before .before .before .before .before .before .before .before .before .before .before .before .before .before .before .before .before .read-kit .ensures .1 .1 in let e = rw (c .before .before .before .before .before .before .before .before .before .before .before .before .before .before .before .before .before .before .m .ensures, c .before .before .before .before .before .before .before .before .before .before .before .before .before .before .before .before .before .t .ensures, c .before .before .before .before .before .before .before .before .before .before .before .before .before .before .before .before .size .ensures) at (c .before .before .before .before .before .before .before .before .before .encode .ensures) in printed-as _ _ _ _ _ (frame-printed _ _ _ _ _ _ _ _ _ _ (c .before .before .before .before .before .before .before .before .before .before .before .before .before .before .before .before .before .before .before .before .before .before .before .before .before .before .before .before .before .before .before .before .before .before .before .before .before .before .before .before .before .before .pre .0) _ _ _ _ (k .0) (k .1 .0) (k .1 .1) (c .before .before .before .before .before .before .before .before .before .before .before .before .before .before .before .before .before .before .before .before .before .read-blocks .ensures .1 .1) _ _ (e .0) (e .1)) (c .before .before .put-encoded .ensures)
 
 pub frame-call-spec : {M : Type 1} → statement M
 frame-call-spec =
@@ -57,9 +57,9 @@ frame-call-spec =
     (tie.spec
     read-kit-requires
     read-blocks-requires
-    cast-encode
-    cast-encode-2
-    cast-encode-3
+    m-requires
+    t-requires
+    size-requires
     encode-requires
     put-encoded-requires
     same-length

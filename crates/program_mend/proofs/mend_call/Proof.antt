@@ -13,14 +13,14 @@ read-kit-requires c κs = search needs
 read-frame-requires : tie.Need-read-frame-requires
 read-frame-requires c κs = search needs
 
-cast-decode : tie.Need-cast-decode
-cast-decode c = search needs
+m-requires : tie.Need-m-requires
+m-requires c κs = search needs
 
-cast-decode-2 : tie.Need-cast-decode-2
-cast-decode-2 c = search needs
+t-requires : tie.Need-t-requires
+t-requires c κs = search needs
 
-cast-decode-3 : tie.Need-cast-decode-3
-cast-decode-3 c = search needs
+size-requires : tie.Need-size-requires
+size-requires c κs = search needs
 
 decode-requires : tie.Need-decode-requires
 decode-requires c κs = search needs
@@ -50,7 +50,7 @@ same-length-7 : tie.Need-same-length-7
 same-length-7 c = search needs
 
 returns : tie.Need-returns
-returns c = let k = c .before .before .before .before .before .before .before .before .before .before .before .before .before .before .before .before .before .before .before .before .before .before .before .before .before .before .before .before .before .before .before .before .before .before .read-kit .ensures .1 .1 in let b = c .before .before .before .before .before .before .before .before .before .before .before .before .before .before .before .before .before .before .before .before .before .before .before .before .before .read-frame .ensures .1 .1 in printed-as _ _ _ _ _ (mend-printed _ _ _ _ _ _ _ _ _ _ (c .before .before .before .before .before .before .before .before .before .before .before .before .before .before .before .before .before .before .before .before .before .before .before .before .before .before .before .before .before .before .before .before .before .before .before .before .before .before .before .before .before .before .before .before .before .before .before .pre .0) _ _ _ _ (k .0) (k .1 .0) (b .0) (b .1) _ _ _ (c .before .before .before .before .before .before .before .before .before .before .before .before .decode .ensures)) (c .before .before .put-decoded .ensures)
+returns c = let k = c .before .before .before .before .before .before .before .before .before .before .before .before .before .before .before .before .before .before .before .before .before .before .before .before .before .before .before .before .before .before .before .before .before .before .read-kit .ensures .1 .1 in let b = c .before .before .before .before .before .before .before .before .before .before .before .before .before .before .before .before .before .before .before .before .before .before .before .before .before .read-frame .ensures .1 .1 in let e = rw (c .before .before .before .before .before .before .before .before .before .before .before .before .before .before .before .before .before .before .before .before .m .ensures, c .before .before .before .before .before .before .before .before .before .before .before .before .before .before .before .before .before .before .before .t .ensures, c .before .before .before .before .before .before .before .before .before .before .before .before .before .before .before .before .before .before .size .ensures) at (c .before .before .before .before .before .before .before .before .before .before .before .before .decode .ensures) in printed-as _ _ _ _ _ (mend-printed _ _ _ _ _ _ _ _ _ _ (c .before .before .before .before .before .before .before .before .before .before .before .before .before .before .before .before .before .before .before .before .before .before .before .before .before .before .before .before .before .before .before .before .before .before .before .before .before .before .before .before .before .before .before .before .before .before .before .pre .0) _ _ _ _ (k .0) (k .1 .0) (b .0) (b .1) _ _ _ e) (c .before .before .put-decoded .ensures)
 
 pub mend-call-spec : {M : Type 1} → statement M
 mend-call-spec =
@@ -58,9 +58,9 @@ mend-call-spec =
     (tie.spec
     read-kit-requires
     read-frame-requires
-    cast-decode
-    cast-decode-2
-    cast-decode-3
+    m-requires
+    t-requires
+    size-requires
     decode-requires
     put-decoded-requires
     same-length

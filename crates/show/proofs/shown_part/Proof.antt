@@ -34,13 +34,16 @@ stretch-of-requires-2 c κs =
     rw (c .before .before .before .order .ensures .0)
     (rw (c .before .part2 .given .1) at (c .before .before .before .before .before .before .before .pre))
 
+pick-requires : tie.Need-pick-requires
+pick-requires c κs = search needs
+
 returns : tie.Need-returns
 unfolding partOf
 returns c = c .stretch-of .ensures ∙ rw (c .before .before .before .before .before .area .ensures .0, c .before .before .part .given .1)
 
 returns-2 : tie.Need-returns-2
 unfolding partOf
-returns-2 c = c .stretch-of2 .ensures ∙ rw (c .before .before .before .before .order .ensures .0, c .before .before .part2 .given .1)
+returns-2 c = c .pick .ensures ∙ c .before .stretch-of2 .ensures ∙ rw (c .before .before .before .before .before .order .ensures .0, c .before .before .before .part2 .given .1)
 
 pub shown-part-spec : {M : Type 1} → statement M
 shown-part-spec =
@@ -53,5 +56,6 @@ shown-part-spec =
     stretch-of-requires
     enum-known-part-2
     stretch-of-requires-2
+    pick-requires
     returns
     returns-2)

@@ -20,8 +20,8 @@ mul-y c = search needs
 mul-y-2 : tie.Need-mul-y-2
 mul-y-2 c = let s = c .before .before .before .before .before .before .before .before in omega (arith, group-end (s .pre .0) (s .pre .1) (c .order .ensures .0))
 
-cast-x : tie.Need-cast-x
-cast-x c = search needs
+size-requires : tie.Need-size-requires
+size-requires c κs = search needs
 
 mul-x : tie.Need-mul-x
 mul-x c = search needs
@@ -66,8 +66,9 @@ returns c =
     let blocks = c .before .before .before .before .before .before .before .before .before .before .block-columns in
     let first = c .before .before .before .before .before .before .add-columns in
     let second = c .before .before .add-columns2 in
+    let M = c .before .before .before .before .before .before .before .before .before .before .before .before .size .ensures in
     columns-made (s .pre .0) (s .pre .2) (s .pre .1) (s .pre .3) (c .before .before .before .before .before .before .before .before .before .before .before .before .before .before .r .ensures .0) (c .before .before .before .before .before .before .before .before .before .before .before .before .before .order .ensures .0)
-    (blocks .last .1 .1 .1 .1 .0) (first .last .0) (second .last .0) (blocks .ensures) (first .ensures) (second .ensures)
+    (blocks .last .1 .1 .1 .1 .0) (first .last .0) (second .last .0) (blocks .ensures) (rw M at (first .ensures)) (rw M at (second .ensures))
 
 pub column-remainders-spec : {M : Type 1} → statement M
 column-remainders-spec =
@@ -77,7 +78,7 @@ column-remainders-spec =
     order-requires
     mul-y
     mul-y-2
-    cast-x
+    size-requires
     mul-x
     block-columns-requires
     add-columns-requires

@@ -1,13 +1,14 @@
 -- The working entries are the first of a local array, as many as a group has row words.
 -- Assumes nothing.
 use native.Mathlib.Omega.{arith}
+use mathlib.Core.Path.{_∙_}
 use borrow.Author.Needs.{needs}
 use Rattle.words_blocks.proofs.Sums.{part-length}
 use Rattle.words.proofs.count_outside.Statement.{statement}
 use Rattle.words.proofs.count_outside.Tie as tie
 
-cast-size : tie.Need-cast-size
-cast-size c = search needs
+size-requires : tie.Need-size-requires
+size-requires c κs = search needs
 
 sub-count-groups : tie.Need-sub-count-groups
 sub-count-groups c = search needs
@@ -21,8 +22,8 @@ part-sums-end c = search needs
 count-groups-requires : tie.Need-count-groups-requires
 count-groups-requires c κs =
     let s = c .before .before .before .before .before .before .before .before .before in
-    let n = s .args .d .size in
-    (s .pre .0, s .pre .1, s .pre .2, part-length _ 0 n n (omega arith) (omega (arith, s .pre .0 .allowed .M-high)))
+    let n = c .before .before .size .result in
+    (s .pre .0, s .pre .1, s .pre .2, part-length _ 0 n n (omega arith) (omega (arith, s .pre .0 .allowed .M-high)) ∙ c .before .before .size .ensures)
 
 same-length : tie.Need-same-length
 same-length c = search needs
@@ -34,7 +35,7 @@ pub count-outside-spec : {M : Type 1} → statement M
 count-outside-spec =
     tie.close
     (tie.spec
-    cast-size
+    size-requires
     sub-count-groups
     part-sums-start
     part-sums-end

@@ -18,8 +18,8 @@ mul-y c = search needs
 mul-y-2 : tie.Need-mul-y-2
 mul-y-2 c = let s = c .before .before .before .before .before .before .before .before in omega (arith, group-end (s .pre .0) (s .pre .1) (s .pre .3))
 
-cast-x : tie.Need-cast-x
-cast-x c = search needs
+size-requires : tie.Need-size-requires
+size-requires c κs = search needs
 
 mul-x : tie.Need-mul-x
 mul-x c = search needs
@@ -49,6 +49,7 @@ add-spread-requires-2 : tie.Need-add-spread-requires-2
 add-spread-requires-2 c κs =
     let s = c .before .before .before .before .before .before .before .before .before .before .before .before .before .before .before .before .before .before .before .before .before .before in
     let r = c .before .before .before .before .before .before .before .before .before .before .before .before .before .before .r in
+    let M = c .before .before .before .before .before .before .before .before .before .before .before .before .before .size in
     let first = c .before .before .before .before .before .before .add-spread in
     let wide : length (first .last .0) ≡ s .args .d .size = omega (arith, s .pre .4, c .before .before .before .before .before .before .before .before .before .before .rows .given, c .before .before .before .before .before .rows2 .given) in
     let long : length (first .last .1 .1 .1 .1 .1 .1 .1 .0) ≡ orderOf (s .args .d) = omega (arith, s .pre .3, c .before .before .before .work .given) in (
@@ -56,7 +57,7 @@ add-spread-requires-2 c κs =
       order-is (s .args .d) (r .ensures .0) wide long,
       omega (arith, group-end (s .pre .0) (s .pre .1) (s .pre .3)),
       s .pre .0 .frame .redBits,
-      omega (arith, s .pre .2 .long, r .ensures .0),
+      omega (arith, s .pre .2 .long, r .ensures .0, M .ensures),
     )
 
 same-length : tie.Need-same-length
@@ -71,9 +72,10 @@ returns c =
     let blocks = c .before .before .before .before .before .before .before .before .before .before .before .before .before .before .before .before .block-rows in
     let first = c .before .before .before .before .before .before .before .before .before .before .before .add-spread in
     let second = c .before .before .before .before .add-spread2 in
+    let M = c .before .before .before .before .before .before .before .before .before .before .before .before .before .before .before .before .before .before .size .ensures in
     let long : length (first .last .1 .1 .1 .1 .1 .1 .1 .0) ≡ orderOf (s .args .d) = omega (arith, s .pre .3, c .before .before .before .before .before .before .before .before .work .given) in (
       rows-made (s .pre .0) (s .pre .2) (s .pre .1) (s .pre .4) (c .before .before .before .before .before .before .before .before .before .before .before .before .before .before .before .before .before .before .before .r .ensures .0) (s .pre .3) long
-          (blocks .last .1 .1 .1 .1 .0) (first .last .0) (second .last .0) (blocks .ensures) (first .ensures) (second .ensures),
+          (blocks .last .1 .1 .1 .1 .0) (first .last .0) (second .last .0) (blocks .ensures) (rw M at (first .ensures)) (rw M at (second .ensures)),
       omega (arith, c .before .before .before .before .before .before .before .before .work .given, c .before .work2 .given),
     )
 
@@ -84,7 +86,7 @@ row-remainders-spec =
     r-requires
     mul-y
     mul-y-2
-    cast-x
+    size-requires
     mul-x
     block-rows-requires
     add-spread-requires

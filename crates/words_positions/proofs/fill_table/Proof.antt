@@ -15,14 +15,14 @@ use Rattle.words_positions.proofs.fill_table.Tie as tie
 r-requires : tie.Need-r-requires
 r-requires c κs = search needs
 
-cast-generator-of : tie.Need-cast-generator-of
-cast-generator-of c = search needs
+m-requires : tie.Need-m-requires
+m-requires c κs = search needs
 
-cast-generator-of-2 : tie.Need-cast-generator-of-2
-cast-generator-of-2 c = search needs
+t-requires : tie.Need-t-requires
+t-requires c κs = search needs
 
 generator-of-requires : tie.Need-generator-of-requires
-generator-of-requires c κs = search needs
+generator-of-requires c κs = rw (c .before .m .ensures, c .t .ensures) (search needs)
 
 cast-fill-positions : tie.Need-cast-fill-positions
 cast-fill-positions c = search needs
@@ -37,7 +37,8 @@ fill-positions-requires c κs =
     let k = code-of d h in
     let e : c .before .before .before .before .r .result ≡ d .m * d .t = c .before .before .before .before .r .ensures .0 in
     let u : c .before .before .before .before .r .result ≤ 30 = omega (arith, r-small d h) in
-    (omega (arith, degree-positive (d .m) (d .t) k), u, shl-exact {a = 1} 1 (c .before .before .before .before .r .result) 32 (omega arith) (omega arith) ∙ one-mul (2 ^ c .before .before .before .before .r .result), ap₂ (λ (g x : ℕ). g / 2 ^ x) (c .before .generator-of .ensures .0) e ∙ degree (d .m) (d .t) k)
+    let g = rw (c .before .before .before .m .ensures, c .before .before .t .ensures) at (c .before .generator-of .ensures .0) in
+    (omega (arith, degree-positive (d .m) (d .t) k), u, shl-exact {a = 1} 1 (c .before .before .before .before .r .result) 32 (omega arith) (omega arith) ∙ one-mul (2 ^ c .before .before .before .before .r .result), ap₂ (λ (g x : ℕ). g / 2 ^ x) g e ∙ degree (d .m) (d .t) k)
 
 same-length : tie.Need-same-length
 same-length c = search needs
@@ -45,15 +46,16 @@ same-length c = search needs
 returns : tie.Need-returns
 returns c =
     let f = c .before .before .fill-positions in
-    (subst₂ (λ (g k : ℕ). PositionPowers g k (f .last .1 .1 .1 .0)) (c .before .before .before .before .generator-of .ensures .0) (c .before .before .before .before .before .before .before .r .ensures .0) (f .ensures .0), f .ensures .1)
+    let g = rw (c .before .before .before .before .before .before .m .ensures, c .before .before .before .before .before .t .ensures) at (c .before .before .before .before .generator-of .ensures .0) in
+    (subst₂ (λ (g k : ℕ). PositionPowers g k (f .last .1 .1 .1 .0)) g (c .before .before .before .before .before .before .before .r .ensures .0) (f .ensures .0), f .ensures .1)
 
 pub fill-table-spec : {M : Type 1} → statement M
 fill-table-spec =
     tie.close
     (tie.spec
     r-requires
-    cast-generator-of
-    cast-generator-of-2
+    m-requires
+    t-requires
     generator-of-requires
     cast-fill-positions
     shl-fill-positions

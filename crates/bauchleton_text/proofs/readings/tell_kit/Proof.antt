@@ -8,14 +8,14 @@ use Rattle.bauchleton_text.proofs.readings.tell_kit.Tie as tie
 enum-known-a : tie.Need-enum-known-a
 enum-known-a c = search needs
 
-cast-tell-four : tie.Need-cast-tell-four
-cast-tell-four c = search needs
+m-requires : tie.Need-m-requires
+m-requires c κs = search needs
 
-cast-tell-four-2 : tie.Need-cast-tell-four-2
-cast-tell-four-2 c = search needs
+t-requires : tie.Need-t-requires
+t-requires c κs = search needs
 
-cast-tell-four-3 : tie.Need-cast-tell-four-3
-cast-tell-four-3 c = search needs
+size-requires : tie.Need-size-requires
+size-requires c κs = search needs
 
 tell-four-requires : tie.Need-tell-four-requires
 tell-four-requires c κs = tt
@@ -39,7 +39,7 @@ same-length : tie.Need-same-length
 same-length c = search needs
 
 returns : tie.Need-returns
-returns c = kit-made (c .before .before .before .before .before .before .before .before .before .before .before .args .answer .now) (c .before .before .before .before .before .before .before .before .a .given .0 .0) (c .before .before .before .before .before .before .before .before .a .given .1) (c .before .before .tell-four .ensures)
+returns c = kit-made (c .before .before .before .before .before .before .before .before .before .before .before .args .answer .now) (c .before .before .before .before .before .before .before .before .a .given .0 .0) (c .before .before .before .before .before .before .before .before .a .given .1) (rw (c .before .before .before .before .before .before .m .ensures, c .before .before .before .before .before .t .ensures, c .before .before .before .before .size .ensures) at (c .before .before .tell-four .ensures))
 
 same-length-2 : tie.Need-same-length-2
 same-length-2 c = search needs
@@ -58,9 +58,9 @@ tell-kit-spec =
     tie.close
     (tie.spec
     enum-known-a
-    cast-tell-four
-    cast-tell-four-2
-    cast-tell-four-3
+    m-requires
+    t-requires
+    size-requires
     tell-four-requires
     enum-known-a-2
     of-refusal-requires

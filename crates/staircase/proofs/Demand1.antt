@@ -1,0 +1,358 @@
+-- Demand 1 of the calls on kits and frames.
+--   byTable-then, byTable-refuse, byTable-first   one rule after another; a rule of a test; a rule of a search
+--   design-byTable, lists-byTable, ..             the rules
+--   byTable-more, byTable-front                   a call that has more rules
+--   design-demand1, kit-demand1, encode-demand1, words-demand1, decode-demand1, show-demand1   the calls
+--   encodedBy-untouched, correctedBy-untouched    what a refused call leaves
+-- Assumes nothing.
+use mathlib.Core.Path.{_≡_, refl, sym, ap, subst, _∙_}
+use mathlib.Core.Bool.{Bool, true, false, not, _||_}
+use mathlib.Core.Logic.{_≢_}
+use mathlib.Core.List.{List, [], _∷_, _++_}
+use Prim.Native.Nat.{ℕ, _+_, _-_, _*_, _^_, _≤_, _<_}
+use native.Mathlib.Omega.{arith}
+use borrow.Author.Tests.{ltb-true}
+use lib.Dec.{ltb, eqb}
+use lib.Pow.{pow-add, pow-pos}
+use lib.ListN.{length, getD}
+use Rattle.staircase.specs.Lists.{firstWhere}
+use Rattle.staircase.specs.Design.{Params, Interleavers, params, wordLength, order, least-m, most-m, most-t, most-M, most-order, most-blocks, most-rounds}
+use Rattle.staircase.specs.Frame.{Frame, groups}
+use Rattle.staircase.specs.System.{systemEntry, inverseEntry, rowBytes, redundancy}
+use Rattle.staircase.specs.Decoder.{Decoded}
+use Rattle.staircase.specs.Rules.{Verdict, _then_, refuse, refuseFirst, outOfRange, Part, sizeRule, longRule, largeRule, designRules, countRule, partRule, roundsRule, lengthRule, listLengths, kitLengths, infoLength, redLength, frameLengths, kitWork, wordWork, interleavers, badEntry, listRule, spareRow, spareRule, wrongEntry, inverseRule, kitRules, bitRule, frameBits}
+use Rattle.staircase.specs.Rules.Verdict.{accepted, refused}
+use Rattle.staircase.specs.Rules.Part.{block, group}
+use Rattle.staircase.specs.Calls.{kitVerdict, encodeVerdict, encodedBy, encodeCall, wordsVerdict, countedBy, wordsCall, correctedBy, decodeVerdict, decodeCall, showVerdict, shownBy, showCall}
+use Rattle.staircase.specs.Demand1.{Table, among, ByTable, worked, refusedBy, Demand1}
+use Rattle.staircase.specs.Demand1 as table
+use Rattle.staircase.proofs.Bounds.{small-product}
+use Rattle.staircase.proofs.Rules.{then-first, outOfRange-false, refuse-false, design-limits}
+use Rattle.staircase.proofs.Decoded.{correctedBy-verdict}
+use Rattle.staircase.proofs.Encoded.{encodedBy-verdict}
+
+module _ (rules : List ℕ) where
+  pub byTable-then : (u v : Verdict) → ByTable rules u → (u ≡ accepted → ByTable rules v) → ByTable rules (u then v)
+  byTable-then u v (worked e) k = subst (λ (z : Verdict). ByTable rules (z then v)) (sym e) (k e)
+  byTable-then u v (refusedBy n p e a t) k = refusedBy n p (ap (λ (z : Verdict). z then v) e) a t
+
+  pub byTable-refuse : (b : Bool) (n p : ℕ) → among n rules ≡ true → (b ≡ true → Table n p) → ByTable rules (refuse b n p)
+  byTable-refuse true n p a t = refusedBy n p refl a (t refl)
+  byTable-refuse false n p a t = worked refl
+
+  pub byTable-first : (rule base n : ℕ) (f : ℕ → Bool) → among rule rules ≡ true → ((i : ℕ) → i < n → Table rule (base + i))
+      → ByTable rules (refuseFirst rule base n f)
+  unfolding refuseFirst
+  byTable-first rule base n f a t =
+      byTable-refuse (ltb (firstWhere n f) n) rule (base + firstWhere n f) a (λ e. t (firstWhere n f) (ltb-true (firstWhere n f) n e))
+
+  -- ---- rules 1 to 6
+
+  module _ (has1 : among 1 rules ≡ true) (has2 : among 2 rules ≡ true) (has3 : among 3 rules ≡ true) where
+    size-byTable : (m t M : ℕ) → ByTable rules (sizeRule m t M)
+    unfolding sizeRule
+    size-byTable m t M =
+        let rm : Verdict = refuse (outOfRange least-m most-m m) 1 1 in
+        let rt : Verdict = refuse (outOfRange 1 most-t t) 1 2 in
+        let rM : Verdict = refuse (outOfRange 1 most-M M) 1 3 in
+        byTable-then rm (rt then rM) (byTable-refuse (outOfRange least-m most-m m) 1 1 has1 (λ e. table.size refl (omega arith) (omega arith)))
+        (λ a. byTable-then rt rM (byTable-refuse (outOfRange 1 most-t t) 1 2 has1 (λ e. table.size refl (omega arith) (omega arith)))
+        (λ b. byTable-refuse (outOfRange 1 most-M M) 1 3 has1 (λ e. table.size refl (omega arith) (omega arith))))
+
+    m-least : (m t M : ℕ) → sizeRule m t M ≡ accepted → 4 ≤ m
+    unfolding sizeRule
+    m-least m t M e =
+        let rest : Verdict = refuse (outOfRange 1 most-t t) 1 2 then refuse (outOfRange 1 most-M M) 1 3 in
+        outOfRange-false least-m most-m m
+        (refuse-false (outOfRange least-m most-m m) 1 1 (then-first (refuse (outOfRange least-m most-m m) 1 1) rest e)) .0
+
+    long-place : (m n : ℕ) → 4 ≤ m → 2 ^ m - 1 < n → 15 < n
+    long-place m n h l =
+        let e : m ≡ 4 + (m - 4) = omega arith in
+        let p : 2 ^ m ≡ 16 * 2 ^ (m - 4) = ap (λ (k : ℕ). 2 ^ k) e ∙ pow-add 2 4 (m - 4) in
+        omega (arith, p, pow-pos (m - 4))
+
+    pub design-byTable : (m t M : ℕ) → ByTable rules (designRules m t M)
+    unfolding designRules longRule largeRule
+    design-byTable m t M =
+        let s : Params = params m t M in
+        byTable-then (sizeRule m t M) (longRule m s then largeRule s) (size-byTable m t M)
+        (λ a. byTable-then (longRule m s) (largeRule s)
+        (byTable-refuse (ltb (2 ^ m - 1) (wordLength s)) 2 (wordLength s) has2
+        (λ e. table.long refl (long-place m (wordLength s) (m-least m t M a) (ltb-true (2 ^ m - 1) (wordLength s) e))))
+        (λ b. byTable-refuse (ltb most-order (order s)) 3 (order s) has3 (λ e. table.large refl (ltb-true most-order (order s) e))))
+
+  pub count-byTable : among 4 rules ≡ true → (L : ℕ) → ByTable rules (countRule L)
+  unfolding countRule
+  count-byTable h L = byTable-refuse (outOfRange 1 most-blocks L) 4 L h (λ e. table.count refl)
+
+  pub part-byTable : among 4 rules ≡ true → (L : ℕ) (x : Part) → ByTable rules (partRule L x)
+  part-byTable h L (block b) = byTable-refuse (outOfRange 1 L b) 4 b h (λ e. table.count refl)
+  part-byTable h L (group i) = byTable-refuse (outOfRange 1 (groups L) i) 4 i h (λ e. table.count refl)
+
+  pub rounds-byTable : among 5 rules ≡ true → (k : ℕ) → ByTable rules (roundsRule k)
+  unfolding roundsRule
+  rounds-byTable h k = byTable-refuse (ltb most-rounds k) 5 k h (λ e. table.rounds refl (ltb-true most-rounds k e))
+
+  module _ (has6 : among 6 rules ≡ true) where
+    pub length-byTable : (p a b : ℕ) → 1 ≤ p → p ≤ 6 → ByTable rules (lengthRule p a b)
+    length-byTable p a b low high = byTable-refuse (not (eqb a b)) 6 p has6 (λ e. table.length refl low high)
+
+    pub lists-fit-byTable : (s : Params) (self parity : List ℕ) → ByTable rules (listLengths s self parity)
+    unfolding listLengths
+    lists-fit-byTable s self parity =
+        byTable-then (lengthRule 1 (length self) (2 * order s)) (lengthRule 2 (length parity) (2 * order s))
+        (length-byTable 1 (length self) (2 * order s) (omega arith) (omega arith))
+        (λ e. length-byTable 2 (length parity) (2 * order s) (omega arith) (omega arith))
+
+    pub kit-fits-byTable : (s : Params) (self parity w : List ℕ) → ByTable rules (kitLengths s self parity w)
+    unfolding kitLengths
+    kit-fits-byTable s self parity w =
+        byTable-then (listLengths s self parity) (lengthRule 3 (length w) (order s * rowBytes (order s))) (lists-fit-byTable s self parity)
+        (λ e. length-byTable 3 (length w) (order s * rowBytes (order s)) (omega arith) (omega arith))
+
+    pub frame-fits-byTable : (s : Params) (L : ℕ) (info red : List ℕ) → ByTable rules (frameLengths s L info red)
+    unfolding frameLengths
+    frame-fits-byTable s L info red =
+        byTable-then (lengthRule 4 (length info) (infoLength s L)) (lengthRule 5 (length red) (redLength s L))
+        (length-byTable 4 (length info) (infoLength s L) (omega arith) (omega arith))
+        (λ e. length-byTable 5 (length red) (redLength s L) (omega arith) (omega arith))
+
+  -- ---- rules 7 to 10
+
+  module _ (s : Params) (small : order s ≤ most-order) where
+    pub lists-byTable : among 7 rules ≡ true → (l : Interleavers) → ByTable rules (listRule s l)
+    unfolding listRule
+    lists-byTable h l =
+        let n : ℕ = order s in
+        byTable-then (refuseFirst 7 0 n (badEntry n (l .self))) (refuseFirst 7 n n (badEntry n (l .parity)))
+        (byTable-first 7 0 n (badEntry n (l .self)) h (λ i k. table.entry refl (omega arith)))
+        (λ e. byTable-first 7 n n (badEntry n (l .parity)) h (λ i k. table.entry refl (omega arith)))
+
+    pub spare-byTable : among 8 rules ≡ true → (w : List ℕ) → ByTable rules (spareRule s w)
+    unfolding spareRule
+    spare-byTable h w = byTable-first 8 0 (order s) (spareRow w (order s)) h (λ i k. table.spare refl (omega arith))
+
+    pub inverse-byTable : among 9 rules ≡ true → (l : Interleavers) (w : List ℕ) → ByTable rules (inverseRule s l w)
+    unfolding inverseRule
+    inverse-byTable h l w =
+        let n : ℕ = order s in
+        let a : ℕ → ℕ → ℕ = systemEntry s l in
+        let b : ℕ → ℕ → ℕ = inverseEntry w n in
+        let square : n * n ≤ most-order * most-order = small-product n n most-order most-order small small in
+        byTable-then (refuseFirst 9 0 (n * n) (wrongEntry n a b)) (refuseFirst 9 (n * n) (n * n) (wrongEntry n b a))
+        (byTable-first 9 0 (n * n) (wrongEntry n a b) h (λ i k. table.inverse refl (first (n * n) i square k)))
+        (λ e. byTable-first 9 (n * n) (n * n) (wrongEntry n b a) h (λ i k. table.inverse refl (second (n * n) i square k)))
+      where
+        first : (q i : ℕ) → q ≤ most-order * most-order → i < q → 0 + i < 2 * (most-order * most-order)
+        first q i c k = omega arith
+
+        second : (q i : ℕ) → q ≤ most-order * most-order → i < q → q + i < 2 * (most-order * most-order)
+        second q i c k = omega arith
+
+    pub kit-byTable : among 7 rules ≡ true → among 8 rules ≡ true → among 9 rules ≡ true → (l : Interleavers) (w : List ℕ) → ByTable rules (kitRules s l w)
+    unfolding kitRules
+    kit-byTable h7 h8 h9 l w =
+        byTable-then (listRule s l) (spareRule s w then inverseRule s l w) (lists-byTable h7 l)
+        (λ e. byTable-then (spareRule s w) (inverseRule s l w) (spare-byTable h8 w) (λ f. inverse-byTable h9 l w))
+
+  module _ (has10 : among 10 rules ≡ true) where
+    pub bits-byTable : (base : ℕ) (b : List ℕ) → ByTable rules (bitRule base b)
+    unfolding bitRule
+    bits-byTable base b = byTable-first 10 base (length b) (λ k. ltb 1 (getD b k 0)) has10 (λ i k. table.bit refl)
+
+    pub frame-bits-byTable : (info red : List ℕ) → ByTable rules (frameBits info red)
+    unfolding frameBits
+    frame-bits-byTable info red = byTable-then (bitRule 0 info) (bitRule (length info) red) (bits-byTable 0 info) (λ e. bits-byTable (length info) red)
+
+-- a call that has more rules, behind or before these
+among-more : (n : ℕ) (rules others : List ℕ) → among n rules ≡ true → among n (rules ++ others) ≡ true
+among-more n [] others h = let z : _≡_ {A = ℕ} 0 1 = cc in absurd (omega arith)
+among-more n (m ∷ ms) others h = either (eqb n m) (among-more n ms others) h
+  where
+    either : (b : Bool) → (among n ms ≡ true → among n (ms ++ others) ≡ true) → (b || among n ms) ≡ true → (b || among n (ms ++ others)) ≡ true
+    either true more e = refl
+    either false more e = more e
+
+pub byTable-more : (rules others : List ℕ) (v : Verdict) → ByTable rules v → ByTable (rules ++ others) v
+byTable-more rules others v (worked e) = worked e
+byTable-more rules others v (refusedBy n p e a t) = refusedBy n p e (among-more n rules others a) t
+
+among-front : (n : ℕ) (others rules : List ℕ) → among n rules ≡ true → among n (others ++ rules) ≡ true
+among-front n [] rules h = h
+among-front n (m ∷ ms) rules h = either (eqb n m) (among-front n ms rules h)
+  where
+    either : (b : Bool) → among n (ms ++ rules) ≡ true → (b || among n (ms ++ rules)) ≡ true
+    either true e = refl
+    either false e = e
+
+pub byTable-front : (others rules : List ℕ) (v : Verdict) → ByTable rules v → ByTable (others ++ rules) v
+byTable-front others rules v (worked e) = worked e
+byTable-front others rules v (refusedBy n p e a t) = refusedBy n p e (among-front n others rules a) t
+
+-- ---- what a refused call leaves
+
+pub encodedBy-untouched : (v : Verdict) (old new : List ℕ) → encodedBy v old new .verdict ≢ accepted → encodedBy v old new .red ∷ [] ≡ old ∷ []
+encodedBy-untouched accepted old new h = absurd (h refl)
+encodedBy-untouched (refused n p) old new h = refl
+
+pub correctedBy-untouched : (v : Verdict) (f : Frame) (d : Decoded) (o : ℕ) → correctedBy v f d o .verdict ≢ accepted
+    → correctedBy v f d o .frame .info ∷ correctedBy v f d o .frame .red ∷ [] ≡ f .info ∷ f .red ∷ []
+correctedBy-untouched accepted f d o h = absurd (h refl)
+correctedBy-untouched (refused n p) f d o h = refl
+
+countedBy-verdict : (v : Verdict) (o : ℕ) → countedBy v o .verdict ≡ v
+countedBy-verdict accepted o = refl
+countedBy-verdict (refused n p) o = refl
+
+shownBy-verdict : (v : Verdict) (l : List ℕ) → shownBy v l .verdict ≡ v
+shownBy-verdict accepted l = refl
+shownBy-verdict (refused n p) l = refl
+
+-- ---- the calls
+
+pub design-demand1 : (m t M : ℕ) → Demand1 (1 ∷ 2 ∷ 3 ∷ []) (designRules m t M) [] []
+design-demand1 m t M = record { byTable = design-byTable (1 ∷ 2 ∷ 3 ∷ []) refl refl refl m t M; untouched = λ h. refl }
+
+-- "The kit checker has 1 to 3 and 6 to 9"
+abbrev kitNumbers : List ℕ
+kitNumbers = 1 ∷ 2 ∷ 3 ∷ 6 ∷ 7 ∷ 8 ∷ 9 ∷ []
+
+pub kit-demand1 : (m t M : ℕ) (self parity w : List ℕ) (work : ℕ)
+    → Demand1 (1 ∷ 2 ∷ 3 ∷ 6 ∷ 7 ∷ 8 ∷ 9 ∷ []) (kitVerdict m t M self parity w work) [] []
+unfolding kitVerdict
+kit-demand1 m t M self parity w work =
+    let s : Params = params m t M in
+    let v9 : Verdict = kitRules s (interleavers s self parity) w in
+    let v6 : Verdict = lengthRule 6 work (kitWork s) in
+    record {
+      byTable =
+          byTable-then kitNumbers (designRules m t M) (kitLengths s self parity w then v6 then v9) (design-byTable kitNumbers refl refl refl m t M)
+          (λ d. byTable-then kitNumbers (kitLengths s self parity w) (v6 then v9) (kit-fits-byTable kitNumbers refl s self parity w)
+          (λ e. byTable-then kitNumbers v6 v9 (length-byTable kitNumbers refl 6 work (kitWork s) (omega arith) (omega arith))
+          (λ f. kit-byTable kitNumbers s (design-limits m t M d .order-high) refl refl refl (interleavers s self parity) w)));
+      untouched = λ h. refl;
+    }
+
+-- "the encoder 1 to 4 and 6 to 10"
+abbrev encoderNumbers : List ℕ
+encoderNumbers = 1 ∷ 2 ∷ 3 ∷ 4 ∷ 6 ∷ 7 ∷ 8 ∷ 9 ∷ 10 ∷ []
+
+encode-byTable : (m t M L : ℕ) (self parity w info red : List ℕ) (work : ℕ) → ByTable encoderNumbers (encodeVerdict m t M L self parity w info red work)
+unfolding encodeVerdict
+encode-byTable m t M L self parity w info red work =
+    let s : Params = params m t M in
+    let l : Interleavers = interleavers s self parity in
+    let v10 : Verdict = bitRule 0 info in
+    let v9 : Verdict = kitRules s l w in
+    let v6 : Verdict = lengthRule 6 work (kitWork s) in
+    let frame : Verdict = frameLengths s L info red in
+    let kit : Verdict = kitLengths s self parity w in
+    byTable-then encoderNumbers (designRules m t M) (countRule L then kit then frame then v6 then v9 then v10)
+    (design-byTable encoderNumbers refl refl refl m t M)
+    (λ d. byTable-then encoderNumbers (countRule L) (kit then frame then v6 then v9 then v10) (count-byTable encoderNumbers refl L)
+    (λ c. byTable-then encoderNumbers kit (frame then v6 then v9 then v10) (kit-fits-byTable encoderNumbers refl s self parity w)
+    (λ e. byTable-then encoderNumbers frame (v6 then v9 then v10) (frame-fits-byTable encoderNumbers refl s L info red)
+    (λ f. byTable-then encoderNumbers v6 (v9 then v10) (length-byTable encoderNumbers refl 6 work (kitWork s) (omega arith) (omega arith))
+    (λ g. byTable-then encoderNumbers v9 v10 (kit-byTable encoderNumbers s (design-limits m t M d .order-high) refl refl refl l w)
+    (λ h. bits-byTable encoderNumbers refl 0 info))))))
+
+pub encode-demand1 : (m t M L : ℕ) (self parity w info red : List ℕ) (work : ℕ)
+    → Demand1 (1 ∷ 2 ∷ 3 ∷ 4 ∷ 6 ∷ 7 ∷ 8 ∷ 9 ∷ 10 ∷ []) (encodeCall m t M L self parity w info red work .verdict)
+    (red ∷ []) (encodeCall m t M L self parity w info red work .red ∷ [])
+unfolding encodeCall
+encode-demand1 m t M L self parity w info red work =
+    let s : Params = params m t M in
+    let v : Verdict = encodeVerdict m t M L self parity w info red work in
+    let new : List ℕ = redundancy s (interleavers s self parity) w L info in
+    record {
+      byTable = subst (ByTable encoderNumbers) (sym (encodedBy-verdict v red new)) (encode-byTable m t M L self parity w info red work);
+      untouched = encodedBy-untouched v red new;
+    }
+
+-- a received frame, behind the rules on numbers: rules 6, 7 and 10
+received-byTable : (rules : List ℕ) → among 6 rules ≡ true → among 7 rules ≡ true → among 10 rules ≡ true → (m t M L : ℕ) → designRules m t M ≡ accepted
+    → (self parity info red : List ℕ) (work : ℕ)
+    → ByTable rules
+    (listLengths (params m t M) self parity then frameLengths (params m t M) L info red then lengthRule 6 work (wordWork (params m t M))
+    then listRule (params m t M) (interleavers (params m t M) self parity) then frameBits info red)
+received-byTable rules h6 h7 h10 m t M L d self parity info red work =
+    let s : Params = params m t M in
+    let l : Interleavers = interleavers s self parity in
+    let v10 : Verdict = frameBits info red in
+    let v7 : Verdict = listRule s l in
+    let v6 : Verdict = lengthRule 6 work (wordWork s) in
+    let frame : Verdict = frameLengths s L info red in
+    byTable-then rules (listLengths s self parity) (frame then v6 then v7 then v10) (lists-fit-byTable rules h6 s self parity)
+    (λ e. byTable-then rules frame (v6 then v7 then v10) (frame-fits-byTable rules h6 s L info red)
+    (λ f. byTable-then rules v6 (v7 then v10) (length-byTable rules h6 6 work (wordWork s) (omega arith) (omega arith))
+    (λ g. byTable-then rules v7 v10 (lists-byTable rules s (design-limits m t M d .order-high) h7 l) (λ h. frame-bits-byTable rules h10 info red))))
+
+-- "the word checker 1 to 4, 6, 7 and 10"
+abbrev wordNumbers : List ℕ
+wordNumbers = 1 ∷ 2 ∷ 3 ∷ 4 ∷ 6 ∷ 7 ∷ 10 ∷ []
+
+words-byTable : (m t M L : ℕ) (self parity info red : List ℕ) (work : ℕ) → ByTable wordNumbers (wordsVerdict m t M L self parity info red work)
+unfolding wordsVerdict
+words-byTable m t M L self parity info red work =
+    let s : Params = params m t M in
+    let rest : Verdict = listLengths s self parity then frameLengths s L info red then lengthRule 6 work (wordWork s)
+    then listRule s (interleavers s self parity) then frameBits info red in
+    byTable-then wordNumbers (designRules m t M) (countRule L then rest) (design-byTable wordNumbers refl refl refl m t M)
+    (λ d. byTable-then wordNumbers (countRule L) rest (count-byTable wordNumbers refl L)
+    (λ c. received-byTable wordNumbers refl refl refl m t M L d self parity info red work))
+
+pub words-demand1 : (m t M L : ℕ) (self parity info red : List ℕ) (work : ℕ)
+    → Demand1 (1 ∷ 2 ∷ 3 ∷ 4 ∷ 6 ∷ 7 ∷ 10 ∷ []) (wordsCall m t M L self parity info red work .verdict) [] []
+unfolding wordsCall
+words-demand1 m t M L self parity info red work =
+    record {
+      byTable =
+          subst (ByTable wordNumbers) (sym (countedBy-verdict (wordsVerdict m t M L self parity info red work) _)) (words-byTable m t M L self parity info red work);
+      untouched = λ h. refl;
+    }
+
+-- "the decoder 1 to 7 and 10"
+abbrev decoderNumbers : List ℕ
+decoderNumbers = 1 ∷ 2 ∷ 3 ∷ 4 ∷ 5 ∷ 6 ∷ 7 ∷ 10 ∷ []
+
+decode-byTable : (m t M L k : ℕ) (self parity info red : List ℕ) (work : ℕ) → ByTable decoderNumbers (decodeVerdict m t M L k self parity info red work)
+unfolding decodeVerdict
+decode-byTable m t M L k self parity info red work =
+    let s : Params = params m t M in
+    let rest : Verdict = listLengths s self parity then frameLengths s L info red then lengthRule 6 work (wordWork s)
+    then listRule s (interleavers s self parity) then frameBits info red in
+    byTable-then decoderNumbers (designRules m t M) (countRule L then roundsRule k then rest) (design-byTable decoderNumbers refl refl refl m t M)
+    (λ d. byTable-then decoderNumbers (countRule L) (roundsRule k then rest) (count-byTable decoderNumbers refl L)
+    (λ c. byTable-then decoderNumbers (roundsRule k) rest (rounds-byTable decoderNumbers refl k)
+    (λ r. received-byTable decoderNumbers refl refl refl m t M L d self parity info red work)))
+
+pub decode-demand1 : (m t M L k : ℕ) (self parity info red : List ℕ) (work : ℕ)
+    → Demand1 (1 ∷ 2 ∷ 3 ∷ 4 ∷ 5 ∷ 6 ∷ 7 ∷ 10 ∷ []) (decodeCall m t M L k self parity info red work .verdict) (info ∷ red ∷ [])
+    (decodeCall m t M L k self parity info red work .frame .info ∷ decodeCall m t M L k self parity info red work .frame .red ∷ [])
+unfolding decodeCall
+decode-demand1 m t M L k self parity info red work =
+    let v : Verdict = decodeVerdict m t M L k self parity info red work in
+    record {
+      byTable = subst (ByTable decoderNumbers) (sym (correctedBy-verdict v _ _ _)) (decode-byTable m t M L k self parity info red work);
+      untouched = correctedBy-untouched v _ _ _;
+    }
+
+-- "showing 1 to 4 and 6"
+abbrev showNumbers : List ℕ
+showNumbers = 1 ∷ 2 ∷ 3 ∷ 4 ∷ 6 ∷ []
+
+pub show-demand1 : (m t M L : ℕ) (x : Part) (info red : List ℕ)
+    → Demand1 (1 ∷ 2 ∷ 3 ∷ 4 ∷ 6 ∷ []) (showCall m t M L x info red .verdict) [] []
+unfolding showCall showVerdict
+show-demand1 m t M L x info red =
+    let frame : Verdict = frameLengths (params m t M) L info red in
+    record {
+      byTable =
+          subst (ByTable showNumbers) (sym (shownBy-verdict (designRules m t M then countRule L then partRule L x then frame) _))
+          (byTable-then showNumbers (designRules m t M) (countRule L then partRule L x then frame) (design-byTable showNumbers refl refl refl m t M)
+          (λ d. byTable-then showNumbers (countRule L) (partRule L x then frame) (count-byTable showNumbers refl L)
+          (λ c. byTable-then showNumbers (partRule L x) frame (part-byTable showNumbers refl L x)
+          (λ e. frame-fits-byTable showNumbers refl (params m t M) L info red))));
+      untouched = λ h. refl;
+    }

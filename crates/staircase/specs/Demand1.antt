@@ -1,0 +1,55 @@
+-- Demand 1: "A kit, a frame or a received copy, with any content and any lengths, is either worked or refused by document 01's table; a refused one
+-- leaves all that was lent unchanged but for working bytes."
+--   Table n p      a number of document 01's table, and a place that it can have
+--   among          one of some numbers
+--   ByTable        a verdict that accepts, or that refuses by one of a call's rules
+--   Demand1        the claim about a call: its rules, its verdict, the buffers that it was lent to write on, and what it leaves there
+-- The laws of the calls on kits and frames are in proofs/Demand1.antt, those of the others in the crates that define them; docs/PROMISES.md has the list,
+-- and a call that is added adds its line there. What a call is lent to read, it cannot change.
+-- Assumes nothing.
+use mathlib.Core.Path.{_≡_}
+use mathlib.Core.Bool.{Bool, true, false, _||_}
+use mathlib.Core.Logic.{_≢_}
+use mathlib.Core.List.{List, [], _∷_}
+use Prim.Native.Nat.{ℕ, _*_, _≤_, _<_}
+use lib.Dec.{eqb}
+use Rattle.staircase.specs.Design.{most-order, most-rounds}
+use Rattle.staircase.specs.Rules.{Verdict}
+use Rattle.staircase.specs.Rules.Verdict.{accepted, refused}
+
+-- "Returned", "Place". A place that is a number of blocks, of a byte or of a length may be any number.
+pub data Table (n p : ℕ) : Type 0 where
+  -- "1, 2, 3 for m, t, M"
+  size : n ≡ 1 → 1 ≤ p → p ≤ 3 → Table n p
+  -- "n above 2^m - 1", and m is at least 4
+  long : n ≡ 2 → 15 < p → Table n p
+  -- "M × r .. above 4,096"
+  large : n ≡ 3 → most-order < p → Table n p
+  count : n ≡ 4 → Table n p
+  -- "above 64"
+  rounds : n ≡ 5 → most-rounds < p → Table n p
+  -- "1 self, 2 parity, 3 inverse, 4 information, 5 redundancy, 6 working"
+  length : n ≡ 6 → 1 ≤ p → p ≤ 6 → Table n p
+  -- "the entry's position in its list; for parity plus M × r"
+  entry : n ≡ 7 → p < 2 * most-order → Table n p
+  -- "row"
+  spare : n ≡ 8 → p < most-order → Table n p
+  -- "row × M × r + column .. plus (M × r)²"
+  inverse : n ≡ 9 → p < 2 * (most-order * most-order) → Table n p
+  bit : n ≡ 10 → Table n p
+  kitText : n ≡ 11 → Table n p
+  blockText : n ≡ 12 → Table n p
+  -- "1 kit, 2 blocks"
+  input : n ≡ 13 → 1 ≤ p → p ≤ 2 → Table n p
+
+abbrev pub among : ℕ → List ℕ → Bool
+among n [] = false
+among n (m ∷ ms) = eqb n m || among n ms
+
+pub data ByTable (rules : List ℕ) (v : Verdict) : Type 0 where
+  worked : v ≡ accepted → ByTable rules v
+  refusedBy : (n p : ℕ) → v ≡ refused n p → among n rules ≡ true → Table n p → ByTable rules v
+
+pub record Demand1 (rules : List ℕ) (v : Verdict) (lent left : List (List ℕ)) : Type 0 where
+  pub byTable : ByTable rules v
+  pub untouched : v ≢ accepted → left ≡ lent
