@@ -379,7 +379,7 @@ static int judge_lists(unsigned size, const uint8_t *self, const uint8_t *parity
     return 7;
 }
 
-/* Whether the product of the two matrices is the identity; if not, the place of its first wrong entry. */
+/* Whether the product of the two matrices is the identity; if not, the place of its first wrong entry. The other order is the identity exactly then. */
 static int product_is_identity(const uint64_t *rows, const uint64_t *columns, unsigned size, uint64_t *place)
 {
     size_t words = words_a_row(size);
@@ -420,12 +420,7 @@ int plain_check_kit(unsigned m, unsigned t, unsigned M, const uint8_t *self, con
     make_code(&c, m, t, M);
     uint64_t *A_columns = system_columns(&c, self, parity), *A_rows = transposed(A_columns, s.size);
     uint64_t *W_rows = pack_rows(inverse, s.size), *W_columns = transposed(W_rows, s.size);
-    if (!product_is_identity(A_rows, W_columns, s.size, place))
-        rule = 9;
-    else if (!product_is_identity(W_rows, A_columns, s.size, place)) {
-        rule = 9;
-        *place += (uint64_t)s.size * s.size;
-    }
+    rule = product_is_identity(A_rows, W_columns, s.size, place) ? 0 : 9;
     free(A_columns);
     free(A_rows);
     free(W_rows);

@@ -29,7 +29,7 @@ uint32_t plain_power(unsigned m, unsigned t, unsigned power);
 void plain_system(unsigned m, unsigned t, unsigned M, const uint8_t *self, const uint8_t *parity, uint8_t *bits);
 
 /* Rules 1 to 3 and 7 to 9: 0 if the kit passes, else the rule's number and its place.
-   Both products are dense: each entry by and, xor and parity over 64-bit words, about 2 (M r)^3 / 64 steps. */
+   The product A W is dense: each entry by and, xor and parity over 64-bit words, about (M r)^3 / 64 steps. */
 int plain_check_kit(unsigned m, unsigned t, unsigned M, const uint8_t *self, const uint8_t *parity, const uint8_t *inverse, uint64_t *place);
 
 /* Writes the redundancy of L blocks. The kit is not checked; about (M r)^2 / 64 steps a group, and the inverse is packed once a call. */

@@ -238,19 +238,16 @@ static int ref_check(const ref *d, const uint8_t *A, const uint8_t *inverse, uin
                 *place = i;
                 return 8;
             }
-    for (unsigned half = 0; half < 2; half++)
-        for (unsigned i = 0; i < N; i++)
-            for (unsigned j = 0; j < N; j++) {
-                unsigned ones = 0;
-                for (unsigned e = 0; e < N; e++) {
-                    unsigned row = half ? i : e, column = half ? e : j;     /* of W */
-                    ones += A[half ? e * N + j : i * N + e] & inverse[row * bytes + column / 8] >> (column % 8);
-                }
-                if (ones % 2 != (i == j)) {
-                    *place = (uint64_t)half * N * N + i * N + j;
-                    return 9;
-                }
+    for (unsigned i = 0; i < N; i++)
+        for (unsigned j = 0; j < N; j++) {
+            unsigned ones = 0;
+            for (unsigned e = 0; e < N; e++)
+                ones += A[i * N + e] & inverse[e * bytes + j / 8] >> (j % 8);
+            if (ones % 2 != (i == j)) {
+                *place = (uint64_t)i * N + j;
+                return 9;
             }
+        }
     return 0;
 }
 

@@ -13,6 +13,7 @@ pub const GROUPS: &[Group] = &[
     ("design", || 13 * 5, design_rules),
     ("kits", || 4 * designs(1000).len(), kits),
     ("inverses", || 2 * designs(400).len(), inverses),
+    ("inverse-everywhere", || designs(40).len(), inverse_everywhere),
     ("lists", || 10 * designs(4096).len(), lists),
     ("lengths", || designs(60).len(), lengths),
     ("bits", || 2 * designs(60).len(), bits_above_one),
@@ -181,8 +182,8 @@ fn rows_of_k(case: &mut Case) {
     case.same("4,097 blocks", Err((12, 27_576)), scan_blocks(4, 1, 1, many.as_bytes()));
 }
 
-/// The reference by itself: A from unit vectors by the definition, an encoded frame has no word outside
-/// and no other Y does, the kit text and the frame text read back.
+/// The reference by itself: A from unit vectors by the definition, W A is the identity where A W is, an
+/// encoded frame has no word outside and no other Y does, the kit text and the frame text read back.
 fn reference_alone(case: &mut Case) {
     let good = case.context.kit(designs(400)[case.index]);
     let (d, kit) = (good.d, &good.kit);
@@ -197,6 +198,7 @@ fn reference_alone(case: &mut Case) {
         case.same("a column of A", column, sums(&shape, &frame, 1));
     }
     case.same("the kit", Ok(()), check_kit(kit, d.kit_work()));
+    case.same("a wrong entry of W A", None, good.w_matrix.first_wrong(&a_matrix));
     for blocks in [1, 2, 3, 4] {
         let lent = case.frame(&good, blocks);
         case.same("words outside", Ok(0), check_words(&lent.received(), lent.word_work));
@@ -296,6 +298,24 @@ fn inverses(case: &mut Case) {
         let wrong = Lent { inverse, ..lent.clone() };
         case.check_kit(&wrong);
         case.encode(&wrong);
+    }
+}
+
+/// W with one bit turned, at each of its n² places: refused by rule 9 at a place below n². The other order, which is
+/// not judged, is then wrong too.
+fn inverse_everywhere(case: &mut Case) {
+    let good = case.context.kit(designs(40)[case.index]);
+    let order = good.d.order();
+    let a_matrix = system(&Shape::new(good.d, 1, entries(&good.kit.own), entries(&good.kit.parity)));
+    let lent = case.to_encode(&good, 1);
+    for place in 0..order * order {
+        let mut w_matrix = good.w_matrix.clone();
+        w_matrix.turn(place / order, place % order);
+        let wrong = Lent { inverse: w_matrix.to_bytes(), ..lent.clone() };
+        let answer = check_kit(&wrong.kit(), wrong.kit_work);
+        case.check("rule 9 below n²", matches!(answer, Err((9, at)) if at < (order * order) as u64));
+        case.check("W A is wrong too", w_matrix.first_wrong(&a_matrix).is_some());
+        case.check_kit(&wrong);
     }
 }
 

@@ -417,7 +417,8 @@ fn bits(bytes: impl Iterator<Item = u8>) -> Answer<()> {
     }
 }
 
-/// Rules 8 and 9, for lists that are permutations. The answer is W.
+/// Rules 8 and 9, for lists that are permutations. Rule 9: "row × M × r + column", the first wrong entry of
+/// A W; W A is the identity exactly when A W is, and is not made. The answer is W.
 fn inverse_of(shape: &Shape, inverse: &[u8]) -> Answer<Matrix> {
     let (order, width) = (shape.d.order(), shape.d.row_bytes());
     for (row, line) in inverse.chunks(width).enumerate() {
@@ -425,14 +426,11 @@ fn inverse_of(shape: &Shape, inverse: &[u8]) -> Answer<Matrix> {
             return Err((8, row as u64));
         }
     }
-    let (a_matrix, w_matrix) = (system(shape), Matrix::from_bytes(order, inverse));
-    if let Some(place) = a_matrix.first_wrong(&w_matrix) {
-        return Err((9, place));
+    let w_matrix = Matrix::from_bytes(order, inverse);
+    match system(shape).first_wrong(&w_matrix) {
+        Some(place) => Err((9, place)),
+        None => Ok(w_matrix),
     }
-    if let Some(place) = w_matrix.first_wrong(&a_matrix) {
-        return Err((9, place + (order * order) as u64));
-    }
-    Ok(w_matrix)
 }
 
 /// A kit: "a design, both lists and a matrix W", as bytes.

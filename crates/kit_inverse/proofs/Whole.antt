@@ -1,14 +1,11 @@
--- The two products of a kit that fits, as a whole.
---   fits-worked               a kit that fits still does after its working bytes were written
---   sides                     what the products are taken of
---   left-found, right-found   the first wrong entry of A W and of W A
+-- The product of a kit that fits, as a whole.
+--   sides         what the product is taken of
+--   wrong-found   the first wrong entry of A W
 -- Assumes nothing.
 use mathlib.Core.Path.{_≡_, sym, ap, _∙_, subst}
-use mathlib.Core.Bool.{cond}
 use mathlib.Core.List.{List}
 use Prim.Native.Nat.{ℕ, _*_, _/_, _%_}
 use native.Mathlib.Omega.{arith}
-use lib.Dec.{ltb}
 use lib.ListN.{getD, length}
 use Rattle.staircase.specs.Lists.{firstWhere}
 use Rattle.staircase.specs.System.{rowBytes, systemEntry, inverseEntry}
@@ -17,29 +14,15 @@ use Rattle.staircase.specs.Demand2.{Permutes}
 use Rattle.design.specs.declared.Design.{Design}
 use Rattle.design.specs.Sizes.{paramsOf, orderOf, listsOf}
 use Rattle.design.proofs.Allowed.{proper-of, r-small, order-positive}
-use Rattle.matrix.specs.Packed.{Planes}
-use Rattle.kit_system.specs.Lines.{PartOf}
-use Rattle.kit_products.specs.Products.{Side, leftWrong, rightWrong}
+use Rattle.matrix.specs.Packed.{Planes, paddedEntry}
+use Rattle.kit_system.specs.Rows.{PartOf}
+use Rattle.kit_products.specs.Products.{Side, productWrong}
 use Rattle.kit_products.proofs.Search.{firstWhere-same}
 use Rattle.kit_inverse.specs.Fits.{KitFits}
-use Rattle.kit_inverse.proofs.Link.{left-is, right-is}
+use Rattle.kit_inverse.proofs.Link.{wrong-is}
 
-pub fits-worked : (d : Design) (own parity inverse work : List ℕ) → KitFits d own parity inverse work → (worked : List ℕ) → length worked ≡ length work → KitFits d own parity inverse worked
-fits-worked d own parity inverse work h worked e =
-    let s = h .sized in
-    record {
-      sized = record {
-        allowed = s .allowed;
-        ownLength = s .ownLength;
-        parityLength = s .parityLength;
-        inverseLength = s .inverseLength;
-        workLength = e ∙ s .workLength;
-      };
-      ownPermutes = h .ownPermutes;
-      parityPermutes = h .parityPermutes;
-    }
-
-module _ (d : Design) (own parity inverse work : List ℕ) (h : KitFits d own parity inverse work) (n : ℕ) (e : n ≡ orderOf d) (part : List ℕ) (P : PartOf (paramsOf d) part) (t : List ℕ) where
+module _ (d : Design) (own parity inverse work : List ℕ) (h : KitFits d own parity inverse work) (n : ℕ) (e : n ≡ orderOf d)
+    (part : List ℕ) (P : PartOf (paramsOf d) part) (t : List ℕ) where
   module _ (long : length t ≡ length work) where
     side : (list : List ℕ) → length list ≡ 2 * orderOf d → Permutes (orderOf d) (λ p. getD (entries (orderOf d) list) p 0) → Side n (d .size) list part t
     side list l permutes =
@@ -56,20 +39,11 @@ module _ (d : Design) (own parity inverse work : List ℕ) (h : KitFits d own pa
     pub sides : Side n (d .size) own part t × Side n (d .size) parity part t
     sides = (side own (h .sized .ownLength) (h .ownPermutes), side parity (h .sized .parityLength) (h .parityPermutes))
 
-  pub left-found : Planes t n (λ k x. cond (ltb k n) (inverseEntry inverse n k x) 0)
-      → firstWhere (n * n) (λ i. leftWrong part (entries n own) (entries n parity) (d .size) t n (i / n) (i % n))
+  pub wrong-found : Planes t n (paddedEntry inverse n)
+      → firstWhere (n * n) (λ i. productWrong part (entries n own) (entries n parity) (d .size) t n (i / n) (i % n))
       ≡ firstWhere (orderOf d * orderOf d) (wrongEntry (orderOf d) (systemEntry (paramsOf d) (listsOf d own parity)) (inverseEntry inverse (orderOf d)))
-  left-found planes =
-      ap (λ (k : ℕ). firstWhere (k * k) (λ i. leftWrong part (entries k own) (entries k parity) (d .size) t k (i / k) (i % k))) e
+  wrong-found planes =
+      ap (λ (k : ℕ). firstWhere (k * k) (λ i. productWrong part (entries k own) (entries k parity) (d .size) t k (i / k) (i % k))) e
       ∙ firstWhere-same (orderOf d * orderOf d) _ _
-      (left-is (paramsOf d) (proper-of d (h .sized .allowed)) (listsOf d own parity) (h .ownPermutes) (h .parityPermutes) part t inverse P (order-positive d (h .sized .allowed))
-      (subst (λ (k : ℕ). Planes t k (λ i x. cond (ltb i k) (inverseEntry inverse k i x) 0)) e planes))
-
-  pub right-found : Planes t n (λ k x. inverseEntry inverse n x k)
-      → firstWhere (n * n) (λ i. rightWrong part (entries n own) (entries n parity) (d .size) t n (i % n) (i / n))
-      ≡ firstWhere (orderOf d * orderOf d) (wrongEntry (orderOf d) (inverseEntry inverse (orderOf d)) (systemEntry (paramsOf d) (listsOf d own parity)))
-  right-found planes =
-      ap (λ (k : ℕ). firstWhere (k * k) (λ i. rightWrong part (entries k own) (entries k parity) (d .size) t k (i % k) (i / k))) e
-      ∙ firstWhere-same (orderOf d * orderOf d) _ _
-      (right-is (paramsOf d) (proper-of d (h .sized .allowed)) (listsOf d own parity) (h .ownPermutes) (h .parityPermutes) part t inverse P (order-positive d (h .sized .allowed))
-      (subst (λ (k : ℕ). Planes t k (λ i x. inverseEntry inverse k x i)) e planes))
+      (wrong-is (paramsOf d) (proper-of d (h .sized .allowed)) (listsOf d own parity) (h .ownPermutes) (h .parityPermutes) part t inverse P
+      (order-positive d (h .sized .allowed)) (subst (λ (k : ℕ). Planes t k (paddedEntry inverse k)) e planes))

@@ -1,8 +1,8 @@
-// Rule 9 of document 01's table: A W and W A are the identity.
+// Rule 9 of document 01's table: A W is the identity. W A then is too (`either-order` of staircase/proofs/Square.antt) and is not made.
 //   check_inverse(d, own, parity, inverse, work)   judges the inverse of a kit
 //
-// The crate `kit_products` finds the first wrong entry of each product. Here are made what it is lent: the powers of x that the bits of X and Y
-// carry, and a copy of W in planes, which is the one matrix of working bytes.
+// The crate `kit_products` finds the first wrong entry of the product. Here are made what it is lent: the powers of x that the bits of X and Y carry,
+// and a copy of W in planes, which is the one matrix of working bytes.
 ghost use mathlib.Core.Path.{_≡_};
 ghost use Prim.Native.Nat.{_*_};
 ghost use Rattle.staircase.specs.Lists.{firstWhere};
@@ -10,14 +10,14 @@ ghost use Rattle.staircase.specs.System.{systemEntry, inverseEntry};
 ghost use Rattle.staircase.specs.Rules.{wrongEntry, inverseRule};
 ghost use Rattle.design.specs.Sizes.{paramsOf, orderOf, listsOf};
 ghost use Rattle.design.specs.Answers.{verdictOf};
-ghost use Rattle.kit_system.specs.Lines.{PartOf};
+ghost use Rattle.kit_system.specs.Rows.{PartOf};
 ghost use Rattle.kit_inverse.specs.Fits.{KitFits};
 use design::Check;
 use design::Design;
 use design::Refusal;
 
 // The place of the first wrong entry of A W, or n².
-fn left_place(
+fn first_wrong(
     d: Design,
     own: &[u8],
     parity: &[u8],
@@ -31,28 +31,10 @@ fn left_place(
 {
     let n = d.order();
     matrix_planes::planes_of_rows(inverse, n, work);
-    kit_products::left_place(own, parity, n, part, d.size(), &work[..])
+    kit_products::first_wrong(own, parity, n, part, d.size(), &work[..])
 }
 
-// The place of the first wrong entry of W A, or n².
-fn right_place(
-    d: Design,
-    own: &[u8],
-    parity: &[u8],
-    inverse: &[u8],
-    part: &[u32],
-    work: &mut [u8],
-) -> usize
-    requires { ⌜ KitFits d (now own) (now parity) (now inverse) (now work) × PartOf (paramsOf d) (now part) ⌝ }
-    ensures { λ a. ⌜ a ≡ firstWhere (orderOf d * orderOf d)
-        (wrongEntry (orderOf d) (inverseEntry (now (inverse .entry)) (orderOf d)) (systemEntry (paramsOf d) (listsOf d (now (own .entry)) (now (parity .entry))))) ⌝ }
-{
-    let n = d.order();
-    matrix_planes::planes_of_columns(inverse, n, work);
-    kit_products::right_place(own, parity, n, part, d.size(), &work[..])
-}
-
-// Rule 9 with the powers of x: A W first, then W A.
+// Rule 9 with the powers of x.
 fn judge(
     d: Design,
     own: &[u8],
@@ -66,13 +48,9 @@ fn judge(
 {
     let n = d.order();
     let all = n * n;
-    let x = left_place(d, own, parity, inverse, part, work);
+    let x = first_wrong(d, own, parity, inverse, part, work);
     if x < all {
         return Check::Refused(Refusal::Inverse(x as u64));
-    }
-    let y = right_place(d, own, parity, inverse, part, work);
-    if y < all {
-        return Check::Refused(Refusal::Inverse((all + y) as u64));
     }
     Check::Passed
 }

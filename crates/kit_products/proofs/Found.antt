@@ -1,14 +1,15 @@
--- The first wrong entry of one line of a product, and of all its lines.
---   found         what `first_wrong` finds in the bytes that `mask_rows` leaves
---   line-spare    no bit of a packed line past n is 1
---   line-found    the line that was packed
---   sent-below    what the inverse of a list holds are places
---   sent-found    the places of the inverse of a list
+-- The first wrong entry of one row of a product, and of all its rows.
+--   found          what `first_wrong` of `matrix` finds in the bytes that `mask_rows` leaves
+--   packed-spare   no bit of a packed row past n is 1
+--   packed-found   the row that was packed
+--   sent-below     what the inverse of a list holds are places
+--   sent-found     the places of the inverse of a list
 -- Assumes nothing.
 use mathlib.Core.Path.{_≡_, sym, ap, _∙_, subst}
 use mathlib.Core.Bool.{Bool, not}
 use mathlib.Core.List.{List}
-use Prim.Native.Nat.{ℕ, _*_, _%_, _≤_, _<_}
+use Prim.Native.Nat.{ℕ, _*_, _/_, _%_, _≤_, _<_}
+use native.Mathlib.Nat.{div-lt-iff-lt-mul}
 use lib.Count.{ones}
 use lib.Dec.{eqb}
 use lib.ListN.{length, getD}
@@ -19,46 +20,47 @@ use Rattle.staircase.proofs.Matrix.{sumBits-same}
 use Rattle.staircase.proofs.Permutation.{preimage-sent}
 use Rattle.matrix.specs.Packed.{packedBit, planeBit}
 use Rattle.matrix.proofs.Product.{sum-spare}
-use Rattle.kit_system.specs.Lines.{unstackOf}
+use Rattle.kit_system.specs.Rows.{unstackOf}
 use Rattle.kit_products.specs.Products.{wrongIn}
 use Rattle.kit_products.proofs.Search.{firstWhere-same}
 use Rattle.kit_products.proofs.Sizes.{unstacked}
 
 -- A is what is left in the bytes, and AP what is lent of them
-pub found : (line t : List ℕ) (n e : ℕ) → ((k : ℕ) → n ≤ k → packedBit line k ≡ 0) → (A AP : List ℕ)
-    → ((x : ℕ) → x < n → ones (getD A x 0) % 2 ≡ sumBits (8 * rowBytes n) (λ k. packedBit line k * planeBit t n k x)) → AP ≡ A → length A ≡ n
-    → firstWhere (length AP) (λ x. not (eqb (ones (getD AP x 0) % 2) (identity e x))) ≡ firstWhere n (wrongIn (packedBit line) t n e)
+pub found : (row t : List ℕ) (n e : ℕ) → ((k : ℕ) → n ≤ k → packedBit row k ≡ 0) → (A AP : List ℕ)
+    → ((x : ℕ) → x < n → ones (getD A x 0) % 2 ≡ sumBits (8 * rowBytes n) (λ k. packedBit row k * planeBit t n k x)) → AP ≡ A → length A ≡ n
+    → firstWhere (length AP) (λ x. not (eqb (ones (getD AP x 0) % 2) (identity e x))) ≡ firstWhere n (wrongIn (packedBit row) t n e)
 unfolding wrongIn
-found line t n e spare A AP masked same len =
+found row t n e spare A AP masked same len =
     ap (λ (l : List ℕ). firstWhere (length l) (λ x. not (eqb (ones (getD l x 0) % 2) (identity e x)))) same
     ∙ ap (λ (m : ℕ). firstWhere m (λ x. not (eqb (ones (getD A x 0) % 2) (identity e x)))) len
-    ∙ firstWhere-same n (λ x. not (eqb (ones (getD A x 0) % 2) (identity e x))) (wrongIn (packedBit line) t n e)
-    (λ x h. ap (λ (z : ℕ). not (eqb z (identity e x))) (masked x h ∙ sum-spare line n (λ k. planeBit t n k x) (λ k a b. spare k a)))
+    ∙ firstWhere-same n (λ x. not (eqb (ones (getD A x 0) % 2) (identity e x))) (wrongIn (packedBit row) t n e)
+    (λ x h. ap (λ (z : ℕ). not (eqb z (identity e x))) (masked x h ∙ sum-spare row n (λ k. planeBit t n k x) (λ k a b. spare k a)))
 
--- R is a packed line with the bits of f, and RP what is lent of it
+-- R is a packed row with the bits of f, and RP what is lent of it
 module _ (n : ℕ) (f : ℕ → ℕ) (R RP : List ℕ) (bits : (k : ℕ) → packedBit R k ≡ f k) (same : RP ≡ R) where
-  pub line-spare : ((k : ℕ) → n ≤ k → f k ≡ 0) → (k : ℕ) → n ≤ k → packedBit RP k ≡ 0
-  line-spare spare k h = ap (λ (l : List ℕ). packedBit l k) same ∙ bits k ∙ spare k h
+  pub packed-spare : ((k : ℕ) → n ≤ k → f k ≡ 0) → (k : ℕ) → n ≤ k → packedBit RP k ≡ 0
+  packed-spare spare k h = ap (λ (l : List ℕ). packedBit l k) same ∙ bits k ∙ spare k h
 
-  pub line-found : (t : List ℕ) (e : ℕ) → firstWhere n (wrongIn (packedBit RP) t n e) ≡ firstWhere n (wrongIn f t n e)
+  pub packed-found : (t : List ℕ) (e : ℕ) → firstWhere n (wrongIn (packedBit RP) t n e) ≡ firstWhere n (wrongIn f t n e)
   unfolding wrongIn
-  line-found t e =
+  packed-found t e =
       ap (λ (l : List ℕ). firstWhere n (wrongIn (packedBit l) t n e)) same
       ∙ firstWhere-same n (wrongIn (packedBit R) t n e) (wrongIn f t n e)
       (λ x h. ap (λ (z : ℕ). not (eqb z (identity e x)))
       (sumBits-same n (λ k. packedBit R k * planeBit t n k x) (λ k. f k * planeBit t n k x) (λ k l. ap (λ (z : ℕ). z * planeBit t n k x) (bits k))))
 
 -- `places` is the inverse of a list, and `lent` what is lent of it
-module _ (n : ℕ) (list : List ℕ) (ok : Permutes n (λ p. getD list p 0)) (places lent : List ℕ) (are : (q : ℕ) → q < n → getD places q 0 ≡ preimage list n q) (same : lent ≡ places) where
+module _ (n : ℕ) (list : List ℕ) (ok : Permutes n (λ p. getD list p 0)) (places lent : List ℕ)
+    (are : (q : ℕ) → q < n → getD places q 0 ≡ preimage list n q) (same : lent ≡ places) where
   sent : (q : ℕ) → q < n → getD lent q 0 ≡ preimage list n q
   sent q h = ap (λ (l : List ℕ). getD l q 0) same ∙ are q h
 
   pub sent-below : (q : ℕ) → q < n → getD lent q 0 < n
   sent-below q h = subst (λ (v : ℕ). v < n) (sym (sent q h)) (preimage-sent list n ok q h .0)
 
-  -- W p i is a test of place i, whose line is sent from p
-  pub sent-found : (size r : ℕ) → n ≡ size * r → (line : ℕ → ℕ) → ((i : ℕ) → i < n * n → line i < n) → (W : ℕ → ℕ → Bool)
-      → firstWhere (n * n) (λ i. W (getD lent (unstackOf size r (line i)) 0) i) ≡ firstWhere (n * n) (λ i. W (preimage list n (unstackOf size r (line i))) i)
-  sent-found size r d line within W =
-      firstWhere-same (n * n) (λ i. W (getD lent (unstackOf size r (line i)) 0) i) (λ i. W (preimage list n (unstackOf size r (line i))) i)
-      (λ i h. ap (λ (p : ℕ). W p i) (sent (unstackOf size r (line i)) (unstacked size r n (line i) d (within i h) .below)))
+  -- W p i is a test of place i, whose row is sent from p
+  pub sent-found : (size r : ℕ) → n ≡ size * r → 0 < n → (W : ℕ → ℕ → Bool)
+      → firstWhere (n * n) (λ i. W (getD lent (unstackOf size r (i / n)) 0) i) ≡ firstWhere (n * n) (λ i. W (preimage list n (unstackOf size r (i / n))) i)
+  sent-found size r d pos W =
+      firstWhere-same (n * n) (λ i. W (getD lent (unstackOf size r (i / n)) 0) i) (λ i. W (preimage list n (unstackOf size r (i / n))) i)
+      (λ i h. ap (λ (p : ℕ). W p i) (sent (unstackOf size r (i / n)) (unstacked size r n (i / n) d (div-lt-iff-lt-mul pos .1 h) .below)))

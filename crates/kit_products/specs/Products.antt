@@ -1,10 +1,10 @@
--- Wrong entries of the two products, by what code has at hand: a packed row or column of A, and W in planes.
---   Side                    what one list, the powers of x and the planes are once rules 1 to 7 have passed
---   wrongIn                 an entry of one line of a product is not the identity's
---   leftWrong, rightWrong   entry x of row e of A W, entry i of column j of W A, is not the identity's
+-- Wrong entries of a product, by what code has at hand: a packed row of A, and W in planes.
+--   Side           what one list, the powers of x and the planes are once rules 1 to 7 have passed
+--   wrongIn        an entry of one row of a product is not the identity's
+--   productWrong   entry x of row e of A W is not the identity's
 -- Assumes nothing.
 use mathlib.Core.Path.{_≡_}
-use mathlib.Core.Bool.{Bool, true, false, not}
+use mathlib.Core.Bool.{Bool, not}
 use mathlib.Core.List.{List}
 use Prim.Native.Nat.{ℕ, _*_, _≤_, _<_}
 use lib.Dec.{eqb}
@@ -15,7 +15,7 @@ use Rattle.staircase.specs.System.{rowBytes, identity, preimage}
 use Rattle.staircase.specs.Rules.{entries}
 use Rattle.staircase.specs.Demand2.{Permutes}
 use Rattle.matrix.specs.Packed.{planeBit}
-use Rattle.kit_system.specs.Lines.{unstackOf, lineEntry}
+use Rattle.kit_system.specs.Rows.{unstackOf, rowEntry}
 
 -- n is the order M × r, `part` the r powers of x that the bits of X and Y carry
 pub record Side (n size : ℕ) (list part t : List ℕ) : Type 0 where
@@ -27,14 +27,10 @@ pub record Side (n size : ℕ) (list part t : List ℕ) : Type 0 where
   pub planesLength : length t ≡ n * rowBytes n
   pub permutes : Permutes n (λ p. getD (entries n list) p 0)
 
--- line e of a product has the entries `line` of one factor, and the planes the lines of the other
+-- `row` has the entries of row e of one factor, the planes the rows of the other
 unfoldable pub wrongIn : (ℕ → ℕ) → List ℕ → ℕ → ℕ → ℕ → Bool
-wrongIn line t n e x = not (eqb (sumBits n (λ k. line k * planeBit t n k x)) (identity e x))
+wrongIn row t n e x = not (eqb (sumBits n (λ k. row k * planeBit t n k x)) (identity e x))
 
 -- the planes t are those of W's rows
-unfoldable pub leftWrong : List ℕ → List ℕ → List ℕ → ℕ → List ℕ → ℕ → ℕ → ℕ → Bool
-leftWrong part own parity size t n e = wrongIn (lineEntry part false own size (preimage parity n (unstackOf size (length part) e)) e) t n e
-
--- the planes t are those of W's columns
-unfoldable pub rightWrong : List ℕ → List ℕ → List ℕ → ℕ → List ℕ → ℕ → ℕ → ℕ → Bool
-rightWrong part own parity size t n j = wrongIn (lineEntry part true parity size (preimage own n (unstackOf size (length part) j)) j) t n j
+unfoldable pub productWrong : List ℕ → List ℕ → List ℕ → ℕ → List ℕ → ℕ → ℕ → ℕ → Bool
+productWrong part own parity size t n e = wrongIn (rowEntry part own size (preimage parity n (unstackOf size (length part) e)) e) t n e

@@ -1,4 +1,4 @@
--- A packed row or column that a loop adds up, and the sizes of a system.
+-- A packed row that a loop adds up, and the sizes of a system.
 --   sum-more                 two additions to a bit are one term more of its sum
 --   Sized, sized             the sizes at an entry and a place
 --   stackOf-below, run-end   places of the stack, and of r bits side by side
@@ -12,7 +12,7 @@ use lib.Arith.{digits-lt}
 use Rattle.staircase.specs.Lists.{bitSum, sumBits}
 use Rattle.staircase.proofs.Matrix.{bitSum-assoc}
 use Rattle.staircase.proofs.Entries.{sumBits-last}
-use Rattle.kit_system.specs.Lines.{stackOf}
+use Rattle.kit_system.specs.Rows.{stackOf}
 
 pub sum-more : (f : ℕ → ℕ) (b x₀ x₁ x₂ u v : ℕ) → x₀ ≡ sumBits b f → x₁ ≡ bitSum x₀ u → x₂ ≡ bitSum x₁ v → f b ≡ bitSum u v → x₂ ≡ sumBits (b + 1) f
 sum-more f b x₀ x₁ x₂ u v before first second term =

@@ -1,10 +1,10 @@
-// Rows and columns of the system A, packed, one at a time. A row and a column have at most 2 r ones.
+// Rows of the system A, packed, one at a time. A row has at most 2 r ones.
 //   fill_inverse   the inverse of a permutation
-//   system_line    one packed row or column of A
+//   system_row     one packed row of A
 //
 // A bit of Y is a bit of one column word and, through the self list, of one row word. What it adds to the r parity bits of either word is the power
-// of x that its position carries, so a row or column of A takes r digits of powers side by side and r digits where a list sends them: a row
-// one digit of each power, a column the digits of one. Nothing of A is kept.
+// of x that its position carries. So a row of A takes two digits of each of the r powers: those of its column word side by side, those of its row word
+// where the self list sends them. Nothing of A is kept.
 ghost use mathlib.Core.Path.{_≡_};
 ghost use Prim.Native.Nat.{ℕ, _+_, _*_, _-_, _/_, _%_, _≤_, _<_};
 ghost use lib.ListN.{length, getD};
@@ -13,7 +13,7 @@ ghost use Rattle.staircase.specs.System.{preimage};
 ghost use Rattle.staircase.specs.Rules.{entries};
 ghost use Rattle.staircase.specs.Demand2.{Permutes};
 ghost use Rattle.matrix.specs.Packed.{packedBit};
-ghost use Rattle.kit_system.specs.Lines.{stackOf, digit, lineDigit, lineEntry};
+ghost use Rattle.kit_system.specs.Rows.{stackOf, digit, rowEntry};
 
 // Fills `out` with the inverse of a list of n entries that is a permutation: entry q is the place that the list sends to q.
 pub fn fill_inverse(list: &[u8], n: usize, out: &mut [u16])
@@ -35,17 +35,6 @@ fn digit_at(part: &[u32], b: usize, a: usize) -> u8
     ((part[b] >> (part.len() - 1 - a)) % 2) as u8
 }
 
-// Digit b of power a for a column, digit a of power b for a row.
-fn line_digit(part: &[u32], column: bool, a: usize, b: usize) -> u8
-    requires { ⌜ (length (now part) ≤ 32) × (a < length (now part)) × (b < length (now part)) ⌝ }
-    ensures { λ v. ⌜ (v ≡ lineDigit (now (part .entry)) column a b) × (v < 2) ⌝ }
-{
-    if column {
-        return digit_at(part, a, b);
-    }
-    digit_at(part, b, a)
-}
-
 // Where the list sends place b × size + a, as an entry of the stack.
 fn sent(list: &[u8], n: usize, size: usize, r: usize, b: usize, a: usize) -> usize
     requires { ⌜ (n ≡ size * r) × (b < r) × (a < size) × (length (now list) ≡ 2 * n) × (n ≤ most-order)
@@ -56,31 +45,28 @@ fn sent(list: &[u8], n: usize, size: usize, r: usize, b: usize, a: usize) -> usi
     y % size * r + y / size
 }
 
-// Makes `out` row e of A, for the self list and the place p that the parity list sends to entry e; where `column` is true column e, for the parity
-// list and the place p that the self list sends to it. The work grows with r and the bytes of `out`.
-pub fn system_line(
+// Makes `out` row e of A, for the self list and the place p that the parity list sends to entry e. The work grows with r and the bytes of `out`.
+pub fn system_row(
     out: &mut [u8],
-    list: &[u8],
+    own: &[u8],
     n: usize,
     part: &[u32],
     size: usize,
-    column: bool,
     p: usize,
     e: usize,
 )
-    requires { ⌜ (n ≡ size * length (now part)) × (e < n) × (p < n) × (length (now list) ≡ 2 * n) × (n ≤ 8 * length (now out)) × (length (now out) ≤ 512)
-        × (length (now part) ≤ 32) × ((q : ℕ) → q < n → getD (entries n (now list)) q 0 < n) ⌝ }
+    requires { ⌜ (n ≡ size * length (now part)) × (e < n) × (p < n) × (length (now own) ≡ 2 * n) × (n ≤ 8 * length (now out)) × (length (now out) ≤ 512)
+        × (length (now part) ≤ 32) × ((q : ℕ) → q < n → getD (entries n (now own)) q 0 < n) ⌝ }
     ensures { λ u. ⌜ (length (now (out .exit)) ≡ length (now (out .entry)))
-        × ((k : ℕ) → packedBit (now (out .exit)) k
-        ≡ lineEntry (now (part .entry)) column (entries n (now (list .entry))) size p e k) ⌝ }
+        × ((k : ℕ) → packedBit (now (out .exit)) k ≡ rowEntry (now (part .entry)) (entries n (now (own .entry))) size p e k) ⌝ }
 {
     let r = part.len();
     matrix::clear(out);
     for b in 0..r {
-        let v = line_digit(part, column, e % r, b);
+        let v = digit_at(part, b, e % r);
         matrix::add_bit(out, e / r * r + b, v);
-        let w = line_digit(part, column, p / size, b);
-        let k = sent(list, n, size, r, b, p % size);
+        let w = digit_at(part, b, p / size);
+        let k = sent(own, n, size, r, b, p % size);
         matrix::add_bit(out, k, w);
     }
 }

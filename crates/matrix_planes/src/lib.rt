@@ -1,8 +1,7 @@
 // Lays a packed square matrix of bits out in planes.
-//   planes_of_rows(w, n, t)      planes with eight rows a byte: plane b has a byte for each column, with the entries of the rows 8 b to 8 b + 7 in it
-//   planes_of_columns(w, n, t)   planes with eight columns a byte: plane b has byte b of each row
+//   planes_of_rows(w, n, t)   eight rows a byte: plane b has a byte for each column, with the entries of the rows 8 b to 8 b + 7 in it
 //
-// A matrix comes into planes of rows by blocks of eight rows and eight columns, 64 bits in one number, which three exchanges of bits transpose
+// A matrix comes into planes by blocks of eight rows and eight columns, 64 bits in one number, which three exchanges of bits transpose
 // (H. Warren, "Hacker's Delight", section 7-3). The crate `matrix` says what planes are for.
 //
 // n is the order, 1 to 4,096, and a packed row has rowBytes n bytes. Every function leaves the lengths of what it is lent as they are.
@@ -12,7 +11,7 @@ ghost use Prim.Native.Nat.{ℕ, _+_, _*_, _/_, _%_, _^_, _≤_, _<_};
 ghost use lib.Dec.{ltb};
 ghost use lib.ListN.{length, getD};
 ghost use Rattle.staircase.specs.Design.{most-order};
-ghost use Rattle.staircase.specs.System.{rowBytes, inverseEntry};
+ghost use Rattle.staircase.specs.System.{rowBytes};
 ghost use Rattle.matrix.specs.Packed.{Planes, paddedEntry};
 
 // Byte c of row i of w, of n rows of rb bytes; 0 past the last row.
@@ -95,73 +94,19 @@ fn plane_of_rows(plane: &mut [u8], w: &[u8], n: usize, rb: usize, b: usize)
     }
 }
 
-// Plane b of the columns of w: byte b of each of the n rows of rb bytes, with the entries of the columns 8 b to 8 b + 7.
-fn plane_of_columns(plane: &mut [u8], w: &[u8], n: usize, rb: usize, b: usize)
-    requires { ⌜ (length (now plane) ≡ n) × (rb ≡ rowBytes n) × (length (now w) ≡ n * rb) × (b < rb) ⌝ }
-    ensures { λ u. ⌜
-        (length (now (plane .exit)) ≡ length (now (plane .entry)))
-        × ((x : ℕ) → x < n → (r : ℕ) → r < 8
-        → getD (now (plane .exit)) x 0 / 2 ^ r % 2 ≡ inverseEntry (now (w .entry)) n x (8 * b + r))
-        ⌝ }
-{
-    for i in 0..plane.len() {
-        plane[i] = w[i * rb + b];
-    }
-}
-
-// Plane b of the columns or of the rows of w.
-fn fill_plane(plane: &mut [u8], w: &[u8], n: usize, rb: usize, b: usize, columns: bool)
-    requires { ⌜ (n ≤ most-order) × (length (now plane) ≡ n) × (rb ≡ rowBytes n) × (length (now w) ≡ n * rb) × (b < rb) ⌝ }
-    ensures { λ u. ⌜
-        (length (now (plane .exit)) ≡ length (now (plane .entry)))
-        × ((x : ℕ) → x < n → (r : ℕ) → r < 8
-        → getD (now (plane .exit)) x 0 / 2 ^ r % 2
-        ≡ cond columns (inverseEntry (now (w .entry)) n x (8 * b + r)) (paddedEntry (now (w .entry)) n (8 * b + r) x))
-        ⌝ }
-{
-    if columns {
-        plane_of_columns(plane, w, n, rb, b);
-        return;
-    }
-    plane_of_rows(plane, w, n, rb, b);
-}
-
-// The planes of the columns or of the rows of w.
-fn fill_planes(w: &[u8], n: usize, t: &mut [u8], columns: bool)
-    requires { ⌜ (1 ≤ n) × (n ≤ most-order) × (length (now w) ≡ n * rowBytes n) × (length (now t) ≡ n * rowBytes n) ⌝ }
-    ensures { λ r. ⌜
-        (length (now (t .exit)) ≡ length (now (t .entry)))
-        × Planes (now (t .exit)) n (λ k x. cond columns (inverseEntry (now (w .entry)) n x k) (paddedEntry (now (w .entry)) n k x))
-        ⌝ }
-{
-    let rb = (n + 7) / 8;
-    for b in 0..rb {
-        let a = b * n;
-        let e = a + n;
-        fill_plane(&mut t[a..e], w, n, rb, b, columns);
-    }
-}
-
 // Lays the packed matrix w, of n rows and n columns, out in the lent planes t: its rows are their rows, and the rows from n on are 0. Each byte of w
 // is read and each of t written once.
 pub fn planes_of_rows(w: &[u8], n: usize, t: &mut [u8])
     requires { ⌜ (1 ≤ n) × (n ≤ most-order) × (length (now w) ≡ n * rowBytes n) × (length (now t) ≡ n * rowBytes n) ⌝ }
     ensures { λ r. ⌜
         (length (now (t .exit)) ≡ length (now (t .entry)))
-        × Planes (now (t .exit)) n (λ k x. cond (ltb k n) (inverseEntry (now (w .entry)) n k x) 0)
+        × Planes (now (t .exit)) n (paddedEntry (now (w .entry)) n)
         ⌝ }
 {
-    fill_planes(w, n, t, false);
-}
-
-// Lays the packed matrix w, of n rows and n columns, out in the lent planes t: its columns are their rows, spare columns too. Each byte of w is read and
-// each of t written once.
-pub fn planes_of_columns(w: &[u8], n: usize, t: &mut [u8])
-    requires { ⌜ (1 ≤ n) × (n ≤ most-order) × (length (now w) ≡ n * rowBytes n) × (length (now t) ≡ n * rowBytes n) ⌝ }
-    ensures { λ r. ⌜
-        (length (now (t .exit)) ≡ length (now (t .entry)))
-        × Planes (now (t .exit)) n (λ k x. inverseEntry (now (w .entry)) n x k)
-        ⌝ }
-{
-    fill_planes(w, n, t, true);
+    let rb = (n + 7) / 8;
+    for b in 0..rb {
+        let a = b * n;
+        let e = a + n;
+        plane_of_rows(&mut t[a..e], w, n, rb, b);
+    }
 }

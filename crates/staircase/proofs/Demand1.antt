@@ -140,15 +140,10 @@ module _ (rules : List ℕ) where
         let a : ℕ → ℕ → ℕ = systemEntry s l in
         let b : ℕ → ℕ → ℕ = inverseEntry w n in
         let square : n * n ≤ most-order * most-order = small-product n n most-order most-order small small in
-        byTable-then (refuseFirst 9 0 (n * n) (wrongEntry n a b)) (refuseFirst 9 (n * n) (n * n) (wrongEntry n b a))
-        (byTable-first 9 0 (n * n) (wrongEntry n a b) h (λ i k. table.inverse refl (first (n * n) i square k)))
-        (λ e. byTable-first 9 (n * n) (n * n) (wrongEntry n b a) h (λ i k. table.inverse refl (second (n * n) i square k)))
+        byTable-first 9 0 (n * n) (wrongEntry n a b) h (λ i k. table.inverse refl (within (n * n) i square k))
       where
-        first : (q i : ℕ) → q ≤ most-order * most-order → i < q → 0 + i < 2 * (most-order * most-order)
-        first q i c k = omega arith
-
-        second : (q i : ℕ) → q ≤ most-order * most-order → i < q → q + i < 2 * (most-order * most-order)
-        second q i c k = omega arith
+        within : (q i : ℕ) → q ≤ most-order * most-order → i < q → 0 + i < most-order * most-order
+        within q i c k = omega arith
 
     pub kit-byTable : among 7 rules ≡ true → among 8 rules ≡ true → among 9 rules ≡ true → (l : Interleavers) (w : List ℕ) → ByTable rules (kitRules s l w)
     unfolding kitRules

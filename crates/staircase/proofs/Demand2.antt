@@ -6,13 +6,15 @@ use mathlib.Core.Path.{_≡_, refl}
 use mathlib.Core.Logic.{_↔_}
 use mathlib.Core.List.{List}
 use Prim.Native.Nat.{ℕ, _*_, _<_}
+use native.Mathlib.Omega.{arith}
 use Rattle.staircase.specs.Design.{Params, Interleavers, params, order}
 use Rattle.staircase.specs.System.{systemEntry, inverseEntry}
 use Rattle.staircase.specs.Rules.{Verdict, _then_, refuseFirst, designRules, lengthRule, kitLengths, kitWork, interleavers, badEntry, listRule, spareRow, spareRule, wrongEntry, inverseRule, kitRules}
 use Rattle.staircase.specs.Rules.Verdict.{accepted}
 use Rattle.staircase.specs.Calls.{kitVerdict}
 use Rattle.staircase.specs.Demand2.{KitPasses, FitsOrder}
-use Rattle.staircase.proofs.System.{order-positive}
+use Rattle.staircase.proofs.System.{Proper, order-positive, systemEntry-lt}
+use Rattle.staircase.proofs.Square.{Inverts, other-order}
 use Rattle.staircase.proofs.BchCode.{proper-of}
 use Rattle.staircase.proofs.Rules.{then-first, then-rest, then-accepted, refuseFirst-false, refuseFirst-accepted, length-accepted, design-limits, lengths-accepted, lists-permute, permute-entries, spare-zero, zero-spare, product-identity, identity-product}
 
@@ -20,45 +22,40 @@ module _ (s : Params) (l : Interleavers) (w : List ℕ) where
   abbrev n : ℕ
   n = order s
 
-  abbrev ruleAW : Verdict
-  ruleAW = refuseFirst 9 0 (n * n) (wrongEntry n (systemEntry s l) (inverseEntry w n))
+  entry-bit : (i j : ℕ) → inverseEntry w n i j < 2
+  unfolding inverseEntry
+  entry-bit i j = omega arith
 
-  abbrev ruleWA : Verdict
-  ruleWA = refuseFirst 9 (n * n) (n * n) (wrongEntry n (inverseEntry w n) (systemEntry s l))
-
-  passes : kitRules s l w ≡ accepted → KitPasses s l w
+  passes : Proper s → kitRules s l w ≡ accepted → KitPasses s l w
   unfolding kitRules spareRule inverseRule
-  passes e =
+  passes ok e =
       let lists = lists-permute s l (then-first (listRule s l) (spareRule s w then inverseRule s l w) e) in
       let rest : (spareRule s w then inverseRule s l w) ≡ accepted = then-rest (listRule s l) (spareRule s w then inverseRule s l w) e in
-      let products : (ruleAW then ruleWA) ≡ accepted = then-rest (spareRule s w) (inverseRule s l w) rest in
+      let right : Inverts n (systemEntry s l) (inverseEntry w n) =
+      product-identity n (systemEntry s l) (inverseEntry w n)
+      (refuseFirst-false 9 0 (n * n) (wrongEntry n (systemEntry s l) (inverseEntry w n)) (then-rest (spareRule s w) (inverseRule s l w) rest))
+      in
       record {
         self = lists .0;
         parity = lists .1;
         spare = λ i j hi. spare-zero w n i (refuseFirst-false 8 0 n (spareRow w n) (then-first (spareRule s w) (inverseRule s l w) rest) i hi) j;
-        rightInverse =
-            product-identity n (systemEntry s l) (inverseEntry w n)
-            (refuseFirst-false 9 0 (n * n) (wrongEntry n (systemEntry s l) (inverseEntry w n)) (then-first ruleAW ruleWA products));
-        leftInverse =
-            product-identity n (inverseEntry w n) (systemEntry s l)
-            (refuseFirst-false 9 (n * n) (n * n) (wrongEntry n (inverseEntry w n) (systemEntry s l)) (then-rest ruleAW ruleWA products));
+        rightInverse = right;
+        leftInverse = other-order n (systemEntry s l) (inverseEntry w n) (systemEntry-lt s l ok) entry-bit right;
       }
 
-  accepts : 0 < n → KitPasses s l w → kitRules s l w ≡ accepted
+  accepts : Proper s → KitPasses s l w → kitRules s l w ≡ accepted
   unfolding kitRules listRule spareRule inverseRule
-  accepts pos k =
+  accepts ok k =
       then-accepted
       (then-accepted
       (refuseFirst-accepted 7 0 n (badEntry n (l .self)) (permute-entries n (l .self) (k .self)))
       (refuseFirst-accepted 7 n n (badEntry n (l .parity)) (permute-entries n (l .parity) (k .parity))))
       (then-accepted
       (refuseFirst-accepted 8 0 n (spareRow w n) (λ i hi. zero-spare w n i (λ j. k .spare i j hi)))
-      (then-accepted
-      (refuseFirst-accepted 9 0 (n * n) (wrongEntry n (systemEntry s l) (inverseEntry w n)) (identity-product n (systemEntry s l) (inverseEntry w n) pos (k .rightInverse)))
-      (refuseFirst-accepted 9 (n * n) (n * n) (wrongEntry n (inverseEntry w n) (systemEntry s l)) (identity-product n (inverseEntry w n) (systemEntry s l) pos (k .leftInverse)))))
+      (refuseFirst-accepted 9 0 (n * n) (wrongEntry n (systemEntry s l) (inverseEntry w n)) (identity-product n (systemEntry s l) (inverseEntry w n) (order-positive s ok) (k .rightInverse))))
 
-  pub kit-passes : 0 < order s → (kitRules s l w ≡ accepted) ↔ KitPasses s l w
-  kit-passes pos = (passes, accepts pos)
+  pub kit-passes : Proper s → (kitRules s l w ≡ accepted) ↔ KitPasses s l w
+  kit-passes ok = (passes ok, accepts ok)
 
 module _ (m t M : ℕ) (self parity w : List ℕ) where
   abbrev s : Params
@@ -70,10 +67,21 @@ module _ (m t M : ℕ) (self parity w : List ℕ) where
   demand2 d k =
       let l : Interleavers = interleavers s self parity in
       let v6 : Verdict = lengthRule 6 (kitWork s) (kitWork s) in
-      let both = kit-passes s l w (order-positive s (proper-of (design-limits m t M d))) in (
+      let both = kit-passes s l w (proper-of (design-limits m t M d)) in (
         λ e. both .0
             (then-rest v6 (kitRules s l w)
             (then-rest (kitLengths s self parity w) (v6 then kitRules s l w) (then-rest (designRules m t M) (kitLengths s self parity w then v6 then kitRules s l w) e))),
         λ q. then-accepted d
             (then-accepted (lengths-accepted s self parity w k) (then-accepted (length-accepted 6 (kitWork s) (kitWork s) refl) (both .1 q))),
       )
+
+-- "the second half of rule 9 .. is then known never to occur": where A W is the identity, W A has no wrong entry
+pub second-never : (s : Params) (l : Interleavers) (w : List ℕ) → Proper s → inverseRule s l w ≡ accepted
+    → refuseFirst 9 (order s * order s) (order s * order s) (wrongEntry (order s) (inverseEntry w (order s)) (systemEntry s l)) ≡ accepted
+unfolding inverseRule
+second-never s l w ok e =
+    let n : ℕ = order s in
+    refuseFirst-accepted 9 (n * n) (n * n) (wrongEntry n (inverseEntry w n) (systemEntry s l))
+    (identity-product n (inverseEntry w n) (systemEntry s l) (order-positive s ok)
+    (other-order n (systemEntry s l) (inverseEntry w n) (systemEntry-lt s l ok) (entry-bit s l w)
+    (product-identity n (systemEntry s l) (inverseEntry w n) (refuseFirst-false 9 0 (n * n) (wrongEntry n (systemEntry s l) (inverseEntry w n)) e))))

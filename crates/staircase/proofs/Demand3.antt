@@ -33,7 +33,7 @@ use Rattle.staircase.proofs.Member.{In}
 use Rattle.staircase.proofs.Flip.{Received, bitAt-bits}
 use Rattle.staircase.proofs.Outside.{all-inside}
 use Rattle.staircase.proofs.Correction.{Sound, outside-none, runRounds-restore}
-use Rattle.staircase.proofs.System.{Proper, order-positive}
+use Rattle.staircase.proofs.System.{Proper}
 use Rattle.staircase.proofs.BchCode.{proper-of, apart-of}
 use Rattle.staircase.proofs.Sites.{rowSites-distinct, columnSites-distinct, rowSites-length, columnSites-length, row-among-words, column-among-words, each-word, info-covered, red-covered}
 use Rattle.staircase.proofs.Redundancy.{redundancy-length, redundancy-bits, rows-in-code, columns-in-code, redundancy-only}
@@ -85,7 +85,7 @@ module _ (K : Kit) (L : ℕ) (info old : List ℕ) (G : Given K L info old) wher
   -- the calls are accepted
 
   rules : kitRules s l w ≡ accepted
-  rules = kit-passes s l w (order-positive s ok) .1 kit
+  rules = kit-passes s l w ok .1 kit
 
   counted : countRule L ≡ accepted
   unfolding countRule

@@ -24,7 +24,6 @@ use Rattle.staircase.specs.Calls.{Encoded, encodeVerdict, encodedBy, enc
 use Rattle.staircase.specs.Demand3.{Kit, sizes, lists, encode, decode, Given, EachWord, Demand3}
 use Rattle.staircase.proofs.Member.{In}
 use Rattle.staircase.proofs.Rules.{then-first, then-rest, design-limits, count-limits, length-equal, lengths-fit, frame-lengths, bytes-bits}
-use Rattle.staircase.proofs.System.{order-positive}
 use Rattle.staircase.proofs.BchCode.{proper-of}
 use Rattle.staircase.proofs.Sites.{each-word}
 use Rattle.staircase.proofs.Idle.{decoded-stays}
@@ -62,7 +61,7 @@ encode-accepted K L info old work e =
     record {
       design = design;
       fits = lengths-fit s (K .self) (K .parity) (K .inverse) (then-first v6 after-kit e6);
-      passes = kit-passes s l (K .inverse) (order-positive s (proper-of (design-limits (K .m) (K .t) (K .M) design))) .0 (then-first kit v10 e8);
+      passes = kit-passes s l (K .inverse) (proper-of (design-limits (K .m) (K .t) (K .M) design)) .0 (then-first kit v10 e8);
       some = count .0;
       few = count .1;
       bits = bytes-bits 0 info (then-rest kit v10 e8);

@@ -5,13 +5,12 @@
 --   columnRemainder, rowRemainder           the remainder of the blocks of a word
 --   columnParity-powers, rowParity-powers   P and Q by remainders
 --   system-row         the entries of a row of A, by the places of Y that its words read
---   system-column      the entries of a column of A, by the places of P that its bit of Y reaches
 -- Assumes nothing.
 use mathlib.Core.Path.{_≡_, sym, ap, ap₂, _∙_}
 use mathlib.Core.Bool.{Bool, true, false, cond}
 use mathlib.Core.List.{List, _++_}
 use Prim.Native.Nat.{ℕ, zero, suc, _+_, _-_, _*_, _/_, _%_, _^_, _<_}
-use native.Mathlib.Nat.{zero-div, zero-mul, one-mul, mod-lt, div-add-mod', div-lt-iff-lt-mul}
+use native.Mathlib.Nat.{zero-div, zero-mul, one-mul, mod-lt, div-lt-iff-lt-mul}
 use native.Mathlib.Decide.{ℕ-discrete}
 use native.Mathlib.Omega.{arith}
 use lib.Arith.{digits-div, digits-mod}
@@ -29,11 +28,11 @@ use Rattle.staircase.specs.Design.{Params, Interleavers, wordLength, ord
 use Rattle.staircase.specs.Word.{rowInfo, columnInfo}
 use Rattle.staircase.specs.System.{Contents, zeros, unit, stack, unstack, preimage, columnParity, rowParity, residual, systemEntry}
 use Rattle.staircase.specs.Demand2.{Permutes}
-use Rattle.staircase.proofs.Matrix.{bitSum-assoc, sumBits-same, sumBits-one}
+use Rattle.staircase.proofs.Matrix.{bitSum-assoc, sumBits-same}
 use Rattle.staircase.proofs.Tables.{Binary, tabulate-length, tabulate-at}
 use Rattle.staircase.proofs.Stretches.{three, three-bits}
 use Rattle.staircase.proofs.Parity.{bit-⊕}
-use Rattle.staircase.proofs.Permutation.{preimage-sent, preimage-of}
+use Rattle.staircase.proofs.Permutation.{preimage-sent}
 use Rattle.staircase.proofs.System.{Proper, place-lt, row-of, unstack-lt, stack-unstack, unstack-stack}
 
 -- ---- sums of bits and sums of numbers
@@ -111,10 +110,6 @@ module _ (s : Params) where
 unfoldable pub coefficient : Params → ℕ → ℕ → ℕ
 coefficient s b a = powerMod (s .g) (s .r) (2 * s .r - 1 - b) / 2 ^ (s .r - 1 - a) % 2
 
-coefficient-bit : (s : Params) (b a : ℕ) → coefficient s b a < 2
-unfolding coefficient
-coefficient-bit s b a = mod2-bit (powerMod (s .g) (s .r) (2 * s .r - 1 - b) / 2 ^ (s .r - 1 - a))
-
 -- The remainder of the blocks of a word, by their bits in the word's order; of a column word's, and of a row word's.
 abbrev pub blocksRemainder : Params → (ℕ → ℕ) → (ℕ → ℕ) → ℕ
 blocksRemainder s f h =
@@ -183,7 +178,7 @@ module _ (s : Params) (ok : Proper s) where
   row-terms l y hy p h =
       let to : ℕ → ℕ = λ b. getD (l .self) (b * s .M + p % s .M) 0 in parity-terms s (λ b. y (to b)) (λ b. hy (to b)) (p / s .M) (row-of s ok p h)
 
--- ---- rows and columns of A
+-- ---- rows of A
 
 unit-term : (z : Bool) (v : ℕ) → cond z 1 0 * v ≡ cond z v 0
 unit-term true v = one-mul v
@@ -195,13 +190,6 @@ cond-below false v h = omega arith
 
 unit-binary : (j : ℕ) → Binary (unit j)
 unit-binary j k = cond-below (eqb k j) 1 (omega arith)
-
--- a sum in which only one test can pass
-pick-one : (n : ℕ) (x : ℕ → ℕ) (y : ℕ) (v : ℕ → ℕ) (k : ℕ) → k < n → v k < 2 → ((i : ℕ) → i < n → x i ≡ y → i ≡ k)
-    → sumBits n (λ i. cond (eqb (x i) y) (v i) 0) ≡ cond (eqb (x k) y) (v k) 0
-pick-one n x y v k l h only =
-    sumBits-one n (λ i. cond (eqb (x i) y) (v i) 0) k l (cond-below (eqb (x k) y) (v k) h)
-    (λ i m d. ap (λ (z : Bool). cond z (v i) 0) (ne-eqb (x i) y (λ e. d (only i m e))))
 
 module _ (s : Params) (ok : Proper s) (l : Interleavers)
     (ps : Permutes (order s) (λ p. getD (l .self) p 0)) (pp : Permutes (order s) (λ p. getD (l .parity) p 0)) where
@@ -249,65 +237,3 @@ module _ (s : Params) (ok : Proper s) (l : Interleavers)
       ∙ sumBits-same (s .r) (λ b. y (getD (l .self) (b * s .M + p % s .M) 0) * coefficient s b (p / s .M))
       (λ b. cond (eqb (stack s (getD (l .self) (b * s .M + p % s .M) 0)) j) (coefficient s b (p / s .M)) 0)
       (λ b m. row-term j (getD (l .self) (b * s .M + p % s .M) 0) (coefficient s b (p / s .M)) (self-place b (p % s .M) m (mod-lt p (ok .mpos))) hj))
-
-  -- the place in X that the self list sends to column j of A
-  abbrev pub originOf : ℕ → ℕ
-  originOf j = preimage (l .self) (order s) (unstack s j)
-
-  module _ (e j : ℕ) (he : e < order s) (hj : j < order s) where
-    column-half : sumBits (s .r) (λ b. cond (eqb (e / s .r * s .r + b) j) (coefficient s b (e % s .r)) 0)
-        ≡ sumBits (s .r) (λ a. cond (eqb (j / s .r * s .r + a) e) (coefficient s (j % s .r) a) 0)
-    column-half =
-        let d : ℕ = j % s .r in
-        let a : ℕ = e % s .r in
-        let hd : d < s .r = mod-lt j (ok .rpos) in
-        let ha : a < s .r = mod-lt e (ok .rpos) in
-        pick-one (s .r) (λ b. e / s .r * s .r + b) j (λ b. coefficient s b a) d hd (coefficient-bit s d a)
-        (λ b m q. sym (digits-mod (e / s .r) m) ∙ ap (λ (z : ℕ). z % s .r) q)
-        ∙ ap (λ (z : Bool). cond z (coefficient s d a) 0)
-        (eqb-iff (e / s .r * s .r + d) j (j / s .r * s .r + a) e
-        (λ q. ap (λ (z : ℕ). z * s .r + a) (sym (ap (λ (z : ℕ). z / s .r) q) ∙ digits-div (e / s .r) hd) ∙ div-add-mod' e (s .r))
-        (λ q. ap (λ (z : ℕ). z * s .r + d) (sym (ap (λ (z : ℕ). z / s .r) q) ∙ digits-div (j / s .r) ha) ∙ div-add-mod' j (s .r)))
-        ∙ sym (pick-one (s .r) (λ b. j / s .r * s .r + b) e (λ b. coefficient s d b) a ha (coefficient-bit s d a)
-        (λ b m q. sym (digits-mod (j / s .r) m) ∙ ap (λ (z : ℕ). z % s .r) q))
-
-    row-half : sumBits (s .r) (λ b. cond (eqb (stack s (getD (l .self) (b * s .M + sourceOf e % s .M) 0)) j) (coefficient s b (sourceOf e / s .M)) 0)
-        ≡ sumBits (s .r) (λ b. cond (eqb (stack s (getD (l .parity) (b * s .M + originOf j % s .M) 0)) e) (coefficient s (originOf j / s .M) b) 0)
-    row-half =
-        let p : ℕ = sourceOf e in
-        let x : ℕ = originOf j in
-        let hp : p < order s = source-below e he in
-        let sx = preimage-sent (l .self) (order s) ps (unstack s j) (unstack-lt s ok j hj) in
-        let sp = preimage-sent (l .parity) (order s) pp (unstack s e) (unstack-lt s ok e he) in
-        let hx : x < order s = sx .0 in
-        let pm : p % s .M < s .M = mod-lt p (ok .mpos) in
-        let xm : x % s .M < s .M = mod-lt x (ok .mpos) in
-        let xr : x / s .M < s .r = row-of s ok x hx in
-        let pr : p / s .M < s .r = row-of s ok p hp in
-        let toX : (b : ℕ) → b < s .r → stack s (getD (l .self) (b * s .M + p % s .M) 0) ≡ j → b * s .M + p % s .M ≡ x =
-        λ b m q.
-        sym (preimage-of (l .self) (order s) ps (b * s .M + p % s .M) (place-lt s ok b (p % s .M) m pm))
-        ∙ ap (preimage (l .self) (order s)) (sym (unstack-stack s ok (getD (l .self) (b * s .M + p % s .M) 0) (self-place b (p % s .M) m pm)) ∙ ap (unstack s) q) in
-        let toP : (b : ℕ) → b < s .r → stack s (getD (l .parity) (b * s .M + x % s .M) 0) ≡ e → b * s .M + x % s .M ≡ p =
-        λ b m q.
-        sym (preimage-of (l .parity) (order s) pp (b * s .M + x % s .M) (place-lt s ok b (x % s .M) m xm))
-        ∙ ap (preimage (l .parity) (order s))
-        (sym (unstack-stack s ok (getD (l .parity) (b * s .M + x % s .M) 0) (pp .below (b * s .M + x % s .M) (place-lt s ok b (x % s .M) m xm))) ∙ ap (unstack s) q) in
-        pick-one (s .r) (λ b. stack s (getD (l .self) (b * s .M + p % s .M) 0)) j (λ b. coefficient s b (p / s .M)) (x / s .M) xr (coefficient-bit s (x / s .M) (p / s .M))
-        (λ b m q. sym (digits-div b pm) ∙ ap (λ (z : ℕ). z / s .M) (toX b m q))
-        ∙ ap (λ (z : Bool). cond z (coefficient s (x / s .M) (p / s .M)) 0)
-        (eqb-iff (stack s (getD (l .self) (x / s .M * s .M + p % s .M) 0)) j (stack s (getD (l .parity) (p / s .M * s .M + x % s .M) 0)) e
-        (λ q.
-        let same : p % s .M ≡ x % s .M = sym (digits-mod (x / s .M) pm) ∙ ap (λ (z : ℕ). z % s .M) (toX (x / s .M) xr q) in
-        ap (λ (z : ℕ). stack s (getD (l .parity) z 0)) (ap (λ (z : ℕ). p / s .M * s .M + z) (sym same) ∙ div-add-mod' p (s .M)) ∙ ap (stack s) (sp .1) ∙ stack-unstack s ok e he)
-        (λ q.
-        let same : x % s .M ≡ p % s .M = sym (digits-mod (p / s .M) xm) ∙ ap (λ (z : ℕ). z % s .M) (toP (p / s .M) pr q) in
-        ap (λ (z : ℕ). stack s (getD (l .self) z 0)) (ap (λ (z : ℕ). x / s .M * s .M + z) (sym same) ∙ div-add-mod' x (s .M)) ∙ ap (stack s) (sx .1) ∙ stack-unstack s ok j hj))
-        ∙ sym (pick-one (s .r) (λ b. stack s (getD (l .parity) (b * s .M + x % s .M) 0)) e (λ b. coefficient s (x / s .M) b) (p / s .M) pr (coefficient-bit s (x / s .M) (p / s .M))
-        (λ b m q. sym (digits-div b xm) ∙ ap (λ (z : ℕ). z / s .M) (toP b m q)))
-
-  pub system-column : (e j : ℕ) → e < order s → j < order s
-      → systemEntry s l e j
-      ≡ bitSum (sumBits (s .r) (λ a. cond (eqb (j / s .r * s .r + a) e) (coefficient s (j % s .r) a) 0))
-      (sumBits (s .r) (λ b. cond (eqb (stack s (getD (l .parity) (b * s .M + originOf j % s .M) 0)) e) (coefficient s (originOf j / s .M) b) 0))
-  system-column e j he hj = system-row e j he hj ∙ ap₂ bitSum (column-half e j he hj) (row-half e j he hj)

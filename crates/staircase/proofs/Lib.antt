@@ -6,6 +6,7 @@ pub mod Member
 pub mod Stretches
 pub mod Fill
 pub mod Matrix
+pub mod Square
 pub mod Parity
 pub mod System
 pub mod Solvable

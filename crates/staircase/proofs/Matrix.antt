@@ -96,7 +96,7 @@ sumBits-swap (suc n) m f =
 
 -- ---- matrices of bits, n × n, at a vector of bits
 
-abbrev BitMatrix : (ℕ → ℕ → ℕ) → Type 0
+abbrev pub BitMatrix : (ℕ → ℕ → ℕ) → Type 0
 BitMatrix a = (i j : ℕ) → a i j < 2
 
 pub apply-product : (n : ℕ) (a b : ℕ → ℕ → ℕ) (v : Contents) → BitMatrix a → BitMatrix b → ((k : ℕ) → v k < 2)

@@ -1,4 +1,4 @@
--- The vectors of specs/RowsK.antt and specs/SecondKit.antt, by computation. Two kinds of steps would be long, and go by laws: the products of the
+-- The vectors of specs/RowsK.antt and specs/SecondKit.antt, by computation. Two kinds of steps would be long, and go by laws: the product of the
 -- second kit, whose A is read from its rows, and the search for two errors, which ends at the codeword that is named here.
 --   rowsK       document 01's rows under kit K, and more of its refusals, of the word checker and of showing
 --   secondKit   the second kit
@@ -29,7 +29,7 @@ use Rattle.staircase.specs.SecondKit.{paramsS, selfS, parityS, inverseS,
 use Rattle.staircase.proofs.Search.{firstWhere-before}
 use Rattle.staircase.proofs.Tables.{tabulate-at}
 use Rattle.staircase.proofs.Matrix.{sumBits-same}
-use Rattle.staircase.proofs.Rules.{then-accepted, refuseFirst-accepted, design-limits, bytes-bits}
+use Rattle.staircase.proofs.Rules.{refuseFirst-accepted, design-limits, bytes-bits}
 use Rattle.staircase.proofs.Errors.{errorsAt, errors}
 use Rattle.staircase.proofs.Correction.{nearest-errors}
 use Rattle.staircase.proofs.BchCode.{apart-of}
@@ -116,18 +116,15 @@ wrongEntry-same n a b a₂ b₂ pos ha hb e h =
     ap (λ (z : ℕ). not (eqb z (identity i j)))
     (sumBits-same n (λ k. a i k * b k j) (λ k. a₂ i k * b₂ k j) (λ k m. ap₂ (λ (x y : ℕ). x * y) (ha i k hi m) (hb k j m hj)))
 
-none-wrong : (firstWhere 64 (wrongEntry 8 rowsOfA W) ≡ 64) × (firstWhere 64 (wrongEntry 8 W rowsOfA) ≡ 64)
+none-wrong : firstWhere 64 (wrongEntry 8 rowsOfA W) ≡ 64
 unfolding firstWhere wrongEntry product sumBits inverseEntry
-none-wrong = (refl, refl)
+none-wrong = refl
 
-products : inverseRule paramsS listsS inverseS ≡ accepted
+inverse-accepted : inverseRule paramsS listsS inverseS ≡ accepted
 unfolding inverseRule
-products =
-    then-accepted
-    (refuseFirst-accepted 9 0 64 (wrongEntry 8 A W) (λ e h. wrongEntry-same 8 A W rowsOfA W (omega arith) system-at (λ i j hi hj. refl) e h
-    ∙ firstWhere-before 64 (wrongEntry 8 rowsOfA W) e (omega (arith, h, none-wrong .0))))
-    (refuseFirst-accepted 9 64 64 (wrongEntry 8 W A) (λ e h. wrongEntry-same 8 W A W rowsOfA (omega arith) (λ i j hi hj. refl) system-at e h
-    ∙ firstWhere-before 64 (wrongEntry 8 W rowsOfA) e (omega (arith, h, none-wrong .1))))
+inverse-accepted =
+    refuseFirst-accepted 9 0 64 (wrongEntry 8 A W) (λ e h. wrongEntry-same 8 A W rowsOfA W (omega arith) system-at (λ i j hi hj. refl) e h
+    ∙ firstWhere-before 64 (wrongEntry 8 rowsOfA W) e (omega (arith, h, none-wrong)))
 
 -- rule 9 apart
 encoded-but : encodeCall 4 1 2 3 selfS parityS inverseS infoS (replicate (redLength paramsS 3) 255) (kitWork paramsS)
@@ -182,7 +179,7 @@ secondKit =
       system = system-rows;
       wrongBit = refl;
       encoded =
-          encoded-but ∙ ap (λ (v : Verdict). encodedBy (v then accepted) (replicate (redLength paramsS 3) 255) redS) products;
+          encoded-but ∙ ap (λ (v : Verdict). encodedBy (v then accepted) (replicate (redLength paramsS 3) 255) redS) inverse-accepted;
       corrected = refl;
       unsettled = refl;
       twoErrors = two-errors;

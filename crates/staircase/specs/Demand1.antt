@@ -34,8 +34,8 @@ pub data Table (n p : ℕ) : Type 0 where
   entry : n ≡ 7 → p < 2 * most-order → Table n p
   -- "row"
   spare : n ≡ 8 → p < most-order → Table n p
-  -- "row × M × r + column .. plus (M × r)²"
-  inverse : n ≡ 9 → p < 2 * (most-order * most-order) → Table n p
+  -- "row × M × r + column"
+  inverse : n ≡ 9 → p < most-order * most-order → Table n p
   bit : n ≡ 10 → Table n p
   kitText : n ≡ 11 → Table n p
   blockText : n ≡ 12 → Table n p

@@ -135,12 +135,11 @@ spareRule s w = refuseFirst 8 0 (order s) (spareRow w (order s))
 unfoldable pub wrongEntry : ℕ → (ℕ → ℕ → ℕ) → (ℕ → ℕ → ℕ) → ℕ → Bool
 wrongEntry n a b e = not (eqb (product n a b (e / n) (e % n)) (identity (e / n) (e % n)))
 
--- "9 inverse: row × M × r + column; first wrong entry of A W; if none, of W A, plus (M × r)²"
+-- "9 inverse: row × M × r + column; first wrong entry of A W"; W A is then the identity too (`either-order` in proofs/Square.antt)
 unfoldable pub inverseRule : Params → Interleavers → List ℕ → Verdict
 inverseRule s l w =
     let n : ℕ = order s in
     refuseFirst 9 0 (n * n) (wrongEntry n (systemEntry s l) (inverseEntry w n))
-    then refuseFirst 9 (n * n) (n * n) (wrongEntry n (inverseEntry w n) (systemEntry s l))
 
 -- rules 7 to 9: "It passes exactly when both lists are permutations, spare bits of W are 0, A W is the identity and W A is the identity"
 unfoldable pub kitRules : Params → Interleavers → List ℕ → Verdict

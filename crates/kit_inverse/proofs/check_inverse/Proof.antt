@@ -51,7 +51,8 @@ judge-requires c κs =
     let d : r .result - 0 ≡ a .d .m * a .d .t = omega arith in
     let q : r .result ≤ length (f .last .1 .0) = omega arith in
     let w : length (f .last .1 .0) ≡ 2 * (a .d .m * a .d .t) = omega arith in
-    (h, part-of (paramsOf (a .d)) (f .last .1 .0) _ (f .ensures .0) w (middle-is (f .last .1 .0) _ 0 (r .result) (omega arith) q ∙ ap (λ (k : ℕ). take k (f .last .1 .0)) d) (c .before .judge-arg .given .2 ∙ d))
+    let first = middle-is (f .last .1 .0) _ 0 (r .result) (omega arith) q ∙ ap (λ (k : ℕ). take k (f .last .1 .0)) d in
+    (h, part-of (paramsOf (a .d)) (f .last .1 .0) _ (f .ensures .0) w first (c .before .judge-arg .given .2 ∙ d))
 
 same-length : tie.Need-same-length
 same-length c = search needs

@@ -1,9 +1,9 @@
--- The line's place in Y or P is below M × r.
+-- The row's place in Y or P is below M × r.
 -- Assumes nothing.
 use native.Mathlib.Omega.{arith}
 use mathlib.Core.Path.{refl}
 use Prim.Native.Nat.{_*_}
-use Rattle.kit_system.specs.Lines.{unstackOf}
+use Rattle.kit_system.specs.Rows.{unstackOf}
 use Rattle.kit_products.proofs.Sizes.{unstacked}
 use Rattle.kit_products.proofs.source.Statement.{statement}
 use Rattle.kit_products.proofs.source.Tie as tie

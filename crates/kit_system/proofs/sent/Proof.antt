@@ -8,7 +8,7 @@ use native.Mathlib.Omega.{arith}
 use lib.ListN.{getD}
 use Rattle.staircase.specs.Rules.{entries}
 use Rattle.rules.proofs.Entries.{entry-at}
-use Rattle.kit_system.specs.Lines.{stackOf}
+use Rattle.kit_system.specs.Rows.{stackOf}
 use Rattle.kit_system.proofs.Terms.{stackOf-below}
 use Rattle.staircase.proofs.Bounds.{place-below}
 use Rattle.kit_system.proofs.sent.Statement.{statement}

@@ -8,18 +8,18 @@ use Rattle.staircase.specs.Lists.{sumBits}
 use Rattle.staircase.specs.Rules.{entries}
 use Rattle.matrix.specs.Packed.{packedBit}
 use Rattle.matrix.proofs.Packed.{packedBit-zeros}
-use Rattle.kit_system.specs.Lines.{lineDigit, lineTerm, lineEntry}
+use Rattle.kit_system.specs.Rows.{digit, rowTerm, rowEntry}
 use Rattle.kit_system.proofs.Terms.{Sized, sized, sum-more}
-use Rattle.kit_system.proofs.system_line.Statement.{statement}
-use Rattle.kit_system.proofs.system_line.Tie as tie
+use Rattle.kit_system.proofs.system_row.Statement.{statement}
+use Rattle.kit_system.proofs.system_row.Tie as tie
 
 abbrev Inv-loop : tie.InvT-loop
-Inv-loop out₀ list n part size column p e r b₀ out b =
+Inv-loop out₀ own n part size p e r b₀ out b =
     Sized size (length part) e p × (b ≤ length part) × (length out ≡ length out₀)
-    × ((k : ℕ) → packedBit out k ≡ sumBits b (lineTerm (lineDigit part column) (length part) (entries n list) size p e k))
+    × ((k : ℕ) → packedBit out k ≡ sumBits b (rowTerm (digit part) (length part) (entries n own) size p e k))
 
 abbrev μ-loop : tie.MeasureT-loop
-μ-loop out₀ list n part size column p e r b₀ out b = length part - b
+μ-loop out₀ own n part size p e r b₀ out b = length part - b
 
 clear-requires : tie.Need-clear-requires Inv-loop μ-loop
 clear-requires c κs = tt
@@ -35,11 +35,11 @@ loop-holds c =
       λ k. rw (c .before .before .clear .ensures) (packedBit-zeros (length (a .out .now)) k),
     )
 
-rem-line-digit : tie.Need-rem-line-digit Inv-loop μ-loop
-rem-line-digit c = omega arith
+rem-digit-at : tie.Need-rem-digit-at Inv-loop μ-loop
+rem-digit-at c = omega arith
 
-line-digit-requires : tie.Need-line-digit-requires Inv-loop μ-loop
-line-digit-requires c κs = omega arith
+digit-at-requires : tie.Need-digit-at-requires Inv-loop μ-loop
+digit-at-requires c κs = omega arith
 
 div-add-bit : tie.Need-div-add-bit Inv-loop μ-loop
 div-add-bit c = omega arith
@@ -53,17 +53,19 @@ add-add-bit c = omega arith
 add-bit-requires : tie.Need-add-bit-requires Inv-loop μ-loop
 add-bit-requires c κs = omega arith
 
-div-line-digit : tie.Need-div-line-digit Inv-loop μ-loop
-div-line-digit c = omega arith
+div-digit-at : tie.Need-div-digit-at Inv-loop μ-loop
+div-digit-at c = omega arith
 
-line-digit-requires-2 : tie.Need-line-digit-requires-2 Inv-loop μ-loop
-line-digit-requires-2 c κs = omega arith
+digit-at-requires-2 : tie.Need-digit-at-requires-2 Inv-loop μ-loop
+digit-at-requires-2 c κs = omega arith
 
 rem-sent : tie.Need-rem-sent Inv-loop μ-loop
 rem-sent c = omega arith
 
 sent-requires : tie.Need-sent-requires Inv-loop μ-loop
-sent-requires c κs = let h = c .before .before .before .before .before .before .before .before .before .before .before .before .before .before .before .pre in (h .0, omega arith, omega arith, h .3, omega arith, h .7)
+sent-requires c κs =
+    let h = c .before .before .before .before .before .before .before .before .before .before .before .before .before .before .before .pre in
+    (h .0, omega arith, omega arith, h .3, omega arith, h .7)
 
 add-bit-requires-2 : tie.Need-add-bit-requires-2 Inv-loop μ-loop
 add-bit-requires-2 c κs = omega arith
@@ -76,17 +78,18 @@ loop-less c = omega arith
 
 loop-again : tie.Need-loop-again Inv-loop μ-loop
 loop-again c =
-    let a = c .before .before .before .before .before .before .before .before .before .before .before .before .before .before .before .before .before .before .before .before .args in
-    let l = c .before .before .before .before .before .before .before .before .before .before .before .before .loop in
-    let v = c .before .before .before .before .before .before .before .before .before .before .line-digit .ensures .0 in
+    let at = c .before .before .before .before .before .before .before .before .before .before .before .before in
+    let a = at .before .before .before .before .before .before .before .before .args in
+    let l = at .loop in
+    let v = c .before .before .before .before .before .before .before .before .before .before .digit-at .ensures .0 in
     let first = c .before .before .before .before .before .before .before .before .add-bit .ensures in
-    let w = c .before .before .before .before .before .line-digit2 .ensures .0 in
+    let w = c .before .before .before .before .before .digit-at2 .ensures .0 in
     let place = c .before .before .before .before .sent .ensures .0 in
     let second = c .before .before .add-bit2 .ensures in (
       l .inv .0,
       omega arith,
       second .0 ∙ first .0 ∙ l .inv .2,
-      λ k. sum-more (lineTerm (lineDigit (a .part .now) (a .column)) (length (a .part .now)) (entries (a .n) (a .list .now)) (a .size) (a .p) (a .e) k) (l .b) _ _ _ _ _
+      λ k. sum-more (rowTerm (digit (a .part .now)) (length (a .part .now)) (entries (a .n) (a .own .now)) (a .size) (a .p) (a .e) k) (l .b) _ _ _ _ _
           (l .inv .3 k) (first .1 k) (second .1 k) (sym (rw (v, w, place))),
     )
 
@@ -94,28 +97,28 @@ same-length : tie.Need-same-length Inv-loop μ-loop
 same-length c = omega arith
 
 returns : tie.Need-returns Inv-loop μ-loop
-unfolding lineEntry
+unfolding rowEntry
 returns c =
     let l = c .before .loop in
     let e : l .b ≡ length (c .before .before .before .before .before .before .before .before .before .args .part .now) = omega arith in
     (omega arith, λ k. rw e at (l .inv .3 k))
 
-pub system-line-spec : {M : Type 1} → statement M
-system-line-spec =
+pub system-row-spec : {M : Type 1} → statement M
+system-row-spec =
     tie.close
     (tie.spec
     Inv-loop
     μ-loop
     clear-requires
     loop-holds
-    rem-line-digit
-    line-digit-requires
+    rem-digit-at
+    digit-at-requires
     div-add-bit
     mul-add-bit
     add-add-bit
     add-bit-requires
-    div-line-digit
-    line-digit-requires-2
+    div-digit-at
+    digit-at-requires-2
     rem-sent
     sent-requires
     add-bit-requires-2

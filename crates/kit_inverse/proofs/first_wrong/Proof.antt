@@ -6,24 +6,25 @@ use mathlib.Core.Path.{sym, ap, _∙_}
 use Prim.Native.Nat.{ℕ, _*_}
 use Rattle.staircase.specs.System.{rowBytes}
 use Rattle.design.proofs.Allowed.{order-positive}
-use Rattle.kit_inverse.proofs.Whole.{sides, left-found}
-use Rattle.kit_inverse.proofs.left_place.Statement.{statement}
-use Rattle.kit_inverse.proofs.left_place.Tie as tie
+use Rattle.kit_inverse.proofs.Whole.{sides, wrong-found}
+use Rattle.kit_inverse.proofs.first_wrong.Statement.{statement}
+use Rattle.kit_inverse.proofs.first_wrong.Tie as tie
 
 order-requires : tie.Need-order-requires
 order-requires c κs = search needs
 
 planes-of-rows-requires : tie.Need-planes-of-rows-requires
 planes-of-rows-requires c κs =
+    let a = c .before .before .before .before .before .before .before .args in
     let s = c .before .before .before .before .before .before .before .pre .0 .sized in
-    let e = c .before .order .ensures .0 in
-    (omega (arith, order-positive (c .before .before .before .before .before .before .before .args .d) (s .allowed)), omega (arith, s .allowed .order-high), s .inverseLength ∙ ap (λ (k : ℕ). k * rowBytes k) (sym e), s .workLength ∙ ap (λ (k : ℕ). k * rowBytes k) (sym e))
+    let e = ap (λ (k : ℕ). k * rowBytes k) (sym (c .before .order .ensures .0)) in
+    (omega (arith, order-positive (a .d) (s .allowed)), omega (arith, s .allowed .order-high), s .inverseLength ∙ e, s .workLength ∙ e)
 
 size-requires : tie.Need-size-requires
 size-requires c κs = search needs
 
-left-place-requires : tie.Need-left-place-requires
-left-place-requires c κs =
+first-wrong-requires : tie.Need-first-wrong-requires
+first-wrong-requires c κs =
     let a = c .before .before .before .before .before .before .before .before .before .before .before .before .args in
     let h = c .before .before .before .before .before .before .before .before .before .before .before .before .pre in
     let o = c .before .before .before .before .before .before .order in
@@ -39,15 +40,17 @@ returns c =
     let h = c .before .before .before .before .before .before .before .before .before .before .before .before .before .pre in
     let o = c .before .before .before .before .before .before .before .order in
     let t = c .before .before .before .before .before .planes-of-rows in
-    rw (c .before .before .size .ensures) at (c .left-place .ensures) ∙ left-found (a .d) (a .own .now) (a .parity .now) (a .inverse .now) (a .work .now) (h .0) (o .result) (o .ensures .0) (a .part .now) (h .1) _ (t .ensures .1)
+    rw (c .before .before .size .ensures) at (c .first-wrong .ensures)
+    ∙ wrong-found (a .d) (a .own .now) (a .parity .now) (a .inverse .now) (a .work .now) (h .0) (o .result) (o .ensures .0)
+    (a .part .now) (h .1) _ (t .ensures .1)
 
-pub left-place-spec : {M : Type 1} → statement M
-left-place-spec =
+pub first-wrong-spec : {M : Type 1} → statement M
+first-wrong-spec =
     tie.close
     (tie.spec
     order-requires
     planes-of-rows-requires
     size-requires
-    left-place-requires
+    first-wrong-requires
     same-length
     returns)

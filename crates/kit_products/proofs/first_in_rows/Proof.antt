@@ -11,16 +11,21 @@ use lib.ListN.{length, getD}
 use Rattle.staircase.specs.Lists.{firstWhere}
 use Rattle.staircase.specs.Rules.{entries}
 use Rattle.staircase.proofs.Bounds.{stretch-end}
-use Rattle.kit_system.specs.Lines.{unstackOf, lineEntry}
+use Rattle.kit_system.specs.Rows.{unstackOf, rowEntry}
 use Rattle.kit_products.specs.Products.{wrongIn}
 use Rattle.kit_products.proofs.Search.{row-found, row-clean, rows-none}
 use Rattle.kit_products.proofs.Sizes.{square-small}
-use Rattle.kit_products.proofs.left_rows.Statement.{statement}
-use Rattle.kit_products.proofs.left_rows.Tie as tie
+use Rattle.kit_products.proofs.first_in_rows.Statement.{statement}
+use Rattle.kit_products.proofs.first_in_rows.Tie as tie
 
 -- entry x of row e is wrong
 abbrev wrong : (own : List ℕ) (n : ℕ) (part : List ℕ) (size : ℕ) (t places : List ℕ) → ℕ → ℕ → Bool
-wrong own n part size t places e = wrongIn (lineEntry part false (entries n own) size (getD places (unstackOf size (length part) e) 0) e) t n e
+wrong own n part size t places e = wrongIn (rowEntry part (entries n own) size (getD places (unstackOf size (length part) e) 0) e) t n e
+
+-- the row's first wrong entry x, for the place p that it is sent from
+row-first : (own : List ℕ) (n : ℕ) (part : List ℕ) (size : ℕ) (t places : List ℕ) (e p x : ℕ) → p ≡ getD places (unstackOf size (length part) e) 0
+    → x ≡ firstWhere n (wrongIn (rowEntry part (entries n own) size p e) t n e) → x ≡ firstWhere n (wrong own n part size t places e)
+row-first own n part size t places e p x s d = d ∙ ap (λ (p : ℕ). firstWhere n (wrongIn (rowEntry part (entries n own) size p e) t n e)) s
 
 abbrev Inv-loop : tie.InvT-loop
 Inv-loop own n part size t places e₀ e = (e ≤ n) × ((i : ℕ) → i < e * n → wrong own n part size t places (i / n) (i % n) ≡ false)
@@ -40,29 +45,35 @@ source-requires c κs =
     let d = s .order in
     (h .1 ∙ d, omega (arith, d, s .small), omega (arith, d), subst (λ (n : ℕ). (q : ℕ) → q < n → getD (a .places .now) q 0 < n) d (h .2))
 
-line-first-requires : tie.Need-line-first-requires Inv-loop μ-loop
-line-first-requires c κs = search needs
+first-in-row-requires : tie.Need-first-in-row-requires Inv-loop μ-loop
+first-in-row-requires c κs = search needs
 
 mul-result : tie.Need-mul-result Inv-loop μ-loop
 mul-result c =
-    let l = c .before .before .before .before .loop in
-    let a = c .before .before .before .before .before .before .before .before .before .args in
-    omega (arith, stretch-end (l .e) (a .n) (a .n) (omega arith), stretch-end (c .before .line-first .result) (a .n) (a .n) (omega arith), square-small (a .n) (c .before .before .before .before .before .before .before .before .before .pre .0 .small))
+    let n = c .before .before .before .before .before .before .before .before .before .args .n in
+    let s = c .before .before .before .before .before .before .before .before .before .pre .0 in
+    let e = stretch-end (c .before .before .before .before .loop .e) n n (omega arith) in
+    let x = stretch-end (c .before .first-in-row .result) n n (omega arith) in
+    omega (arith, e, x, square-small n (s .small))
 
 add-result : tie.Need-add-result Inv-loop μ-loop
 add-result c =
-    let l = c .before .before .before .before .loop in
-    let a = c .before .before .before .before .before .before .before .before .before .args in
-    omega (arith, stretch-end (l .e) (a .n) (a .n) (omega arith), stretch-end (c .before .line-first .result) (a .n) (a .n) (omega arith), square-small (a .n) (c .before .before .before .before .before .before .before .before .before .pre .0 .small))
+    let n = c .before .before .before .before .before .before .before .before .before .args .n in
+    let s = c .before .before .before .before .before .before .before .before .before .pre .0 in
+    let e = stretch-end (c .before .before .before .before .loop .e) n n (omega arith) in
+    let x = stretch-end (c .before .first-in-row .result) n n (omega arith) in
+    omega (arith, e, x, square-small n (s .small))
 
 returns : tie.Need-returns Inv-loop μ-loop
 returns c =
     let l = c .before .before .before .before .loop in
     let a = c .before .before .before .before .before .before .before .before .before .args in
-    let r = c .before .line-first in
-    let s = c .before .before .source .ensures .0 in
-    let x : r .result ≡ firstWhere (a .n) (wrong (a .own .now) (a .n) (a .part .now) (a .size) (a .t .now) (a .places .now) (l .e)) = r .ensures ∙ ap (λ (p : ℕ). firstWhere (a .n) (wrongIn (lineEntry (a .part .now) false (entries (a .n) (a .own .now)) (a .size) p (l .e)) (a .t .now) (a .n) (l .e))) s in
-    row-found (a .n) (wrong (a .own .now) (a .n) (a .part .now) (a .size) (a .t .now) (a .places .now)) (l .e) (r .result) (omega arith) (omega arith) x (l .inv .1)
+    let r = c .before .first-in-row in
+    let x =
+    row-first (a .own .now) (a .n) (a .part .now) (a .size) (a .t .now) (a .places .now) (l .e) _ (r .result)
+    (c .before .before .source .ensures .0) (r .ensures) in
+    row-found (a .n) (wrong (a .own .now) (a .n) (a .part .now) (a .size) (a .t .now) (a .places .now)) (l .e) (r .result)
+    (omega arith) (omega arith) x (l .inv .1)
 
 add-e : tie.Need-add-e Inv-loop μ-loop
 add-e c = omega arith
@@ -74,13 +85,17 @@ loop-again : tie.Need-loop-again Inv-loop μ-loop
 loop-again c =
     let l = c .before .before .before .before .loop in
     let a = c .before .before .before .before .before .before .before .before .before .args in
-    let r = c .before .line-first in
-    let s = c .before .before .source .ensures .0 in
-    let x : r .result ≡ firstWhere (a .n) (wrong (a .own .now) (a .n) (a .part .now) (a .size) (a .t .now) (a .places .now) (l .e)) = r .ensures ∙ ap (λ (p : ℕ). firstWhere (a .n) (wrongIn (lineEntry (a .part .now) false (entries (a .n) (a .own .now)) (a .size) p (l .e)) (a .t .now) (a .n) (l .e))) s in
-    (omega arith, row-clean (a .n) (wrong (a .own .now) (a .n) (a .part .now) (a .size) (a .t .now) (a .places .now)) (l .e) (r .result) (omega arith) x (l .inv .1))
+    let r = c .before .first-in-row in
+    let x =
+    row-first (a .own .now) (a .n) (a .part .now) (a .size) (a .t .now) (a .places .now) (l .e) _ (r .result)
+    (c .before .before .source .ensures .0) (r .ensures) in
+    let G = wrong (a .own .now) (a .n) (a .part .now) (a .size) (a .t .now) (a .places .now) in
+    (omega arith, row-clean (a .n) G (l .e) (r .result) (omega arith) x (l .inv .1))
 
 mul-result-2 : tie.Need-mul-result-2 Inv-loop μ-loop
-mul-result-2 c = omega (arith, square-small (c .before .before .before .before .before .before .args .n) (c .before .before .before .before .before .before .pre .0 .small))
+mul-result-2 c =
+    let s = c .before .before .before .before .before .before .pre .0 in
+    omega (arith, square-small (c .before .before .before .before .before .before .args .n) (s .small))
 
 returns-2 : tie.Need-returns-2 Inv-loop μ-loop
 returns-2 c =
@@ -88,15 +103,15 @@ returns-2 c =
     let a = c .before .before .before .before .before .before .args in
     rows-none (a .n) (wrong (a .own .now) (a .n) (a .part .now) (a .size) (a .t .now) (a .places .now)) (l .e) (omega arith) (l .inv .1)
 
-pub left-rows-spec : {M : Type 1} → statement M
-left-rows-spec =
+pub first-in-rows-spec : {M : Type 1} → statement M
+first-in-rows-spec =
     tie.close
     (tie.spec
     Inv-loop
     μ-loop
     loop-holds
     source-requires
-    line-first-requires
+    first-in-row-requires
     mul-result
     add-result
     returns

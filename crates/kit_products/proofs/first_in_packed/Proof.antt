@@ -1,4 +1,4 @@
--- The line masks the planes, and the first wrong byte is the first wrong entry.
+-- The row masks the planes, and the first wrong byte is the first wrong entry.
 -- Assumes nothing.
 use native.Mathlib.Omega.{arith}
 use borrow.Author.Needs.{needs}
@@ -6,8 +6,8 @@ use mathlib.Core.Path.{_≡_, _∙_}
 use lib.ListN.{length}
 use Rattle.words_positions.proofs.Parts.{part-fits, part-is}
 use Rattle.kit_products.proofs.Found.{found}
-use Rattle.kit_products.proofs.first_in_line.Statement.{statement}
-use Rattle.kit_products.proofs.first_in_line.Tie as tie
+use Rattle.kit_products.proofs.first_in_packed.Statement.{statement}
+use Rattle.kit_products.proofs.first_in_packed.Tie as tie
 
 sub-mask-rows : tie.Need-sub-mask-rows
 sub-mask-rows c = search needs
@@ -42,10 +42,10 @@ returns c =
     let h = c .before .before .before .before .before .before .before .before .pre in
     let m = c .before .before .before .before .mask-rows in
     let d : length (m .last .0) ≡ a .n = omega arith in
-    c .first-wrong .ensures ∙ found (a .line .now) (a .t .now) (a .n) (a .e) (h .4) (m .last .0) _ (m .ensures .1) (part-is _ _ _ d) d
+    c .first-wrong .ensures ∙ found (a .row .now) (a .t .now) (a .n) (a .e) (h .4) (m .last .0) _ (m .ensures .1) (part-is _ _ _ d) d
 
-pub first-in-line-spec : {M : Type 1} → statement M
-first-in-line-spec =
+pub first-in-packed-spec : {M : Type 1} → statement M
+first-in-packed-spec =
     tie.close
     (tie.spec
     sub-mask-rows

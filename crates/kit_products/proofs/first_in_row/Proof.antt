@@ -1,0 +1,75 @@
+-- A packed row of A has no bit past n, and its first wrong entry is that of the row.
+-- Assumes nothing.
+use native.Mathlib.Omega.{arith}
+use borrow.Author.Needs.{needs}
+use mathlib.Core.Path.{_≡_, _∙_}
+use Prim.Native.Nat.{_+_, _/_}
+use lib.ListN.{length}
+use Rattle.staircase.specs.Rules.{entries}
+use Rattle.kit_system.specs.Rows.{rowEntry}
+use Rattle.words_positions.proofs.Parts.{part-fits, part-is}
+use Rattle.kit_products.proofs.Sizes.{row-zeros}
+use Rattle.kit_products.proofs.Found.{packed-spare, packed-found}
+use Rattle.kit_products.proofs.first_in_row.Statement.{statement}
+use Rattle.kit_products.proofs.first_in_row.Tie as tie
+
+add-rb : tie.Need-add-rb
+add-rb c = search needs
+
+sub-system-row : tie.Need-sub-system-row
+sub-system-row c = search needs
+
+part-row-start : tie.Need-part-row-start
+part-row-start c = search needs
+
+part-row-end : tie.Need-part-row-end
+part-row-end c = search needs
+
+system-row-requires : tie.Need-system-row-requires
+system-row-requires c κs = search needs
+
+sub-first-in-packed : tie.Need-sub-first-in-packed
+sub-first-in-packed c = search needs
+
+part-first-in-packed-start : tie.Need-part-first-in-packed-start
+part-first-in-packed-start c = search needs
+
+part-first-in-packed-end : tie.Need-part-first-in-packed-end
+part-first-in-packed-end c =
+    let s = c .before .before .system-row in
+    let d : length (s .last .0) ≡ (c .before .before .before .before .before .before .before .args .n + 7) / 8 = omega arith in
+    part-fits (s .last .0) _ _ d
+
+first-in-packed-requires : tie.Need-first-in-packed-requires
+first-in-packed-requires c κs =
+    let a = c .before .before .before .before .before .before .before .before .args in
+    let s = c .before .before .before .system-row in
+    let f = rowEntry (a .part .now) (entries (a .n) (a .own .now)) (a .size) (a .p) (a .e) in
+    let d : length (s .last .0) ≡ (a .n + 7) / 8 = omega arith in
+    let h = c .before .before .before .before .before .before .before .before .pre in
+    let l = h .0 in
+    let zeros = row-zeros (a .n) (a .size) (a .own .now) (a .part .now) (a .t .now) l (a .p) (a .e) (h .2) (h .1) in
+    (l .positive, l .small, omega arith, l .planesLength, packed-spare (a .n) f (s .last .0) _ (s .ensures .1) (part-is _ _ _ d) zeros)
+
+returns : tie.Need-returns
+returns c =
+    let a = c .before .before .before .before .before .before .before .before .before .args in
+    let s = c .before .before .before .before .system-row in
+    let f = rowEntry (a .part .now) (entries (a .n) (a .own .now)) (a .size) (a .p) (a .e) in
+    let d : length (s .last .0) ≡ (a .n + 7) / 8 = omega arith in
+    c .first-in-packed .ensures ∙ packed-found (a .n) f (s .last .0) _ (s .ensures .1) (part-is _ _ _ d) (a .t .now) (a .e)
+
+pub first-in-row-spec : {M : Type 1} → statement M
+first-in-row-spec =
+    tie.close
+    (tie.spec
+    add-rb
+    sub-system-row
+    part-row-start
+    part-row-end
+    system-row-requires
+    sub-first-in-packed
+    part-first-in-packed-start
+    part-first-in-packed-end
+    first-in-packed-requires
+    returns)
