@@ -1,6 +1,7 @@
 /* The library beside the plain implementation, in one run: prints ratios of the library's time to the plain one's, and stops with 1 if any
    result differs. Encoding alone is the difference between two frames under one kit, divided by the groups between them, so that the kit check
-   that the encoder makes drops out. The word checker and the decoder get frames with errors, a copy each, written just before. All times are the
+   that the encoder makes drops out. A frame whose last information byte is no bit is refused beside a search of its bytes alone: the encoder asks
+   rule 10 before it multiplies. The word checker and the decoder get frames with errors, a copy each, written just before. All times are the
    least of several turns, in which the two take turns. */
 
 #include "../include/bauchleton.h"
@@ -101,7 +102,7 @@ int main(void)
         for (size_t k = 0; k < LONG * area; k++)
             info[k] = plain_random(&state) & 1;
 
-        double check[2] = {1e9, 1e9}, encode[2][2] = {{1e9, 1e9}, {1e9, 1e9}};
+        double check[2] = {1e9, 1e9}, encode[2][2] = {{1e9, 1e9}, {1e9, 1e9}}, bad[2] = {1e9, 1e9};
         for (unsigned turn = 0; turn < TURNS; turn++) {
             double a = now();
             differ |= plain_check_kit(m, t, M, self, parity, inverse, &place) != 0;
@@ -120,10 +121,22 @@ int main(void)
                 encode[1][l] = least(encode[1][l], now() - b);
                 differ |= memcmp(red, other, L / 2 * group) != 0;
             }
+            uint8_t last = info[SHORT * area - 1];
+            info[SHORT * area - 1] = 7;
+            a = now();
+            differ |= plain_first_bad_bit(info, SHORT * area) != SHORT * area - 1;
+            b = now();
+            differ |= bauchleton_encode(m, t, M, SHORT, self, lists, parity, lists, inverse, matrix, info, SHORT * area, red, SHORT / 2 * group, work,
+                                        matrix, answer, 1) != 10 || answer[0] != SHORT * area - 1;
+            bad[0] = least(bad[0], b - a);
+            bad[1] = least(bad[1], now() - b);
+            info[SHORT * area - 1] = last;
         }
         double plain = (encode[0][1] - encode[0][0]) / 16, ours = (encode[1][1] - encode[1][0]) / 16;
         printf("m %u t %u M %u, %u rows: kit check %.4f s, plain %.4f s, ratio %.2f; 32 blocks %.5f s, plain %.5f s, ratio %.2f\n", m, t, M, s.size,
                check[1], check[0], check[1] / check[0], ours, plain, ours / plain);
+        printf("  a bad last byte refused in %.0f us, %.2f of the kit check; its bytes searched plainly in %.0f us, ratio %.2f\n", bad[1] * 1e6,
+               bad[1] / check[1], bad[0] * 1e6, bad[1] / bad[0]);
         memcpy(info + SHORT * area, red, SHORT / 2 * group);    /* the first blocks and groups are a frame by themselves */
         differ |= time_frame(m, t, M, &s, self, parity, info);
         free(self), free(parity), free(inverse), free(work), free(info), free(red), free(other);

@@ -753,8 +753,7 @@ static uint64_t count_outside(words *f)
     return outside;
 }
 
-/* The first byte above 1, or the length. */
-static size_t first_bad_bit(const uint8_t *bytes, size_t length)
+size_t plain_first_bad_bit(const uint8_t *bytes, size_t length)
 {
     size_t start = 0, end = 0;
     for (uint8_t any = 0; any <= 1 && end < length;) {
@@ -793,9 +792,9 @@ static int judge_frame(unsigned m, unsigned t, unsigned M, unsigned L, unsigned 
     rule = judge_lists(s.size, lent->self, lent->parity, place);
     if (rule)
         return rule;
-    size_t bad = first_bad_bit(lent->info, info);
+    size_t bad = plain_first_bad_bit(lent->info, info);
     if (bad == info)
-        bad += first_bad_bit(lent->red, red);
+        bad += plain_first_bad_bit(lent->red, red);
     if (bad == info + red)
         return 0;
     *place = bad;

@@ -51,6 +51,9 @@ int plain_words(unsigned m, unsigned t, unsigned M, unsigned L, const plain_fram
    of a word are then found in a fixed number of steps. */
 int plain_decode(unsigned m, unsigned t, unsigned M, unsigned L, unsigned rounds, const plain_frame *lent, uint64_t counts[3], uint64_t *place);
 
+/* The first byte above 1, or the length. */
+size_t plain_first_bad_bit(const uint8_t *bytes, size_t length);
+
 /* Makes W by elimination: 1 and the inverse written, or 0 and nothing written if A has no inverse. */
 int plain_make_inverse(unsigned m, unsigned t, unsigned M, const uint8_t *self, const uint8_t *parity, uint8_t *inverse);
 

@@ -27,7 +27,8 @@ uint64_t bauchleton_check_kit(uint64_t m, uint64_t t, uint64_t size, const uint8
                               size_t parity_length, const uint8_t *inverse, size_t inverse_length, uint8_t *work, size_t work_length,
                               uint64_t *answer, size_t answer_length);
 
-/* Writes the redundancy. answer, 1 entry: place */
+/* Writes the redundancy. Rule 10 comes before 9: information with a byte above 1 is refused before the inverse is multiplied.
+   answer, 1 entry: place */
 uint64_t bauchleton_encode(uint64_t m, uint64_t t, uint64_t size, uint64_t blocks, const uint8_t *self, size_t self_length,
                            const uint8_t *parity, size_t parity_length, const uint8_t *inverse, size_t inverse_length, const uint8_t *info,
                            size_t info_length, uint8_t *red, size_t red_length, uint8_t *work, size_t work_length, uint64_t *answer,
@@ -43,7 +44,8 @@ uint64_t bauchleton_decode(uint64_t m, uint64_t t, uint64_t size, uint64_t block
                            const uint8_t *parity, size_t parity_length, uint8_t *info, size_t info_length, uint8_t *red, size_t red_length,
                            uint8_t *work, size_t work_length, uint64_t *answer, size_t answer_length);
 
-/* Encodes, turns the bits whose byte in a pattern is not 0, and decodes in place. Rules 1 to 10 rise, and nothing is written before all have passed.
+/* Encodes, turns the bits whose byte in a pattern is not 0, and decodes in place. Rules 1 to 10 rise, but for 10 before 9, and nothing is
+   written before all have passed.
    answer, 4 entries: place, rounds made, bits turned, words outside the code at the end */
 uint64_t bauchleton_loopback(uint64_t m, uint64_t t, uint64_t size, uint64_t blocks, uint64_t rounds, const uint8_t *self, size_t self_length,
                              const uint8_t *parity, size_t parity_length, const uint8_t *inverse, size_t inverse_length,

@@ -139,6 +139,20 @@ fn rows_of_k(case: &mut Case) {
     last.inverse[3] = 0b1010;
     case.same("last row of W 0101", Err((9, 7)), check_kit(&last, d.kit_work()));
     case.all(&Lent::new(&last, 2, vec![0, 1], vec![0; 8]));
+    // U4: a byte of 7 under a wrong inverse; with a spare bit of the inverse; with a repeated entry; good bytes
+    let mut spare = last.clone();
+    spare.inverse[2] |= 0x10;
+    let mut repeated = spare.clone();
+    repeated.parity[2..4].copy_from_slice(&kit.parity[..2]);
+    for (name, wrong, bytes, refusal) in [
+        ("7 under a wrong inverse", &last, [0, 7], (10, 1)),
+        ("7 beside a spare bit", &spare, [0, 7], (8, 2)),
+        ("7 beside a repeated entry", &repeated, [0, 7], (7, 5)),
+        ("good bytes under a wrong inverse", &last, [0, 1], (9, 7)),
+    ] {
+        case.same(name, Err(refusal), encode(wrong, 2, &bytes, 8, d.kit_work()));
+        case.all(&Lent::new(wrong, 2, bytes.to_vec(), vec![0; 8]));
+    }
     for (blocks, group, rounds, after, kept, counts) in [
         ("01", "0001 0111", 0, "01", "0001 0110", (2, 1, 0)),
         ("01", "0001 0111", 1, "01", "0001 0110", (1, 1, 0)),
@@ -407,7 +421,8 @@ fn lengths(case: &mut Case) {
 }
 
 /// Bytes above 1 at the first, a middle and the last place of information and redundancy, also beside a
-/// repeated list entry (7) and a wrong inverse (9), which come first.
+/// repeated list entry (7) and a spare bit of the inverse (8), which come first, and under a wrong inverse
+/// (9), which comes after.
 fn bits_above_one(case: &mut Case) {
     let good = case.context.kit(designs(60)[case.index / 2]);
     let blocks = 1 + case.rng.below(4);
@@ -439,6 +454,10 @@ fn bits_above_one(case: &mut Case) {
         let mut turned = lent.clone();
         turned.inverse[0] ^= 1;
         case.all(&turned);
+        if good.d.order() % 8 != 0 {
+            *turned.inverse.last_mut().unwrap() ^= 0x80;
+            case.all(&turned);
+        }
     }
 }
 

@@ -417,16 +417,21 @@ fn bits(bytes: impl Iterator<Item = u8>) -> Answer<()> {
     }
 }
 
-/// Rules 8 and 9, for lists that are permutations. Rule 9: "row × M × r + column", the first wrong entry of
-/// A W; W A is the identity exactly when A W is, and is not made. The answer is W.
-fn inverse_of(shape: &Shape, inverse: &[u8]) -> Answer<Matrix> {
-    let (order, width) = (shape.d.order(), shape.d.row_bytes());
+/// Rule 8: a row of W with a spare bit that is set.
+fn spare_bits(d: &Design, inverse: &[u8]) -> Answer<()> {
+    let (order, width) = (d.order(), d.row_bytes());
     for (row, line) in inverse.chunks(width).enumerate() {
         if (order..8 * width).any(|column| line[column / 8] >> (column % 8) & 1 == 1) {
             return Err((8, row as u64));
         }
     }
-    let w_matrix = Matrix::from_bytes(order, inverse);
+    Ok(())
+}
+
+/// Rule 9, for lists that are permutations: "row × M × r + column", the first wrong entry of A W; W A is the
+/// identity exactly when A W is, and is not made. The answer is W.
+fn inverse_of(shape: &Shape, inverse: &[u8]) -> Answer<Matrix> {
+    let w_matrix = Matrix::from_bytes(shape.d.order(), inverse);
     match system(shape).first_wrong(&w_matrix) {
         Some(place) => Err((9, place)),
         None => Ok(w_matrix),
@@ -454,6 +459,7 @@ pub fn check_kit(kit: &Kit, work: usize) -> Answer<()> {
         (6, work, d.kit_work()),
     ])?;
     let (own, parity) = permutations(&d, &kit.own, &kit.parity)?;
+    spare_bits(&d, &kit.inverse)?;
     inverse_of(&Shape::new(d, 1, own, parity), &kit.inverse)?;
     Ok(())
 }
@@ -466,7 +472,7 @@ fn block_count(blocks: u64) -> Answer<usize> {
     Ok(blocks as usize)
 }
 
-/// The encoder: rules 1 to 4 and 6 to 10. The answer is the redundancy.
+/// The encoder: rules 1 to 4, 6 to 8, 10 and then 9. The answer is the redundancy.
 pub fn encode(kit: &Kit, blocks: u64, info: &[u8], red: usize, work: usize) -> Answer<Vec<u8>> {
     let d = design(kit.m, kit.t, kit.size)?;
     let blocks = block_count(blocks)?;
@@ -479,9 +485,10 @@ pub fn encode(kit: &Kit, blocks: u64, info: &[u8], red: usize, work: usize) -> A
         (6, work, d.kit_work()),
     ])?;
     let (own, parity) = permutations(&d, &kit.own, &kit.parity)?;
+    spare_bits(&d, &kit.inverse)?;
+    bits(info.iter().copied())?;
     let shape = Shape::new(d, blocks, own, parity);
     let w_matrix = inverse_of(&shape, &kit.inverse)?;
-    bits(info.iter().copied())?;
     Ok(redundancy(&shape, &w_matrix, info))
 }
 
@@ -630,8 +637,8 @@ fn mend(shape: &Shape, frame: &mut [u8], rounds: u64) -> Counts {
     }
 }
 
-/// The loopback: encode, turn the bits that the patterns name, decode in place. Its rules rise: 1 to 4, the
-/// decoder's 5, and 6 to 10 of the encoder; a refused call leaves everything.
+/// The loopback: encode, turn the bits that the patterns name, decode in place. Its rules are 1 to 4, the
+/// decoder's 5, and then the encoder's 6, 7, 8, 10 and 9; a refused call leaves everything.
 pub fn loopback(
     kit: &Kit, blocks: u64, rounds: u64, errors: (&[u8], &[u8]), info: &[u8], red: usize, work: usize,
 ) -> Answer<(Vec<u8>, Vec<u8>, Counts)> {

@@ -8,10 +8,10 @@ use mathlib.Core.List.{List}
 use Prim.Native.Nat.{ℕ}
 use Rattle.staircase.specs.Design.{Params, params}
 use Rattle.staircase.specs.System.{redundancy}
-use Rattle.staircase.specs.Rules.{Verdict, _then_, designRules, countRule, lengthRule, frameLengths, kitLengths, kitWork, interleavers, listRule, spareRule, inverseRule, kitRules, bitRule}
+use Rattle.staircase.specs.Rules.{Verdict, _then_, designRules, countRule, lengthRule, frameLengths, kitLengths, kitWork, interleavers, listRule, spareRule, inverseRule, kitRules, bitRule, contentRules}
 use Rattle.staircase.specs.Rules.Verdict.{accepted, refused}
 use Rattle.staircase.specs.Calls.{encodeVerdict, encodedBy, encodeCall}
-use Rattle.staircase.proofs.Rules.{then-first, then-rest, count-limits, frame-lengths, lists-permute, bytes-bits, lengths-fit}
+use Rattle.staircase.proofs.Rules.{then-first, then-rest, count-limits, frame-lengths, lists-permute, bytes-bits, lengths-fit, content-accepted}
 use Rattle.design.specs.declared.Refusal.{Refusal}
 use Rattle.design.specs.declared.Check.{Check}
 use Rattle.design.specs.declared.Check.the-variants as check
@@ -22,7 +22,7 @@ use Rattle.design.specs.Sizes.{paramsOf, listsOf}
 use Rattle.design.specs.Answers.{verdictOf, designVerdict, DesignIs, Allowed}
 use Rattle.design.proofs.Answers.{check-refused, check-passed, made-params, refused-design, made-design}
 use Rattle.encoder_frame.specs.Groups.{Encodable}
-use Rattle.encoder.specs.Checks.{contentRules, lengthRules, frameRules}
+use Rattle.encoder.specs.Checks.{workingRules, lengthRules, frameRules}
 
 module _ (d : Design) (L : ℕ) (own parity w info red : List ℕ) (work : ℕ) (allowed : Allowed d) (e : frameRules (paramsOf d) L own parity w info red work ≡ accepted) where
   abbrev s : Params
@@ -38,28 +38,27 @@ module _ (d : Design) (L : ℕ) (own parity w info red : List ℕ) (work : ℕ) 
 
   kit-long : kitLengths s own parity w ≡ accepted
   unfolding lengthRules
-  kit-long = then-first (kitLengths s own parity w) (frameLengths s L info red then contentRules s own parity w info work) after-count
+  kit-long = then-first (kitLengths s own parity w) (frameLengths s L info red then workingRules s own parity w info work) after-count
 
-  after-kit : (frameLengths s L info red then contentRules s own parity w info work) ≡ accepted
+  after-kit : (frameLengths s L info red then workingRules s own parity w info work) ≡ accepted
   unfolding lengthRules
-  after-kit = then-rest (kitLengths s own parity w) (frameLengths s L info red then contentRules s own parity w info work) after-count
+  after-kit = then-rest (kitLengths s own parity w) (frameLengths s L info red then workingRules s own parity w info work) after-count
 
-  after-working : (kitRules s (interleavers s own parity) w then bitRule 0 info) ≡ accepted
-  unfolding contentRules
-  after-working =
-      then-rest (lengthRule 6 work (kitWork s)) (kitRules s (interleavers s own parity) w then bitRule 0 info)
-      (then-rest (frameLengths s L info red) (contentRules s own parity w info work) after-kit)
+  content : (kitRules s (interleavers s own parity) w ≡ accepted) × (bitRule 0 info ≡ accepted)
+  unfolding workingRules
+  content =
+      content-accepted s (interleavers s own parity) w info
+      (then-rest (lengthRule 6 work (kitWork s)) (contentRules s (interleavers s own parity) w info)
+      (then-rest (frameLengths s L info red) (workingRules s own parity w info work) after-kit))
 
   lists : listRule s (interleavers s own parity) ≡ accepted
   unfolding kitRules
-  lists =
-      then-first (listRule s (interleavers s own parity)) (spareRule s w then inverseRule s (interleavers s own parity) w)
-      (then-first (kitRules s (interleavers s own parity) w) (bitRule 0 info) after-working)
+  lists = then-first (listRule s (interleavers s own parity)) (spareRule s w then inverseRule s (interleavers s own parity) w) (content .0)
 
   pub encodable : Encodable d L parity w info red
   encodable =
       let k = lengths-fit s own parity w kit-long in
-      let f = frame-lengths s L info red (then-first (frameLengths s L info red) (contentRules s own parity w info work) after-kit) in
+      let f = frame-lengths s L info red (then-first (frameLengths s L info red) (workingRules s own parity w info work) after-kit) in
       record {
         allowed = allowed;
         few-blocks = count-limits L counted .1;
@@ -68,7 +67,7 @@ module _ (d : Design) (L : ℕ) (own parity w info red : List ℕ) (work : ℕ) 
         infoLength = f .0;
         redLength = f .1;
         parityPermutes = lists-permute s (interleavers s own parity) lists .1;
-        bits = bytes-bits 0 info (then-rest (kitRules s (interleavers s own parity) w) (bitRule 0 info) after-working);
+        bits = bytes-bits 0 info (content .1);
       }
 
 -- ---- what the call leaves
@@ -107,7 +106,7 @@ module _ (m t M L : ℕ) (own parity w info red : List ℕ) (work : ℕ) where
   rules s = frameRules s L own parity w info red work
 
   whole : (designRules m t M then frameRules (params m t M) L own parity w info red work) ≡ encodeVerdict m t M L own parity w info red work
-  unfolding encodeVerdict frameRules lengthRules contentRules
+  unfolding encodeVerdict frameRules lengthRules workingRules
   whole = refl
 
   module _ (a : Designed) (n : designVerdict a ≡ designRules m t M) where

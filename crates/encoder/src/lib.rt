@@ -1,7 +1,7 @@
-// The encoder: rules 1 to 4 and 6 to 10 of document 01's table, then the redundancy of the frame, group by group.
+// The encoder: rules 1 to 4, 6 to 8, 10 and 9 of document 01's table, then the redundancy of the frame, group by group.
 //   encode   makes the redundancy of a frame
 //
-// All rules are judged before the first byte is written, in the table's order. The crate `encoder_frame` makes the redundancy.
+// All rules are judged before the first byte is written, and rule 10 before the product that rule 9 makes. The crate `encoder_frame` makes the redundancy.
 ghost use mathlib.Core.Path.{_≡_};
 ghost use Prim.Native.Nat.{_≤_};
 ghost use lib.ListN.{length};
@@ -10,12 +10,12 @@ ghost use Rattle.staircase.specs.Demand2.{FitsOrder};
 ghost use Rattle.staircase.specs.Calls.{encodeCall};
 ghost use Rattle.design.specs.Sizes.{paramsOf, orderOf};
 ghost use Rattle.design.specs.Answers.{verdictOf, Allowed};
-ghost use Rattle.encoder.specs.Checks.{contentRules, lengthRules, frameRules};
+ghost use Rattle.encoder.specs.Checks.{workingRules, lengthRules, frameRules};
 use design::Check;
 use design::Design;
 use design::Designed;
 
-// Rule 6 for the working bytes, then rules 7 to 10, for a kit and a frame whose other lengths are right.
+// Rule 6 for the working bytes, then rules 7, 8, 10 and 9, for a kit and a frame whose other lengths are right.
 fn check_contents(
     d: Design,
     own: &[u8],
@@ -26,7 +26,7 @@ fn check_contents(
 ) -> Check
     requires { ⌜ Allowed d × FitsOrder (orderOf d) (now own) (now parity) (now inverse) ⌝ }
     ensures { λ a. ⌜ verdictOf a
-        ≡ contentRules (paramsOf d) (now (own .entry)) (now (parity .entry)) (now (inverse .entry)) (now (info .entry)) (length (now (work .entry))) ⌝ }
+        ≡ workingRules (paramsOf d) (now (own .entry)) (now (parity .entry)) (now (inverse .entry)) (now (info .entry)) (length (now (work .entry))) ⌝ }
 {
     let n = d.order();
     let rb = d.row_bytes();
@@ -34,11 +34,7 @@ fn check_contents(
     let Check::Passed = working else {
         return working;
     };
-    let content = kit::check_content(d, own, parity, inverse, work);
-    let Check::Passed = content else {
-        return content;
-    };
-    rules::check_bits(info, 0)
+    kit::check_content(d, own, parity, inverse, info, work)
 }
 
 // Rules 6 to 10, for an allowed design and number of blocks.

@@ -3,10 +3,11 @@
 --   kit-design, kit-lengths, kit-working, kit-content   the call's verdict, step by step
 -- Assumes nothing.
 use mathlib.Core.Path.{_≡_, refl, sym, ap, _∙_}
-use mathlib.Core.List.{List}
+use mathlib.Core.List.{List, []}
 use Prim.Native.Nat.{ℕ}
-use Rattle.staircase.specs.Design.{Params, params}
-use Rattle.staircase.specs.Rules.{Verdict, _then_, designRules, lengthRule, kitLengths, kitWork, interleavers, kitRules}
+use Rattle.staircase.specs.Design.{Params, Interleavers, params}
+use Rattle.staircase.specs.Rules.{Verdict, _then_, designRules, lengthRule, kitLengths, kitWork, interleavers, kitRules, contentRules, bitRule, refuseFirst}
+use Rattle.staircase.specs.Lists.{firstWhere}
 use Rattle.staircase.specs.Calls.{kitVerdict}
 use Rattle.design.specs.declared.Refusal.{Refusal}
 use Rattle.design.specs.declared.Check.{Check}
@@ -24,6 +25,11 @@ pub design-then : {a : Designed} {d : Design} {u : Verdict} (v : Verdict) → de
 design-then v n g = ap (λ (z : Verdict). z then v) (sym (design-made g) ∙ n)
 
 -- ---- the call
+
+-- The kit checker has no information: rule 10 passes.
+no-bits : (s : Params) (l : Interleavers) (w : List ℕ) → contentRules s l w [] ≡ kitRules s l w
+unfolding contentRules kitRules bitRule refuseFirst firstWhere
+no-bits s l w = refl
 
 -- what follows the design's rules
 module _ (own parity w : List ℕ) (work : ℕ) where
@@ -51,6 +57,6 @@ module _ (m t M : ℕ) (own parity w : List ℕ) (work : ℕ) {a : Designed} (n 
       unfolding rest
       kit-working e = refused-then _ hy e ∙ passed-then _ hx px ∙ made-whole
 
-      pub kit-content : (z : Check) → y ≡ check.Passed → verdictOf z ≡ kitRules (paramsOf d) (listsOf d own parity) w → verdictOf z ≡ kitVerdict m t M own parity w work
+      pub kit-content : (z : Check) → y ≡ check.Passed → verdictOf z ≡ contentRules (paramsOf d) (listsOf d own parity) w [] → verdictOf z ≡ kitVerdict m t M own parity w work
       unfolding rest
-      kit-content z py h = h ∙ passed-then _ hy py ∙ passed-then _ hx px ∙ made-whole
+      kit-content z py h = h ∙ no-bits (paramsOf d) (listsOf d own parity) w ∙ passed-then _ hy py ∙ passed-then _ hx px ∙ made-whole

@@ -1,12 +1,12 @@
 // The kit checker: rules 1 to 3 and 6 to 9 of document 01's table.
 //   check_kit       judges a kit
-//   check_content   rules 7 to 9
+//   check_content   rules 7, 8, 10 and 9 of a kit and the information under it
 //
-// The rules are judged one after the other, in the table's order; the crate `rules_lengths` has rule 6, and `kit_inverse` rule 9, which is most of
-// the work.
+// The rules are judged one after the other; the crate `rules_lengths` has rule 6, and `kit_inverse` rule 9, which is most of the work. So the encoder,
+// which has rule 10 too, asks it before rule 9: `check_content` has both, and the kit checker gives it no information.
 ghost use mathlib.Core.Path.{_≡_};
 ghost use lib.ListN.{length};
-ghost use Rattle.staircase.specs.Rules.{kitRules};
+ghost use Rattle.staircase.specs.Rules.{contentRules};
 ghost use Rattle.staircase.specs.Calls.{kitVerdict};
 ghost use Rattle.design.specs.Sizes.{paramsOf, listsOf};
 ghost use Rattle.design.specs.Answers.{verdictOf};
@@ -15,10 +15,18 @@ use design::Check;
 use design::Design;
 use design::Designed;
 
-// Rules 7 to 9 for a kit of an allowed design, with slices of their lengths.
-pub fn check_content(d: Design, own: &[u8], parity: &[u8], inverse: &[u8], work: &mut [u8]) -> Check
+// Rules 7, 8, 10 and 9 for a kit of an allowed design, with slices of their lengths, and information of any length.
+pub fn check_content(
+    d: Design,
+    own: &[u8],
+    parity: &[u8],
+    inverse: &[u8],
+    info: &[u8],
+    work: &mut [u8],
+) -> Check
     requires { ⌜ KitSized d (now own) (now parity) (now inverse) (now work) ⌝ }
-    ensures { λ a. ⌜ verdictOf a ≡ kitRules (paramsOf d) (listsOf d (now (own .entry)) (now (parity .entry))) (now (inverse .entry)) ⌝ }
+    ensures { λ a. ⌜ verdictOf a
+        ≡ contentRules (paramsOf d) (listsOf d (now (own .entry)) (now (parity .entry))) (now (inverse .entry)) (now (info .entry)) ⌝ }
 {
     let n = d.order();
     let mut marks = [0u8; 4096];
@@ -29,6 +37,10 @@ pub fn check_content(d: Design, own: &[u8], parity: &[u8], inverse: &[u8], work:
     let spare = rules::check_spare(inverse, n);
     let Check::Passed = spare else {
         return spare;
+    };
+    let bits = rules::check_bits(info, 0);
+    let Check::Passed = bits else {
+        return bits;
     };
     kit_inverse::check_inverse(d, own, parity, inverse, work)
 }
@@ -60,5 +72,5 @@ pub fn check_kit(
     let Check::Passed = working else {
         return working;
     };
-    check_content(d, own, parity, inverse, work)
+    check_content(d, own, parity, inverse, &own[..0], work)
 }

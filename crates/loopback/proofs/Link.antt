@@ -24,7 +24,7 @@ use Rattle.staircase.specs.Design.{Params, Interleavers, params, order, most-bl
 use Rattle.staircase.specs.System.{rowBytes, redundancy}
 use Rattle.staircase.specs.Frame.{Frame, frameOf, outside}
 use Rattle.staircase.specs.Decoder.{Decoded, decoded}
-use Rattle.staircase.specs.Rules.{Verdict, _then_, designRules, countRule, roundsRule, lengthRule, kitLengths, frameLengths, kitWork, wordWork, interleavers, kitRules, bitRule}
+use Rattle.staircase.specs.Rules.{Verdict, _then_, designRules, countRule, roundsRule, lengthRule, kitLengths, frameLengths, kitWork, wordWork, interleavers, contentRules}
 use Rattle.staircase.specs.Rules.Verdict.{accepted, refused}
 use Rattle.staircase.specs.Calls.{encodedBy, encodeVerdict, encodeCall, Corrected, correctedBy, decodeVerdict, decodeCall}
 use Rattle.staircase.specs.Demand3.{Kit, Given}
@@ -110,7 +110,7 @@ module _ (m t M L k : ℕ) (self parity w infoErrors redErrors info red : List �
   unfolding loopbackVerdict
   loopback-numbers x v e =
       refused-result (verdictOf x) (check-refused e)
-      (sym (refused-then (kitLengths s self parity w then frameLengths s L info red then lengthRule 6 work (kitWork s) then kitRules s l w then bitRule 0 info) v e))
+      (sym (refused-then (kitLengths s self parity w then frameLengths s L info red then lengthRule 6 work (kitWork s) then contentRules s l w info) v e))
 
   module _ (ok : numberRules m t M L k ≡ accepted) where
     counted : (countRule L then roundsRule k) ≡ accepted
@@ -125,7 +125,7 @@ module _ (m t M L k : ℕ) (self parity w infoErrors redErrors info red : List �
     verdict-encodes : loopbackVerdict m t M L k self parity w info red work ≡ encodeVerdict m t M L self parity w info red work
     unfolding loopbackVerdict encodeVerdict numberRules
     verdict-encodes =
-        let rest : Verdict = kitLengths s self parity w then frameLengths s L info red then lengthRule 6 work (kitWork s) then kitRules s l w then bitRule 0 info in
+        let rest : Verdict = kitLengths s self parity w then frameLengths s L info red then lengthRule 6 work (kitWork s) then contentRules s l w info in
         ap (λ (v : Verdict). v then rest) ok
         ∙ sym (ap (λ (v : Verdict). v then countRule L then rest) (then-first (designRules m t M) (countRule L then roundsRule k) ok)
         ∙ ap (λ (v : Verdict). v then rest) (then-first (countRule L) (roundsRule k) counted))

@@ -1,7 +1,7 @@
 -- The loopback: a frame is encoded, the link turns bits of it, and what it delivers is decoded.
 --   turned            a buffer with the bits turned that a pattern names
 --   numberRules       rules 1 to 5
---   loopbackVerdict   rules 1 to 10, in rising order
+--   loopbackVerdict   rules 1 to 10, in rising order but for 10 before 9
 --   loopbackCall      what the loopback answers and leaves
 -- Assumes nothing.
 use mathlib.Core.Bool.{cond}
@@ -14,7 +14,7 @@ use Rattle.staircase.specs.Design.{Params, Interleavers, params}
 use Rattle.staircase.specs.Frame.{Frame, frameOf, outside}
 use Rattle.staircase.specs.System.{redundancy}
 use Rattle.staircase.specs.Decoder.{Decoded, decoded}
-use Rattle.staircase.specs.Rules.{Verdict, _then_, designRules, countRule, roundsRule, lengthRule, kitLengths, frameLengths, kitWork, interleavers, kitRules, bitRule}
+use Rattle.staircase.specs.Rules.{Verdict, _then_, designRules, countRule, roundsRule, lengthRule, kitLengths, frameLengths, kitWork, interleavers, contentRules}
 use Rattle.staircase.specs.Calls.{Corrected, correctedBy}
 
 -- "with any of their bits turned": byte k of the pattern turns bit k unless it is 0; what the pattern is too short to name stays
@@ -30,7 +30,7 @@ loopbackVerdict m t M L k self parity w info red work =
     let s : Params = params m t M in
     numberRules m t M L k
     then kitLengths s self parity w then frameLengths s L info red then lengthRule 6 work (kitWork s)
-    then kitRules s (interleavers s self parity) w then bitRule 0 info
+    then contentRules s (interleavers s self parity) w info
 
 -- the result is the decoder's, on the encoder's frame with the named bits turned; a refused call leaves both buffers as they were
 unfoldable pub loopbackCall : ℕ → ℕ → ℕ → ℕ → ℕ → List ℕ → List ℕ → List ℕ → List ℕ → List ℕ → List ℕ → List ℕ → ℕ → Corrected

@@ -20,7 +20,7 @@ use Rattle.staircase.specs.Design.{Params, Interleavers, params, wordLen
 use Rattle.staircase.specs.Frame.{Frame, groups}
 use Rattle.staircase.specs.System.{systemEntry, inverseEntry, rowBytes, redundancy}
 use Rattle.staircase.specs.Decoder.{Decoded}
-use Rattle.staircase.specs.Rules.{Verdict, _then_, refuse, refuseFirst, outOfRange, Part, sizeRule, longRule, largeRule, designRules, countRule, partRule, roundsRule, lengthRule, listLengths, kitLengths, infoLength, redLength, frameLengths, kitWork, wordWork, interleavers, badEntry, listRule, spareRow, spareRule, wrongEntry, inverseRule, kitRules, bitRule, frameBits}
+use Rattle.staircase.specs.Rules.{Verdict, _then_, refuse, refuseFirst, outOfRange, Part, sizeRule, longRule, largeRule, designRules, countRule, partRule, roundsRule, lengthRule, listLengths, kitLengths, infoLength, redLength, frameLengths, kitWork, wordWork, interleavers, badEntry, listRule, spareRow, spareRule, wrongEntry, inverseRule, kitRules, bitRule, frameBits, contentRules}
 use Rattle.staircase.specs.Rules.Verdict.{accepted, refused}
 use Rattle.staircase.specs.Rules.Part.{block, group}
 use Rattle.staircase.specs.Calls.{kitVerdict, encodeVerdict, encodedBy, encodeCall, wordsVerdict, countedBy, wordsCall, correctedBy, decodeVerdict, decodeCall, showVerdict, shownBy, showCall}
@@ -156,6 +156,14 @@ module _ (rules : List ℕ) where
     unfolding bitRule
     bits-byTable base b = byTable-first 10 base (length b) (λ k. ltb 1 (getD b k 0)) has10 (λ i k. table.bit refl)
 
+    pub content-byTable : among 7 rules ≡ true → among 8 rules ≡ true → among 9 rules ≡ true → (s : Params) → order s ≤ most-order
+        → (l : Interleavers) (w info : List ℕ) → ByTable rules (contentRules s l w info)
+    unfolding contentRules
+    content-byTable h7 h8 h9 s small l w info =
+        byTable-then (listRule s l) (spareRule s w then bitRule 0 info then inverseRule s l w) (lists-byTable s small h7 l)
+        (λ e. byTable-then (spareRule s w) (bitRule 0 info then inverseRule s l w) (spare-byTable s small h8 w)
+        (λ f. byTable-then (bitRule 0 info) (inverseRule s l w) (bits-byTable 0 info) (λ g. inverse-byTable s small h9 l w)))
+
     pub frame-bits-byTable : (info red : List ℕ) → ByTable rules (frameBits info red)
     unfolding frameBits
     frame-bits-byTable info red = byTable-then (bitRule 0 info) (bitRule (length info) red) (bits-byTable 0 info) (λ e. bits-byTable (length info) red)
@@ -238,19 +246,17 @@ unfolding encodeVerdict
 encode-byTable m t M L self parity w info red work =
     let s : Params = params m t M in
     let l : Interleavers = interleavers s self parity in
-    let v10 : Verdict = bitRule 0 info in
-    let v9 : Verdict = kitRules s l w in
+    let v9 : Verdict = contentRules s l w info in
     let v6 : Verdict = lengthRule 6 work (kitWork s) in
     let frame : Verdict = frameLengths s L info red in
     let kit : Verdict = kitLengths s self parity w in
-    byTable-then encoderNumbers (designRules m t M) (countRule L then kit then frame then v6 then v9 then v10)
+    byTable-then encoderNumbers (designRules m t M) (countRule L then kit then frame then v6 then v9)
     (design-byTable encoderNumbers refl refl refl m t M)
-    (λ d. byTable-then encoderNumbers (countRule L) (kit then frame then v6 then v9 then v10) (count-byTable encoderNumbers refl L)
-    (λ c. byTable-then encoderNumbers kit (frame then v6 then v9 then v10) (kit-fits-byTable encoderNumbers refl s self parity w)
-    (λ e. byTable-then encoderNumbers frame (v6 then v9 then v10) (frame-fits-byTable encoderNumbers refl s L info red)
-    (λ f. byTable-then encoderNumbers v6 (v9 then v10) (length-byTable encoderNumbers refl 6 work (kitWork s) (omega arith) (omega arith))
-    (λ g. byTable-then encoderNumbers v9 v10 (kit-byTable encoderNumbers s (design-limits m t M d .order-high) refl refl refl l w)
-    (λ h. bits-byTable encoderNumbers refl 0 info))))))
+    (λ d. byTable-then encoderNumbers (countRule L) (kit then frame then v6 then v9) (count-byTable encoderNumbers refl L)
+    (λ c. byTable-then encoderNumbers kit (frame then v6 then v9) (kit-fits-byTable encoderNumbers refl s self parity w)
+    (λ e. byTable-then encoderNumbers frame (v6 then v9) (frame-fits-byTable encoderNumbers refl s L info red)
+    (λ f. byTable-then encoderNumbers v6 v9 (length-byTable encoderNumbers refl 6 work (kitWork s) (omega arith) (omega arith))
+    (λ g. content-byTable encoderNumbers refl refl refl refl s (design-limits m t M d .order-high) l w info)))))
 
 pub encode-demand1 : (m t M L : ℕ) (self parity w info red : List ℕ) (work : ℕ)
     → Demand1 (1 ∷ 2 ∷ 3 ∷ 4 ∷ 6 ∷ 7 ∷ 8 ∷ 9 ∷ 10 ∷ []) (encodeCall m t M L self parity w info red work .verdict)

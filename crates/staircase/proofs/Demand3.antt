@@ -28,7 +28,7 @@ use Rattle.staircase.specs.Rules.Verdict.{accepted}
 use Rattle.staircase.specs.Calls.{encodeVerdict, Encoded, encodedBy, encodeCall, decodeVerdict, correctedBy, decodeCall}
 use Rattle.staircase.specs.Demand2.{KitPasses}
 use Rattle.staircase.specs.Demand3.{Kit, sizes, lists, decode, Given, EachWord, SameBut, Restored, Demand3}
-use Rattle.staircase.proofs.Rules.{then-first, then-accepted, refuse-accepted, inRange, length-accepted, design-limits, lengths-accepted, bits-accepted}
+use Rattle.staircase.proofs.Rules.{then-first, then-accepted, refuse-accepted, inRange, length-accepted, design-limits, lengths-accepted, bits-accepted, accepted-content}
 use Rattle.staircase.proofs.Member.{In}
 use Rattle.staircase.proofs.Flip.{Received, bitAt-bits}
 use Rattle.staircase.proofs.Outside.{all-inside}
@@ -101,7 +101,7 @@ module _ (K : Kit) (L : ℕ) (info old : List ℕ) (G : Given K L info old) wher
   encode-made i o hb hi ho =
       ap (λ (v : Verdict). encodedBy v o (redundancy s l w L i))
       (then-accepted (G .design) (then-accepted counted (then-accepted (lengths-accepted s self parity w (G .fits))
-      (then-accepted (sized i o hi ho) (then-accepted (length-accepted 6 (kitWork s) (kitWork s) refl) (then-accepted rules (bits-accepted 0 i hb)))))))
+      (then-accepted (sized i o hi ho) (then-accepted (length-accepted 6 (kitWork s) (kitWork s) refl) (accepted-content s l w i rules (bits-accepted 0 i hb)))))))
 
   pub decode-admits : (k : ℕ) → k ≤ most-rounds → (i o : List ℕ) → length i ≡ infoLength s L → length o ≡ redLength s L → Bits i → Bits o
       → decodeVerdict m t M L k self parity i o (wordWork s) ≡ accepted

@@ -18,12 +18,12 @@ use Rattle.staircase.specs.Design.{Params, Interleavers, params, most-ro
 use Rattle.staircase.specs.Frame.{Frame, Site, frameOf, rowSites, columnSites, words, read, inCode, outside}
 use Rattle.staircase.specs.System.{redundancy}
 use Rattle.staircase.specs.Decoder.{Decoded, decoded}
-use Rattle.staircase.specs.Rules.{Verdict, _then_, designRules, countRule, lengthRule, kitLengths, infoLength, redLength, frameLengths, kitWork, wordWork, interleavers, kitRules, bitRule}
+use Rattle.staircase.specs.Rules.{Verdict, _then_, designRules, countRule, lengthRule, kitLengths, infoLength, redLength, frameLengths, kitWork, wordWork, interleavers, contentRules}
 use Rattle.staircase.specs.Rules.Verdict.{accepted, refused}
 use Rattle.staircase.specs.Calls.{Encoded, encodeVerdict, encodedBy, encodeCall, Corrected, correctedBy, decodeVerdict, decodeCall}
 use Rattle.staircase.specs.Demand3.{Kit, sizes, lists, encode, decode, Given, EachWord, Demand3}
 use Rattle.staircase.proofs.Member.{In}
-use Rattle.staircase.proofs.Rules.{then-first, then-rest, design-limits, count-limits, length-equal, lengths-fit, frame-lengths, bytes-bits}
+use Rattle.staircase.proofs.Rules.{then-first, then-rest, design-limits, count-limits, length-equal, lengths-fit, frame-lengths, bytes-bits, content-accepted}
 use Rattle.staircase.proofs.BchCode.{proper-of}
 use Rattle.staircase.proofs.Sites.{each-word}
 use Rattle.staircase.proofs.Idle.{decoded-stays}
@@ -44,9 +44,7 @@ encode-accepted K L info old work e =
     let l : Interleavers = lists K in
     let v1 : Verdict = designRules (K .m) (K .t) (K .M) in
     let v6 : Verdict = kitLengths s (K .self) (K .parity) (K .inverse) in
-    let v10 : Verdict = bitRule 0 info in
-    let kit : Verdict = kitRules s l (K .inverse) in
-    let after-work : Verdict = kit then v10 in
+    let after-work : Verdict = contentRules s l (K .inverse) info in
     let after-frame : Verdict = lengthRule 6 work (kitWork s) then after-work in
     let after-kit : Verdict = frameLengths s L info old then after-frame in
     let after-count : Verdict = v6 then after-kit in
@@ -57,14 +55,15 @@ encode-accepted K L info old work e =
     then-rest (lengthRule 6 work (kitWork s)) after-work (then-rest (frameLengths s L info old) after-frame e7) in
     let design : v1 ≡ accepted = then-first v1 (countRule L then after-count) e in
     let count = count-limits L (then-first (countRule L) after-count e4) in
+    let content = content-accepted s l (K .inverse) info e8 in
     let long = frame-lengths s L info old (then-first (frameLengths s L info old) after-frame e7) in
     record {
       design = design;
       fits = lengths-fit s (K .self) (K .parity) (K .inverse) (then-first v6 after-kit e6);
-      passes = kit-passes s l (K .inverse) (proper-of (design-limits (K .m) (K .t) (K .M) design)) .0 (then-first kit v10 e8);
+      passes = kit-passes s l (K .inverse) (proper-of (design-limits (K .m) (K .t) (K .M) design)) .0 (content .0);
       some = count .0;
       few = count .1;
-      bits = bytes-bits 0 info (then-rest kit v10 e8);
+      bits = bytes-bits 0 info (content .1);
       info-fits = long .0;
       old-fits = long .1;
     }
@@ -74,7 +73,7 @@ pub encode-work : (K : Kit) (L : ℕ) (info old : List ℕ) (work : ℕ)
 unfolding encodeVerdict
 encode-work K L info old work e =
     let s : Params = sizes K in
-    let after-work : Verdict = kitRules s (lists K) (K .inverse) then bitRule 0 info in
+    let after-work : Verdict = contentRules s (lists K) (K .inverse) info in
     let after-frame : Verdict = lengthRule 6 work (kitWork s) then after-work in
     let v6 : Verdict = kitLengths s (K .self) (K .parity) (K .inverse) in
     let after-kit : Verdict = frameLengths s L info old then after-frame in
@@ -141,7 +140,7 @@ encode-old m t M L self parity w info old old₂ red work same e =
     by-length
     (λ k. designRules m t M then countRule L
     then kitLengths s self parity w then (lengthRule 4 (length info) (infoLength s L) then lengthRule 5 k (redLength s L)) then lengthRule 6 work (kitWork s)
-    then kitRules s l w then bitRule 0 info)
+    then contentRules s l w info)
     (redundancy s l w L info) e
   where
     made-kept : (v : Verdict) (new : List ℕ) → encodedBy v old new ≡ record { verdict = accepted; red = red }

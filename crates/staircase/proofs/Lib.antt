@@ -24,6 +24,7 @@ pub mod Rounds
 pub mod Outside
 pub mod Idle
 pub mod Rules
+pub mod OrderMoved
 pub mod Decoded
 pub mod BchCode
 pub mod Demand2

@@ -28,7 +28,7 @@ use Rattle.bch.specs.Polynomial.{Bits}
 use Rattle.staircase.specs.Lists.{firstWhere}
 use Rattle.staircase.specs.Design.{Params, Interleavers, params, wordLength, order, Limits, least-m, most-m, most-t, most-M, most-order, most-blocks}
 use Rattle.staircase.specs.System.{inverseEntry, rowBytes, product, identity}
-use Rattle.staircase.specs.Rules.{Verdict, _then_, refuse, refuseFirst, outOfRange, sizeRule, longRule, largeRule, designRules, countRule, lengthRule, listLengths, kitLengths, infoLength, redLength, frameLengths, badEntry, listRule, spareRow, wrongEntry, bitRule, frameBits}
+use Rattle.staircase.specs.Rules.{Verdict, _then_, refuse, refuseFirst, outOfRange, sizeRule, longRule, largeRule, designRules, countRule, lengthRule, listLengths, kitLengths, infoLength, redLength, frameLengths, badEntry, listRule, spareRow, wrongEntry, bitRule, frameBits, contentRules, kitRules, inverseRule, spareRule}
 use Rattle.staircase.specs.Rules.Verdict.{accepted, refused}
 use Rattle.staircase.specs.Demand2.{Permutes, FitsOrder}
 use Rattle.staircase.proofs.Search.{firstWhere-none, firstWhere-before, firstWhere-is}
@@ -262,3 +262,23 @@ frame-bits info red e =
     let a : Verdict = bitRule 0 info in
     let b : Verdict = bitRule (length info) red in
     (bytes-bits 0 info (then-first a b e), bytes-bits (length info) red (then-rest a b e))
+
+-- ---- rules 7 to 10 of a kit and its information
+
+pub content-accepted : (s : Params) (l : Interleavers) (w info : List ℕ) → contentRules s l w info ≡ accepted → (kitRules s l w ≡ accepted) × (bitRule 0 info ≡ accepted)
+unfolding contentRules kitRules
+content-accepted s l w info e =
+    let after-spare : Verdict = bitRule 0 info then inverseRule s l w in
+    let f : (spareRule s w then after-spare) ≡ accepted = then-rest (listRule s l) (spareRule s w then after-spare) e in
+    let g : after-spare ≡ accepted = then-rest (spareRule s w) after-spare f in (
+      then-accepted (then-first (listRule s l) (spareRule s w then after-spare) e)
+          (then-accepted (then-first (spareRule s w) after-spare f) (then-rest (bitRule 0 info) (inverseRule s l w) g)),
+      then-first (bitRule 0 info) (inverseRule s l w) g,
+    )
+
+pub accepted-content : (s : Params) (l : Interleavers) (w info : List ℕ) → kitRules s l w ≡ accepted → bitRule 0 info ≡ accepted → contentRules s l w info ≡ accepted
+unfolding contentRules kitRules
+accepted-content s l w info e b =
+    let f : (spareRule s w then inverseRule s l w) ≡ accepted = then-rest (listRule s l) (spareRule s w then inverseRule s l w) e in
+    then-accepted (then-first (listRule s l) (spareRule s w then inverseRule s l w) e)
+    (then-accepted (then-first (spareRule s w) (inverseRule s l w) f) (then-accepted b (then-rest (spareRule s w) (inverseRule s l w) f)))

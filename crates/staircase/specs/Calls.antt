@@ -13,7 +13,7 @@ use Rattle.staircase.specs.Design.{Params, Interleavers, params, order}
 use Rattle.staircase.specs.Frame.{Frame, outside}
 use Rattle.staircase.specs.System.{redundancy}
 use Rattle.staircase.specs.Decoder.{Decoded, decoded}
-use Rattle.staircase.specs.Rules.{Verdict, _then_, Part, designRules, countRule, partRule, roundsRule, lengthRule, listLengths, kitLengths, frameLengths, kitWork, wordWork, interleavers, listRule, kitRules, bitRule, frameBits}
+use Rattle.staircase.specs.Rules.{Verdict, _then_, Part, designRules, countRule, partRule, roundsRule, lengthRule, listLengths, kitLengths, frameLengths, kitWork, wordWork, interleavers, listRule, kitRules, contentRules, frameBits}
 use Rattle.staircase.specs.Rules.Verdict.{accepted, refused}
 use Rattle.staircase.specs.Rules.Part.{block, group}
 
@@ -25,13 +25,13 @@ kitVerdict m t M self parity w work =
 
 -- ---- the encoder
 
--- "the encoder 1 to 4 and 6 to 10"; "the encoder doesn't judge old redundancy"
+-- "the encoder 1 to 4 and 6 to 10", with 10 before 9; "the encoder doesn't judge old redundancy"
 unfoldable pub encodeVerdict : ℕ → ℕ → ℕ → ℕ → List ℕ → List ℕ → List ℕ → List ℕ → List ℕ → ℕ → Verdict
 encodeVerdict m t M L self parity w info red work =
     let s : Params = params m t M in
     designRules m t M then countRule L
     then kitLengths s self parity w then frameLengths s L info red then lengthRule 6 work (kitWork s)
-    then kitRules s (interleavers s self parity) w then bitRule 0 info
+    then contentRules s (interleavers s self parity) w info
 
 pub record Encoded : Type 0 where
   pub verdict : Verdict

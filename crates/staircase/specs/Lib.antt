@@ -8,6 +8,7 @@ pub mod Decoder
 pub mod Rules
 pub mod Calls
 pub mod Demand1
+pub mod OrderMoved
 pub mod Demand2
 pub mod Demand3
 pub mod RowsK

@@ -5,6 +5,7 @@
 --   sizeRule .. bitRule   the rules
 --   designRules           rules 1 to 3
 --   kitRules              rules 7 to 9 of a kit
+--   contentRules          rules 7, 8, 10 and 9 of a kit and the information under it
 --   Part                  what is shown
 --   kitWork, wordWork     the working lengths
 --   entries, interleavers the lists, from their bytes
@@ -152,3 +153,7 @@ bitRule base b = refuseFirst 10 base (length b) (λ k. ltb 1 (getD b k 0))
 -- "for redundancy plus the information length"
 unfoldable pub frameBits : List ℕ → List ℕ → Verdict
 frameBits info red = bitRule 0 info then bitRule (length info) red
+
+-- document 02: "Rule 10 now comes before rule 9", where a call has both
+unfoldable pub contentRules : Params → Interleavers → List ℕ → List ℕ → Verdict
+contentRules s l w info = listRule s l then spareRule s w then bitRule 0 info then inverseRule s l w

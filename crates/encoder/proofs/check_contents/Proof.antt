@@ -1,4 +1,4 @@
--- A refusal of rule 6, or of rules 7 to 9, is the answer; else rule 10's.
+-- A refusal of rule 6 is the answer; else that of the rules on what the kit and the information hold.
 -- Assumes nothing.
 use native.Mathlib.Omega.{arith}
 use borrow.Author.Needs.{needs}
@@ -9,7 +9,7 @@ use Rattle.staircase.specs.Rules.{lengthRule, kitWork}
 use Rattle.staircase.proofs.Bounds.{small-product}
 use Rattle.design.proofs.Answers.{refused-then, passed-then, check-passed}
 use Rattle.staircase.proofs.Rules.{length-equal}
-use Rattle.encoder.specs.Checks.{contentRules}
+use Rattle.encoder.specs.Checks.{workingRules}
 use Rattle.encoder.proofs.check_contents.Statement.{statement}
 use Rattle.encoder.proofs.check_contents.Tie as tie
 
@@ -32,7 +32,7 @@ enum-told-2 : tie.Need-enum-told-2
 enum-told-2 c = search needs
 
 returns : tie.Need-returns
-unfolding contentRules kitWork
+unfolding workingRules kitWork
 returns c =
     let a = c .before .before .before .before .before .before .before .before .before .before .args in
     let y = c .before .before .check-length .ensures ∙ ap₂ (λ (n b : ℕ). lengthRule 6 (length (a .work .now)) (n * b)) (c .before .before .before .before .order .ensures .0) (c .before .before .before .row-bytes .ensures .0) in
@@ -51,34 +51,15 @@ check-content-requires c κs =
       workLength = length-equal 6 _ _ (sym y ∙ check-passed (c .before .enum-told .given .1));
     }
 
-enum-told-3 : tie.Need-enum-told-3
-enum-told-3 c = search needs
-
-enum-told-4 : tie.Need-enum-told-4
-enum-told-4 c = search needs
-
 same-length : tie.Need-same-length
 same-length c = search needs
 
 returns-2 : tie.Need-returns-2
-unfolding contentRules kitWork
+unfolding workingRules kitWork
 returns-2 c =
-    let a = c .before .before .before .before .before .before .before .before .before .before .before .before .before .before .before .before .args in
-    let y = c .before .before .before .before .before .before .before .before .check-length .ensures ∙ ap₂ (λ (n b : ℕ). lengthRule 6 (length (a .work .now)) (n * b)) (c .before .before .before .before .before .before .before .before .before .before .order .ensures .0) (c .before .before .before .before .before .before .before .before .before .row-bytes .ensures .0) in
-    refused-then _ (c .before .before .before .before .check-content .ensures) (c .enum-told4 .given .1) ∙ passed-then _ y (c .before .before .before .before .before .before .enum-told .given .1)
-
-check-bits-requires : tie.Need-check-bits-requires
-check-bits-requires c κs = search needs
-
-same-length-2 : tie.Need-same-length-2
-same-length-2 c = search needs
-
-returns-3 : tie.Need-returns-3
-unfolding contentRules kitWork
-returns-3 c =
-    let a = c .before .before .before .before .before .before .before .before .before .before .before .before .before .before .before .before .before .args in
-    let y = c .before .before .before .before .before .before .before .before .before .check-length .ensures ∙ ap₂ (λ (n b : ℕ). lengthRule 6 (length (a .work .now)) (n * b)) (c .before .before .before .before .before .before .before .before .before .before .before .order .ensures .0) (c .before .before .before .before .before .before .before .before .before .before .row-bytes .ensures .0) in
-    c .check-bits .ensures ∙ passed-then _ (c .before .before .before .before .before .check-content .ensures) (c .before .enum-told3 .given .1) ∙ passed-then _ y (c .before .before .before .before .before .before .before .enum-told .given .1)
+    let a = c .before .before .before .before .before .before .before .before .before .before .before .before .before .before .args in
+    let y = c .before .before .before .before .before .before .check-length .ensures ∙ ap₂ (λ (n b : ℕ). lengthRule 6 (length (a .work .now)) (n * b)) (c .before .before .before .before .before .before .before .before .order .ensures .0) (c .before .before .before .before .before .before .before .row-bytes .ensures .0) in
+    c .before .before .check-content .ensures ∙ passed-then _ y (c .before .before .before .before .enum-told .given .1)
 
 pub check-contents-spec : {M : Type 1} → statement M
 check-contents-spec =
@@ -92,10 +73,5 @@ check-contents-spec =
     enum-told-2
     returns
     check-content-requires
-    enum-told-3
-    enum-told-4
     same-length
-    returns-2
-    check-bits-requires
-    same-length-2
-    returns-3)
+    returns-2)

@@ -72,19 +72,22 @@ returns-3 c =
     let y = c .before .before .check-length .ensures ∙ ap₂ (λ (k b : ℕ). lengthRule 6 (length (a .work .now)) (k * b)) (c .before .before .before .before .order .ensures .0) (c .before .before .before .row-bytes .ensures .0) in
     kit-working (a .m) (a .t) (a .size) (a .own .now) (a .parity .now) (a .inverse .now) (length (a .work .now)) (w .0) (w .1) (c .before .before .before .before .before .before .before .before .before .designed .given .1) (c .before .before .before .before .before .before .before .check-kit-lengths .ensures) (c .before .before .before .before .before .enum-told2 .given .1) y (c .enum-told5 .given .1)
 
+slice-aggregate-check-content : tie.Need-slice-aggregate-check-content
+slice-aggregate-check-content c = search needs
+
 check-content-requires : tie.Need-check-content-requires
 check-content-requires c κs =
-    let a = c .before .before .before .before .before .before .before .before .before .before .before .before .before .before .before .before .before .args in
-    let w = c .before .before .before .before .before .before .before .before .before .before .before .before .new .ensures in
-    let d = c .before .before .before .before .before .before .before .before .before .before .designed .given .1 in
-    let f = lengths-fit _ (a .own .now) (a .parity .now) (a .inverse .now) (sym (c .before .before .before .before .before .before .before .before .check-kit-lengths .ensures) ∙ check-passed (c .before .before .before .before .before .before .enum-told2 .given .1)) in
-    let y = c .before .before .before .check-length .ensures ∙ ap₂ (λ (k b : ℕ). lengthRule 6 (length (a .work .now)) (k * b)) (c .before .before .before .before .before .order .ensures .0) (c .before .before .before .before .row-bytes .ensures .0) in
+    let a = c .before .before .before .before .before .before .before .before .before .before .before .before .before .before .before .before .before .before .args in
+    let w = c .before .before .before .before .before .before .before .before .before .before .before .before .before .new .ensures in
+    let d = c .before .before .before .before .before .before .before .before .before .before .before .designed .given .1 in
+    let f = lengths-fit _ (a .own .now) (a .parity .now) (a .inverse .now) (sym (c .before .before .before .before .before .before .before .before .before .check-kit-lengths .ensures) ∙ check-passed (c .before .before .before .before .before .before .before .enum-told2 .given .1)) in
+    let y = c .before .before .before .before .check-length .ensures ∙ ap₂ (λ (k b : ℕ). lengthRule 6 (length (a .work .now)) (k * b)) (c .before .before .before .before .before .before .order .ensures .0) (c .before .before .before .before .before .row-bytes .ensures .0) in
     record {
       allowed = made-allowed d (w .2);
       ownLength = f .selfLength;
       parityLength = f .parityLength;
       inverseLength = f .inverseLength;
-      workLength = length-equal 6 _ _ (sym y ∙ check-passed (c .before .enum-told4 .given .1));
+      workLength = length-equal 6 _ _ (sym y ∙ check-passed (c .before .before .enum-told4 .given .1));
     }
 
 same-length : tie.Need-same-length
@@ -93,10 +96,10 @@ same-length c = search needs
 returns-4 : tie.Need-returns-4
 unfolding kitWork
 returns-4 c =
-    let a = c .before .before .before .before .before .before .before .before .before .before .before .before .before .before .before .before .before .before .before .before .args in
-    let w = c .before .before .before .before .before .before .before .before .before .before .before .before .before .before .before .new .ensures in
-    let y = c .before .before .before .before .before .before .check-length .ensures ∙ ap₂ (λ (k b : ℕ). lengthRule 6 (length (a .work .now)) (k * b)) (c .before .before .before .before .before .before .before .before .order .ensures .0) (c .before .before .before .before .before .before .before .row-bytes .ensures .0) in
-    kit-content (a .m) (a .t) (a .size) (a .own .now) (a .parity .now) (a .inverse .now) (length (a .work .now)) (w .0) (w .1) (c .before .before .before .before .before .before .before .before .before .before .before .before .before .designed .given .1) (c .before .before .before .before .before .before .before .before .before .before .before .check-kit-lengths .ensures) (c .before .before .before .before .before .before .before .before .before .enum-told2 .given .1) y _ (c .before .before .before .before .enum-told4 .given .1) (c .before .before .check-content .ensures)
+    let a = c .before .before .before .before .before .before .before .before .before .before .before .before .before .before .before .before .before .before .before .before .before .args in
+    let w = c .before .before .before .before .before .before .before .before .before .before .before .before .before .before .before .before .new .ensures in
+    let y = c .before .before .before .before .before .before .before .check-length .ensures ∙ ap₂ (λ (k b : ℕ). lengthRule 6 (length (a .work .now)) (k * b)) (c .before .before .before .before .before .before .before .before .before .order .ensures .0) (c .before .before .before .before .before .before .before .before .row-bytes .ensures .0) in
+    kit-content (a .m) (a .t) (a .size) (a .own .now) (a .parity .now) (a .inverse .now) (length (a .work .now)) (w .0) (w .1) (c .before .before .before .before .before .before .before .before .before .before .before .before .before .before .designed .given .1) (c .before .before .before .before .before .before .before .before .before .before .before .before .check-kit-lengths .ensures) (c .before .before .before .before .before .before .before .before .before .before .enum-told2 .given .1) y _ (c .before .before .before .before .before .enum-told4 .given .1) (c .before .before .check-content .ensures)
 
 pub check-kit-spec : {M : Type 1} → statement M
 check-kit-spec =
@@ -118,6 +121,7 @@ check-kit-spec =
     enum-told-4
     enum-told-5
     returns-3
+    slice-aggregate-check-content
     check-content-requires
     same-length
     returns-4)
