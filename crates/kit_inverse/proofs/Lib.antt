@@ -1,3 +1,6 @@
+pub mod Found
 pub mod Link
-pub mod Whole
+pub mod Search
+pub mod Sizes
 pub mod Verdict
+pub mod Whole

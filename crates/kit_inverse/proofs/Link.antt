@@ -23,7 +23,7 @@ use Rattle.staircase.proofs.System.{Proper}
 use Rattle.matrix.specs.Packed.{planeBit, Planes, paddedEntry}
 use Rattle.kit_system.specs.Rows.{PartOf, unstackOf, rowEntry}
 use Rattle.kit_system.proofs.Link.{rowEntry-is}
-use Rattle.kit_products.specs.Products.{wrongIn, productWrong}
+use Rattle.kit_inverse.specs.Products.{wrongIn, productWrong}
 
 pub part-of : (s : Params) (powers part : List ℕ) → PositionPowers (s .g) (s .r) powers → length powers ≡ 2 * s .r
     → part ≡ take (s .r) powers → length part ≡ s .r → PartOf s part

@@ -16,8 +16,8 @@ use Rattle.design.specs.Sizes.{paramsOf, orderOf, listsOf}
 use Rattle.design.proofs.Allowed.{proper-of, r-small, order-positive}
 use Rattle.matrix.specs.Packed.{Planes, paddedEntry}
 use Rattle.kit_system.specs.Rows.{PartOf}
-use Rattle.kit_products.specs.Products.{Side, productWrong}
-use Rattle.kit_products.proofs.Search.{firstWhere-same}
+use Rattle.kit_inverse.specs.Products.{Side, productWrong}
+use Rattle.kit_inverse.proofs.Search.{firstWhere-same}
 use Rattle.kit_inverse.specs.Fits.{KitFits}
 use Rattle.kit_inverse.proofs.Link.{wrong-is}
 

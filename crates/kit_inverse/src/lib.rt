@@ -1,8 +1,10 @@
 // Rule 9 of document 01's table: A W is the identity. W A then is too (`either-order` of staircase/proofs/Square.antt) and is not made.
 //   check_inverse(d, own, parity, inverse, work)   judges the inverse of a kit
 //
-// The crate `kit_products` finds the first wrong entry of the product. Here are made what it is lent: the powers of x that the bits of X and Y carry,
+// The module `products` finds the first wrong entry of the product. Here are made what it is lent: the powers of x that the bits of X and Y carry,
 // and a copy of W in planes, which is the one matrix of working bytes.
+mod products;
+
 ghost use mathlib.Core.Path.{_≡_};
 ghost use Prim.Native.Nat.{_*_};
 ghost use Rattle.staircase.specs.Lists.{firstWhere};
@@ -31,7 +33,7 @@ fn first_wrong(
 {
     let n = d.order();
     matrix_planes::planes_of_rows(inverse, n, work);
-    kit_products::first_wrong(own, parity, n, part, d.size(), &work[..])
+    products::first_wrong(own, parity, n, part, d.size(), &work[..])
 }
 
 // Rule 9 with the powers of x.

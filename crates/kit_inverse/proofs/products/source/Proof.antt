@@ -4,9 +4,9 @@ use native.Mathlib.Omega.{arith}
 use mathlib.Core.Path.{refl}
 use Prim.Native.Nat.{_*_}
 use Rattle.kit_system.specs.Rows.{unstackOf}
-use Rattle.kit_products.proofs.Sizes.{unstacked}
-use Rattle.kit_products.proofs.source.Statement.{statement}
-use Rattle.kit_products.proofs.source.Tie as tie
+use Rattle.kit_inverse.proofs.Sizes.{unstacked}
+use Rattle.kit_inverse.proofs.products.source.Statement.{statement}
+use Rattle.kit_inverse.proofs.products.source.Tie as tie
 
 rem-result : tie.Need-rem-result
 rem-result c =

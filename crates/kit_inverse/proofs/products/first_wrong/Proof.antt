@@ -8,10 +8,10 @@ use lib.ListN.{length}
 use Rattle.staircase.specs.Rules.{entries}
 use Rattle.kit_system.specs.Rows.{rowEntry}
 use Rattle.words_positions.proofs.Parts.{part-fits, part-is}
-use Rattle.kit_products.specs.Products.{wrongIn, productWrong}
-use Rattle.kit_products.proofs.Found.{sent-below, sent-found}
-use Rattle.kit_products.proofs.first_wrong.Statement.{statement}
-use Rattle.kit_products.proofs.first_wrong.Tie as tie
+use Rattle.kit_inverse.specs.Products.{wrongIn, productWrong}
+use Rattle.kit_inverse.proofs.Found.{sent-below, sent-found}
+use Rattle.kit_inverse.proofs.products.first_wrong.Statement.{statement}
+use Rattle.kit_inverse.proofs.products.first_wrong.Tie as tie
 
 sub-fill-inverse : tie.Need-sub-fill-inverse
 sub-fill-inverse c = search needs

@@ -12,7 +12,7 @@ ghost use Rattle.staircase.specs.System.{rowBytes};
 ghost use Rattle.staircase.specs.Rules.{entries};
 ghost use Rattle.matrix.specs.Packed.{packedBit};
 ghost use Rattle.kit_system.specs.Rows.{unstackOf, rowEntry};
-ghost use Rattle.kit_products.specs.Products.{Side, wrongIn, productWrong};
+ghost use Rattle.kit_inverse.specs.Products.{Side, wrongIn, productWrong};
 
 // The first wrong entry of row e of a product, or n, for the packed row of one factor and the planes of the other.
 fn first_in_packed(row: &[u8], t: &[u8], n: usize, e: usize) -> usize

@@ -12,11 +12,11 @@ use Rattle.staircase.specs.Lists.{firstWhere}
 use Rattle.staircase.specs.Rules.{entries}
 use Rattle.staircase.proofs.Bounds.{stretch-end}
 use Rattle.kit_system.specs.Rows.{unstackOf, rowEntry}
-use Rattle.kit_products.specs.Products.{wrongIn}
-use Rattle.kit_products.proofs.Search.{row-found, row-clean, rows-none}
-use Rattle.kit_products.proofs.Sizes.{square-small}
-use Rattle.kit_products.proofs.first_in_rows.Statement.{statement}
-use Rattle.kit_products.proofs.first_in_rows.Tie as tie
+use Rattle.kit_inverse.specs.Products.{wrongIn}
+use Rattle.kit_inverse.proofs.Search.{row-found, row-clean, rows-none}
+use Rattle.kit_inverse.proofs.Sizes.{square-small}
+use Rattle.kit_inverse.proofs.products.first_in_rows.Statement.{statement}
+use Rattle.kit_inverse.proofs.products.first_in_rows.Tie as tie
 
 -- entry x of row e is wrong
 abbrev wrong : (own : List ℕ) (n : ℕ) (part : List ℕ) (size : ℕ) (t places : List ℕ) → ℕ → ℕ → Bool

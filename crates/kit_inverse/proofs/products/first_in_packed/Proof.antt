@@ -5,9 +5,9 @@ use borrow.Author.Needs.{needs}
 use mathlib.Core.Path.{_≡_, _∙_}
 use lib.ListN.{length}
 use Rattle.words_positions.proofs.Parts.{part-fits, part-is}
-use Rattle.kit_products.proofs.Found.{found}
-use Rattle.kit_products.proofs.first_in_packed.Statement.{statement}
-use Rattle.kit_products.proofs.first_in_packed.Tie as tie
+use Rattle.kit_inverse.proofs.Found.{found}
+use Rattle.kit_inverse.proofs.products.first_in_packed.Statement.{statement}
+use Rattle.kit_inverse.proofs.products.first_in_packed.Tie as tie
 
 sub-mask-rows : tie.Need-sub-mask-rows
 sub-mask-rows c = search needs
