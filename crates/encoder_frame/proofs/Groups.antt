@@ -22,8 +22,8 @@ use Rattle.staircase.proofs.Tables.{tabulate-length, concat-last, concat-same, 
 use Rattle.staircase.proofs.Redundancy.{block-binary}
 use Rattle.words_blocks.specs.Blocks.{sent, blockBytes, sentBit, Powers}
 use Rattle.words_blocks.proofs.Blocks.{sent-odd, block-is, odd-is}
-use Rattle.encoder_group.specs.Group.{selfBit, parityBit, groupOf}
-use Rattle.encoder_group.proofs.Link.{group-is}
+use Rattle.encoder_frame.specs.Group.{selfBit, parityBit, groupOf}
+use Rattle.encoder_frame.proofs.GroupMade.{group-is}
 use Rattle.encoder_frame.specs.Groups.{groupFrom}
 
 groupOf-length : (table sources inverse : List ℕ) (size r : ℕ) (before odd even : Contents) → length (groupOf table sources inverse size r before odd even) ≡ 2 * (size * r)

@@ -11,7 +11,7 @@ use Rattle.bch.specs.Polynomial.{Bits}
 use Rattle.staircase.specs.Frame.{groups}
 use Rattle.words_blocks.specs.Blocks.{sent, blockBytes, sentBit}
 use Rattle.words_blocks.proofs.Blocks.{sent-odd, block-fits}
-use Rattle.encoder_group.specs.Group.{groupOf, Tables, Lent}
+use Rattle.encoder_frame.specs.Group.{groupOf, Tables, Lent}
 use Rattle.encoder_frame.specs.Groups.{groupFrom, Ready}
 
 module _ (L size r : ℕ) (info table sources inverse : List ℕ) (i : ℕ) (odd even before : List ℕ) (has-even has-before : Bool)

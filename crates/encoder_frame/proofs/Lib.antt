@@ -1,3 +1,5 @@
+pub mod GroupMade
 pub mod Groups
+pub mod Halves
 pub mod Lending
 pub mod Whole

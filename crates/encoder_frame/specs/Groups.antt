@@ -17,7 +17,7 @@ use Rattle.design.specs.declared.Design.{Design}
 use Rattle.design.specs.Answers.{Allowed}
 use Rattle.design.specs.Sizes.{orderOf}
 use Rattle.words_blocks.specs.Blocks.{sent, blockBytes, sentBit}
-use Rattle.encoder_group.specs.Group.{groupOf, Tables}
+use Rattle.encoder_frame.specs.Group.{groupOf, Tables}
 
 unfoldable pub groupFrom : List ℕ → List ℕ → List ℕ → ℕ → ℕ → ℕ → List ℕ → ℕ → List ℕ
 groupFrom table sources inverse size r L info i =

@@ -3,6 +3,8 @@
 //
 // A group needs three blocks, which are parts of the lent information, and its redundancy is written through a lent part of the redundancy: nothing
 // of the frame is copied. The table of powers of x and the places that the parity list brings are made once for all groups.
+mod group;
+
 ghost use mathlib.Core.Path.{_≡_};
 ghost use mathlib.Core.List.{List};
 ghost use Prim.Native.Nat.{ℕ, _*_, _<_};
@@ -35,7 +37,7 @@ fn group_at(
     let even = words_blocks::block_of(info, area, blocks, 2 * i + 2);
     let has_before = words_blocks::is_sent(blocks, 2 * i);
     let has_even = words_blocks::is_sent(blocks, 2 * i + 2);
-    encoder_group::make_group(
+    group::make_group(
         odd,
         even,
         has_even,

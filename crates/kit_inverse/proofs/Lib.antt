@@ -1,5 +1,5 @@
 pub mod Found
-pub mod Link
+pub mod Product
 pub mod Search
 pub mod Sizes
 pub mod Verdict

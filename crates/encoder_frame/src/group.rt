@@ -15,7 +15,7 @@ ghost use Rattle.staircase.specs.Design.{most-order};
 ghost use Rattle.staircase.specs.System.{rowBytes};
 ghost use Rattle.words_blocks.specs.Blocks.{sentBit};
 ghost use Rattle.encoder_solution.specs.Bits.{productBit};
-ghost use Rattle.encoder_group.specs.Group.{productParity, groupOf, Tables, Lent};
+ghost use Rattle.encoder_frame.specs.Group.{productParity, groupOf, Tables, Lent};
 
 // Makes Y and P in `out` from the packed constant and the remainders of the blocks of the column words, to which it adds those of Y.
 fn group_bits(

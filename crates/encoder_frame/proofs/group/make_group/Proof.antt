@@ -3,8 +3,8 @@
 use Prim.Native.Nat.{_+_, _*_, _/_}
 use native.Mathlib.Omega.{arith}
 use Rattle.words_blocks.proofs.Sums.{part-length}
-use Rattle.encoder_group.proofs.make_group.Statement.{statement}
-use Rattle.encoder_group.proofs.make_group.Tie as tie
+use Rattle.encoder_frame.proofs.group.make_group.Statement.{statement}
+use Rattle.encoder_frame.proofs.group.make_group.Tie as tie
 
 mul-w : tie.Need-mul-w
 mul-w c = omega arith

@@ -23,7 +23,7 @@ use Rattle.matrix.proofs.Product.{sum-spare}
 use Rattle.words_blocks.specs.Blocks.{partSum, columnSum, rowSum}
 use Rattle.words_blocks.proofs.Sums.{part-at}
 use Rattle.encoder_solution.specs.Bits.{digit, Packed, constantBit, productBit}
-use Rattle.encoder_group.specs.Group.{productParity, selfBit, parityBit, groupOf}
+use Rattle.encoder_frame.specs.Group.{productParity, selfBit, parityBit, groupOf}
 
 module _ (inverse c part columns ys old : List ℕ) (size r : ℕ) (pos : 0 < size) (long : length part ≡ r) (wide : length columns ≡ size)
     (made : ys ≡ tabulate (size * r) (productBit inverse c size r)) where

@@ -6,9 +6,9 @@ use native.Mathlib.Omega.{arith}
 use lib.ListN.{length, getD}
 use Rattle.words_blocks.specs.Blocks.{sentBit, Sent}
 use Rattle.words_blocks.proofs.Sums.{part-length, square}
-use Rattle.encoder_group.proofs.Group.{group-made}
-use Rattle.encoder_group.proofs.group_in.Statement.{statement}
-use Rattle.encoder_group.proofs.group_in.Tie as tie
+use Rattle.encoder_frame.proofs.Halves.{group-made}
+use Rattle.encoder_frame.proofs.group.group_in.Statement.{statement}
+use Rattle.encoder_frame.proofs.group.group_in.Tie as tie
 
 column-sums-requires : tie.Need-column-sums-requires
 column-sums-requires c κs =

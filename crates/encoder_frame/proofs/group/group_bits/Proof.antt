@@ -2,9 +2,9 @@
 -- Assumes nothing.
 use native.Mathlib.Nat.{mul-pos}
 use native.Mathlib.Omega.{arith}
-use Rattle.encoder_group.proofs.Group.{front-half, both-halves}
-use Rattle.encoder_group.proofs.group_bits.Statement.{statement}
-use Rattle.encoder_group.proofs.group_bits.Tie as tie
+use Rattle.encoder_frame.proofs.Halves.{front-half, both-halves}
+use Rattle.encoder_frame.proofs.group.group_bits.Statement.{statement}
+use Rattle.encoder_frame.proofs.group.group_bits.Tie as tie
 
 mul-n : tie.Need-mul-n
 mul-n c = omega arith

@@ -25,7 +25,7 @@ use Rattle.staircase.proofs.Entries.{columnRemainder, rowRemainder, columnParit
 use Rattle.words_blocks.specs.Blocks.{columnSum, rowSum, Powers}
 use Rattle.words_blocks.proofs.Link.{SameBlock, part-powers, columnSum-is, rowSum-is}
 use Rattle.encoder_solution.specs.Bits.{digit, constantBit}
-use Rattle.encoder_group.specs.Group.{selfBit, parityBit, groupOf}
+use Rattle.encoder_frame.specs.Group.{selfBit, parityBit, groupOf}
 
 module _ (s : Params) (ok : Proper s) (table : List ℕ) (P : Powers s table) where
   no-y : (x : ℕ) (at : ℕ → ℕ) → x ⊕ xorSum (s .r) (λ b. zeros (at b) * powerMod (s .g) (s .r) (2 * s .r - 1 - b)) ≡ x
