@@ -2,8 +2,10 @@
 //   fill_field(m, field)              the powers, the logarithms, the solutions of z^2 + z and those of z^3 + z, each in a quarter of `field`
 //   fill_syndromes(m, field, table)   the powers of the root and of its cube that the positions of a word carry
 //
-// The crates `bch_powers` and `bch_logarithms` make each table; here they are put side by side. The powers and the logarithms are made apart and
+// The crate `bch_powers` and the module `logarithms` make each table; here they are put side by side. The powers and the logarithms are made apart and
 // copied: the other two are made from them while `field` is written.
+mod logarithms;
+
 ghost use mathlib.Core.Path.{_≡_};
 ghost use Prim.Native.Nat.{_-_, _*_, _^_, _≤_, _<_};
 ghost use lib.ListN.{length};
@@ -18,8 +20,8 @@ fn fill_quarters(m: usize, powers: &[u16], logs: &[u16], field: &mut [u16])
     let q = logs.len();
     bch_powers::copy_table(powers, &mut field[0..q - 1]);
     bch_powers::copy_table(logs, &mut field[q..2 * q]);
-    bch_logarithms::fill_solutions(m, 1, powers, logs, &mut field[2 * q..3 * q - 1]);
-    bch_logarithms::fill_solutions(m, 2, powers, logs, &mut field[3 * q..4 * q - 1]);
+    logarithms::fill_solutions(m, 1, powers, logs, &mut field[2 * q..3 * q - 1]);
+    logarithms::fill_solutions(m, 2, powers, logs, &mut field[3 * q..4 * q - 1]);
 }
 
 // Makes the powers and the logarithms of field m in the buffers `powers` and `logs`, and fills `field` from them. The work grows with 2^m.
@@ -28,7 +30,7 @@ fn fill_by_parts(m: usize, powers: &mut [u16], logs: &mut [u16], field: &mut [u1
     ensures { λ r. ⌜ FieldTables m (now (field .exit)) ⌝ }
 {
     bch_powers::fill_powers(m, powers);
-    bch_logarithms::fill_logs(m, powers, logs);
+    logarithms::fill_logs(m, powers, logs);
     fill_quarters(m, powers, logs, field);
 }
 
@@ -51,5 +53,5 @@ pub fn fill_syndromes(m: usize, field: &[u16], table: &mut [u32])
     ensures { λ r. ⌜ SyndromeTable m (now (table .exit)) × (length (now (table .exit)) ≡ length (now (table .entry))) ⌝ }
 {
     let q = field.len() / 4;
-    bch_logarithms::fill_syndromes_by(m, &field[0..q - 1], table);
+    logarithms::fill_syndromes_by(m, &field[0..q - 1], table);
 }

@@ -7,8 +7,8 @@ use native.Mathlib.Omega.{arith}
 use borrow.Author.Fill.{fill-more}
 use lib.ListN.{length, drop, replicate, length-set}
 use lib.Seq.{drop-length}
-use Rattle.bch_logarithms.proofs.clear.Statement.{statement}
-use Rattle.bch_logarithms.proofs.clear.Tie as tie
+use Rattle.bch_field.proofs.logarithms.clear.Statement.{statement}
+use Rattle.bch_field.proofs.logarithms.clear.Tie as tie
 
 abbrev Inv-loop : tie.InvT-loop
 Inv-loop out₀ i₀ i-end out i = (i-end ≡ length out₀) × (i ≤ length out₀) × (length out ≡ length out₀) × (out ≡ replicate i 0 ++ drop i out₀)

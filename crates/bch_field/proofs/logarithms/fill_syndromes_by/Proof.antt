@@ -6,9 +6,9 @@ use native.Mathlib.Omega.{arith}
 use lib.ListN.{length, getD, length-set}
 use Rattle.bch.specs.Locator.{powerSyndromes}
 use Rattle.bch.proofs.Store.{set-each}
-use Rattle.bch_logarithms.proofs.Tables.{sizes}
-use Rattle.bch_logarithms.proofs.fill_syndromes_by.Statement.{statement}
-use Rattle.bch_logarithms.proofs.fill_syndromes_by.Tie as tie
+use Rattle.bch_field.proofs.Tables.{sizes}
+use Rattle.bch_field.proofs.logarithms.fill_syndromes_by.Statement.{statement}
+use Rattle.bch_field.proofs.logarithms.fill_syndromes_by.Tie as tie
 
 abbrev Inv-loop : tie.InvT-loop
 Inv-loop m powers table₀ n j₀ table j =

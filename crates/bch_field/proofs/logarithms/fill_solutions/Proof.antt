@@ -5,9 +5,9 @@ use Prim.Native.Nat.{_-_, _^_, _≤_}
 use native.Mathlib.Omega.{arith}
 use lib.ListN.{length}
 use Rattle.bch.proofs.Powers.{powers-length}
-use Rattle.bch_logarithms.proofs.Tables.{sizes, Solved, solved-none, solved-more, solved-all}
-use Rattle.bch_logarithms.proofs.fill_solutions.Statement.{statement}
-use Rattle.bch_logarithms.proofs.fill_solutions.Tie as tie
+use Rattle.bch_field.proofs.Tables.{sizes, Solved, solved-none, solved-more, solved-all}
+use Rattle.bch_field.proofs.logarithms.fill_solutions.Statement.{statement}
+use Rattle.bch_field.proofs.logarithms.fill_solutions.Tie as tie
 
 abbrev Inv-loop : tie.InvT-loop
 Inv-loop m k powers logs table₀ e₀ e-end table e =

@@ -5,9 +5,9 @@ use Prim.Native.Nat.{_-_, _^_, _≤_}
 use native.Mathlib.Omega.{arith}
 use lib.ListN.{length}
 use Rattle.bch.proofs.Powers.{powers-length}
-use Rattle.bch_logarithms.proofs.Tables.{sizes, Logged, logged-none, logged-more, logged-all}
-use Rattle.bch_logarithms.proofs.fill_logs.Statement.{statement}
-use Rattle.bch_logarithms.proofs.fill_logs.Tie as tie
+use Rattle.bch_field.proofs.Tables.{sizes, Logged, logged-none, logged-more, logged-all}
+use Rattle.bch_field.proofs.logarithms.fill_logs.Statement.{statement}
+use Rattle.bch_field.proofs.logarithms.fill_logs.Tie as tie
 
 abbrev Inv-loop : tie.InvT-loop
 Inv-loop m powers logs₀ j₀ j-end logs j =

@@ -6,9 +6,9 @@ use native.Mathlib.Omega.{arith}
 use borrow.Author.Needs.{needs}
 use lib.ListN.{length}
 use Rattle.bch.proofs.Powers.{powers-length}
-use Rattle.bch_logarithms.proofs.Tables.{sizes, cube-exponent}
-use Rattle.bch_logarithms.proofs.syndromes_of.Statement.{statement}
-use Rattle.bch_logarithms.proofs.syndromes_of.Tie as tie
+use Rattle.bch_field.proofs.Tables.{sizes, cube-exponent}
+use Rattle.bch_field.proofs.logarithms.syndromes_of.Statement.{statement}
+use Rattle.bch_field.proofs.logarithms.syndromes_of.Tie as tie
 
 mul-reduced : tie.Need-mul-reduced
 mul-reduced c = omega (arith, sizes (c .before .args .m) (c .before .pre .0) (c .before .pre .1))

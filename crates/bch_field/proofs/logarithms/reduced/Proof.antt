@@ -4,8 +4,8 @@ use mathlib.Core.Path.{sym, _∙_}
 use Prim.Native.Nat.{_-_, _≤_, _<_}
 use native.Mathlib.Nat.{mod-eq-of-lt, mod-eq-sub-mod}
 use native.Mathlib.Omega.{arith}
-use Rattle.bch_logarithms.proofs.reduced.Statement.{statement}
-use Rattle.bch_logarithms.proofs.reduced.Tie as tie
+use Rattle.bch_field.proofs.logarithms.reduced.Statement.{statement}
+use Rattle.bch_field.proofs.logarithms.reduced.Tie as tie
 
 returns : tie.Need-returns
 returns c = (sym (mod-eq-of-lt (c .if1 .taken)), c .if1 .taken)

@@ -3,9 +3,9 @@
 use native.Mathlib.Omega.{arith}
 use Rattle.bch.proofs.Locator.{power-below}
 use Rattle.bch.proofs.Powers.{powers-length, powers-at}
-use Rattle.bch_logarithms.proofs.Tables.{sizes}
-use Rattle.bch_logarithms.proofs.power_at.Statement.{statement}
-use Rattle.bch_logarithms.proofs.power_at.Tie as tie
+use Rattle.bch_field.proofs.Tables.{sizes}
+use Rattle.bch_field.proofs.logarithms.power_at.Statement.{statement}
+use Rattle.bch_field.proofs.logarithms.power_at.Tie as tie
 
 mul-result : tie.Need-mul-result
 mul-result c = omega (arith, sizes (c .args .m) (c .pre .0) (c .pre .1))
