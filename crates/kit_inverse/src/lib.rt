@@ -32,7 +32,7 @@ fn first_wrong(
         (wrongEntry (orderOf d) (systemEntry (paramsOf d) (listsOf d (now (own .entry)) (now (parity .entry)))) (inverseEntry (now (inverse .entry)) (orderOf d))) ⌝ }
 {
     let n = d.order();
-    matrix_planes::planes_of_rows(inverse, n, work);
+    matrix::planes_of_rows(inverse, n, work);
     products::first_wrong(own, parity, n, part, d.size(), &work[..])
 }
 

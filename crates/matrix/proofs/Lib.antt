@@ -1,4 +1,6 @@
 pub mod Bits
-pub mod Written
+pub mod Block
+pub mod Filled
 pub mod Packed
 pub mod Product
+pub mod Written

@@ -11,9 +11,12 @@
 // of the rows 8 b to 8 b + 7 in it. So byte b of the packed row masks plane b, in all columns at once and along bytes that lie side by side, and
 // a byte that is 0 masks to nothing and is passed over: a row costs n for each of its bytes that are not 0.
 //
-// The crate `matrix_planes` brings a packed matrix into planes.
+// The module `planes` brings a packed matrix into planes.
 //
 // n is the order, 1 to 4,096, and a packed row has rowBytes n bytes. Every function leaves the lengths of what it is lent as they are.
+mod planes;
+
+pub use planes::planes_of_rows;
 ghost use mathlib.Core.Path.{_≡_};
 ghost use mathlib.Core.Bool.{cond, not};
 ghost use Prim.Native.Nat.{ℕ, _*_, _/_, _%_, _≤_, _<_};

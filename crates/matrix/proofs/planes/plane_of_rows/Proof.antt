@@ -6,12 +6,12 @@ use Prim.Native.Nat.{ℕ, _+_, _-_, _*_, _≤_, _<_}
 use native.Mathlib.Omega.{arith}
 use borrow.Rule.Slice.PartMut.{mid-len, same-len-mid}
 use lib.ListN.{length, getD}
 use Rattle.matrix.specs.Packed.{paddedEntry}
 use Rattle.matrix.proofs.Bits.{bit}
 use Rattle.matrix.proofs.Written.{written-part}
-use Rattle.matrix_planes.proofs.Planes.{PlaneByte}
-use Rattle.matrix_planes.proofs.plane_of_rows.Statement.{statement}
-use Rattle.matrix_planes.proofs.plane_of_rows.Tie as tie
+use Rattle.matrix.proofs.Filled.{PlaneByte}
+use Rattle.matrix.proofs.planes.plane_of_rows.Statement.{statement}
+use Rattle.matrix.proofs.planes.plane_of_rows.Tie as tie
 
 -- a column that there is; the last block may have more
 abbrev Column : List ℕ → ℕ → ℕ → ℕ → ℕ → Type 0

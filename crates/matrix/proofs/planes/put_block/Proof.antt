@@ -5,10 +5,10 @@ use Prim.Native.Nat.{ℕ, _+_, _-_, _*_, _/_, _^_, _≤_, _<_}
 use native.Mathlib.Omega.{arith}
 use borrow.Author.Count.{below-none}
 use lib.ListN.{length, getD, length-set}
 use Rattle.matrix.proofs.Bits.{bit, bit-low, bit-shr}
 use Rattle.matrix.proofs.Written.{written-more}
-use Rattle.matrix_planes.proofs.put_block.Statement.{statement}
-use Rattle.matrix_planes.proofs.put_block.Tie as tie
+use Rattle.matrix.proofs.planes.put_block.Statement.{statement}
+use Rattle.matrix.proofs.planes.put_block.Tie as tie
 
 -- v has the bits of byte s of q
 abbrev ByteOf : ℕ → ℕ → ℕ → Type 0

@@ -8,10 +8,10 @@ use native.Mathlib.Omega.{arith}
 use lib.Dec.{ltb}
 use lib.ListN.{getD}
 use Rattle.staircase.specs.System.{rowBytes}
-use Rattle.matrix_planes.proofs.Block.{Loaded, loaded-none, loaded-more, loaded-all}
+use Rattle.matrix.proofs.Block.{Loaded, loaded-none, loaded-more, loaded-all}
 use Rattle.matrix.proofs.Packed.{paddedEntry-at}
-use Rattle.matrix_planes.proofs.block_at.Statement.{statement}
-use Rattle.matrix_planes.proofs.block_at.Tie as tie
+use Rattle.matrix.proofs.planes.block_at.Statement.{statement}
+use Rattle.matrix.proofs.planes.block_at.Tie as tie
 
 -- byte c of row 8 b + r
 abbrev rows : List ℕ → ℕ → ℕ → ℕ → ℕ → ℕ → ℕ

@@ -3,9 +3,9 @@
 use mathlib.Core.Path.{_≡_, _∙_}
 use Prim.Native.Nat.{_+_, _*_, _/_, _%_}
 use native.Mathlib.Omega.{arith}
-use Rattle.matrix_planes.proofs.Block.{exchange, transposed, transposed-bit}
-use Rattle.matrix_planes.proofs.transpose_block.Statement.{statement}
-use Rattle.matrix_planes.proofs.transpose_block.Tie as tie
+use Rattle.matrix.proofs.Block.{exchange, transposed, transposed-bit}
+use Rattle.matrix.proofs.planes.transpose_block.Statement.{statement}
+use Rattle.matrix.proofs.planes.transpose_block.Tie as tie
 
 returns : tie.Need-returns
 unfolding exchange transposed

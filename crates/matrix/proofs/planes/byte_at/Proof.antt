@@ -3,8 +3,8 @@
 use native.Mathlib.Omega.{arith}
 use borrow.Author.Tests.{lt-ltb, le-ltb}
 use lib.Arith.{digits-lt}
-use Rattle.matrix_planes.proofs.byte_at.Statement.{statement}
-use Rattle.matrix_planes.proofs.byte_at.Tie as tie
+use Rattle.matrix.proofs.planes.byte_at.Statement.{statement}
+use Rattle.matrix.proofs.planes.byte_at.Tie as tie
 
 returns : tie.Need-returns
 returns c = rw (le-ltb (c .before .args .i) (c .before .args .n) (c .if1 .taken))

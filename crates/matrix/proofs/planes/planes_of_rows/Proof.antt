@@ -7,11 +7,11 @@ use native.Mathlib.Omega.{arith}
 use borrow.Rule.Slice.PartMut.{same-len-mid}
 use lib.ListN.{length, getD}
 use Rattle.staircase.specs.System.{rowBytes}
 use Rattle.matrix.specs.Packed.{paddedEntry}
 use Rattle.matrix.proofs.Packed.{plane-end, plane-length}
-use Rattle.matrix_planes.proofs.Planes.{PlaneByte, planes-more, planes-all}
-use Rattle.matrix_planes.proofs.planes_of_rows.Statement.{statement}
-use Rattle.matrix_planes.proofs.planes_of_rows.Tie as tie
+use Rattle.matrix.proofs.Filled.{PlaneByte, planes-more, planes-all}
+use Rattle.matrix.proofs.planes.planes_of_rows.Statement.{statement}
+use Rattle.matrix.proofs.planes.planes_of_rows.Tie as tie
 
 abbrev Inv-loop : tie.InvT-loop
 Inv-loop w n t₀ rb b₀ t b =
