@@ -26,7 +26,7 @@ use Rattle.rules_verdict.specs.declared.Judged.{Judged}
 use Rattle.rules_verdict.specs.Number.{judgedOf}
 use Rattle.text.specs.FrameText.{groupText}
 use Rattle.text.specs.Programs.{refusalText, printed, frameCall, frameOutput}
-use Rattle.text_whole.proofs.Lines.{group-text-length}
+use Rattle.text_lines.proofs.Lines.{group-text-length}
 use Rattle.text.specs.KitReader.{headNumber, readKitCall}
 use Rattle.text.specs.FrameReader.{blockRule, blockInfo, readBlocksCall}
 use Rattle.text.proofs.FramePromises.{blocks-left}

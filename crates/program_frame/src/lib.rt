@@ -35,7 +35,7 @@ fn put_encoded(out: &mut [u8], d: Design, blocks: u64, red: &[u8], made: Check) 
         }
         Check::Passed => {
             let groups = design::group_count(blocks);
-            text_whole::put_groups(out, 0, d.order(), groups as usize, red)
+            text_lines::put_groups(out, 0, d.order(), groups as usize, red)
         }
     }
 }

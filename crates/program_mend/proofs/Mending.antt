@@ -34,7 +34,7 @@ use Rattle.text.specs.Programs.{refusalText, countsText, most-input, printed, m
 use Rattle.text_lines.proofs.Decimal.{dec-short}
 use Rattle.text_lines.proofs.Placing.{counts-length}
 use Rattle.text_lines.proofs.Storing.{sets-append}
-use Rattle.text_whole.proofs.Lines.{block-text-length, group-text-length}
+use Rattle.text_lines.proofs.Lines.{block-text-length, group-text-length}
 use Rattle.text_write.specs.Room.{puts, after}
 use Rattle.text_write.proofs.Room.{puts-room, after-room}
 use Rattle.text.specs.KitReader.{headNumber, readKitCall}

@@ -38,8 +38,8 @@ fn put_corrected(
         a (now (out .entry)) (now (out .exit)) ⌝ }
 {
     let groups = design::group_count(blocks);
-    let i = text_whole::put_blocks(out, 0, d.area(), blocks as usize, info);
-    let j = text_whole::put_groups(out, i, d.order(), groups as usize, red);
+    let i = text_lines::put_blocks(out, 0, d.area(), blocks as usize, info);
+    let j = text_lines::put_groups(out, i, d.order(), groups as usize, red);
     text_write::count_lines(out, j, counts.rounds, counts.flips, counts.outside)
 }
 

@@ -1,5 +1,6 @@
 pub mod Chars
 pub mod Decimal
+pub mod Lines
 pub mod Placing
-pub mod Storing
 pub mod Printed
+pub mod Storing

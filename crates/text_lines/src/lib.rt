@@ -7,8 +7,13 @@
 //   put_group       the line of a group: its number, Y and P
 //   put_refusal     `refused place` and the two numbers
 //   put_counts      `rounds turned outside` and the three numbers
+//   put_blocks, put_groups   block text and group text (module whole)
 //
 // The digits of a number of at least 10 are those of its tenth part and one more, so a number is written by writing its tenth part first.
+mod whole;
+
+pub use whole::put_blocks;
+pub use whole::put_groups;
 ghost use mathlib.Core.Path.{_≡_};
 ghost use mathlib.Core.List.{[], _∷_, _++_};
 ghost use Prim.Native.Nat.{_+_, _≤_};

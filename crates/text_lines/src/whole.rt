@@ -24,7 +24,7 @@ fn put_block_lines(out: &mut [u8], at: usize, area: usize, count: usize, info: &
     let mut left = count;
     while 0 < left {
         let e = from + area;
-        q = text_lines::put_block(out, q, block, &info[from..e]);
+        q = crate::put_block(out, q, block, &info[from..e]);
         from = e;
         block += 1;
         left -= 1;
@@ -47,7 +47,7 @@ fn put_group_lines(out: &mut [u8], at: usize, n: usize, count: usize, red: &[u8]
     while 0 < left {
         let mid = from + n;
         let e = mid + n;
-        q = text_lines::put_group(out, q, group, &red[from..mid], &red[mid..e]);
+        q = crate::put_group(out, q, group, &red[from..mid], &red[mid..e]);
         from = e;
         group += 1;
         left -= 1;
@@ -64,7 +64,7 @@ pub fn put_blocks(out: &mut [u8], at: usize, area: usize, count: usize, info: &[
     ensures { λ r. ⌜ r ≡ at + length (blockText area count (now (info .entry))) ⌝ }
     ensures { λ _. ⌜ now (out .exit) ≡ sets (now (out .entry)) at (blockText area count (now (info .entry))) ⌝ }
 {
-    let i = text_lines::put_bytes(out, at, b"block bits\n");
+    let i = crate::put_bytes(out, at, b"block bits\n");
     put_block_lines(out, i, area, count, info)
 }
 
@@ -77,6 +77,6 @@ pub fn put_groups(out: &mut [u8], at: usize, n: usize, count: usize, red: &[u8])
     ensures { λ r. ⌜ r ≡ at + length (groupText n count (now (red .entry))) ⌝ }
     ensures { λ _. ⌜ now (out .exit) ≡ sets (now (out .entry)) at (groupText n count (now (red .entry))) ⌝ }
 {
-    let i = text_lines::put_bytes(out, at, b"group self parity\n");
+    let i = crate::put_bytes(out, at, b"group self parity\n");
     put_group_lines(out, i, n, count, red)
 }

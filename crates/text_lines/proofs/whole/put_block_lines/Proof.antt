@@ -4,10 +4,10 @@ use native.Mathlib.Omega.{arith}
 use mathlib.Core.Path.{_≡_}
 use Prim.Native.Nat.{_+_, _*_, _<_}
 use lib.ListN.{length, drop}
 use Rattle.text_lines.specs.Written.{nextBlock, blockLines}
-use Rattle.text_whole.proofs.Lines.{Rest, rest-start, rest-end, block-room, block-written, lines-none, one-less}
-use Rattle.text_whole.proofs.put_block_lines.Statement.{statement}
-use Rattle.text_whole.proofs.put_block_lines.Tie as tie
+use Rattle.text_lines.proofs.Lines.{Rest, rest-start, rest-end, block-room, block-written, lines-none, one-less}
+use Rattle.text_lines.proofs.whole.put_block_lines.Statement.{statement}
+use Rattle.text_lines.proofs.whole.put_block_lines.Tie as tie
 
 abbrev Inv-loop : tie.InvT-loop
 Inv-loop out₀ at area count info q₀ from₀ block₀ left₀ out q from block left = (block + left ≡ count + 1) ×

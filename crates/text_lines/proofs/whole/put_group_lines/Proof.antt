@@ -4,10 +4,10 @@ use native.Mathlib.Omega.{arith}
 use mathlib.Core.Path.{_≡_}
 use Prim.Native.Nat.{_+_, _*_, _<_}
 use lib.ListN.{length, drop}
 use Rattle.text_lines.specs.Written.{nextGroup, groupLines}
-use Rattle.text_whole.proofs.Lines.{Rest, rest-start, rest-end, group-room, group-written, lines-none, one-less}
-use Rattle.text_whole.proofs.put_group_lines.Statement.{statement}
-use Rattle.text_whole.proofs.put_group_lines.Tie as tie
+use Rattle.text_lines.proofs.Lines.{Rest, rest-start, rest-end, group-room, group-written, lines-none, one-less}
+use Rattle.text_lines.proofs.whole.put_group_lines.Statement.{statement}
+use Rattle.text_lines.proofs.whole.put_group_lines.Tie as tie
 
 abbrev Inv-loop : tie.InvT-loop
 Inv-loop out₀ at n count red q₀ from₀ group₀ left₀ out q from group left = (group + left ≡ count + 1) ×

@@ -1,10 +1,10 @@
 -- The line of names, then the lines of the groups.
 -- Assumes nothing.
 use native.Mathlib.Omega.{arith}
-use Rattle.text_whole.proofs.Lines.{group-text-parts, group-text-put}
+use Rattle.text_lines.proofs.Lines.{group-text-parts, group-text-put}
 use borrow.Author.Needs.{needs}
-use Rattle.text_whole.proofs.put_groups.Statement.{statement}
-use Rattle.text_whole.proofs.put_groups.Tie as tie
+use Rattle.text_lines.proofs.whole.put_groups.Statement.{statement}
+use Rattle.text_lines.proofs.whole.put_groups.Tie as tie
 
 slice-aggregate-put-bytes : tie.Need-slice-aggregate-put-bytes
 slice-aggregate-put-bytes c = search needs

@@ -1,10 +1,10 @@
 -- The line of names, then the lines of the blocks.
 -- Assumes nothing.
 use native.Mathlib.Omega.{arith}
-use Rattle.text_whole.proofs.Lines.{block-text-parts, block-text-put}
+use Rattle.text_lines.proofs.Lines.{block-text-parts, block-text-put}
 use borrow.Author.Needs.{needs}
-use Rattle.text_whole.proofs.put_blocks.Statement.{statement}
-use Rattle.text_whole.proofs.put_blocks.Tie as tie
+use Rattle.text_lines.proofs.whole.put_blocks.Statement.{statement}
+use Rattle.text_lines.proofs.whole.put_blocks.Tie as tie
 
 slice-aggregate-put-bytes : tie.Need-slice-aggregate-put-bytes
 slice-aggregate-put-bytes c = search needs
