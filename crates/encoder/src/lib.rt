@@ -30,7 +30,7 @@ fn check_contents(
 {
     let n = d.order();
     let rb = d.row_bytes();
-    let working = rules_lengths::check_length(rules_lengths::WORKING, work.len(), n * rb);
+    let working = rules::check_length(rules::WORKING, work.len(), n * rb);
     let Check::Passed = working else {
         return working;
     };
@@ -52,11 +52,11 @@ fn check_lengths(
     ensures { λ a. ⌜ verdictOf a ≡ lengthRules (paramsOf d) blocks (now (own .entry)) (now (parity .entry)) (now (inverse .entry)) (now (info .entry))
         (now (red .entry)) (length (now (work .entry))) ⌝ }
 {
-    let kit = rules_lengths::check_kit_lengths(d, own, parity, inverse);
+    let kit = rules::check_kit_lengths(d, own, parity, inverse);
     let Check::Passed = kit else {
         return kit;
     };
-    let frame = rules_lengths::check_frame_lengths(d, blocks, info, red);
+    let frame = rules::check_frame_lengths(d, blocks, info, red);
     let Check::Passed = frame else {
         return frame;
     };

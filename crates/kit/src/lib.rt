@@ -2,7 +2,7 @@
 //   check_kit       judges a kit
 //   check_content   rules 7, 8, 10 and 9 of a kit and the information under it
 //
-// The rules are judged one after the other; the crate `rules_lengths` has rule 6, and `kit_inverse` rule 9, which is most of the work. So the encoder,
+// The rules are judged one after the other; the crate `rules` has rules 6, 7, 8 and 10, and `kit_inverse` rule 9, which is most of the work. So the encoder,
 // which has rule 10 too, asks it before rule 9: `check_content` has both, and the kit checker gives it no information.
 ghost use mathlib.Core.Path.{_≡_};
 ghost use lib.ListN.{length};
@@ -62,13 +62,13 @@ pub fn check_kit(
     let Designed::Made(d) = designed else {
         return design::design_check(designed);
     };
-    let fit = rules_lengths::check_kit_lengths(d, own, parity, inverse);
+    let fit = rules::check_kit_lengths(d, own, parity, inverse);
     let Check::Passed = fit else {
         return fit;
     };
     let n = d.order();
     let rb = d.row_bytes();
-    let working = rules_lengths::check_length(rules_lengths::WORKING, work.len(), n * rb);
+    let working = rules::check_length(rules::WORKING, work.len(), n * rb);
     let Check::Passed = working else {
         return working;
     };

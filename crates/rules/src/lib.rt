@@ -1,4 +1,5 @@
-// Those rules of document 01's table that search through lent bytes.
+// Those rules of document 01's table that measure lent slices or search through their bytes.
+//   check_length, check_kit_lengths, ..   rule 6 (module lengths)
 //   entry(list, p)                        entry p of a list
 //   check_lists(own, parity, n, marks)    rule 7
 //   check_spare(inverse, n)               rule 8
@@ -12,6 +13,14 @@
 //   all before it.
 // - Rule 8 reads the last byte of each row alone. Columns fill its low bits, so a spare bit is 1 exactly when the byte is 2^used or more, where
 //   `used` bits of it are columns.
+mod lengths;
+
+pub use lengths::INFORMATION;
+pub use lengths::WORKING;
+pub use lengths::check_frame_lengths;
+pub use lengths::check_kit_lengths;
+pub use lengths::check_length;
+pub use lengths::check_list_lengths;
 ghost use mathlib.Core.Path.{_≡_};
 ghost use Prim.Native.Nat.{ℕ, _+_, _*_, _^_, _≤_, _<_};
 ghost use lib.ListN.{length, getD, replicate};

@@ -66,7 +66,7 @@ fn check_frame(d: Design, blocks: u64, part: Part, info: &[u8], red: &[u8]) -> C
     let Check::Passed = number else {
         return number;
     };
-    rules_lengths::check_frame_lengths(d, blocks, info, red)
+    rules::check_frame_lengths(d, blocks, info, red)
 }
 
 // The stretch of n bytes with this number, counted from 1, of the lent bytes.

@@ -65,7 +65,7 @@ pub fn read_blocks(text: &[u8], d: Design, info: &mut [u8]) -> Blocks
     let Found::Count(n) = found else {
         return told(found);
     };
-    let length = rules_lengths::check_length(rules_lengths::INFORMATION, info.len(), n * area);
+    let length = rules::check_length(rules::INFORMATION, info.len(), n * area);
     match length {
         Check::Refused(r) => Blocks::Refused(r),
         Check::Passed => {
@@ -98,7 +98,7 @@ pub fn read_frame(text: &[u8], d: Design, info: &mut [u8], red: &mut [u8]) -> Bl
     let Found::Count(blocks) = found else {
         return told(found);
     };
-    let lengths = rules_lengths::check_frame_lengths(d, blocks as u64, info, red);
+    let lengths = rules::check_frame_lengths(d, blocks as u64, info, red);
     match lengths {
         Check::Refused(r) => Blocks::Refused(r),
         Check::Passed => {

@@ -58,7 +58,7 @@ pub fn read_kit(text: &[u8], own: &mut [u8], parity: &mut [u8], inverse: &mut [u
         Front::NoStart(place) => KitScan::Broken(place as u64),
         Front::Ruled(refusal) => KitScan::Refused(refusal),
         Front::Starts(d, at) => {
-            let fit = rules_lengths::check_kit_lengths(d, own, parity, inverse);
+            let fit = rules::check_kit_lengths(d, own, parity, inverse);
             match fit {
                 Check::Refused(refusal) => KitScan::Refused(refusal),
                 Check::Passed => {

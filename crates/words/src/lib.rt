@@ -273,7 +273,7 @@ fn check_contents(
         ≡ contentRules (paramsOf d) (now (own .entry)) (now (parity .entry)) (now (info .entry)) (now (red .entry)) (length (now (work .entry))) ⌝ }
 {
     let n = d.order();
-    let working = rules_lengths::check_length(rules_lengths::WORKING, work.len(), n);
+    let working = rules::check_length(rules::WORKING, work.len(), n);
     let Check::Passed = working else {
         return working;
     };
@@ -303,11 +303,11 @@ pub fn check_received(
     ensures { λ a. ⌜ verdictOf a ≡ receivedRules (paramsOf d) blocks (now (own .entry)) (now (parity .entry)) (now (info .entry)) (now (red .entry))
         (length (now (work .entry))) ⌝ }
 {
-    let lists = rules_lengths::check_list_lengths(d, own, parity);
+    let lists = rules::check_list_lengths(d, own, parity);
     let Check::Passed = lists else {
         return lists;
     };
-    let frame = rules_lengths::check_frame_lengths(d, blocks, info, red);
+    let frame = rules::check_frame_lengths(d, blocks, info, red);
     let Check::Passed = frame else {
         return frame;
     };

@@ -8,8 +8,8 @@ use lib.ListN.{length}
 use Rattle.staircase.specs.Rules.{lengthRule, kitLengths}
 use Rattle.staircase.proofs.Bounds.{small-product}
 use Rattle.design.proofs.Answers.{refused-then, passed-then}
-use Rattle.rules_lengths.proofs.check_kit_lengths.Statement.{statement}
-use Rattle.rules_lengths.proofs.check_kit_lengths.Tie as tie
+use Rattle.rules.proofs.lengths.check_kit_lengths.Statement.{statement}
+use Rattle.rules.proofs.lengths.check_kit_lengths.Tie as tie
 
 check-list-lengths-requires : tie.Need-check-list-lengths-requires
 check-list-lengths-requires c κs = search needs

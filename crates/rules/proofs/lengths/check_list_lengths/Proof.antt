@@ -7,8 +7,8 @@ use lib.ListN.{length}
 use Rattle.staircase.specs.Rules.{lengthRule, listLengths}
 use Rattle.design.proofs.Answers.{refused-then, passed-then}
 use Rattle.design.specs.Sizes.{orderOf}
-use Rattle.rules_lengths.proofs.check_list_lengths.Statement.{statement}
-use Rattle.rules_lengths.proofs.check_list_lengths.Tie as tie
+use Rattle.rules.proofs.lengths.check_list_lengths.Statement.{statement}
+use Rattle.rules.proofs.lengths.check_list_lengths.Tie as tie
 
 order-requires : tie.Need-order-requires
 order-requires c κs = search needs

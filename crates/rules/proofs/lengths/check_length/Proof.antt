@@ -3,8 +3,8 @@
 use native.Mathlib.Omega.{arith}
 use borrow.Author.Tests.{eq-eqb, ne-eqb}
 use Rattle.design.specs.Answers.{refusalVerdict, verdictOf}
-use Rattle.rules_lengths.proofs.check_length.Statement.{statement}
-use Rattle.rules_lengths.proofs.check_length.Tie as tie
+use Rattle.rules.proofs.lengths.check_length.Statement.{statement}
+use Rattle.rules.proofs.lengths.check_length.Tie as tie
 
 returns : tie.Need-returns
 unfolding verdictOf refusalVerdict

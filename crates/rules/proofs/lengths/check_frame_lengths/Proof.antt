@@ -8,8 +8,8 @@ use Rattle.staircase.specs.Rules.{frameLengths}
 use Rattle.design.proofs.Answers.{refused-then, passed-then}
 use Rattle.staircase.proofs.Bounds.{small-product}
 use borrow.Author.Needs.{needs}
-use Rattle.rules_lengths.proofs.check_frame_lengths.Statement.{statement}
-use Rattle.rules_lengths.proofs.check_frame_lengths.Tie as tie
+use Rattle.rules.proofs.lengths.check_frame_lengths.Statement.{statement}
+use Rattle.rules.proofs.lengths.check_frame_lengths.Tie as tie
 
 area-requires : tie.Need-area-requires
 area-requires c κs = search needs
