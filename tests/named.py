@@ -5,7 +5,7 @@
 - docs/DECISIONS.md: each wrong program, as crate/name.
 - docs/ARCHITECTURE.md: each crate is in the table, in the order of crates.txt.
 - README.md: its program in Rattle is crates/example, which the gate proves and runs.
-- crates.txt: a crate stands below those that it knows, and the crates of a family, FAMILY and FAMILY_PART, stand together.
+- crates.txt: a crate stands below those that it knows, each of which its files name, and the crates of a family, FAMILY and FAMILY_PART, stand together.
 - crates/*/more-fail/*.edit: the lines that it changes stand in its file, once.
 - `use` lines of .rt and .antt files: a module is named once, and what is named is used.
 
@@ -68,9 +68,12 @@ def listed():
 def layers():
     seen, families = [], []
     for name, deps in listed():
-        for dep in deps:
-            if (CRATES / dep).is_dir() and dep not in seen:
+        text = "".join(file.read_text() for file in (CRATES / name).glob("*/**/*") if file.suffix in (".rt", ".antt"))
+        for dep in (dep for dep in deps if (CRATES / dep).is_dir()):
+            if dep not in seen:
                 yield f"crates.txt: {name} knows {dep}, which does not stand above it"
+            if not re.search(rf"(?<!\w){dep}::|Rattle\.{dep}\.", text):
+                yield f"crates.txt: {name} knows {dep}, and names nothing of it"
         seen.append(name)
         family = name.split("_")[0]
         if family in families[:-1]:

@@ -31,7 +31,7 @@ use Rattle.design.proofs.Allowed.{proper-of}
 use Rattle.decoder_locator.specs.declared.Located.{Located}
 use Rattle.decoder_locator.specs.declared.Located.the-variants.{Nowhere, One, Two, Three}
 use Rattle.decoder_locator.specs.Located.{located, positionsOf}
-use Rattle.decoder_locator.proofs.Link.{errorPositions-located}
+use Rattle.decoder_locator.proofs.ErrorPositions.{errorPositions-located}
 use Rattle.decoder_locator.proofs.Choices.{located-zero}
 use Rattle.decoder_locator.proofs.Values.{code-of}
 use Rattle.decoder_group.specs.declared.Spot.{Spot}

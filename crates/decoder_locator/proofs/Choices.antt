@@ -30,7 +30,7 @@ use Rattle.staircase.proofs.Member.{In, Sub, done, skip, keep, sub-nil, choices
 use Rattle.staircase.proofs.Errors.{Positions, positions-below, errorPositions-found, flipBits-length, flipBits-bits, flipBits-distance, flips-once}
 use Rattle.decoder_locator.specs.Located.{sumAt, firstWithSum, located}
 use Rattle.decoder_locator.specs.Steps.{NotOne, NotTwo, NotThree}
-use Rattle.decoder_locator.proofs.Link.{flipBits-remainder, errorPositions-located}
+use Rattle.decoder_locator.proofs.ErrorPositions.{flipBits-remainder, errorPositions-located}
 
 -- ---- choices of positions
 

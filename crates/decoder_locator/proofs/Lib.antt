@@ -1,8 +1,8 @@
-pub mod Link
-pub mod Choices
-pub mod Roots
-pub mod Cubics
-pub mod Values
-pub mod Fours
-pub mod Triples
 pub mod Answers
+pub mod Choices
+pub mod Cubics
+pub mod ErrorPositions
+pub mod Fours
+pub mod Roots
+pub mod Triples
+pub mod Values

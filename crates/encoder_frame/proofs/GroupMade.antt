@@ -23,7 +23,7 @@ use Rattle.staircase.proofs.System.{Proper, unstack-lt}
 use Rattle.staircase.proofs.Tables.{Binary, tabulate-at, tabulate-same}
 use Rattle.staircase.proofs.Entries.{columnRemainder, rowRemainder, columnParity-powers, rowParity-powers}
 use Rattle.words_blocks.specs.Blocks.{columnSum, rowSum, Powers}
-use Rattle.words_blocks.proofs.Link.{SameBlock, part-powers, columnSum-is, rowSum-is}
+use Rattle.words_blocks.proofs.BlockRemainders.{SameBlock, part-powers, columnSum-is, rowSum-is}
 use Rattle.encoder_solution.specs.Bits.{digit, constantBit}
 use Rattle.encoder_frame.specs.Group.{selfBit, parityBit, groupOf}
 

@@ -1,5 +1,5 @@
+pub mod FrameGroups
 pub mod GroupMade
-pub mod Groups
 pub mod Halves
 pub mod Lending
-pub mod Whole
+pub mod WholeFrame

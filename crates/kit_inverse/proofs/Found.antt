@@ -22,8 +22,8 @@ use Rattle.matrix.specs.Packed.{packedBit, planeBit}
 use Rattle.matrix.proofs.Product.{sum-spare}
 use Rattle.kit_system.specs.Rows.{unstackOf}
 use Rattle.kit_inverse.specs.Products.{wrongIn}
-use Rattle.kit_inverse.proofs.Search.{firstWhere-same}
-use Rattle.kit_inverse.proofs.Sizes.{unstacked}
+use Rattle.kit_inverse.proofs.RowSearch.{firstWhere-same}
+use Rattle.kit_inverse.proofs.RowSizes.{unstacked}
 
 -- A is what is left in the bytes, and AP what is lent of them
 pub found : (row t : List ℕ) (n e : ℕ) → ((k : ℕ) → n ≤ k → packedBit row k ≡ 0) → (A AP : List ℕ)

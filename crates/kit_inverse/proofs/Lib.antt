@@ -1,6 +1,6 @@
 pub mod Found
-pub mod Product
-pub mod Search
-pub mod Sizes
-pub mod Verdict
-pub mod Whole
+pub mod KitProduct
+pub mod RowSearch
+pub mod RowSizes
+pub mod Rule9
+pub mod WholeProduct

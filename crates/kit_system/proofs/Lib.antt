@@ -1,2 +1,2 @@
+pub mod SystemRows
 pub mod Terms
-pub mod Link

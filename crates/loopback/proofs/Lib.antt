@@ -1,3 +1,3 @@
-pub mod Link
-pub mod Restores
 pub mod Demand1
+pub mod Restores
+pub mod TwoCalls

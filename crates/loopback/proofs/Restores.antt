@@ -13,7 +13,7 @@ use Rattle.staircase.specs.Calls.{Encoded}
 use Rattle.staircase.specs.Demand3.{Kit, sizes, lists, Given, EachWord, Restored}
 use Rattle.staircase.proofs.Demand3.{encode-made, made-bits, made-restored}
 use Rattle.loopback.specs.Link.{turned, loopbackCall}
-use Rattle.loopback.proofs.Link.{turned-length, turned-bits, numbers-accepted, loopback-decoded}
+use Rattle.loopback.proofs.TwoCalls.{turned-length, turned-bits, numbers-accepted, loopback-decoded}
 
 module _ (K : Kit) (L : ℕ) (info old : List ℕ) (G : Given K L info old) where
   abbrev pub frame : Frame

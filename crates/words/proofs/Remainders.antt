@@ -25,7 +25,7 @@ use Rattle.staircase.proofs.Tables.{Binary, tabulate-length, tabulate-at, tabul
 use Rattle.staircase.proofs.Redundancy.{block-binary, read-row, read-column}
 use Rattle.words_blocks.specs.Blocks.{partSum, columnSum, rowSum, Powers}
 use Rattle.words_blocks.proofs.Sums.{part-same}
-use Rattle.words_blocks.proofs.Link.{SameBlock}
+use Rattle.words_blocks.proofs.BlockRemainders.{SameBlock}
 
 -- ---- sums over a word, by any weights of its positions
 

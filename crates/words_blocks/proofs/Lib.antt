@@ -1,3 +1,3 @@
-pub mod Sums
+pub mod BlockRemainders
 pub mod Blocks
-pub mod Link
+pub mod Sums

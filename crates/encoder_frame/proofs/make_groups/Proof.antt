@@ -8,7 +8,7 @@ use Rattle.staircase.proofs.Bounds.{stretch-end}
 use Rattle.staircase.specs.Frame.{groups}
 use Rattle.bch_remainders.proofs.Rows.{row-length}
 use Rattle.encoder_frame.specs.Groups.{groupFrom}
-use Rattle.encoder_frame.proofs.Groups.{groupFrom-length, written, written-none, written-more, written-all}
+use Rattle.encoder_frame.proofs.FrameGroups.{groupFrom-length, written, written-none, written-more, written-all}
 use Rattle.encoder_frame.proofs.make_groups.Statement.{statement}
 use Rattle.encoder_frame.proofs.make_groups.Tie as tie
 

@@ -9,7 +9,7 @@ use Rattle.staircase.specs.Rules.{entries}
 use Rattle.staircase.specs.Demand2.{Permutes}
 use Rattle.words_positions.proofs.Parts.{part-fits, part-is}
 use Rattle.design.proofs.Allowed.{bits-small}
-use Rattle.encoder_frame.proofs.Whole.{red-long, frame-ready, frame-made}
+use Rattle.encoder_frame.proofs.WholeFrame.{red-long, frame-ready, frame-made}
 use Rattle.encoder_frame.proofs.make_redundancy.Statement.{statement}
 use Rattle.encoder_frame.proofs.make_redundancy.Tie as tie
 

@@ -8,7 +8,7 @@ use lib.ListN.{length, take}
 use Rattle.design.specs.Sizes.{paramsOf}
 use Rattle.words_positions.proofs.Parts.{part-within, middle-is}
 use Rattle.design.proofs.Allowed.{r-small}
-use Rattle.kit_inverse.proofs.Product.{part-of}
+use Rattle.kit_inverse.proofs.KitProduct.{part-of}
 use Rattle.kit_inverse.proofs.check_inverse.Statement.{statement}
 use Rattle.kit_inverse.proofs.check_inverse.Tie as tie
 

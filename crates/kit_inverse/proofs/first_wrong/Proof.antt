@@ -6,7 +6,7 @@ use mathlib.Core.Path.{sym, ap, _∙_}
 use Prim.Native.Nat.{ℕ, _*_}
 use Rattle.staircase.specs.System.{rowBytes}
 use Rattle.design.proofs.Allowed.{order-positive}
-use Rattle.kit_inverse.proofs.Whole.{sides, wrong-found}
+use Rattle.kit_inverse.proofs.WholeProduct.{sides, wrong-found}
 use Rattle.kit_inverse.proofs.first_wrong.Statement.{statement}
 use Rattle.kit_inverse.proofs.first_wrong.Tie as tie
 

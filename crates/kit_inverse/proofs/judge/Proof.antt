@@ -6,8 +6,8 @@ use mathlib.Core.Path.{ap}
 use Prim.Native.Nat.{ℕ, _*_}
 use Rattle.design.specs.Sizes.{paramsOf, listsOf}
 use Rattle.design.specs.Answers.{refusalVerdict, verdictOf}
-use Rattle.kit_inverse.proofs.Sizes.{square-small}
-use Rattle.kit_inverse.proofs.Verdict.{inverse-refused, inverse-passed}
+use Rattle.kit_inverse.proofs.RowSizes.{square-small}
+use Rattle.kit_inverse.proofs.Rule9.{inverse-refused, inverse-passed}
 use Rattle.kit_inverse.proofs.judge.Statement.{statement}
 use Rattle.kit_inverse.proofs.judge.Tie as tie
 

@@ -9,7 +9,7 @@ use Rattle.staircase.specs.Design.{params, order}
 use Rattle.staircase.specs.Calls.{decodeCall}
 use Rattle.staircase.specs.Rules.{wordWork}
 use Rattle.design.proofs.Answers.{check-passed}
-use Rattle.loopback.proofs.Link.{loopback-numbers, loopback-encoder, own-length, working-fits, loopback-decoded}
+use Rattle.loopback.proofs.TwoCalls.{loopback-numbers, loopback-encoder, own-length, working-fits, loopback-decoded}
 use borrow.Author.Needs.{needs}
 use Rattle.loopback.proofs.loopback.Statement.{statement}
 use Rattle.loopback.proofs.loopback.Tie as tie

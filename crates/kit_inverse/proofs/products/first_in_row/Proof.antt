@@ -8,7 +8,7 @@ use lib.ListN.{length}
 use Rattle.staircase.specs.Rules.{entries}
 use Rattle.kit_system.specs.Rows.{rowEntry}
 use Rattle.words_positions.proofs.Parts.{part-fits, part-is}
-use Rattle.kit_inverse.proofs.Sizes.{row-zeros}
+use Rattle.kit_inverse.proofs.RowSizes.{row-zeros}
 use Rattle.kit_inverse.proofs.Found.{packed-spare, packed-found}
 use Rattle.kit_inverse.proofs.products.first_in_row.Statement.{statement}
 use Rattle.kit_inverse.proofs.products.first_in_row.Tie as tie

@@ -13,8 +13,8 @@ use Rattle.staircase.specs.Rules.{entries}
 use Rattle.staircase.proofs.Bounds.{stretch-end}
 use Rattle.kit_system.specs.Rows.{unstackOf, rowEntry}
 use Rattle.kit_inverse.specs.Products.{wrongIn}
-use Rattle.kit_inverse.proofs.Search.{row-found, row-clean, rows-none}
-use Rattle.kit_inverse.proofs.Sizes.{square-small}
+use Rattle.kit_inverse.proofs.RowSearch.{row-found, row-clean, rows-none}
+use Rattle.kit_inverse.proofs.RowSizes.{square-small}
 use Rattle.kit_inverse.proofs.products.first_in_rows.Statement.{statement}
 use Rattle.kit_inverse.proofs.products.first_in_rows.Tie as tie
 

@@ -4,7 +4,7 @@ use native.Mathlib.Omega.{arith}
 use mathlib.Core.Path.{refl}
 use Prim.Native.Nat.{_*_}
 use Rattle.kit_system.specs.Rows.{unstackOf}
-use Rattle.kit_inverse.proofs.Sizes.{unstacked}
+use Rattle.kit_inverse.proofs.RowSizes.{unstacked}
 use Rattle.kit_inverse.proofs.products.source.Statement.{statement}
 use Rattle.kit_inverse.proofs.products.source.Tie as tie
 

@@ -22,7 +22,7 @@ use Rattle.staircase.proofs.Matrix.{sumBits-same}
 use Rattle.staircase.proofs.System.{Proper}
 use Rattle.matrix.specs.Packed.{planeBit, Planes, paddedEntry}
 use Rattle.kit_system.specs.Rows.{PartOf, unstackOf, rowEntry}
-use Rattle.kit_system.proofs.Link.{rowEntry-is}
+use Rattle.kit_system.proofs.SystemRows.{rowEntry-is}
 use Rattle.kit_inverse.specs.Products.{wrongIn, productWrong}
 
 pub part-of : (s : Params) (powers part : List ℕ) → PositionPowers (s .g) (s .r) powers → length powers ≡ 2 * s .r

@@ -17,9 +17,9 @@ use Rattle.design.proofs.Allowed.{proper-of, r-small, order-positive}
 use Rattle.matrix.specs.Packed.{Planes, paddedEntry}
 use Rattle.kit_system.specs.Rows.{PartOf}
 use Rattle.kit_inverse.specs.Products.{Side, productWrong}
-use Rattle.kit_inverse.proofs.Search.{firstWhere-same}
+use Rattle.kit_inverse.proofs.RowSearch.{firstWhere-same}
 use Rattle.kit_inverse.specs.Fits.{KitFits}
-use Rattle.kit_inverse.proofs.Product.{wrong-is}
+use Rattle.kit_inverse.proofs.KitProduct.{wrong-is}
 
 module _ (d : Design) (own parity inverse work : List ℕ) (h : KitFits d own parity inverse work) (n : ℕ) (e : n ≡ orderOf d)
     (part : List ℕ) (P : PartOf (paramsOf d) part) (t : List ℕ) where

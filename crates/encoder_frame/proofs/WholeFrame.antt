@@ -20,7 +20,7 @@ use Rattle.design.specs.declared.Design.{Design}
 use Rattle.design.specs.Sizes.{paramsOf, orderOf, listsOf}
 use Rattle.design.proofs.Allowed.{proper-of, r-small}
 use Rattle.encoder_frame.specs.Groups.{groupFrom, Ready, Encodable}
-use Rattle.encoder_frame.proofs.Groups.{groups-are}
+use Rattle.encoder_frame.proofs.FrameGroups.{groups-are}
 
 module _ {d : Design} {L : ℕ} {parity inverse info red : List ℕ} (h : Encodable d L parity inverse info red) {r : ℕ} (er : r ≡ d .m * d .t) where
   ok : Proper (paramsOf d)

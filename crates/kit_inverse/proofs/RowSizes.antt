@@ -13,7 +13,7 @@ use Rattle.staircase.specs.Rules.{entries}
 use Rattle.staircase.proofs.Bounds.{small-product, place-below}
 use Rattle.kit_system.specs.Rows.{rowEntry}
 use Rattle.kit_system.proofs.Terms.{Sized, sized}
-use Rattle.kit_system.proofs.Link.{rowEntry-spare}
+use Rattle.kit_system.proofs.SystemRows.{rowEntry-spare}
 use Rattle.kit_inverse.specs.Products.{Side}
 
 pub record Unstacked (size r n e : ℕ) : Type 0 where
