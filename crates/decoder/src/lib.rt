@@ -86,7 +86,8 @@ fn correct_in(
 }
 
 // Working entries for the positions of a word, for their values and those of four bits, for a field, and for the remainders of a group's row words
-// or column words. Only their lengths are told: the most that a design needs, or more.
+// or column words. Only their lengths are told: the most that a design needs, or more. A word has at most 2^10 - 1 bits, and behind the values of its
+// positions stand at most 128 of four bits; a field has four tables of at most 2^10 entries; M is at most 500.
 fn position_entries() -> [u32; 1024]
     ensures { λ a. ⌜ 1024 ≡ length a ⌝ }
 {

@@ -94,7 +94,7 @@ fn line_remainders(
     words::row_remainders(d, blocks, i, own, parity, info, red, table, work, sums);
 }
 
-// Corrects all row words of a group, or all its column words, and counts those that were outside the code.
+// Corrects all row words of a group, or all its column words, and counts those that were outside the code: at most 500 words, of three flips each.
 fn correct_lines(
     d: Design,
     blocks: usize,
@@ -215,7 +215,8 @@ fn correct_group(
     }
 }
 
-// Corrects all words of a frame once, group by group. Where it flips nothing, it has counted the words outside the code.
+// Corrects all words of a frame once, group by group. Where it flips nothing, it has counted the words outside the code. At most 2,048 groups have at
+// most 3,000 flips each.
 fn correct_once(
     d: Design,
     blocks: usize,

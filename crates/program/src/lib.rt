@@ -109,7 +109,8 @@ pub fn sizes_of(d: Design, blocks: u64) -> Sizes
     }
 }
 
-// Arrays for a list, for a packed matrix and for the bits of a text. Only their room is told.
+// Arrays for a list, for a packed matrix and for the bits of a text. Only their room is told: a kit text of at most 32,768 bytes has at most 181 rows,
+// since 182² is more, so that a list has at most 2 × 181 bytes, and the inverse 181 rows of at most 23.
 pub fn list_bytes(n: usize) -> [u8; 362]
     requires { ⌜ n ≤ 362 ⌝ }
     ensures { λ a. ⌜ RoomFor n a ⌝ }

@@ -14,7 +14,8 @@ use design::Check;
 use design::Design;
 use program::Start;
 
-// Redundancy of as many groups as the longest block text has. Only its room is told.
+// Redundancy of as many groups as the longest block text has. Only its room is told: at most 8,192 rows of blocks with r of at most 30 bits each, and
+// M × r, at most 181, more where the number of blocks is odd.
 fn group_bits(n: usize) -> [u8; 245941]
     requires { ⌜ n ≤ 245941 ⌝ }
     ensures { λ a. ⌜ RoomFor n a ⌝ }

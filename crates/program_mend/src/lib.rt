@@ -15,7 +15,7 @@ use decoder::Decoding;
 use design::Design;
 use program::Start;
 
-// The entries of a list. Only their room is told.
+// A byte for each entry of a list. Only their room is told: a kit text of at most 32,768 bytes has at most 181 rows.
 fn entry_bytes(n: usize) -> [u8; 181]
     requires { ⌜ n ≤ 181 ⌝ }
     ensures { λ a. ⌜ RoomFor n a ⌝ }
