@@ -17,15 +17,6 @@ sub-copy-table c =
     let s = c .before .before .before in
     omega (arith, s .pre .3 .long, sizes (s .args .m) (s .pre .0) (s .pre .1))
 
-sub-copy-table-2 : tie.Need-sub-copy-table-2
-sub-copy-table-2 c = search needs
-
-part-copy-table-start : tie.Need-part-copy-table-start
-part-copy-table-start c = search needs
-
-part-copy-table-end : tie.Need-part-copy-table-end
-part-copy-table-end c = search needs
-
 copy-table-requires : tie.Need-copy-table-requires
 copy-table-requires c κs =
     let s = c .before .before .before .before in
@@ -34,46 +25,10 @@ copy-table-requires c κs =
     quarter-length (a .m) 0 (q - 1) (a .field .now) (s .pre .4) (omega (arith, s .pre .3 .long)) (omega (arith, s .pre .3 .long))
     ∙ sym (powers-length (a .m) (a .powers .now) (s .pre .2))
 
-mul-copy-table : tie.Need-mul-copy-table
-mul-copy-table c = search needs
-
-mul-copy-table-2 : tie.Need-mul-copy-table-2
-mul-copy-table-2 c = search needs
-
-sub-copy-table-3 : tie.Need-sub-copy-table-3
-sub-copy-table-3 c = search needs
-
-part-copy-table-start-2 : tie.Need-part-copy-table-start-2
-part-copy-table-start-2 c = search needs
-
-part-copy-table-end-2 : tie.Need-part-copy-table-end-2
-part-copy-table-end-2 c = search needs
-
-copy-table-requires-2 : tie.Need-copy-table-requires-2
-copy-table-requires-2 c κs = search needs
-
-mul-fill-solutions : tie.Need-mul-fill-solutions
-mul-fill-solutions c = search needs
-
-mul-fill-solutions-2 : tie.Need-mul-fill-solutions-2
-mul-fill-solutions-2 c = search needs
-
 sub-fill-solutions : tie.Need-sub-fill-solutions
 sub-fill-solutions c =
     let s = c .before .before .before .before .before .before .before .before .before .before .before in
     omega (arith, s .pre .3 .long, sizes (s .args .m) (s .pre .0) (s .pre .1))
-
-mul-fill-solutions-3 : tie.Need-mul-fill-solutions-3
-mul-fill-solutions-3 c = search needs
-
-sub-fill-solutions-2 : tie.Need-sub-fill-solutions-2
-sub-fill-solutions-2 c = search needs
-
-part-fill-solutions-start : tie.Need-part-fill-solutions-start
-part-fill-solutions-start c = search needs
-
-part-fill-solutions-end : tie.Need-part-fill-solutions-end
-part-fill-solutions-end c = search needs
 
 fill-solutions-requires : tie.Need-fill-solutions-requires
 fill-solutions-requires c κs =
@@ -93,25 +48,10 @@ fill-solutions-requires c κs =
       quarter-length m (2 * q) (3 * q - 1) _ two (omega (arith, logs .long)) (omega (arith, logs .long)),
     )
 
-mul-fill-solutions-4 : tie.Need-mul-fill-solutions-4
-mul-fill-solutions-4 c = search needs
-
-mul-fill-solutions-5 : tie.Need-mul-fill-solutions-5
-mul-fill-solutions-5 c = search needs
-
 sub-fill-solutions-3 : tie.Need-sub-fill-solutions-3
 sub-fill-solutions-3 c =
     let s = c .before .before .before .before .before .before .before .before .before .before .before .before .before .before .before in
     omega (arith, s .pre .3 .long, sizes (s .args .m) (s .pre .0) (s .pre .1))
-
-mul-fill-solutions-6 : tie.Need-mul-fill-solutions-6
-mul-fill-solutions-6 c = search needs
-
-sub-fill-solutions-4 : tie.Need-sub-fill-solutions-4
-sub-fill-solutions-4 c = search needs
-
-part-fill-solutions-start-2 : tie.Need-part-fill-solutions-start-2
-part-fill-solutions-start-2 c = search needs
 
 part-fill-solutions-end-2 : tie.Need-part-fill-solutions-end-2
 part-fill-solutions-end-2 c =
@@ -141,9 +81,6 @@ fill-solutions-requires-2 c κs =
       quarter-length m (3 * q) (4 * q - 1) _ three (omega (arith, logs .long)) (omega (arith, logs .long)),
     )
 
-same-length : tie.Need-same-length
-same-length c = search needs
-
 returns : tie.Need-returns
 returns c =
     let s = c .before .before .before .before .before .before .before .before .before .before .before .before .before .before .before .before .before .before .before in
@@ -157,33 +94,8 @@ returns c =
 pub fill-quarters-spec : {M : Type 1} → statement M
 fill-quarters-spec =
     tie.close
-    (tie.spec
-    sub-copy-table
-    sub-copy-table-2
-    part-copy-table-start
-    part-copy-table-end
-    copy-table-requires
-    mul-copy-table
-    mul-copy-table-2
-    sub-copy-table-3
-    part-copy-table-start-2
-    part-copy-table-end-2
-    copy-table-requires-2
-    mul-fill-solutions
-    mul-fill-solutions-2
-    sub-fill-solutions
-    mul-fill-solutions-3
-    sub-fill-solutions-2
-    part-fill-solutions-start
-    part-fill-solutions-end
-    fill-solutions-requires
-    mul-fill-solutions-4
-    mul-fill-solutions-5
-    sub-fill-solutions-3
-    mul-fill-solutions-6
-    sub-fill-solutions-4
-    part-fill-solutions-start-2
-    part-fill-solutions-end-2
-    fill-solutions-requires-2
-    same-length
-    returns)
+    (tie.spec sub-copy-table (λ c. search needs) (λ c. search needs) (λ c. search needs) copy-table-requires (λ c. search needs) (λ c. search needs)
+    (λ c. search needs) (λ c. search needs) (λ c. search needs) (λ c κs. search needs) (λ c. search needs) (λ c. search needs) sub-fill-solutions
+    (λ c. search needs) (λ c. search needs) (λ c. search needs) (λ c. search needs) fill-solutions-requires (λ c. search needs) (λ c. search needs)
+    sub-fill-solutions-3 (λ c. search needs) (λ c. search needs) (λ c. search needs) part-fill-solutions-end-2 fill-solutions-requires-2
+    (λ c. search needs) returns)

@@ -58,16 +58,4 @@ returns c =
 pub copy-table-spec : {M : Type 1} → statement M
 copy-table-spec =
     tie.close
-    (tie.spec
-    Inv-loop
-    μ-loop
-    loop-holds
-    mul-out
-    shared-slice-read-out
-    mul-out-2
-    slice-write-out
-    add-i
-    loop-less
-    loop-again
-    same-length
-    returns)
+    (tie.spec Inv-loop μ-loop loop-holds mul-out shared-slice-read-out mul-out-2 slice-write-out add-i loop-less loop-again same-length returns)

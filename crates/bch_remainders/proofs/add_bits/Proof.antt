@@ -61,18 +61,5 @@ returns c = let i = c .before .loop .inv in (i .2, λ a h. i .3 a .0 (omega arit
 pub add-bits-spec : {M : Type 1} → statement M
 add-bits-spec =
     tie.close
-    (tie.spec
-    Inv-loop
-    μ-loop
-    loop-holds
-    mul-acc
-    slice-read-acc
-    shared-slice-read-masked
-    masked-requires
-    mul-acc-2
-    slice-write-acc
-    add-a
-    loop-less
-    loop-again
-    same-length
-    returns)
+    (tie.spec Inv-loop μ-loop loop-holds mul-acc slice-read-acc shared-slice-read-masked masked-requires mul-acc-2 slice-write-acc add-a loop-less
+    loop-again same-length returns)

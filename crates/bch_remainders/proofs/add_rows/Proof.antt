@@ -96,20 +96,5 @@ returns c =
 pub add-rows-spec : {M : Type 1} → statement M
 add-rows-spec =
     tie.close
-    (tie.spec
-    Inv-loop
-    μ-loop
-    loop-holds
-    mul-from
-    add-add-bits
-    sub-add-bits
-    part-add-bits-start
-    part-add-bits-end
-    mul-add-bits
-    shared-slice-read-add-bits
-    add-bits-requires
-    add-j
-    loop-less
-    loop-again
-    same-length
-    returns)
+    (tie.spec Inv-loop μ-loop loop-holds mul-from add-add-bits sub-add-bits part-add-bits-start part-add-bits-end mul-add-bits
+    shared-slice-read-add-bits add-bits-requires add-j loop-less loop-again same-length returns)

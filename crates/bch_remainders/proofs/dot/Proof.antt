@@ -58,15 +58,5 @@ returns c =
 pub dot-spec : {M : Type 1} → statement M
 dot-spec =
     tie.close
-    (tie.spec
-    Inv-loop
-    μ-loop
-    loop-holds
-    shared-slice-read-masked
-    mul-masked
-    shared-slice-read-masked-2
-    masked-requires
-    add-j
-    loop-less
-    loop-again
+    (tie.spec Inv-loop μ-loop loop-holds shared-slice-read-masked mul-masked shared-slice-read-masked-2 masked-requires add-j loop-less loop-again
     returns)

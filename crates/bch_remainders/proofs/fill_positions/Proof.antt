@@ -74,15 +74,4 @@ returns c =
 pub fill-positions-spec : {M : Type 1} → statement M
 fill-positions-spec =
     tie.close
-    (tie.spec
-    Inv-loop
-    μ-loop
-    loop-holds
-    sub-i
-    mul-table
-    slice-write-table
-    times-x-requires
-    loop-less
-    loop-again
-    same-length
-    returns)
+    (tie.spec Inv-loop μ-loop loop-holds sub-i mul-table slice-write-table times-x-requires loop-less loop-again same-length returns)

@@ -7,24 +7,6 @@ use Rattle.bch_remainders.proofs.Generators.{productAt, entriesFrom, ge
 use Rattle.bch_remainders.proofs.generator_of.Statement.{statement}
 use Rattle.bch_remainders.proofs.generator_of.Tie as tie
 
-sub-result : tie.Need-sub-result
-sub-result c = search needs
-
-mul-result : tie.Need-mul-result
-mul-result c = search needs
-
-sub-result-2 : tie.Need-sub-result-2
-sub-result-2 c = search needs
-
-add-result : tie.Need-add-result
-add-result c = search needs
-
-mul-result-2 : tie.Need-mul-result-2
-mul-result-2 c = search needs
-
-array-read-result : tie.Need-array-read-result
-array-read-result c = search needs
-
 returns : tie.Need-returns
 unfolding generators entriesFrom productAt minimals _⊗_ polyAt polyAtDigits _⊕_
 returns c =
@@ -36,4 +18,4 @@ returns c =
 pub generator-of-spec : {M : Type 1} → statement M
 generator-of-spec =
     tie.close
-    (tie.spec sub-result mul-result sub-result-2 add-result mul-result-2 array-read-result returns)
+    (tie.spec (λ c. search needs) (λ c. search needs) (λ c. search needs) (λ c. search needs) (λ c. search needs) (λ c. search needs) returns)

@@ -6,11 +6,10 @@ use Rattle.bch_remainders.proofs.Tables.{spread-bit}
 use Rattle.bch_remainders.proofs.masked.Statement.{statement}
 use Rattle.bch_remainders.proofs.masked.Tie as tie
 
-mul-result : tie.Need-mul-result
-mul-result c = search needs
-
 returns : tie.Need-returns
 returns c = spread-bit (c .args .b) (c .args .x) (c .pre) (omega arith)
 
 pub masked-spec : {M : Type 1} → statement M
-masked-spec = tie.close (tie.spec mul-result returns)
+masked-spec =
+    tie.close
+    (tie.spec (λ c. search needs) returns)

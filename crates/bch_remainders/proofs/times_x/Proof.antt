@@ -18,4 +18,6 @@ returns-2 : tie.Need-returns-2
 returns-2 c = let a = c .before .args in timesX-over (a .g) (a .r) (a .v) (omega arith) (omega arith)
 
 pub times-x-spec : {M : Type 1} → statement M
-times-x-spec = tie.close (tie.spec mul-w returns returns-2)
+times-x-spec =
+    tie.close
+    (tie.spec mul-w returns returns-2)

@@ -8,27 +8,9 @@ use borrow.Author.Needs.{needs}
 use Rattle.decoder.proofs.check_frame.Statement.{statement}
 use Rattle.decoder.proofs.check_frame.Tie as tie
 
-check-count-requires : tie.Need-check-count-requires
-check-count-requires c κs = search needs
-
-enum-told : tie.Need-enum-told
-enum-told c = search needs
-
-enum-told-2 : tie.Need-enum-told-2
-enum-told-2 c = search needs
-
 returns : tie.Need-returns
 unfolding frameRules
 returns c = refused-then _ (c .before .before .check-count .ensures) (c .enum-told2 .given .1)
-
-check-rounds-requires : tie.Need-check-rounds-requires
-check-rounds-requires c κs = search needs
-
-enum-told-3 : tie.Need-enum-told-3
-enum-told-3 c = search needs
-
-enum-told-4 : tie.Need-enum-told-4
-enum-told-4 c = search needs
 
 returns-2 : tie.Need-returns-2
 unfolding frameRules
@@ -39,9 +21,6 @@ check-received-requires : tie.Need-check-received-requires
 check-received-requires c κs =
     (c .before .before .before .before .before .before .before .before .before .before .before .before .pre, count-limits _ (sym (c .before .before .before .before .before .before .check-count .ensures) ∙ check-passed (c .before .before .before .before .enum-told .given .1)) .1)
 
-same-length : tie.Need-same-length
-same-length c = search needs
-
 returns-3 : tie.Need-returns-3
 unfolding frameRules
 returns-3 c =
@@ -50,15 +29,5 @@ returns-3 c =
 pub check-frame-spec : {M : Type 1} → statement M
 check-frame-spec =
     tie.close
-    (tie.spec
-    check-count-requires
-    enum-told
-    enum-told-2
-    returns
-    check-rounds-requires
-    enum-told-3
-    enum-told-4
-    returns-2
-    check-received-requires
-    same-length
-    returns-3)
+    (tie.spec (λ c κs. search needs) (λ c. search needs) (λ c. search needs) returns (λ c κs. search needs) (λ c. search needs) (λ c. search needs)
+    returns-2 check-received-requires (λ c. search needs) returns-3)

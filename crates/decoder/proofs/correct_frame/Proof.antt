@@ -8,38 +8,11 @@ use borrow.Author.Needs.{needs}
 use Rattle.decoder.proofs.correct_frame.Statement.{statement}
 use Rattle.decoder.proofs.correct_frame.Tie as tie
 
-n-requires : tie.Need-n-requires
-n-requires c κs = search needs
-
-size-requires : tie.Need-size-requires
-size-requires c κs = search needs
-
-m-requires : tie.Need-m-requires
-m-requires c κs = search needs
-
-shl-powers : tie.Need-shl-powers
-shl-powers c = search needs
-
-position-entries-requires : tie.Need-position-entries-requires
-position-entries-requires c κs = search needs
-
-syndrome-entries-requires : tie.Need-syndrome-entries-requires
-syndrome-entries-requires c κs = search needs
-
-field-entries-requires : tie.Need-field-entries-requires
-field-entries-requires c κs = search needs
-
-sum-entries-requires : tie.Need-sum-entries-requires
-sum-entries-requires c κs = search needs
-
 array-borrow-prefix-positions : tie.Need-array-borrow-prefix-positions
 array-borrow-prefix-positions c = lent _ 1024 (c .before .before .before .before .before .before .position-entries .result) (c .before .before .before .before .before .before .position-entries .ensures) (positions-room _ (c .before .before .before .before .before .before .before .before .before .before .before .before .before .before .before .pre .0 .allowed) _ (c .before .before .before .before .before .before .before .before .before .n .ensures .0)) .0
 
 slice-aggregate-correct-in : tie.Need-slice-aggregate-correct-in
 slice-aggregate-correct-in c = sym (lent _ 1024 (c .before .before .before .before .before .before .before .position-entries .result) (c .before .before .before .before .before .before .before .position-entries .ensures) (positions-room _ (c .before .before .before .before .before .before .before .before .before .before .before .before .before .before .before .before .pre .0 .allowed) _ (c .before .before .before .before .before .before .before .before .before .before .n .ensures .0)) .1)
-
-add-syndromes : tie.Need-add-syndromes
-add-syndromes c = search needs
 
 array-borrow-prefix-syndromes : tie.Need-array-borrow-prefix-syndromes
 array-borrow-prefix-syndromes c = lent _ 1152 (c .before .before .before .before .before .before .syndrome-entries .result) (c .before .before .before .before .before .before .syndrome-entries .ensures) (syndromes-room _ (c .before .before .before .before .before .before .before .before .before .before .before .before .before .before .before .before .pre .0 .allowed) _ (c .before .before .before .before .before .before .before .before .before .before .n .ensures .0)) .0
@@ -77,42 +50,11 @@ correct-in-requires c κs =
       lent _ 512 (c .before .before .before .before .before .before .before .sum-entries .result) (c .before .before .before .before .before .before .before .sum-entries .ensures) (sums-room _ (p .0 .allowed) _ M) .1 ∙ M,
     )
 
-same-length : tie.Need-same-length
-same-length c = search needs
-
-same-length-2 : tie.Need-same-length-2
-same-length-2 c = search needs
-
-same-length-3 : tie.Need-same-length-3
-same-length-3 c = search needs
-
-returns : tie.Need-returns
-returns c = search needs
-
 pub correct-frame-spec : {M : Type 1} → statement M
 correct-frame-spec =
     tie.close
-    (tie.spec
-    n-requires
-    size-requires
-    m-requires
-    shl-powers
-    position-entries-requires
-    syndrome-entries-requires
-    field-entries-requires
-    sum-entries-requires
-    array-borrow-prefix-positions
-    slice-aggregate-correct-in
-    add-syndromes
-    array-borrow-prefix-syndromes
-    slice-aggregate-correct-in-2
-    mul-field
-    array-borrow-prefix-field
-    slice-aggregate-correct-in-3
-    array-borrow-prefix-sums
-    slice-aggregate-correct-in-4
-    correct-in-requires
-    same-length
-    same-length-2
-    same-length-3
-    returns)
+    (tie.spec (λ c κs. search needs) (λ c κs. search needs) (λ c κs. search needs) (λ c. search needs) (λ c κs. search needs) (λ c κs. search needs)
+    (λ c κs. search needs) (λ c κs. search needs) array-borrow-prefix-positions slice-aggregate-correct-in (λ c. search needs)
+    array-borrow-prefix-syndromes slice-aggregate-correct-in-2 mul-field array-borrow-prefix-field slice-aggregate-correct-in-3
+    array-borrow-prefix-sums slice-aggregate-correct-in-4 correct-in-requires (λ c. search needs) (λ c. search needs) (λ c. search needs)
+    (λ c. search needs))

@@ -9,9 +9,6 @@ use borrow.Author.Needs.{needs}
 use Rattle.decoder.proofs.correct_in.Statement.{statement}
 use Rattle.decoder.proofs.correct_in.Tie as tie
 
-rounds-allowed-requires : tie.Need-rounds-allowed-requires
-rounds-allowed-requires c κs = search needs
-
 fill-tables-requires : tie.Need-fill-tables-requires
 fill-tables-requires c κs =
     let p = c .before .before .before .before .before .before .before .before .before .before .before .before .before .pre in
@@ -60,16 +57,5 @@ returns c =
 pub correct-in-spec : {M : Type 1} → statement M
 correct-in-spec =
     tie.close
-    (tie.spec
-    rounds-allowed-requires
-    fill-tables-requires
-    run-rounds-requires
-    outside-after-requires
-    same-length
-    same-length-2
-    same-length-3
-    same-length-4
-    same-length-5
-    same-length-6
-    same-length-7
-    returns)
+    (tie.spec (λ c κs. search needs) fill-tables-requires run-rounds-requires outside-after-requires same-length same-length-2 same-length-3
+    same-length-4 same-length-5 same-length-6 same-length-7 returns)

@@ -9,21 +9,6 @@ use borrow.Author.Needs.{needs}
 use Rattle.decoder.proofs.decode.Statement.{statement}
 use Rattle.decoder.proofs.decode.Tie as tie
 
-new-requires : tie.Need-new-requires
-new-requires c κs = search needs
-
-enum-known-designed : tie.Need-enum-known-designed
-enum-known-designed c = search needs
-
-enum-told : tie.Need-enum-told
-enum-told c = search needs
-
-design-check-requires : tie.Need-design-check-requires
-design-check-requires c κs = search needs
-
-refused-frame-requires : tie.Need-refused-frame-requires
-refused-frame-requires c κs = search needs
-
 returns : tie.Need-returns
 returns c =
     let a = c .before .before .before .before .before .before .before .before .before .before .args in
@@ -33,24 +18,6 @@ returns c =
 check-frame-requires : tie.Need-check-frame-requires
 check-frame-requires c κs =
     made-allowed (c .before .before .before .before .designed .given .1) (c .before .before .before .before .before .before .new .ensures .2)
-
-enum-told-2 : tie.Need-enum-told-2
-enum-told-2 c = search needs
-
-enum-told-3 : tie.Need-enum-told-3
-enum-told-3 c = search needs
-
-refused-frame-requires-2 : tie.Need-refused-frame-requires-2
-refused-frame-requires-2 c κs = search needs
-
-same-length : tie.Need-same-length
-same-length c = search needs
-
-same-length-2 : tie.Need-same-length-2
-same-length-2 c = search needs
-
-same-length-3 : tie.Need-same-length-3
-same-length-3 c = search needs
 
 returns-2 : tie.Need-returns-2
 returns-2 c =
@@ -66,15 +33,6 @@ correct-frame-requires c κs =
     let work = frame-working _ (a .blocks) (a .rounds) (a .own .now) (a .parity .now) (a .info .now) (a .red .now) (length (a .work .now)) e in
     (frame-received _ (a .blocks) (a .rounds) (a .own .now) (a .parity .now) (a .info .now) (a .red .now) (length (a .work .now)) e allowed, omega (arith, work), few-rounds _ (a .blocks) (a .rounds) (a .own .now) (a .parity .now) (a .info .now) (a .red .now) (length (a .work .now)) e)
 
-same-length-4 : tie.Need-same-length-4
-same-length-4 c = search needs
-
-same-length-5 : tie.Need-same-length-5
-same-length-5 c = search needs
-
-same-length-6 : tie.Need-same-length-6
-same-length-6 c = search needs
-
 returns-3 : tie.Need-returns-3
 returns-3 c =
     let a = c .before .before .before .before .before .before .before .before .before .before .before .before .before .before .before .before .before .before .before .before .before .before .before .before .before .before .before .args in
@@ -84,23 +42,6 @@ returns-3 c =
 pub decode-spec : {M : Type 1} → statement M
 decode-spec =
     tie.close
-    (tie.spec
-    new-requires
-    enum-known-designed
-    enum-told
-    design-check-requires
-    refused-frame-requires
-    returns
-    check-frame-requires
-    enum-told-2
-    enum-told-3
-    refused-frame-requires-2
-    same-length
-    same-length-2
-    same-length-3
-    returns-2
-    correct-frame-requires
-    same-length-4
-    same-length-5
-    same-length-6
-    returns-3)
+    (tie.spec (λ c κs. search needs) (λ c. search needs) (λ c. search needs) (λ c κs. search needs) (λ c κs. search needs) returns
+    check-frame-requires (λ c. search needs) (λ c. search needs) (λ c κs. search needs) (λ c. search needs) (λ c. search needs) (λ c. search needs)
+    returns-2 correct-frame-requires (λ c. search needs) (λ c. search needs) (λ c. search needs) returns-3)

@@ -10,12 +10,6 @@ use borrow.Author.Needs.{needs}
 use Rattle.decoder.proofs.refused_frame.Statement.{statement}
 use Rattle.decoder.proofs.refused_frame.Tie as tie
 
-enum-told : tie.Need-enum-told
-enum-told c = search needs
-
-enum-known-a : tie.Need-enum-known-a
-enum-known-a c = search needs
-
 returns : tie.Need-returns
 unfolding correctedOf refusedFrame
 returns c = λ (f : Frame). ap (λ (v : Verdict). refusedFrame v f) (sym (check-passed (c .enum-told .given .1)))
@@ -25,4 +19,6 @@ unfolding correctedOf refusedFrame verdictOf
 returns-2 c = λ (f : Frame). ap (λ (v : Verdict). refusedFrame v f) (sym (ap verdictOf (c .before .a .given .1)))
 
 pub refused-frame-spec : {M : Type 1} → statement M
-refused-frame-spec = tie.close (tie.spec enum-told enum-known-a returns returns-2)
+refused-frame-spec =
+    tie.close
+    (tie.spec (λ c. search needs) (λ c. search needs) returns returns-2)

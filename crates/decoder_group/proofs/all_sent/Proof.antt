@@ -7,14 +7,8 @@ use borrow.Author.Needs.{needs}
 use Rattle.decoder_group.proofs.all_sent.Statement.{statement}
 use Rattle.decoder_group.proofs.all_sent.Tie as tie
 
-is-sent-requires : tie.Need-is-sent-requires
-is-sent-requires c κs = search needs
-
 returns : tie.Need-returns
 returns c = listed-sent (c .before .before .args .s) (sym (c .before .is-sent .ensures) ∙ not-true (c .before .is-sent .result) (c .if1 .taken)) refl
-
-is-sent-requires-2 : tie.Need-is-sent-requires-2
-is-sent-requires-2 c κs = search needs
 
 returns-2 : tie.Need-returns-2
 returns-2 c =
@@ -23,9 +17,6 @@ returns-2 c =
     let if1 = c .before .before .if1 in
     let e = sym (is-sent .ensures) ∙ not-false (is-sent .result) (if1 .left) in
     listed-sent (start .args .s) e (sym (c .before .is-sent2 .ensures) ∙ not-true (c .before .is-sent2 .result) (c .if2 .taken))
-
-is-sent-requires-3 : tie.Need-is-sent-requires-3
-is-sent-requires-3 c κs = search needs
 
 returns-3 : tie.Need-returns-3
 returns-3 c =
@@ -39,4 +30,4 @@ returns-3 c =
 pub all-sent-spec : {M : Type 1} → statement M
 all-sent-spec =
     tie.close
-    (tie.spec is-sent-requires returns is-sent-requires-2 returns-2 is-sent-requires-3 returns-3)
+    (tie.spec (λ c κs. search needs) returns (λ c κs. search needs) returns-2 (λ c κs. search needs) returns-3)

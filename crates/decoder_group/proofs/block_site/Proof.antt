@@ -26,9 +26,6 @@ returns-2 c =
     let start = c .before .before in
     let a = start .args in (ap (λ (z : Site). z ∷ []) (block-past (paramsOf (a .d)) (a .blocks) (a .b) (a .k) (c .if2 .taken) (c .before .if1 .left)), λ n. tt)
 
-area-requires : tie.Need-area-requires
-area-requires c κs = search needs
-
 mul-t8 : tie.Need-mul-t8
 mul-t8 c =
     let a = c .before .before .before .args in omega (arith, small-product (a .b - 1) (c .area .result) 4098 4294967296 (omega arith) (omega arith))
@@ -51,4 +48,6 @@ returns-3 c =
     )
 
 pub block-site-spec : {M : Type 1} → statement M
-block-site-spec = tie.close (tie.spec returns returns-2 area-requires mul-t8 add-t9 returns-3)
+block-site-spec =
+    tie.close
+    (tie.spec returns returns-2 (λ c κs. search needs) mul-t8 add-t9 returns-3)

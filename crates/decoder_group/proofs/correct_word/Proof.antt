@@ -14,12 +14,6 @@ returns c =
     let a = start .args in
     zero-corrected (p .0) (p .1) (a .column) (a .a) (a .remainder) (p .3) (c .if1 .taken)
 
-m-requires : tie.Need-m-requires
-m-requires c κs = search needs
-
-t-requires : tie.Need-t-requires
-t-requires c κs = search needs
-
 locate-requires : tie.Need-locate-requires
 locate-requires c κs =
     let start = c .before .before .before .before .before .before .before .before .before .before in
@@ -33,9 +27,6 @@ spots-of-requires c κs =
     let p = start .pre in
     let a = start .args in
     (p .0 .allowed, p .0 .few-blocks, p .0 .group, p .2, p .0 .lists, located-below (p .0) (p .1) (a .column) (a .a) (a .remainder) (p .3) (c .locate .result) (rw (c .before .t .ensures) at (c .locate .ensures)))
-
-all-sent-requires : tie.Need-all-sent-requires
-all-sent-requires c κs = search needs
 
 returns-2 : tie.Need-returns-2
 returns-2 c =
@@ -54,12 +45,6 @@ flip-all-requires c κs =
     let spots-of = c .before .before .before .before .spots-of in
     (inside-frame (spots-of .result) (p .1) (spots-of .ensures .2), p .1 .infoBits, p .1 .redBits)
 
-same-length : tie.Need-same-length
-same-length c = search needs
-
-same-length-2 : tie.Need-same-length-2
-same-length-2 c = search needs
-
 returns-3 : tie.Need-returns-3
 returns-3 c =
     let start = c .before .before .before .before .before .before .before .before .before .before .before .before .before .before .before .before .before .before .before .before .before in
@@ -74,15 +59,5 @@ returns-3 c =
 pub correct-word-spec : {M : Type 1} → statement M
 correct-word-spec =
     tie.close
-    (tie.spec
-    returns
-    m-requires
-    t-requires
-    locate-requires
-    spots-of-requires
-    all-sent-requires
-    returns-2
-    flip-all-requires
-    same-length
-    same-length-2
-    returns-3)
+    (tie.spec returns (λ c κs. search needs) (λ c κs. search needs) locate-requires spots-of-requires (λ c κs. search needs) returns-2
+    flip-all-requires (λ c. search needs) (λ c. search needs) returns-3)

@@ -104,17 +104,5 @@ returns c =
 pub correct-words-spec : {M : Type 1} → statement M
 correct-words-spec =
     tie.close
-    (tie.spec
-    Inv-loop
-    μ-loop
-    loop-holds
-    mul-correct-word
-    shared-slice-read-correct-word
-    correct-word-requires
-    add-flips
-    add-a
-    loop-less
-    loop-again
-    same-length
-    same-length-2
-    returns)
+    (tie.spec Inv-loop μ-loop loop-holds mul-correct-word shared-slice-read-correct-word correct-word-requires add-flips add-a loop-less loop-again
+    same-length same-length-2 returns)

@@ -8,15 +8,6 @@ use borrow.Author.Needs.{needs}
 use Rattle.decoder_group.proofs.first_block.Statement.{statement}
 use Rattle.decoder_group.proofs.first_block.Tie as tie
 
-mul-result : tie.Need-mul-result
-mul-result c = search needs
-
-add-result : tie.Need-add-result
-add-result c = search needs
-
-mul-result-2 : tie.Need-mul-result-2
-mul-result-2 c = search needs
-
 returns : tie.Need-returns
 returns c = let i = c .before .args .i in (sym (ap (λ (z : Bool). cond z (2 * i + 1) (2 * i)) (c .if1 .taken)), omega arith)
 
@@ -24,4 +15,6 @@ returns-2 : tie.Need-returns-2
 returns-2 c = let i = c .before .args .i in (sym (ap (λ (z : Bool). cond z (2 * i + 1) (2 * i)) (c .if1 .left)), omega arith)
 
 pub first-block-spec : {M : Type 1} → statement M
-first-block-spec = tie.close (tie.spec mul-result add-result mul-result-2 returns returns-2)
+first-block-spec =
+    tie.close
+    (tie.spec (λ c. search needs) (λ c. search needs) (λ c. search needs) returns returns-2)

@@ -5,9 +5,6 @@ use borrow.Author.Needs.{needs}
 use Rattle.decoder_group.proofs.flip_all.Statement.{statement}
 use Rattle.decoder_group.proofs.flip_all.Tie as tie
 
-flip-at-requires : tie.Need-flip-at-requires
-flip-at-requires c κs = search needs
-
 flip-at-requires-2 : tie.Need-flip-at-requires-2
 flip-at-requires-2 c κs =
     let start = c .before .before .before .before .before .before .before .before .before .before .before in
@@ -23,12 +20,6 @@ flip-at-requires-3 c κs =
     let g = flip-ready (start .args .s .x) _ _ _ _ _ (p .1) (p .2) (p .0 .0) (flip-at .ensures) in
     flip-ready _ _ _ _ _ _ (g .1) (g .2) (g .0) (flip-at2 .ensures)
 
-same-length : tie.Need-same-length
-same-length c = search needs
-
-same-length-2 : tie.Need-same-length-2
-same-length-2 c = search needs
-
 returns : tie.Need-returns
 returns c =
     let start = c .before .before .before .before .before .before .before .before .before .before .before .before .before .before .before .before .before .before .before .before .before .before .before in
@@ -40,10 +31,4 @@ returns c =
 pub flip-all-spec : {M : Type 1} → statement M
 flip-all-spec =
     tie.close
-    (tie.spec
-    flip-at-requires
-    flip-at-requires-2
-    flip-at-requires-3
-    same-length
-    same-length-2
-    returns)
+    (tie.spec (λ c κs. search needs) flip-at-requires-2 flip-at-requires-3 (λ c. search needs) (λ c. search needs) returns)

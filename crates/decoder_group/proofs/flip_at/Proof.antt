@@ -12,15 +12,6 @@ use borrow.Author.Needs.{needs}
 use Rattle.decoder_group.proofs.flip_at.Statement.{statement}
 use Rattle.decoder_group.proofs.flip_at.Tie as tie
 
-enum-told : tie.Need-enum-told
-enum-told c = search needs
-
-enum-told-2 : tie.Need-enum-told-2
-enum-told-2 c = search needs
-
-enum-known-at : tie.Need-enum-known-at
-enum-known-at c = search needs
-
 slice-read-info : tie.Need-slice-read-info
 unfolding Inside
 slice-read-info c =
@@ -37,9 +28,6 @@ slice-write-info c =
     let start = c .before .before .before .before in
     let at = c .before .before .at in
     omega (arith, subst (λ (z : Spot). Inside z (length (start .args .info .now)) (length (start .args .red .now))) (at .given .1) (start .pre .0))
-
-enum-known-at-2 : tie.Need-enum-known-at-2
-enum-known-at-2 c = search needs
 
 slice-read-red : tie.Need-slice-read-red
 unfolding Inside
@@ -70,17 +58,11 @@ returns-2 c =
     let start = c .before .before in
     ap (λ (z : Spot). flipAll (sitesOf z) (frameOf (start .args .info .now) (start .args .red .now))) (sym (c .enum-told2 .given .1))
 
-same-length : tie.Need-same-length
-same-length c = search needs
-
 returns-3 : tie.Need-returns-3
 unfolding sitesOf flipAll
 returns-3 c =
     let start = c .before .before .before .before in
     ap (λ (z : Spot). flipAll (sitesOf z) (frameOf (start .args .info .now) (start .args .red .now))) (sym (c .before .before .at .given .1))
-
-same-length-2 : tie.Need-same-length-2
-same-length-2 c = search needs
 
 returns-4 : tie.Need-returns-4
 unfolding sitesOf flipAll
@@ -91,20 +73,5 @@ returns-4 c =
 pub flip-at-spec : {M : Type 1} → statement M
 flip-at-spec =
     tie.close
-    (tie.spec
-    enum-told
-    enum-told-2
-    enum-known-at
-    slice-read-info
-    sub-info
-    slice-write-info
-    enum-known-at-2
-    slice-read-red
-    sub-red
-    slice-write-red
-    returns
-    returns-2
-    same-length
-    returns-3
-    same-length-2
-    returns-4)
+    (tie.spec (λ c. search needs) (λ c. search needs) (λ c. search needs) slice-read-info sub-info slice-write-info (λ c. search needs) slice-read-red
+    sub-red slice-write-red returns returns-2 (λ c. search needs) returns-3 (λ c. search needs) returns-4)

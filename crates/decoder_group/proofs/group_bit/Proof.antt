@@ -16,12 +16,6 @@ returns c =
     let a = start .args in
     (bit-column (paramsOf (a .d)) (listsOf (a .d) (a .own .now) (a .parity .now)) (a .k) (c .if1 .taken), start .pre .1)
 
-order-requires : tie.Need-order-requires
-order-requires c κs = search needs
-
-entry-requires : tie.Need-entry-requires
-entry-requires c κs = search needs
-
 returns-2 : tie.Need-returns-2
 returns-2 c =
     let start = c .before .before .before .before .before .before in
@@ -31,12 +25,6 @@ returns-2 c =
       bit-self (paramsOf (a .d)) (listsOf (a .d) (a .own .now) (a .parity .now)) (a .k) (c .before .before .before .if1 .left) h q,
       omega (arith, q, start .pre .0 .ownPermutes .below (a .k) h),
     )
-
-entry-requires-2 : tie.Need-entry-requires-2
-entry-requires-2 c κs = search needs
-
-add-result : tie.Need-add-result
-add-result c = search needs
 
 returns-3 : tie.Need-returns-3
 returns-3 c =
@@ -54,11 +42,4 @@ returns-3 c =
 pub group-bit-spec : {M : Type 1} → statement M
 group-bit-spec =
     tie.close
-    (tie.spec
-    returns
-    order-requires
-    entry-requires
-    returns-2
-    entry-requires-2
-    add-result
-    returns-3)
+    (tie.spec returns (λ c κs. search needs) (λ c κs. search needs) returns-2 (λ c κs. search needs) (λ c. search needs) returns-3)

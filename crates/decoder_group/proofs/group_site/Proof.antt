@@ -14,12 +14,6 @@ use borrow.Author.Needs.{needs}
 use Rattle.decoder_group.proofs.group_site.Statement.{statement}
 use Rattle.decoder_group.proofs.group_site.Tie as tie
 
-order-requires : tie.Need-order-requires
-order-requires c κs = search needs
-
-mul-t6 : tie.Need-mul-t6
-mul-t6 c = search needs
-
 mul-t7 : tie.Need-mul-t7
 mul-t7 c =
     let a = c .before .args in omega (arith, small-product (a .i) (2 * c .order .result) 4096 8589934592 (omega arith) (omega arith))
@@ -41,4 +35,6 @@ returns c =
     )
 
 pub group-site-spec : {M : Type 1} → statement M
-group-site-spec = tie.close (tie.spec order-requires mul-t6 mul-t7 add-t8 returns)
+group-site-spec =
+    tie.close
+    (tie.spec (λ c κs. search needs) (λ c. search needs) mul-t7 add-t8 returns)

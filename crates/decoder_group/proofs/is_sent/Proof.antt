@@ -8,18 +8,6 @@ use borrow.Author.Needs.{needs}
 use Rattle.decoder_group.proofs.is_sent.Statement.{statement}
 use Rattle.decoder_group.proofs.is_sent.Tie as tie
 
-enum-told : tie.Need-enum-told
-enum-told c = search needs
-
-enum-told-2 : tie.Need-enum-told-2
-enum-told-2 c = search needs
-
-enum-told-3 : tie.Need-enum-told-3
-enum-told-3 c = search needs
-
-enum-told-4 : tie.Need-enum-told-4
-enum-told-4 c = search needs
-
 returns : tie.Need-returns
 unfolding sitesOf
 returns c = ap (λ (z : Spot). allSent (sitesOf z)) (sym (c .enum-told .given .1))
@@ -39,4 +27,4 @@ returns-4 c = ap (λ (z : Spot). allSent (sitesOf z)) (sym (c .enum-told4 .given
 pub is-sent-spec : {M : Type 1} → statement M
 is-sent-spec =
     tie.close
-    (tie.spec enum-told enum-told-2 enum-told-3 enum-told-4 returns returns-2 returns-3 returns-4)
+    (tie.spec (λ c. search needs) (λ c. search needs) (λ c. search needs) (λ c. search needs) returns returns-2 returns-3 returns-4)

@@ -9,12 +9,6 @@ use borrow.Author.Needs.{needs}
 use Rattle.decoder_group.proofs.line_bit.Statement.{statement}
 use Rattle.decoder_group.proofs.line_bit.Tie as tie
 
-place-requires : tie.Need-place-requires
-place-requires c κs = search needs
-
-place-requires-2 : tie.Need-place-requires-2
-place-requires-2 c κs = search needs
-
 returns : tie.Need-returns
 returns c =
     let a = c .before .before .args in
@@ -30,4 +24,6 @@ returns-2 c =
     (c .place2 .ensures .0 ∙ sym e, omega (arith, c .place2 .ensures .0, place-below (a .size) (a .size) (a .a) (a .c) (s .1) (s .2)))
 
 pub line-bit-spec : {M : Type 1} → statement M
-line-bit-spec = tie.close (tie.spec place-requires place-requires-2 returns returns-2)
+line-bit-spec =
+    tie.close
+    (tie.spec (λ c κs. search needs) (λ c κs. search needs) returns returns-2)

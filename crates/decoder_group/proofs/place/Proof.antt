@@ -19,4 +19,6 @@ returns c =
     let a = c .args in (refl, omega (arith, small-product (a .row) (a .width) 1024 1024 (c .pre .0) (c .pre .1)))
 
 pub place-spec : {M : Type 1} → statement M
-place-spec = tie.close (tie.spec mul-result add-result returns)
+place-spec =
+    tie.close
+    (tie.spec mul-result add-result returns)

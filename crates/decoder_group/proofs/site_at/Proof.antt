@@ -12,15 +12,6 @@ use borrow.Author.Needs.{needs}
 use Rattle.decoder_group.proofs.site_at.Statement.{statement}
 use Rattle.decoder_group.proofs.site_at.Tie as tie
 
-size-requires : tie.Need-size-requires
-size-requires c κs = search needs
-
-line-bit-requires : tie.Need-line-bit-requires
-line-bit-requires c κs = search needs
-
-first-block-requires : tie.Need-first-block-requires
-first-block-requires c κs = search needs
-
 block-site-requires : tie.Need-block-site-requires
 block-site-requires c κs = rw (← c .before .before .before .size .ensures) (search needs)
 
@@ -37,18 +28,6 @@ returns c =
           ∙ ap (λ (z : Site). z ∷ []) (word-first s l (a .blocks) (a .i) (a .a) (a .column) (rw M at (if1 .taken)) (c .before .first-block .ensures .0) (rw M at (line-bit .ensures .0))),
       c .block-site .ensures .1 _,
     )
-
-mul-if2 : tie.Need-mul-if2
-mul-if2 c = search needs
-
-line-bit-requires-2 : tie.Need-line-bit-requires-2
-line-bit-requires-2 c κs = search needs
-
-first-block-requires-2 : tie.Need-first-block-requires-2
-first-block-requires-2 c κs = search needs
-
-add-block-site : tie.Need-add-block-site
-add-block-site c = search needs
 
 block-site-requires-2 : tie.Need-block-site-requires-2
 block-site-requires-2 c κs = rw (← c .before .before .before .before .size .ensures) (search needs)
@@ -68,12 +47,6 @@ returns-2 c =
           (word-second s l (a .blocks) (a .i) (a .a) (a .column) (rw M at (if1 .left)) (rw M at (if2 .taken)) (c .before .first-block2 .ensures .0) (rw M at (line-bit2 .ensures .0))),
       c .block-site2 .ensures .1 _,
     )
-
-mul-place : tie.Need-mul-place
-mul-place c = search needs
-
-sub-place : tie.Need-sub-place
-sub-place c = search needs
 
 place-requires : tie.Need-place-requires
 place-requires c κs =
@@ -107,21 +80,6 @@ returns-3 c =
 pub site-at-spec : {M : Type 1} → statement M
 site-at-spec =
     tie.close
-    (tie.spec
-    size-requires
-    line-bit-requires
-    first-block-requires
-    block-site-requires
-    returns
-    mul-if2
-    line-bit-requires-2
-    first-block-requires-2
-    add-block-site
-    block-site-requires-2
-    returns-2
-    mul-place
-    sub-place
-    place-requires
-    group-bit-requires
-    group-site-requires
-    returns-3)
+    (tie.spec (λ c κs. search needs) (λ c κs. search needs) (λ c κs. search needs) block-site-requires returns (λ c. search needs)
+    (λ c κs. search needs) (λ c κs. search needs) (λ c. search needs) block-site-requires-2 returns-2 (λ c. search needs) (λ c. search needs)
+    place-requires group-bit-requires group-site-requires returns-3)

@@ -15,12 +15,6 @@ use borrow.Author.Needs.{needs}
 use Rattle.decoder_group.proofs.spots_of.Statement.{statement}
 use Rattle.decoder_group.proofs.spots_of.Tie as tie
 
-enum-told : tie.Need-enum-told
-enum-told c = search needs
-
-enum-known-found : tie.Need-enum-known-found
-enum-known-found c = search needs
-
 site-at-requires : tie.Need-site-at-requires
 unfolding Below positionsOf
 site-at-requires c κs =
@@ -28,9 +22,6 @@ site-at-requires c κs =
     let s = start .pre in
     let b = subst (λ (z : Located). Below (wordLength (paramsOf (start .args .d))) (positionsOf z)) (c .before .found .given .1) (s .5) in
     (s .0, s .1, s .2, s .3, s .4, b .0)
-
-enum-known-found-2 : tie.Need-enum-known-found-2
-enum-known-found-2 c = search needs
 
 site-at-requires-2 : tie.Need-site-at-requires-2
 unfolding Below positionsOf
@@ -48,9 +39,6 @@ site-at-requires-3 c κs =
     let s = start .pre in
     let b = subst (λ (z : Located). Below (wordLength (paramsOf (start .args .d))) (positionsOf z)) (found2 .given .1) (s .5) in
     (s .0, s .1, s .2, s .3, s .4, b .1 .0)
-
-enum-known-found-3 : tie.Need-enum-known-found-3
-enum-known-found-3 c = search needs
 
 site-at-requires-4 : tie.Need-site-at-requires-4
 unfolding Below positionsOf
@@ -121,18 +109,5 @@ returns-4 c =
 pub spots-of-spec : {M : Type 1} → statement M
 spots-of-spec =
     tie.close
-    (tie.spec
-    enum-told
-    enum-known-found
-    site-at-requires
-    enum-known-found-2
-    site-at-requires-2
-    site-at-requires-3
-    enum-known-found-3
-    site-at-requires-4
-    site-at-requires-5
-    site-at-requires-6
-    returns
-    returns-2
-    returns-3
-    returns-4)
+    (tie.spec (λ c. search needs) (λ c. search needs) site-at-requires (λ c. search needs) site-at-requires-2 site-at-requires-3 (λ c. search needs)
+    site-at-requires-4 site-at-requires-5 site-at-requires-6 returns returns-2 returns-3 returns-4)

@@ -11,40 +11,10 @@ use borrow.Author.Needs.{needs}
 use Rattle.decoder_locator.proofs.cubic_root.Statement.{statement}
 use Rattle.decoder_locator.proofs.cubic_root.Tie as tie
 
-sub-n : tie.Need-sub-n
-sub-n c = search needs
-
-log-of-requires : tie.Need-log-of-requires
-log-of-requires c κs = search needs
-
-log-of-requires-2 : tie.Need-log-of-requires-2
-log-of-requires-2 c κs = search needs
-
-add-half-exponent : tie.Need-add-half-exponent
-add-half-exponent c = search needs
-
-sub-half-exponent : tie.Need-sub-half-exponent
-sub-half-exponent c = search needs
-
 half-exponent-requires : tie.Need-half-exponent-requires
 half-exponent-requires c κs =
     let start = c .before .before .before in
     let F = start .pre .0 in (omega (arith, count-is F, c .before .log-of .ensures .0, c .log-of2 .ensures .0), count-size F .1, count-size F .2)
-
-mul-solution-at : tie.Need-mul-solution-at
-mul-solution-at c = search needs
-
-add-solution-at : tie.Need-add-solution-at
-add-solution-at c = search needs
-
-mul-solution-at-2 : tie.Need-mul-solution-at-2
-mul-solution-at-2 c = search needs
-
-sub-solution-at : tie.Need-sub-solution-at
-sub-solution-at c = search needs
-
-rem-solution-at : tie.Need-rem-solution-at
-rem-solution-at c = search needs
 
 solution-at-requires : tie.Need-solution-at-requires
 solution-at-requires c κs =
@@ -52,12 +22,6 @@ solution-at-requires c κs =
     let F = start .pre .0 in
     let n = length (start .args .field .now) / 4 - 1 in
     (F, omega arith, omega arith, within F (c .before .before .log-of .result + 6 * n - 3 * c .half-exponent .result))
-
-add-power-at : tie.Need-add-power-at
-add-power-at c = search needs
-
-rem-power-at : tie.Need-rem-power-at
-rem-power-at c = search needs
 
 power-at-requires : tie.Need-power-at-requires
 power-at-requires c κs =
@@ -86,21 +50,6 @@ returns c =
 pub cubic-root-spec : {M : Type 1} → statement M
 cubic-root-spec =
     tie.close
-    (tie.spec
-    sub-n
-    log-of-requires
-    log-of-requires-2
-    add-half-exponent
-    sub-half-exponent
-    half-exponent-requires
-    mul-solution-at
-    add-solution-at
-    mul-solution-at-2
-    sub-solution-at
-    rem-solution-at
-    solution-at-requires
-    add-power-at
-    rem-power-at
-    power-at-requires
-    log-of-requires-3
-    returns)
+    (tie.spec (λ c. search needs) (λ c κs. search needs) (λ c κs. search needs) (λ c. search needs) (λ c. search needs) half-exponent-requires
+    (λ c. search needs) (λ c. search needs) (λ c. search needs) (λ c. search needs) (λ c. search needs) solution-at-requires (λ c. search needs)
+    (λ c. search needs) power-at-requires log-of-requires-3 returns)

@@ -12,29 +12,11 @@ returns : tie.Need-returns
 unfolding ExponentsAre
 returns c = let F = c .before .before .pre .0 in exponents-zero F (c .if1 .taken)
 
-log-of-requires : tie.Need-log-of-requires
-log-of-requires c κs = search needs
-
-root-requires : tie.Need-root-requires
-root-requires c κs = search needs
-
 returns-2 : tie.Need-returns-2
 unfolding ExponentsAre
 returns-2 c =
     let F = c .before .before .before .before .before .pre .0 in
     exponents-none F (c .before .before .before .if1 .left) (c .before .before .log-of .ensures) (c .before .root .ensures .1) (c .if2 .taken)
-
-add-wrap : tie.Need-add-wrap
-add-wrap c = search needs
-
-sub-wrap : tie.Need-sub-wrap
-sub-wrap c = search needs
-
-wrap-requires : tie.Need-wrap-requires
-wrap-requires c κs = search needs
-
-power-at-requires : tie.Need-power-at-requires
-power-at-requires c κs = search needs
 
 log-of-requires-2 : tie.Need-log-of-requires-2
 unfolding _⊕_
@@ -58,14 +40,5 @@ returns-3 c =
 pub exponents-spec : {M : Type 1} → statement M
 exponents-spec =
     tie.close
-    (tie.spec
-    returns
-    log-of-requires
-    root-requires
-    returns-2
-    add-wrap
-    sub-wrap
-    wrap-requires
-    power-at-requires
-    log-of-requires-2
-    returns-3)
+    (tie.spec returns (λ c κs. search needs) (λ c κs. search needs) returns-2 (λ c. search needs) (λ c. search needs) (λ c κs. search needs)
+    (λ c κs. search needs) log-of-requires-2 returns-3)

@@ -85,17 +85,4 @@ returns c =
 pub fifth-of-spec : {M : Type 1} → statement M
 fifth-of-spec =
     tie.close
-    (tie.spec
-    Inv-loop
-    μ-loop
-    sub-n
-    loop-holds
-    shr-acc
-    power-at-requires
-    mul-acc
-    add-wrap
-    wrap-requires
-    add-k
-    loop-less
-    loop-again
-    returns)
+    (tie.spec Inv-loop μ-loop sub-n loop-holds shr-acc power-at-requires mul-acc add-wrap wrap-requires add-k loop-less loop-again returns)

@@ -106,26 +106,6 @@ returns c =
 pub fill-sums-spec : {M : Type 1} → statement M
 fill-sums-spec =
     tie.close
-    (tie.spec
-    Inv-loop
-    μ-loop
-    add-count
-    mul-count
-    loop-holds
-    mul-low
-    add-values-by-bits
-    cast-values-by-bits
-    cast-values-by-bits-2
-    shl-values-by-bits
-    sub-values-by-bits
-    part-values-by-bits-start
-    part-values-by-bits-end
-    values-by-bits-requires
-    add-table
-    mul-table
-    slice-write-table
-    add-p
-    loop-less
-    loop-again
-    same-length
-    returns)
+    (tie.spec Inv-loop μ-loop add-count mul-count loop-holds mul-low add-values-by-bits cast-values-by-bits cast-values-by-bits-2 shl-values-by-bits
+    sub-values-by-bits part-values-by-bits-start part-values-by-bits-end values-by-bits-requires add-table mul-table slice-write-table add-p loop-less
+    loop-again same-length returns)

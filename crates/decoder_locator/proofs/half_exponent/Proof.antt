@@ -6,9 +6,6 @@ use borrow.Author.Needs.{needs}
 use Rattle.decoder_locator.proofs.half_exponent.Statement.{statement}
 use Rattle.decoder_locator.proofs.half_exponent.Tie as tie
 
-add-result : tie.Need-add-result
-add-result c = search needs
-
 returns : tie.Need-returns
 returns c = (omega arith, inl (omega arith))
 
@@ -16,4 +13,6 @@ returns-2 : tie.Need-returns-2
 returns-2 c = (omega arith, inr (omega arith))
 
 pub half-exponent-spec : {M : Type 1} → statement M
-half-exponent-spec = tie.close (tie.spec add-result returns returns-2)
+half-exponent-spec =
+    tie.close
+    (tie.spec (λ c. search needs) returns returns-2)

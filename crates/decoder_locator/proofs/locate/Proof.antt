@@ -20,18 +20,6 @@ returns c =
 mul-values-of : tie.Need-mul-values-of
 mul-values-of c = omega (arith, degree-small (c .before .before .before .before .pre .0 .words))
 
-mul-values-of-2 : tie.Need-mul-values-of-2
-mul-values-of-2 c = search needs
-
-sub-values-of : tie.Need-sub-values-of
-sub-values-of c = search needs
-
-part-values-of-start : tie.Need-part-values-of-start
-part-values-of-start c = search needs
-
-part-values-of-end : tie.Need-part-values-of-end
-part-values-of-end c = search needs
-
 values-of-requires : tie.Need-values-of-requires
 values-of-requires c κs =
     let start = c .before .before .before .before .before in
@@ -39,21 +27,12 @@ values-of-requires c κs =
     let W = T .words in
     (W .m-low, W .m-high, degree-small W, start .pre .1, sums-of T .0, sums-of T .1)
 
-one-requires : tie.Need-one-requires
-one-requires c κs = search needs
-
-enum-known-single : tie.Need-enum-known-single
-enum-known-single c = search needs
-
 returns-2 : tie.Need-returns-2
 returns-2 c =
     let start = c .before .before .before .before .before .before .before .before .before .before in
     let one = c .before .before .before .one in
     let u = subst (λ (z : Single). SingleIs (start .args .positions .now) (start .args .remainder) z) (c .before .single .given .1) (one .ensures) in
     answer-one (start .pre .0 .words) (start .args .remainder) _ u
-
-enum-told : tie.Need-enum-told
-enum-told c = search needs
 
 returns-3 : tie.Need-returns-3
 unfolding SingleIs
@@ -64,21 +43,12 @@ returns-3 c =
     let u = subst (λ (z : Single). SingleIs (start .args .positions .now) (start .args .remainder) z) (c .before .enum-told .given .1) (one .ensures) in
     answer-none (start .pre .0 .words) (start .args .remainder) (if1 .left) u (λ h. absurd (omega arith)) (λ h. absurd (omega arith))
 
-two-requires : tie.Need-two-requires
-two-requires c κs = search needs
-
-enum-known-pair : tie.Need-enum-known-pair
-enum-known-pair c = search needs
-
 returns-4 : tie.Need-returns-4
 returns-4 c =
     let start = c .before .before .before .before .before .before .before .before .before .before .before .before .before .before in
     let two = c .before .before .before .two in
     let v = subst (λ (z : Pair). PairIs (start .args .positions .now) (start .args .remainder) z) (c .before .pair .given .1) (two .ensures) in
     answer-two (start .pre .0 .words) (omega arith) (start .args .remainder) _ _ v
-
-enum-told-2 : tie.Need-enum-told-2
-enum-told-2 c = search needs
 
 returns-5 : tie.Need-returns-5
 unfolding SingleIs PairIs
@@ -101,12 +71,6 @@ three-requires c κs =
     let values-of = c .before .before .before .before .before .before .before .before .values-of in
     let u = subst (λ (z : Single). SingleIs (start .args .positions .now) (start .args .remainder) z) (enum-told .given .1) (one .ensures) in
     (start .pre .0, omega (arith, start .pre .0 .words .t-high), values-of .ensures, u, start .pre .1)
-
-enum-told-3 : tie.Need-enum-told-3
-enum-told-3 c = search needs
-
-enum-known-triple : tie.Need-enum-known-triple
-enum-known-triple c = search needs
 
 returns-6 : tie.Need-returns-6
 unfolding SingleIs PairIs TripleIs
@@ -133,26 +97,6 @@ returns-7 c =
 pub locate-spec : {M : Type 1} → statement M
 locate-spec =
     tie.close
-    (tie.spec
-    returns
-    mul-values-of
-    mul-values-of-2
-    sub-values-of
-    part-values-of-start
-    part-values-of-end
-    values-of-requires
-    one-requires
-    enum-known-single
-    returns-2
-    enum-told
-    returns-3
-    two-requires
-    enum-known-pair
-    returns-4
-    enum-told-2
-    returns-5
-    three-requires
-    enum-told-3
-    enum-known-triple
-    returns-6
-    returns-7)
+    (tie.spec returns mul-values-of (λ c. search needs) (λ c. search needs) (λ c. search needs) (λ c. search needs) values-of-requires
+    (λ c κs. search needs) (λ c. search needs) returns-2 (λ c. search needs) returns-3 (λ c κs. search needs) (λ c. search needs) returns-4
+    (λ c. search needs) returns-5 three-requires (λ c. search needs) (λ c. search needs) returns-6 returns-7)

@@ -10,9 +10,6 @@ use borrow.Author.Needs.{needs}
 use Rattle.decoder_locator.proofs.one.Statement.{statement}
 use Rattle.decoder_locator.proofs.one.Tie as tie
 
-cast-low : tie.Need-cast-low
-cast-low c = search needs
-
 returns : tie.Need-returns
 unfolding SingleIs
 returns c =
@@ -32,18 +29,6 @@ returns-2 c =
     let s = start .pre in
     λ p l e. omega (arith, single-exponent (s .0) (start .args .x) (s .2) (c .before .log-of .ensures) p l e)
 
-sub-p : tie.Need-sub-p
-sub-p c = search needs
-
-sub-p-2 : tie.Need-sub-p-2
-sub-p-2 c = search needs
-
-mul-if3 : tie.Need-mul-if3
-mul-if3 c = search needs
-
-shared-slice-read-if3 : tie.Need-shared-slice-read-if3
-shared-slice-read-if3 c = search needs
-
 returns-3 : tie.Need-returns-3
 unfolding SingleIs
 returns-3 c =
@@ -62,14 +47,5 @@ returns-4 c = (omega arith, c .if3 .left)
 pub one-spec : {M : Type 1} → statement M
 one-spec =
     tie.close
-    (tie.spec
-    cast-low
-    returns
-    log-of-requires
-    returns-2
-    sub-p
-    sub-p-2
-    mul-if3
-    shared-slice-read-if3
-    returns-3
-    returns-4)
+    (tie.spec (λ c. search needs) returns log-of-requires returns-2 (λ c. search needs) (λ c. search needs) (λ c. search needs) (λ c. search needs)
+    returns-3 returns-4)

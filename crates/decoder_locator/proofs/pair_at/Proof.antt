@@ -20,30 +20,6 @@ returns-2 : tie.Need-returns-2
 unfolding CarryAre
 returns-2 c = λ e f. absurd (omega arith)
 
-sub-p : tie.Need-sub-p
-sub-p c = search needs
-
-sub-p-2 : tie.Need-sub-p-2
-sub-p-2 c = search needs
-
-sub-q : tie.Need-sub-q
-sub-q c = search needs
-
-sub-q-2 : tie.Need-sub-q-2
-sub-q-2 c = search needs
-
-mul-if3 : tie.Need-mul-if3
-mul-if3 c = search needs
-
-shared-slice-read-if3 : tie.Need-shared-slice-read-if3
-shared-slice-read-if3 c = search needs
-
-mul-if3-2 : tie.Need-mul-if3-2
-mul-if3-2 c = search needs
-
-shared-slice-read-if3-2 : tie.Need-shared-slice-read-if3-2
-shared-slice-read-if3-2 c = search needs
-
 returns-3 : tie.Need-returns-3
 unfolding CarryAre _⊕_
 returns-3 c = λ e f. c .if3 .taken
@@ -67,17 +43,5 @@ returns-5 c =
 pub pair-at-spec : {M : Type 1} → statement M
 pair-at-spec =
     tie.close
-    (tie.spec
-    returns
-    returns-2
-    sub-p
-    sub-p-2
-    sub-q
-    sub-q-2
-    mul-if3
-    shared-slice-read-if3
-    mul-if3-2
-    shared-slice-read-if3-2
-    returns-3
-    returns-4
-    returns-5)
+    (tie.spec returns returns-2 (λ c. search needs) (λ c. search needs) (λ c. search needs) (λ c. search needs) (λ c. search needs)
+    (λ c. search needs) (λ c. search needs) (λ c. search needs) returns-3 returns-4 returns-5)

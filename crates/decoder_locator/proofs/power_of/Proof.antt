@@ -14,19 +14,10 @@ returns c =
     let start = c .before .before in
     let F = start .pre .0 in power-of-zero F (start .args .k) (c .if1 .taken)
 
-log-of-requires : tie.Need-log-of-requires
-log-of-requires c κs = search needs
-
 mul-power-at : tie.Need-mul-power-at
 mul-power-at c =
     let start = c .before .before .before in
     omega (arith, mul-le-mul (start .pre .1) (le-refl (c .log-of .result)), c .log-of .ensures .0, count-is (start .pre .0), count-size (start .pre .0))
-
-sub-power-at : tie.Need-sub-power-at
-sub-power-at c = search needs
-
-rem-power-at : tie.Need-rem-power-at
-rem-power-at c = search needs
 
 power-at-requires : tie.Need-power-at-requires
 power-at-requires c κs =
@@ -41,11 +32,4 @@ returns-2 c =
 pub power-of-spec : {M : Type 1} → statement M
 power-of-spec =
     tie.close
-    (tie.spec
-    returns
-    log-of-requires
-    mul-power-at
-    sub-power-at
-    rem-power-at
-    power-at-requires
-    returns-2)
+    (tie.spec returns (λ c κs. search needs) mul-power-at (λ c. search needs) (λ c. search needs) power-at-requires returns-2)

@@ -8,24 +8,6 @@ use borrow.Author.Needs.{needs}
 use Rattle.decoder_locator.proofs.root.Statement.{statement}
 use Rattle.decoder_locator.proofs.root.Tie as tie
 
-sub-n : tie.Need-sub-n
-sub-n c = search needs
-
-mul-wrap : tie.Need-mul-wrap
-mul-wrap c = search needs
-
-wrap-requires : tie.Need-wrap-requires
-wrap-requires c κs = search needs
-
-add-wrap : tie.Need-add-wrap
-add-wrap c = search needs
-
-wrap-requires-2 : tie.Need-wrap-requires-2
-wrap-requires-2 c κs = search needs
-
-power-at-requires : tie.Need-power-at-requires
-power-at-requires c κs = search needs
-
 returns : tie.Need-returns
 unfolding _⊕_
 returns c =
@@ -41,18 +23,6 @@ log-of-requires c κs =
     let start = c .before .before .before .before .before in
     let F = start .pre .0 in
     (F, ⊕-below (start .args .m) (start .args .cubes) (c .before .power-at .result) (start .pre .2) (c .before .power-at .ensures .1))
-
-add-wrap-2 : tie.Need-add-wrap-2
-add-wrap-2 c = search needs
-
-sub-wrap : tie.Need-sub-wrap
-sub-wrap c = search needs
-
-wrap-requires-3 : tie.Need-wrap-requires-3
-wrap-requires-3 c κs = search needs
-
-solution-at-requires : tie.Need-solution-at-requires
-solution-at-requires c κs = search needs
 
 returns-2 : tie.Need-returns-2
 unfolding _⊕_
@@ -70,17 +40,5 @@ returns-2 c =
 pub root-spec : {M : Type 1} → statement M
 root-spec =
     tie.close
-    (tie.spec
-    sub-n
-    mul-wrap
-    wrap-requires
-    add-wrap
-    wrap-requires-2
-    power-at-requires
-    returns
-    log-of-requires
-    add-wrap-2
-    sub-wrap
-    wrap-requires-3
-    solution-at-requires
-    returns-2)
+    (tie.spec (λ c. search needs) (λ c. search needs) (λ c κs. search needs) (λ c. search needs) (λ c κs. search needs) (λ c κs. search needs) returns
+    log-of-requires (λ c. search needs) (λ c. search needs) (λ c κs. search needs) (λ c κs. search needs) returns-2)

@@ -9,9 +9,6 @@ use borrow.Author.Needs.{needs}
 use Rattle.decoder_locator.proofs.solution_at.Statement.{statement}
 use Rattle.decoder_locator.proofs.solution_at.Tie as tie
 
-add-start : tie.Need-add-start
-add-start c = search needs
-
 mul-start : tie.Need-mul-start
 mul-start c =
     let p = c .before .pre in
@@ -24,35 +21,17 @@ add-solutions c =
     let b : c .before .args .k + 1 ≤ 3 = omega arith in
     omega (arith, mul-le-mul b (le-refl (length (c .before .args .field .now) / 4)), count-size (p .0))
 
-sub-solutions : tie.Need-sub-solutions
-sub-solutions c = search needs
-
 mul-solutions : tie.Need-mul-solutions
 mul-solutions c =
     let p = c .before .pre in
     let b : c .before .args .k + 1 ≤ 3 = omega arith in
     omega (arith, mul-le-mul b (le-refl (length (c .before .args .field .now) / 4)), count-size (p .0))
 
-sub-solutions-2 : tie.Need-sub-solutions-2
-sub-solutions-2 c = search needs
-
-part-solutions-start : tie.Need-part-solutions-start
-part-solutions-start c = search needs
-
 part-solutions-end : tie.Need-part-solutions-end
 part-solutions-end c =
     let p = c .before .pre in
     let b : c .before .args .k + 1 ≤ 3 = omega arith in
     omega (arith, mul-le-mul b (le-refl (length (c .before .args .field .now) / 4)), count-size (p .0))
-
-mul-wide : tie.Need-mul-wide
-mul-wide c = search needs
-
-shared-slice-read-wide : tie.Need-shared-slice-read-wide
-shared-slice-read-wide c = search needs
-
-wide-requires : tie.Need-wide-requires
-wide-requires c κs = search needs
 
 returns : tie.Need-returns
 returns c =
@@ -63,16 +42,5 @@ returns c =
 pub solution-at-spec : {M : Type 1} → statement M
 solution-at-spec =
     tie.close
-    (tie.spec
-    add-start
-    mul-start
-    add-solutions
-    sub-solutions
-    mul-solutions
-    sub-solutions-2
-    part-solutions-start
-    part-solutions-end
-    mul-wide
-    shared-slice-read-wide
-    wide-requires
-    returns)
+    (tie.spec (λ c. search needs) mul-start add-solutions (λ c. search needs) mul-solutions (λ c. search needs) (λ c. search needs) part-solutions-end
+    (λ c. search needs) (λ c. search needs) (λ c κs. search needs) returns)

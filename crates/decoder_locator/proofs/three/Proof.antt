@@ -15,16 +15,10 @@ use borrow.Author.Needs.{needs}
 use Rattle.decoder_locator.proofs.three.Statement.{statement}
 use Rattle.decoder_locator.proofs.three.Tie as tie
 
-cast-sum : tie.Need-cast-sum
-cast-sum c = search needs
-
 power-of-requires : tie.Need-power-of-requires
 power-of-requires c κs =
     let start = c .before .before .before in
     let s = start .pre in (field-of (s .0 .words) (s .0 .tables), omega arith, low-below (s .0 .words) (start .args .x) (s .2))
-
-cast-d : tie.Need-cast-d
-cast-d c = search needs
 
 returns : tie.Need-returns
 unfolding _⊕_ TripleIs
@@ -38,9 +32,6 @@ power-of-requires-2 : tie.Need-power-of-requires-2
 power-of-requires-2 c κs =
     let start = c .before .before .before .before .before in
     let s = start .pre in (field-of (s .0 .words) (s .0 .tables), omega arith, low-below (s .0 .words) (start .args .x) (s .2))
-
-mul-fifth-of : tie.Need-mul-fifth-of
-mul-fifth-of c = search needs
 
 fifth-of-requires : tie.Need-fifth-of-requires
 fifth-of-requires c κs =
@@ -85,12 +76,6 @@ returns-3 c =
     (c .before .cubic-root .ensures) in
     beyond W (s .1) (start .args .x) (s .2) (power-of .ensures .1) (power-of2 .ensures .1) R (c .if3 .taken)
 
-sub-three-with : tie.Need-sub-three-with
-sub-three-with c = search needs
-
-sub-three-with-2 : tie.Need-sub-three-with-2
-sub-three-with-2 c = search needs
-
 three-with-requires : tie.Need-three-with-requires
 three-with-requires c κs = let s = c .before .before .before .before .before .before .before .before .before .before .pre in (s .0, omega arith, s .2, s .3, omega arith)
 
@@ -113,19 +98,5 @@ returns-4 c =
 pub three-spec : {M : Type 1} → statement M
 three-spec =
     tie.close
-    (tie.spec
-    cast-sum
-    power-of-requires
-    cast-d
-    returns
-    power-of-requires-2
-    mul-fifth-of
-    fifth-of-requires
-    three-by-trial-requires
-    returns-2
-    cubic-root-requires
-    returns-3
-    sub-three-with
-    sub-three-with-2
-    three-with-requires
-    returns-4)
+    (tie.spec (λ c. search needs) power-of-requires (λ c. search needs) returns power-of-requires-2 (λ c. search needs) fifth-of-requires
+    three-by-trial-requires returns-2 cubic-root-requires returns-3 (λ c. search needs) (λ c. search needs) three-with-requires returns-4)

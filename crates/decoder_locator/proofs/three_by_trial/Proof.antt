@@ -64,15 +64,4 @@ returns-2 c =
 pub three-by-trial-spec : {M : Type 1} → statement M
 three-by-trial-spec =
     tie.close
-    (tie.spec
-    Inv-loop
-    μ-loop
-    loop-holds
-    three-with-requires
-    enum-told
-    enum-known-found
-    returns
-    add-j
-    loop-less
-    loop-again
-    returns-2)
+    (tie.spec Inv-loop μ-loop loop-holds three-with-requires enum-told enum-known-found returns add-j loop-less loop-again returns-2)

@@ -12,18 +12,6 @@ use borrow.Author.Needs.{needs}
 use Rattle.decoder_locator.proofs.three_with.Statement.{statement}
 use Rattle.decoder_locator.proofs.three_with.Tie as tie
 
-mul-two : tie.Need-mul-two
-mul-two c = search needs
-
-shared-slice-read-two : tie.Need-shared-slice-read-two
-shared-slice-read-two c = search needs
-
-mul-two-2 : tie.Need-mul-two-2
-mul-two-2 c = search needs
-
-shared-slice-read-two-2 : tie.Need-shared-slice-read-two-2
-shared-slice-read-two-2 c = search needs
-
 two-requires : tie.Need-two-requires
 unfolding _⊕_
 two-requires c κs =
@@ -31,12 +19,6 @@ two-requires c κs =
     let s = start .pre in
     let T = s .0 in
     (T .words, T .tables, s .1, left-values (T .words) (start .args .x) (s .2) (s .1) (start .args .values .now) (T .syndrome) (omega (arith, T .as-long)) (start .args .j) (s .4))
-
-enum-told : tie.Need-enum-told
-enum-told c = search needs
-
-enum-known-rest : tie.Need-enum-known-rest
-enum-known-rest c = search needs
 
 returns : tie.Need-returns
 unfolding _⊕_
@@ -80,15 +62,5 @@ returns-4 c =
 pub three-with-spec : {M : Type 1} → statement M
 three-with-spec =
     tie.close
-    (tie.spec
-    mul-two
-    shared-slice-read-two
-    mul-two-2
-    shared-slice-read-two-2
-    two-requires
-    enum-told
-    enum-known-rest
-    returns
-    returns-2
-    returns-3
-    returns-4)
+    (tie.spec (λ c. search needs) (λ c. search needs) (λ c. search needs) (λ c. search needs) two-requires (λ c. search needs) (λ c. search needs)
+    returns returns-2 returns-3 returns-4)

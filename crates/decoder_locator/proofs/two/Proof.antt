@@ -9,22 +9,10 @@ use borrow.Author.Needs.{needs}
 use Rattle.decoder_locator.proofs.two.Statement.{statement}
 use Rattle.decoder_locator.proofs.two.Tie as tie
 
-cast-exponents : tie.Need-cast-exponents
-cast-exponents c = search needs
-
-cast-exponents-2 : tie.Need-cast-exponents-2
-cast-exponents-2 c = search needs
-
 exponents-requires : tie.Need-exponents-requires
 exponents-requires c κs =
     let start = c .before .before in
     let s = start .pre in (field-of (s .0) (s .1), low-below (s .0) (start .args .x) (s .3), high-below (s .0) (start .args .x) (s .3))
-
-enum-told : tie.Need-enum-told
-enum-told c = search needs
-
-enum-known-roots : tie.Need-enum-known-roots
-enum-known-roots c = search needs
 
 pair-at-requires : tie.Need-pair-at-requires
 unfolding ExponentsAre
@@ -56,12 +44,4 @@ returns-2 c =
 pub two-spec : {M : Type 1} → statement M
 two-spec =
     tie.close
-    (tie.spec
-    cast-exponents
-    cast-exponents-2
-    exponents-requires
-    enum-told
-    enum-known-roots
-    pair-at-requires
-    returns
-    returns-2)
+    (tie.spec (λ c. search needs) (λ c. search needs) exponents-requires (λ c. search needs) (λ c. search needs) pair-at-requires returns returns-2)

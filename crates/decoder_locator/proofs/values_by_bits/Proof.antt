@@ -81,18 +81,4 @@ returns c =
 pub values-by-bits-spec : {M : Type 1} → statement M
 values-by-bits-spec =
     tie.close
-    (tie.spec
-    Inv-loop
-    μ-loop
-    loop-holds
-    cast-acc
-    shr-acc
-    sub-acc
-    sub-acc-2
-    mul-acc
-    shared-slice-read-acc
-    mul-acc-2
-    add-k
-    loop-less
-    loop-again
-    returns)
+    (tie.spec Inv-loop μ-loop loop-holds cast-acc shr-acc sub-acc sub-acc-2 mul-acc shared-slice-read-acc mul-acc-2 add-k loop-less loop-again returns)

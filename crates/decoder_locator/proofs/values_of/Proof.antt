@@ -72,20 +72,5 @@ returns c =
 pub values-of-spec : {M : Type 1} → statement M
 values-of-spec =
     tie.close
-    (tie.spec
-    Inv-loop
-    μ-loop
-    add-k-end
-    loop-holds
-    mul-acc
-    mul-acc-2
-    cast-acc
-    shr-acc
-    cast-acc-2
-    add-acc
-    mul-acc-3
-    shared-slice-read-acc
-    add-k
-    loop-less
-    loop-again
-    returns)
+    (tie.spec Inv-loop μ-loop add-k-end loop-holds mul-acc mul-acc-2 cast-acc shr-acc cast-acc-2 add-acc mul-acc-3 shared-slice-read-acc add-k
+    loop-less loop-again returns)

@@ -13,4 +13,6 @@ returns-2 : tie.Need-returns-2
 returns-2 c = (omega arith, inr (omega arith))
 
 pub wrap-spec : {M : Type 1} → statement M
-wrap-spec = tie.close (tie.spec returns returns-2)
+wrap-spec =
+    tie.close
+    (tie.spec returns returns-2)

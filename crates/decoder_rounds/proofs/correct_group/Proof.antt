@@ -53,13 +53,4 @@ returns c =
 pub correct-group-spec : {M : Type 1} → statement M
 correct-group-spec =
     tie.close
-    (tie.spec
-    correct-lines-requires
-    correct-lines-requires-2
-    add-flips
-    add-outside
-    same-length
-    same-length-2
-    same-length-3
-    same-length-4
-    returns)
+    (tie.spec correct-lines-requires correct-lines-requires-2 add-flips add-outside same-length same-length-2 same-length-3 same-length-4 returns)

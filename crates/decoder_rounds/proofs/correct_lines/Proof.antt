@@ -16,9 +16,6 @@ use Rattle.decoder_rounds.proofs.correct_lines.Tie as tie
 line-remainders-requires : tie.Need-line-remainders-requires
 line-remainders-requires c κs = let p = c .before .before .before .before .before .before .before .before .before .before .before .before .before .pre in (received-of (p .0) (p .1), p .0 .group, table-of (p .0), p .2, p .3)
 
-count-nonzero-requires : tie.Need-count-nonzero-requires
-count-nonzero-requires c κs = search needs
-
 correct-words-requires : tie.Need-correct-words-requires
 correct-words-requires c κs = let p = c .before .before .before .before .before .before .before .before .before .before .before .before .before .before .before .before .before .before .before .before .before .before .before .pre in (p .0, p .1, c .before .before .before .before .before .before .before .before .before .line-remainders .ensures)
 
@@ -55,12 +52,4 @@ returns c =
 pub correct-lines-spec : {M : Type 1} → statement M
 correct-lines-spec =
     tie.close
-    (tie.spec
-    line-remainders-requires
-    count-nonzero-requires
-    correct-words-requires
-    same-length
-    same-length-2
-    same-length-3
-    same-length-4
-    returns)
+    (tie.spec line-remainders-requires (λ c κs. search needs) correct-words-requires same-length same-length-2 same-length-3 same-length-4 returns)

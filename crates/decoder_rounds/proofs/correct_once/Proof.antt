@@ -104,19 +104,5 @@ returns c =
 pub correct-once-spec : {M : Type 1} → statement M
 correct-once-spec =
     tie.close
-    (tie.spec
-    Inv-loop
-    μ-loop
-    group-count-requires
-    loop-holds
-    correct-group-requires
-    add-flips
-    add-outside
-    add-i
-    loop-less
-    loop-again
-    same-length
-    same-length-2
-    same-length-3
-    same-length-4
-    returns)
+    (tie.spec Inv-loop μ-loop group-count-requires loop-holds correct-group-requires add-flips add-outside add-i loop-less loop-again same-length
+    same-length-2 same-length-3 same-length-4 returns)

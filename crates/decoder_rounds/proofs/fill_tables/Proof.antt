@@ -10,23 +10,8 @@ use borrow.Author.Needs.{needs}
 use Rattle.decoder_rounds.proofs.fill_tables.Statement.{statement}
 use Rattle.decoder_rounds.proofs.fill_tables.Tie as tie
 
-m-requires : tie.Need-m-requires
-m-requires c κs = search needs
-
-fill-table-requires : tie.Need-fill-table-requires
-fill-table-requires c κs = search needs
-
 fill-field-requires : tie.Need-fill-field-requires
 fill-field-requires c κs = rw (c .before .before .before .before .before .m .ensures) (search needs)
-
-sub-fill-syndromes : tie.Need-sub-fill-syndromes
-sub-fill-syndromes c = search needs
-
-part-fill-syndromes-start : tie.Need-part-fill-syndromes-start
-part-fill-syndromes-start c = search needs
-
-part-fill-syndromes-end : tie.Need-part-fill-syndromes-end
-part-fill-syndromes-end c = search needs
 
 fill-syndromes-requires : tie.Need-fill-syndromes-requires
 fill-syndromes-requires c κs =
@@ -35,9 +20,6 @@ fill-syndromes-requires c κs =
     let l = length-take-le (length (a .positions .now) - 0) (a .syndromes .now) (omega (arith, p .1, p .2)) in
     let m = c .before .before .before .before .before .before .before .before .before .before .m .ensures in
     rw m (p .0 .m-low, p .0 .m-high, rw m at (c .before .before .before .before .fill-field .ensures), omega (arith, l, p .1, p .0 .M-low), omega (arith, l, p .1, p .0 .n-high))
-
-r-requires : tie.Need-r-requires
-r-requires c κs = search needs
 
 fill-sums-requires : tie.Need-fill-sums-requires
 fill-sums-requires c κs =
@@ -48,15 +30,6 @@ fill-sums-requires c κs =
     let m = c .before .before .before .before .before .before .before .before .before .before .before .before .before .before .before .m in
     let w = values-written (m .result) n (a .syndromes .now) (c .before .before .before .before .fill-syndromes .last .1 .1 .0) (c .before .before .before .before .fill-syndromes .ensures .0) (c .before .before .before .before .fill-syndromes .ensures .1) (omega (arith, p .1, p .2)) in
     (omega (arith, p .0, m .ensures), omega (arith, p .0, m .ensures), f .0, f .1, w .1, w .0)
-
-same-length : tie.Need-same-length
-same-length c = search needs
-
-same-length-2 : tie.Need-same-length-2
-same-length-2 c = search needs
-
-same-length-3 : tie.Need-same-length-3
-same-length-3 c = search needs
 
 returns : tie.Need-returns
 returns c =
@@ -72,17 +45,5 @@ returns c =
 pub fill-tables-spec : {M : Type 1} → statement M
 fill-tables-spec =
     tie.close
-    (tie.spec
-    m-requires
-    fill-table-requires
-    fill-field-requires
-    sub-fill-syndromes
-    part-fill-syndromes-start
-    part-fill-syndromes-end
-    fill-syndromes-requires
-    r-requires
-    fill-sums-requires
-    same-length
-    same-length-2
-    same-length-3
-    returns)
+    (tie.spec (λ c κs. search needs) (λ c κs. search needs) fill-field-requires (λ c. search needs) (λ c. search needs) (λ c. search needs)
+    fill-syndromes-requires (λ c κs. search needs) fill-sums-requires (λ c. search needs) (λ c. search needs) (λ c. search needs) returns)

@@ -7,26 +7,11 @@ use borrow.Author.Needs.{needs}
 use Rattle.decoder_rounds.proofs.line_remainders.Statement.{statement}
 use Rattle.decoder_rounds.proofs.line_remainders.Tie as tie
 
-column-remainders-requires : tie.Need-column-remainders-requires
-column-remainders-requires c κs = search needs
-
-same-length : tie.Need-same-length
-same-length c = search needs
-
 returns : tie.Need-returns
 returns c =
     let a = c .before .before .before .before .before .before .before .before .before .before .before .before .args in
     let l = listsOf (a .d) (a .own .now) (a .parity .now) in
     line-columns (paramsOf (a .d)) l (a .blocks) (frameOf (a .info .now) (a .red .now)) (a .i) (a .column) _ (c .before .before .before .before .if1 .taken) (c .before .before .column-remainders .ensures)
-
-row-remainders-requires : tie.Need-row-remainders-requires
-row-remainders-requires c κs = search needs
-
-same-length-2 : tie.Need-same-length-2
-same-length-2 c = search needs
-
-same-length-3 : tie.Need-same-length-3
-same-length-3 c = search needs
 
 returns-2 : tie.Need-returns-2
 returns-2 c =
@@ -37,11 +22,4 @@ returns-2 c =
 pub line-remainders-spec : {M : Type 1} → statement M
 line-remainders-spec =
     tie.close
-    (tie.spec
-    column-remainders-requires
-    same-length
-    returns
-    row-remainders-requires
-    same-length-2
-    same-length-3
-    returns-2)
+    (tie.spec (λ c κs. search needs) (λ c. search needs) returns (λ c κs. search needs) (λ c. search needs) (λ c. search needs) returns-2)

@@ -4,11 +4,10 @@ use borrow.Author.Needs.{needs}
 use Rattle.decoder_rounds.proofs.rounds_allowed.Statement.{statement}
 use Rattle.decoder_rounds.proofs.rounds_allowed.Tie as tie
 
-returns : tie.Need-returns
-returns c = search needs
-
 returns-2 : tie.Need-returns-2
 returns-2 c = (allowed-itself _ (c .if1 .left), c .before .pre)
 
 pub rounds-allowed-spec : {M : Type 1} → statement M
-rounds-allowed-spec = tie.close (tie.spec returns returns-2)
+rounds-allowed-spec =
+    tie.close
+    (tie.spec (λ c. search needs) returns-2)

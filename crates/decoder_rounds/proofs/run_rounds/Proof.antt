@@ -109,23 +109,5 @@ returns-2 c =
 pub run-rounds-spec : {M : Type 1} → statement M
 run-rounds-spec =
     tie.close
-    (tie.spec
-    Inv-loop
-    μ-loop
-    loop-holds
-    correct-once-requires
-    add-flips
-    add-t25
-    same-length
-    same-length-2
-    same-length-3
-    same-length-4
-    returns
-    add-k
-    loop-less
-    loop-again
-    same-length-5
-    same-length-6
-    same-length-7
-    same-length-8
-    returns-2)
+    (tie.spec Inv-loop μ-loop loop-holds correct-once-requires add-flips add-t25 same-length same-length-2 same-length-3 same-length-4 returns add-k
+    loop-less loop-again same-length-5 same-length-6 same-length-7 same-length-8 returns-2)

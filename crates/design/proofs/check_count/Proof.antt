@@ -9,9 +9,6 @@ use borrow.Author.Needs.{needs}
 use Rattle.design.proofs.check_count.Statement.{statement}
 use Rattle.design.proofs.check_count.Tie as tie
 
-out-of-range-requires : tie.Need-out-of-range-requires
-out-of-range-requires c κs = search needs
-
 returns : tie.Need-returns
 unfolding countRule verdictOf refusalVerdict
 returns c =
@@ -23,4 +20,6 @@ returns-2 c =
     let e : outOfRange 1 most-blocks (c .before .before .args .blocks) ≡ false = sym (c .before .out-of-range .ensures) ∙ c .if1 .left in rw e
 
 pub check-count-spec : {M : Type 1} → statement M
-check-count-spec = tie.close (tie.spec out-of-range-requires returns returns-2)
+check-count-spec =
+    tie.close
+    (tie.spec (λ c κs. search needs) returns returns-2)

@@ -17,4 +17,6 @@ unfolding roundsRule verdictOf refusalVerdict
 returns-2 c = rw (le-ltb most-rounds (c .before .args .rounds) (omega arith))
 
 pub check-rounds-spec : {M : Type 1} → statement M
-check-rounds-spec = tie.close (tie.spec returns returns-2)
+check-rounds-spec =
+    tie.close
+    (tie.spec returns returns-2)

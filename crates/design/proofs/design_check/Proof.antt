@@ -7,12 +7,6 @@ use borrow.Author.Needs.{needs}
 use Rattle.design.proofs.design_check.Statement.{statement}
 use Rattle.design.proofs.design_check.Tie as tie
 
-enum-told : tie.Need-enum-told
-enum-told c = search needs
-
-enum-known-a : tie.Need-enum-known-a
-enum-known-a c = search needs
-
 returns : tie.Need-returns
 unfolding verdictOf
 returns c = sym (design-made (c .enum-told .given .1))
@@ -21,4 +15,6 @@ returns-2 : tie.Need-returns-2
 returns-2 c = sym (design-refused (c .before .a .given .1))
 
 pub design-check-spec : {M : Type 1} → statement M
-design-check-spec = tie.close (tie.spec enum-told enum-known-a returns returns-2)
+design-check-spec =
+    tie.close
+    (tie.spec (λ c. search needs) (λ c. search needs) returns returns-2)

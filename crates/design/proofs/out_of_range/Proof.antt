@@ -11,4 +11,6 @@ returns-2 : tie.Need-returns-2
 returns-2 c = rw (le-ltb (c .before .args .x) (c .before .args .low) (c .if1 .left))
 
 pub out-of-range-spec : {M : Type 1} → statement M
-out-of-range-spec = tie.close (tie.spec returns returns-2)
+out-of-range-spec =
+    tie.close
+    (tie.spec returns returns-2)

@@ -13,23 +13,8 @@ use Rattle.encoder.specs.Checks.{workingRules}
 use Rattle.encoder.proofs.check_contents.Statement.{statement}
 use Rattle.encoder.proofs.check_contents.Tie as tie
 
-order-requires : tie.Need-order-requires
-order-requires c κs = search needs
-
-row-bytes-requires : tie.Need-row-bytes-requires
-row-bytes-requires c κs = search needs
-
 mul-check-length : tie.Need-mul-check-length
 mul-check-length c = omega (arith, small-product (c .before .order .result) (c .row-bytes .result) 4294967295 536870912 (omega arith) (omega arith))
-
-check-length-requires : tie.Need-check-length-requires
-check-length-requires c κs = search needs
-
-enum-told : tie.Need-enum-told
-enum-told c = search needs
-
-enum-told-2 : tie.Need-enum-told-2
-enum-told-2 c = search needs
 
 returns : tie.Need-returns
 unfolding workingRules kitWork
@@ -51,9 +36,6 @@ check-content-requires c κs =
       workLength = length-equal 6 _ _ (sym y ∙ check-passed (c .before .enum-told .given .1));
     }
 
-same-length : tie.Need-same-length
-same-length c = search needs
-
 returns-2 : tie.Need-returns-2
 unfolding workingRules kitWork
 returns-2 c =
@@ -64,14 +46,5 @@ returns-2 c =
 pub check-contents-spec : {M : Type 1} → statement M
 check-contents-spec =
     tie.close
-    (tie.spec
-    order-requires
-    row-bytes-requires
-    mul-check-length
-    check-length-requires
-    enum-told
-    enum-told-2
-    returns
-    check-content-requires
-    same-length
-    returns-2)
+    (tie.spec (λ c κs. search needs) (λ c κs. search needs) mul-check-length (λ c κs. search needs) (λ c. search needs) (λ c. search needs) returns
+    check-content-requires (λ c. search needs) returns-2)

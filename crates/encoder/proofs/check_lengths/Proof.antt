@@ -8,27 +8,12 @@ use Rattle.encoder.specs.Checks.{lengthRules}
 use Rattle.encoder.proofs.check_lengths.Statement.{statement}
 use Rattle.encoder.proofs.check_lengths.Tie as tie
 
-check-kit-lengths-requires : tie.Need-check-kit-lengths-requires
-check-kit-lengths-requires c κs = search needs
-
-enum-told : tie.Need-enum-told
-enum-told c = search needs
-
-enum-told-2 : tie.Need-enum-told-2
-enum-told-2 c = search needs
-
 returns : tie.Need-returns
 unfolding lengthRules
 returns c = refused-then _ (c .before .before .check-kit-lengths .ensures) (c .enum-told2 .given .1)
 
 check-frame-lengths-requires : tie.Need-check-frame-lengths-requires
 check-frame-lengths-requires c κs = c .before .before .before .before .before .before .before .before .before .pre .1
-
-enum-told-3 : tie.Need-enum-told-3
-enum-told-3 c = search needs
-
-enum-told-4 : tie.Need-enum-told-4
-enum-told-4 c = search needs
 
 returns-2 : tie.Need-returns-2
 unfolding lengthRules
@@ -41,9 +26,6 @@ check-contents-requires c κs =
     let a = c .before .before .before .before .before .before .before .before .before .before .before .before .before .args in
     (c .before .before .before .before .before .before .before .before .before .before .before .before .before .pre .0, lengths-fit _ (a .own .now) (a .parity .now) (a .inverse .now) (sym (c .before .before .before .before .before .before .check-kit-lengths .ensures) ∙ check-passed (c .before .before .before .before .enum-told .given .1)))
 
-same-length : tie.Need-same-length
-same-length c = search needs
-
 returns-3 : tie.Need-returns-3
 unfolding lengthRules
 returns-3 c =
@@ -54,15 +36,5 @@ returns-3 c =
 pub check-lengths-spec : {M : Type 1} → statement M
 check-lengths-spec =
     tie.close
-    (tie.spec
-    check-kit-lengths-requires
-    enum-told
-    enum-told-2
-    returns
-    check-frame-lengths-requires
-    enum-told-3
-    enum-told-4
-    returns-2
-    check-contents-requires
-    same-length
-    returns-3)
+    (tie.spec (λ c κs. search needs) (λ c. search needs) (λ c. search needs) returns check-frame-lengths-requires (λ c. search needs)
+    (λ c. search needs) returns-2 check-contents-requires (λ c. search needs) returns-3)

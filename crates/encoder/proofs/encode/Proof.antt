@@ -8,18 +8,6 @@ use Rattle.encoder.proofs.Verdict.{encodable, encode-design, encode-fra
 use Rattle.encoder.proofs.encode.Statement.{statement}
 use Rattle.encoder.proofs.encode.Tie as tie
 
-new-requires : tie.Need-new-requires
-new-requires c κs = search needs
-
-enum-known-designed : tie.Need-enum-known-designed
-enum-known-designed c = search needs
-
-enum-told : tie.Need-enum-told
-enum-told c = search needs
-
-design-check-requires : tie.Need-design-check-requires
-design-check-requires c κs = search needs
-
 returns : tie.Need-returns
 returns c =
     let a = c .before .before .before .before .before .before .before .before .before .before .args in
@@ -29,18 +17,6 @@ returns c =
 check-frame-requires : tie.Need-check-frame-requires
 check-frame-requires c κs =
     made-allowed (c .before .before .before .designed .given .1) (c .before .before .before .before .before .new .ensures .2)
-
-enum-told-2 : tie.Need-enum-told-2
-enum-told-2 c = search needs
-
-enum-told-3 : tie.Need-enum-told-3
-enum-told-3 c = search needs
-
-same-length : tie.Need-same-length
-same-length c = search needs
-
-same-length-2 : tie.Need-same-length-2
-same-length-2 c = search needs
 
 returns-2 : tie.Need-returns-2
 returns-2 c =
@@ -55,12 +31,6 @@ make-redundancy-requires c κs =
     let d = c .before .before .before .before .before .before .before .before .before .designed .given .1 in
     encodable _ (a .blocks) (a .own .now) (a .parity .now) (a .inverse .now) (a .info .now) (a .red .now) (length (a .work .now)) (made-allowed d (w .2)) (sym (c .before .before .before .before .before .check-frame .ensures) ∙ check-passed (c .before .enum-told2 .given .1))
 
-same-length-3 : tie.Need-same-length-3
-same-length-3 c = search needs
-
-same-length-4 : tie.Need-same-length-4
-same-length-4 c = search needs
-
 returns-3 : tie.Need-returns-3
 returns-3 c =
     let a = c .before .before .before .before .before .before .before .before .before .before .before .before .before .before .before .before .before .before .before .before .before .args in
@@ -70,19 +40,5 @@ returns-3 c =
 pub encode-spec : {M : Type 1} → statement M
 encode-spec =
     tie.close
-    (tie.spec
-    new-requires
-    enum-known-designed
-    enum-told
-    design-check-requires
-    returns
-    check-frame-requires
-    enum-told-2
-    enum-told-3
-    same-length
-    same-length-2
-    returns-2
-    make-redundancy-requires
-    same-length-3
-    same-length-4
-    returns-3)
+    (tie.spec (λ c κs. search needs) (λ c. search needs) (λ c. search needs) (λ c κs. search needs) returns check-frame-requires (λ c. search needs)
+    (λ c. search needs) (λ c. search needs) (λ c. search needs) returns-2 make-redundancy-requires (λ c. search needs) (λ c. search needs) returns-3)

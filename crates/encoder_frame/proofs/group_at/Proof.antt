@@ -37,17 +37,11 @@ block-of-requires-3 c κs = c .before .before .before .before .before .before .b
 mul-is-sent : tie.Need-mul-is-sent
 mul-is-sent c = omega (arith, c .before .before .before .before .before .before .before .before .pre .0 .few-blocks)
 
-is-sent-requires : tie.Need-is-sent-requires
-is-sent-requires c κs = search needs
-
 mul-is-sent-2 : tie.Need-mul-is-sent-2
 mul-is-sent-2 c = omega (arith, c .before .before .before .before .before .before .before .before .before .pre .0 .few-blocks)
 
 add-is-sent : tie.Need-add-is-sent
 add-is-sent c = omega (arith, c .before .before .before .before .before .before .before .before .before .pre .0 .few-blocks)
-
-is-sent-requires-2 : tie.Need-is-sent-requires-2
-is-sent-requires-2 c κs = search needs
 
 make-group-requires : tie.Need-make-group-requires
 make-group-requires c κs =
@@ -59,9 +53,6 @@ make-group-requires c κs =
     let has-even = c .before .is-sent2 in
     let has-before = c .before .before .is-sent in
     lent-from (a .blocks) (a .size) (a .r) (a .info .now) (a .table .now) (a .sources .now) (a .inverse .now) (a .i) (odd .result .now) (even .result .now) (before .result .now) (has-even .result) (has-before .result) (odd .ensures) (even .ensures) (before .ensures) (has-even .ensures) (has-before .ensures) (p .0) (p .1) (a .out .now) (p .2)
-
-same-length : tie.Need-same-length
-same-length c = search needs
 
 returns : tie.Need-returns
 returns c =
@@ -76,21 +67,6 @@ returns c =
 pub group-at-spec : {M : Type 1} → statement M
 group-at-spec =
     tie.close
-    (tie.spec
-    mul-area
-    mul-block-of
-    block-of-requires
-    mul-block-of-2
-    add-block-of
-    block-of-requires-2
-    mul-block-of-3
-    add-block-of-2
-    block-of-requires-3
-    mul-is-sent
-    is-sent-requires
-    mul-is-sent-2
-    add-is-sent
-    is-sent-requires-2
-    make-group-requires
-    same-length
+    (tie.spec mul-area mul-block-of block-of-requires mul-block-of-2 add-block-of block-of-requires-2 mul-block-of-3 add-block-of-2
+    block-of-requires-3 mul-is-sent (λ c κs. search needs) mul-is-sent-2 add-is-sent (λ c κs. search needs) make-group-requires (λ c. search needs)
     returns)

@@ -90,21 +90,5 @@ returns c =
 pub make-groups-spec : {M : Type 1} → statement M
 make-groups-spec =
     tie.close
-    (tie.spec
-    Inv-loop
-    μ-loop
-    mul-w
-    mul-w-2
-    group-count-requires
-    loop-holds
-    mul-from
-    add-group-at
-    sub-group-at
-    part-group-at-start
-    part-group-at-end
-    group-at-requires
-    add-i
-    loop-less
-    loop-again
-    same-length
-    returns)
+    (tie.spec Inv-loop μ-loop mul-w mul-w-2 group-count-requires loop-holds mul-from add-group-at sub-group-at part-group-at-start part-group-at-end
+    group-at-requires add-i loop-less loop-again same-length returns)

@@ -13,38 +13,8 @@ use Rattle.encoder_frame.proofs.WholeFrame.{red-long, frame-ready, fram
 use Rattle.encoder_frame.proofs.make_redundancy.Statement.{statement}
 use Rattle.encoder_frame.proofs.make_redundancy.Tie as tie
 
-order-requires : tie.Need-order-requires
-order-requires c κs = search needs
-
-r-requires : tie.Need-r-requires
-r-requires c κs = search needs
-
-n-requires : tie.Need-n-requires
-n-requires c κs = search needs
-
-size-requires : tie.Need-size-requires
-size-requires c κs = search needs
-
-sub-fill-table : tie.Need-sub-fill-table
-sub-fill-table c = search needs
-
-part-table-start : tie.Need-part-table-start
-part-table-start c = search needs
-
 part-table-end : tie.Need-part-table-end
 part-table-end c = let s = c .before .before .before .before .before .before .before .before in omega (arith, bits-small (s .args .d) (s .pre .allowed))
-
-fill-table-requires : tie.Need-fill-table-requires
-fill-table-requires c κs = search needs
-
-sub-fill-inverse : tie.Need-sub-fill-inverse
-sub-fill-inverse c = search needs
-
-part-sources-start : tie.Need-part-sources-start
-part-sources-start c = search needs
-
-part-sources-end : tie.Need-part-sources-end
-part-sources-end c = search needs
 
 fill-inverse-requires : tie.Need-fill-inverse-requires
 fill-inverse-requires c κs =
@@ -56,23 +26,11 @@ fill-inverse-requires c κs =
       subst⁻¹ (λ (k : ℕ). Permutes k (λ p. getD (entries k (s .args .parity .now)) p 0)) (order .ensures .0) (s .pre .parityPermutes),
     )
 
-sub-make-groups : tie.Need-sub-make-groups
-sub-make-groups c = search needs
-
-part-make-groups-start : tie.Need-part-make-groups-start
-part-make-groups-start c = search needs
-
 part-make-groups-end : tie.Need-part-make-groups-end
 part-make-groups-end c =
     let x = c .before .before .before .before .before .fill-table in
     let all : length (x .last .1 .0) ≡ c .before .before .before .before .before .before .before .before .n .result = omega arith in
     part-fits (x .last .1 .0) _ _ all
-
-sub-make-groups-2 : tie.Need-sub-make-groups-2
-sub-make-groups-2 c = search needs
-
-part-make-groups-start-2 : tie.Need-part-make-groups-start-2
-part-make-groups-start-2 c = search needs
 
 part-make-groups-end-2 : tie.Need-part-make-groups-end-2
 part-make-groups-end-2 c = let f = c .before .before .before .before .fill-inverse in part-fits (f .last .1 .1 .0) _ _ (f .ensures .0)
@@ -89,9 +47,6 @@ make-groups-requires c κs =
       red-long h r,
     )
 
-same-length : tie.Need-same-length
-same-length c = search needs
-
 returns : tie.Need-returns
 returns c =
     let x = c .before .before .before .before .before .before .before .before .before .before .before .before .fill-table in
@@ -103,25 +58,7 @@ returns c =
 pub make-redundancy-spec : {M : Type 1} → statement M
 make-redundancy-spec =
     tie.close
-    (tie.spec
-    order-requires
-    r-requires
-    n-requires
-    size-requires
-    sub-fill-table
-    part-table-start
-    part-table-end
-    fill-table-requires
-    sub-fill-inverse
-    part-sources-start
-    part-sources-end
-    fill-inverse-requires
-    sub-make-groups
-    part-make-groups-start
-    part-make-groups-end
-    sub-make-groups-2
-    part-make-groups-start-2
-    part-make-groups-end-2
-    make-groups-requires
-    same-length
+    (tie.spec (λ c κs. search needs) (λ c κs. search needs) (λ c κs. search needs) (λ c κs. search needs) (λ c. search needs) (λ c. search needs)
+    part-table-end (λ c κs. search needs) (λ c. search needs) (λ c. search needs) (λ c. search needs) fill-inverse-requires (λ c. search needs)
+    (λ c. search needs) part-make-groups-end (λ c. search needs) (λ c. search needs) part-make-groups-end-2 make-groups-requires (λ c. search needs)
     returns)

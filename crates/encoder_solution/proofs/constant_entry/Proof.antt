@@ -9,12 +9,6 @@ use Rattle.encoder_solution.proofs.Stack.{stack-entry}
 use Rattle.encoder_solution.proofs.constant_entry.Statement.{statement}
 use Rattle.encoder_solution.proofs.constant_entry.Tie as tie
 
-rem-a : tie.Need-rem-a
-rem-a c = omega arith
-
-div-b : tie.Need-div-b
-div-b c = omega arith
-
 mul-p : tie.Need-mul-p
 mul-p c = let a = c .before .before .before .args in omega (arith, stack-entry (a .size) (a .r) (a .k) (omega arith) (omega arith))
 
@@ -27,9 +21,6 @@ mul-p-2 c = let a = c .before .before .before .args in omega (arith, stack-entry
 shared-slice-read-p : tie.Need-shared-slice-read-p
 shared-slice-read-p c = let a = c .before .before .before .before .args in omega (arith, stack-entry (a .size) (a .r) (a .k) (omega arith) (omega arith))
 
-cast-p : tie.Need-cast-p
-cast-p c = omega arith
-
 mul-digit-of : tie.Need-mul-digit-of
 mul-digit-of c = let a = c .before .before .before .before .args in omega (arith, stack-entry (a .size) (a .r) (a .k) (omega arith) (omega arith))
 
@@ -38,9 +29,6 @@ shared-slice-read-digit-of c = let a = c .before .before .before .before .before
 
 digit-of-requires : tie.Need-digit-of-requires
 digit-of-requires c κs = let a = c .before .before .before .before .before .args in omega (arith, stack-entry (a .size) (a .r) (a .k) (omega arith) (omega arith))
-
-shared-slice-read-result : tie.Need-shared-slice-read-result
-shared-slice-read-result c = omega arith
 
 add-result : tie.Need-add-result
 add-result c =
@@ -57,17 +45,5 @@ returns c =
 pub constant-entry-spec : {M : Type 1} → statement M
 constant-entry-spec =
     tie.close
-    (tie.spec
-    rem-a
-    div-b
-    mul-p
-    add-p
-    mul-p-2
-    shared-slice-read-p
-    cast-p
-    mul-digit-of
-    shared-slice-read-digit-of
-    digit-of-requires
-    shared-slice-read-result
-    add-result
-    returns)
+    (tie.spec (λ c. omega arith) (λ c. omega arith) mul-p add-p mul-p-2 shared-slice-read-p (λ c. omega arith) mul-digit-of shared-slice-read-digit-of
+    digit-of-requires (λ c. omega arith) add-result returns)

@@ -98,18 +98,5 @@ returns c =
 pub constant-in-spec : {M : Type 1} → statement M
 constant-in-spec =
     tie.close
-    (tie.spec
-    Inv-loop
-    μ-loop
-    parity-bits-requires
-    clear-requires
-    mul-k-end
-    loop-holds
-    constant-entry-requires
-    add-bit-requires
-    add-k
-    loop-less
-    loop-again
-    same-length
-    same-length-2
-    returns)
+    (tie.spec Inv-loop μ-loop parity-bits-requires clear-requires mul-k-end loop-holds constant-entry-requires add-bit-requires add-k loop-less
+    loop-again same-length same-length-2 returns)

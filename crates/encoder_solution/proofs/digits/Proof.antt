@@ -59,18 +59,5 @@ returns c =
 pub digits-spec : {M : Type 1} → statement M
 digits-spec =
     tie.close
-    (tie.spec
-    Inv-loop
-    μ-loop
-    loop-holds
-    mul-out
-    shared-slice-read-out
-    cast-out
-    shr-out
-    cast-out-2
-    slice-write-out
-    add-b
-    loop-less
-    loop-again
-    same-length
-    returns)
+    (tie.spec Inv-loop μ-loop loop-holds mul-out shared-slice-read-out cast-out shr-out cast-out-2 slice-write-out add-b loop-less loop-again
+    same-length returns)

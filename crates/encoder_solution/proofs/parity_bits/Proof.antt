@@ -98,20 +98,5 @@ returns c =
 pub parity-bits-spec : {M : Type 1} → statement M
 parity-bits-spec =
     tie.close
-    (tie.spec
-    Inv-loop
-    μ-loop
-    loop-holds
-    mul-from
-    sub-digits
-    sub-digits-2
-    add-digits
-    sub-digits-3
-    part-digits-start
-    part-digits-end
-    digits-requires
-    add-a
-    loop-less
-    loop-again
-    same-length
-    returns)
+    (tie.spec Inv-loop μ-loop loop-holds mul-from sub-digits sub-digits-2 add-digits sub-digits-3 part-digits-start part-digits-end digits-requires
+    add-a loop-less loop-again same-length returns)

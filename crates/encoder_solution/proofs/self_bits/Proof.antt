@@ -125,23 +125,5 @@ returns c =
 pub self-bits-spec : {M : Type 1} → statement M
 self-bits-spec =
     tie.close
-    (tie.spec
-    Inv-loop
-    μ-loop
-    loop-holds
-    mul-from
-    add-shared-odd
-    sub-shared-odd
-    part-shared-odd-start
-    part-shared-odd-end
-    shared-odd-requires
-    rem-out
-    mul-out
-    div-out
-    add-out
-    slice-write-out
-    add-e
-    loop-less
-    loop-again
-    same-length
-    returns)
+    (tie.spec Inv-loop μ-loop loop-holds mul-from add-shared-odd sub-shared-odd part-shared-odd-start part-shared-odd-end shared-odd-requires rem-out
+    mul-out div-out add-out slice-write-out add-e loop-less loop-again same-length returns)

@@ -14,15 +14,6 @@ use Rattle.rules.proofs.OfDesign.{lists-rule, spare-rule}
 use Rattle.kit.proofs.check_content.Statement.{statement}
 use Rattle.kit.proofs.check_content.Tie as tie
 
-order-requires : tie.Need-order-requires
-order-requires c κs = search needs
-
-sub-check-lists : tie.Need-sub-check-lists
-sub-check-lists c = search needs
-
-part-marks-start : tie.Need-part-marks-start
-part-marks-start c = search needs
-
 part-marks-end : tie.Need-part-marks-end
 part-marks-end c =
     let a = c .before .before .before .before .before .before .args in
@@ -36,12 +27,6 @@ check-lists-requires c κs =
     let h = c .before .before .before .before .before .before .before .pre in
     let e : c .before .order .result ≡ orderOf (a .d) = c .before .order .ensures .0 in
     (omega (arith, h .ownLength), omega (arith, h .parityLength), omega arith, omega (arith, h .allowed .order-high))
-
-enum-told : tie.Need-enum-told
-enum-told c = search needs
-
-enum-told-2 : tie.Need-enum-told-2
-enum-told-2 c = search needs
 
 returns : tie.Need-returns
 unfolding contentRules
@@ -58,12 +43,6 @@ check-spare-requires c κs =
     let e : c .before .before .before .before .before .order .result ≡ orderOf (a .d) = c .before .before .before .before .before .order .ensures .0 in
     (h .inverseLength ∙ ap (λ (k : ℕ). k * rowBytes k) (sym e), omega (arith, order-positive (a .d) (h .allowed)), omega (arith, h .allowed .order-high))
 
-enum-told-3 : tie.Need-enum-told-3
-enum-told-3 c = search needs
-
-enum-told-4 : tie.Need-enum-told-4
-enum-told-4 c = search needs
-
 returns-2 : tie.Need-returns-2
 unfolding contentRules
 returns-2 c =
@@ -72,15 +51,6 @@ returns-2 c =
     let x = lists-rule (a .d) (c .before .before .before .before .before .before .before .before .order .result) e (a .own .now) (a .parity .now) (c .before .before .before .before .before .before .check-lists .ensures) in
     let y = spare-rule (a .d) (c .before .before .before .before .before .before .before .before .order .result) e (a .inverse .now) (c .before .before .check-spare .ensures) in
     refused-then _ y (c .enum-told4 .given .1) ∙ passed-then _ x (c .before .before .before .enum-told .given .1)
-
-check-bits-requires : tie.Need-check-bits-requires
-check-bits-requires c κs = search needs
-
-enum-told-5 : tie.Need-enum-told-5
-enum-told-5 c = search needs
-
-enum-told-6 : tie.Need-enum-told-6
-enum-told-6 c = search needs
 
 returns-3 : tie.Need-returns-3
 unfolding contentRules
@@ -102,9 +72,6 @@ check-inverse-requires c κs =
     let p = lists-permute (paramsOf (a .d)) (listsOf (a .d) (a .own .now) (a .parity .now)) (sym x ∙ check-passed (c .before .before .before .before .before .before .before .enum-told .given .1)) in
     record { sized = h; ownPermutes = p .0; parityPermutes = p .1 }
 
-same-length : tie.Need-same-length
-same-length c = search needs
-
 returns-4 : tie.Need-returns-4
 unfolding contentRules
 returns-4 c =
@@ -120,23 +87,6 @@ returns-4 c =
 pub check-content-spec : {M : Type 1} → statement M
 check-content-spec =
     tie.close
-    (tie.spec
-    order-requires
-    sub-check-lists
-    part-marks-start
-    part-marks-end
-    check-lists-requires
-    enum-told
-    enum-told-2
-    returns
-    check-spare-requires
-    enum-told-3
-    enum-told-4
-    returns-2
-    check-bits-requires
-    enum-told-5
-    enum-told-6
-    returns-3
-    check-inverse-requires
-    same-length
-    returns-4)
+    (tie.spec (λ c κs. search needs) (λ c. search needs) (λ c. search needs) part-marks-end check-lists-requires (λ c. search needs)
+    (λ c. search needs) returns check-spare-requires (λ c. search needs) (λ c. search needs) returns-2 (λ c κs. search needs) (λ c. search needs)
+    (λ c. search needs) returns-3 check-inverse-requires (λ c. search needs) returns-4)

@@ -13,32 +13,11 @@ use Rattle.kit.proofs.Verdict.{kit-design, kit-lengths, kit-working, ki
 use Rattle.kit.proofs.check_kit.Statement.{statement}
 use Rattle.kit.proofs.check_kit.Tie as tie
 
-new-requires : tie.Need-new-requires
-new-requires c κs = search needs
-
-enum-known-designed : tie.Need-enum-known-designed
-enum-known-designed c = search needs
-
-enum-told : tie.Need-enum-told
-enum-told c = search needs
-
-design-check-requires : tie.Need-design-check-requires
-design-check-requires c κs = search needs
-
 returns : tie.Need-returns
 returns c =
     let a = c .before .before .before .before .before .before .before .before .args in
     let w = c .before .before .before .new .ensures in
     c .design-check .ensures ∙ kit-design (a .m) (a .t) (a .size) (a .own .now) (a .parity .now) (a .inverse .now) (length (a .work .now)) (w .0) (c .before .enum-told .given .1)
-
-check-kit-lengths-requires : tie.Need-check-kit-lengths-requires
-check-kit-lengths-requires c κs = tt
-
-enum-told-2 : tie.Need-enum-told-2
-enum-told-2 c = search needs
-
-enum-told-3 : tie.Need-enum-told-3
-enum-told-3 c = search needs
 
 returns-2 : tie.Need-returns-2
 returns-2 c =
@@ -46,23 +25,8 @@ returns-2 c =
     let w = c .before .before .before .before .before .before .new .ensures in
     kit-lengths (a .m) (a .t) (a .size) (a .own .now) (a .parity .now) (a .inverse .now) (length (a .work .now)) (w .0) (w .1) (c .before .before .before .before .designed .given .1) (c .before .before .check-kit-lengths .ensures) (c .enum-told3 .given .1)
 
-order-requires : tie.Need-order-requires
-order-requires c κs = search needs
-
-row-bytes-requires : tie.Need-row-bytes-requires
-row-bytes-requires c κs = search needs
-
 mul-check-length : tie.Need-mul-check-length
 mul-check-length c = omega (arith, small-product (c .before .order .result) (c .row-bytes .result) 4294967295 536870912 (omega arith) (omega arith))
-
-check-length-requires : tie.Need-check-length-requires
-check-length-requires c κs = search needs
-
-enum-told-4 : tie.Need-enum-told-4
-enum-told-4 c = search needs
-
-enum-told-5 : tie.Need-enum-told-5
-enum-told-5 c = search needs
 
 returns-3 : tie.Need-returns-3
 unfolding kitWork
@@ -71,9 +35,6 @@ returns-3 c =
     let w = c .before .before .before .before .before .before .before .before .before .before .before .new .ensures in
     let y = c .before .before .check-length .ensures ∙ ap₂ (λ (k b : ℕ). lengthRule 6 (length (a .work .now)) (k * b)) (c .before .before .before .before .order .ensures .0) (c .before .before .before .row-bytes .ensures .0) in
     kit-working (a .m) (a .t) (a .size) (a .own .now) (a .parity .now) (a .inverse .now) (length (a .work .now)) (w .0) (w .1) (c .before .before .before .before .before .before .before .before .before .designed .given .1) (c .before .before .before .before .before .before .before .check-kit-lengths .ensures) (c .before .before .before .before .before .enum-told2 .given .1) y (c .enum-told5 .given .1)
-
-slice-aggregate-check-content : tie.Need-slice-aggregate-check-content
-slice-aggregate-check-content c = search needs
 
 check-content-requires : tie.Need-check-content-requires
 check-content-requires c κs =
@@ -90,9 +51,6 @@ check-content-requires c κs =
       workLength = length-equal 6 _ _ (sym y ∙ check-passed (c .before .before .enum-told4 .given .1));
     }
 
-same-length : tie.Need-same-length
-same-length c = search needs
-
 returns-4 : tie.Need-returns-4
 unfolding kitWork
 returns-4 c =
@@ -104,24 +62,6 @@ returns-4 c =
 pub check-kit-spec : {M : Type 1} → statement M
 check-kit-spec =
     tie.close
-    (tie.spec
-    new-requires
-    enum-known-designed
-    enum-told
-    design-check-requires
-    returns
-    check-kit-lengths-requires
-    enum-told-2
-    enum-told-3
-    returns-2
-    order-requires
-    row-bytes-requires
-    mul-check-length
-    check-length-requires
-    enum-told-4
-    enum-told-5
-    returns-3
-    slice-aggregate-check-content
-    check-content-requires
-    same-length
-    returns-4)
+    (tie.spec (λ c κs. search needs) (λ c. search needs) (λ c. search needs) (λ c κs. search needs) returns (λ c κs. tt) (λ c. search needs)
+    (λ c. search needs) returns-2 (λ c κs. search needs) (λ c κs. search needs) mul-check-length (λ c κs. search needs) (λ c. search needs)
+    (λ c. search needs) returns-3 (λ c. search needs) check-content-requires (λ c. search needs) returns-4)

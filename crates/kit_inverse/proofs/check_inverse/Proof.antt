@@ -12,29 +12,8 @@ use Rattle.kit_inverse.proofs.KitProduct.{part-of}
 use Rattle.kit_inverse.proofs.check_inverse.Statement.{statement}
 use Rattle.kit_inverse.proofs.check_inverse.Tie as tie
 
-r-requires : tie.Need-r-requires
-r-requires c κs = search needs
-
-mul-fill-table : tie.Need-mul-fill-table
-mul-fill-table c = search needs
-
-sub-fill-table : tie.Need-sub-fill-table
-sub-fill-table c = search needs
-
-part-powers-start : tie.Need-part-powers-start
-part-powers-start c = search needs
-
 part-powers-end : tie.Need-part-powers-end
 part-powers-end c = omega (arith, r-small (c .before .before .before .before .before .args .d) (c .before .before .before .before .before .pre .sized .allowed))
-
-fill-table-requires : tie.Need-fill-table-requires
-fill-table-requires c κs = search needs
-
-sub-judge : tie.Need-sub-judge
-sub-judge c = search needs
-
-part-judge-start : tie.Need-part-judge-start
-part-judge-start c = search needs
 
 part-judge-end : tie.Need-part-judge-end
 part-judge-end c =
@@ -54,25 +33,8 @@ judge-requires c κs =
     let first = middle-is (f .last .1 .0) _ 0 (r .result) (omega arith) q ∙ ap (λ (k : ℕ). take k (f .last .1 .0)) d in
     (h, part-of (paramsOf (a .d)) (f .last .1 .0) _ (f .ensures .0) w first (c .before .judge-arg .given .2 ∙ d))
 
-same-length : tie.Need-same-length
-same-length c = search needs
-
-returns : tie.Need-returns
-returns c = search needs
-
 pub check-inverse-spec : {M : Type 1} → statement M
 check-inverse-spec =
     tie.close
-    (tie.spec
-    r-requires
-    mul-fill-table
-    sub-fill-table
-    part-powers-start
-    part-powers-end
-    fill-table-requires
-    sub-judge
-    part-judge-start
-    part-judge-end
-    judge-requires
-    same-length
-    returns)
+    (tie.spec (λ c κs. search needs) (λ c. search needs) (λ c. search needs) (λ c. search needs) part-powers-end (λ c κs. search needs)
+    (λ c. search needs) (λ c. search needs) part-judge-end judge-requires (λ c. search needs) (λ c. search needs))

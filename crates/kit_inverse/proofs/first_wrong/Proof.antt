@@ -10,18 +10,12 @@ use Rattle.kit_inverse.proofs.WholeProduct.{sides, wrong-found}
 use Rattle.kit_inverse.proofs.first_wrong.Statement.{statement}
 use Rattle.kit_inverse.proofs.first_wrong.Tie as tie
 
-order-requires : tie.Need-order-requires
-order-requires c κs = search needs
-
 planes-of-rows-requires : tie.Need-planes-of-rows-requires
 planes-of-rows-requires c κs =
     let a = c .before .before .before .before .before .before .before .args in
     let s = c .before .before .before .before .before .before .before .pre .0 .sized in
     let e = ap (λ (k : ℕ). k * rowBytes k) (sym (c .before .order .ensures .0)) in
     (omega (arith, order-positive (a .d) (s .allowed)), omega (arith, s .allowed .order-high), s .inverseLength ∙ e, s .workLength ∙ e)
-
-size-requires : tie.Need-size-requires
-size-requires c κs = search needs
 
 first-wrong-requires : tie.Need-first-wrong-requires
 first-wrong-requires c κs =
@@ -30,9 +24,6 @@ first-wrong-requires c κs =
     let o = c .before .before .before .before .before .before .order in
     let t = c .before .before .before .before .planes-of-rows in
     rw (c .before .size .ensures) (sides (a .d) (a .own .now) (a .parity .now) (a .inverse .now) (a .work .now) (h .0) (o .result) (o .ensures .0) (a .part .now) (h .1) _ (t .ensures .0))
-
-same-length : tie.Need-same-length
-same-length c = search needs
 
 returns : tie.Need-returns
 returns c =
@@ -47,10 +38,4 @@ returns c =
 pub first-wrong-spec : {M : Type 1} → statement M
 first-wrong-spec =
     tie.close
-    (tie.spec
-    order-requires
-    planes-of-rows-requires
-    size-requires
-    first-wrong-requires
-    same-length
-    returns)
+    (tie.spec (λ c κs. search needs) planes-of-rows-requires (λ c κs. search needs) first-wrong-requires (λ c. search needs) returns)

@@ -11,20 +11,11 @@ use Rattle.kit_inverse.proofs.Rule9.{inverse-refused, inverse-passed}
 use Rattle.kit_inverse.proofs.judge.Statement.{statement}
 use Rattle.kit_inverse.proofs.judge.Tie as tie
 
-order-requires : tie.Need-order-requires
-order-requires c κs = search needs
-
 mul-all : tie.Need-mul-all
 mul-all c =
     let o = c .order in
     let h = c .before .before .before .before .before .before .pre .0 .sized .allowed .order-high in
     omega (arith, square-small (o .result) (omega (arith, o .ensures .0, h)))
-
-first-wrong-requires : tie.Need-first-wrong-requires
-first-wrong-requires c κs = search needs
-
-same-length : tie.Need-same-length
-same-length c = search needs
 
 returns : tie.Need-returns
 unfolding verdictOf refusalVerdict
@@ -34,9 +25,6 @@ returns c =
     let x = c .before .before .before .first-wrong in
     inverse-refused (paramsOf (a .d)) (listsOf (a .d) (a .own .now) (a .parity .now)) (a .inverse .now) (o .result * o .result)
     (ap (λ (k : ℕ). k * k) (o .ensures .0)) (x .result) (x .ensures) (omega arith)
-
-same-length-2 : tie.Need-same-length-2
-same-length-2 c = search needs
 
 returns-2 : tie.Need-returns-2
 unfolding verdictOf
@@ -50,11 +38,4 @@ returns-2 c =
 pub judge-spec : {M : Type 1} → statement M
 judge-spec =
     tie.close
-    (tie.spec
-    order-requires
-    mul-all
-    first-wrong-requires
-    same-length
-    returns
-    same-length-2
-    returns-2)
+    (tie.spec (λ c κs. search needs) mul-all (λ c κs. search needs) (λ c. search needs) returns (λ c. search needs) returns-2)

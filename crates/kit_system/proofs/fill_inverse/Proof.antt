@@ -82,16 +82,4 @@ returns c =
 pub fill-inverse-spec : {M : Type 1} → statement M
 fill-inverse-spec =
     tie.close
-    (tie.spec
-    Inv-loop
-    μ-loop
-    loop-holds
-    entry-requires
-    cast-out
-    mul-out
-    slice-write-out
-    add-p
-    loop-less
-    loop-again
-    same-length
-    returns)
+    (tie.spec Inv-loop μ-loop loop-holds entry-requires cast-out mul-out slice-write-out add-p loop-less loop-again same-length returns)

@@ -31,18 +31,12 @@ add-entry c = let a = c .before .args in omega (arith, place-below (a .size) (a 
 entry-requires : tie.Need-entry-requires
 entry-requires c κs = let a = c .before .args in omega (arith, place-below (a .size) (a .r) (a .b) (a .a) (omega arith) (omega arith))
 
-rem-result : tie.Need-rem-result
-rem-result c = search needs
-
 mul-result : tie.Need-mul-result
 mul-result c =
     let a = c .before .before .args in
     let h = c .before .before .pre in
     let z = entry-is (a .list .now) (a .n) (a .size) (a .r) (a .b) (a .a) _ (h .0) (h .1) (h .2) (h .5) (c .entry .ensures .0) in
     omega arith
-
-div-result : tie.Need-div-result
-div-result c = search needs
 
 add-result : tie.Need-add-result
 add-result c =
@@ -61,12 +55,4 @@ returns c =
 pub sent-spec : {M : Type 1} → statement M
 sent-spec =
     tie.close
-    (tie.spec
-    mul-entry
-    add-entry
-    entry-requires
-    rem-result
-    mul-result
-    div-result
-    add-result
-    returns)
+    (tie.spec mul-entry add-entry entry-requires (λ c. search needs) mul-result (λ c. search needs) add-result returns)

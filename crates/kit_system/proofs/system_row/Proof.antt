@@ -106,24 +106,5 @@ returns c =
 pub system-row-spec : {M : Type 1} → statement M
 system-row-spec =
     tie.close
-    (tie.spec
-    Inv-loop
-    μ-loop
-    clear-requires
-    loop-holds
-    rem-digit-at
-    digit-at-requires
-    div-add-bit
-    mul-add-bit
-    add-add-bit
-    add-bit-requires
-    div-digit-at
-    digit-at-requires-2
-    rem-sent
-    sent-requires
-    add-bit-requires-2
-    add-b
-    loop-less
-    loop-again
-    same-length
-    returns)
+    (tie.spec Inv-loop μ-loop clear-requires loop-holds rem-digit-at digit-at-requires div-add-bit mul-add-bit add-add-bit add-bit-requires
+    div-digit-at digit-at-requires-2 rem-sent sent-requires add-bit-requires-2 add-b loop-less loop-again same-length returns)

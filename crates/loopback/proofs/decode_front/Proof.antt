@@ -8,23 +8,8 @@ use borrow.Author.Needs.{needs}
 use Rattle.loopback.proofs.decode_front.Statement.{statement}
 use Rattle.loopback.proofs.decode_front.Tie as tie
 
-slice-relend-prefix-decode : tie.Need-slice-relend-prefix-decode
-slice-relend-prefix-decode c = search needs
-
 slice-aggregate-decode : tie.Need-slice-aggregate-decode
 slice-aggregate-decode c = sym (length-take-le (c .before .before .before .before .before .before .before .before .args .n) (c .before .before .before .before .before .before .before .before .args .work .now) (c .before .before .before .before .before .before .before .before .pre))
-
-decode-requires : tie.Need-decode-requires
-decode-requires c κs = search needs
-
-same-length : tie.Need-same-length
-same-length c = search needs
-
-same-length-2 : tie.Need-same-length-2
-same-length-2 c = search needs
-
-same-length-3 : tie.Need-same-length-3
-same-length-3 c = search needs
 
 returns : tie.Need-returns
 returns c =
@@ -34,11 +19,4 @@ returns c =
 pub decode-front-spec : {M : Type 1} → statement M
 decode-front-spec =
     tie.close
-    (tie.spec
-    slice-relend-prefix-decode
-    slice-aggregate-decode
-    decode-requires
-    same-length
-    same-length-2
-    same-length-3
-    returns)
+    (tie.spec (λ c. search needs) slice-aggregate-decode (λ c κs. search needs) (λ c. search needs) (λ c. search needs) (λ c. search needs) returns)

@@ -14,18 +14,6 @@ use borrow.Author.Needs.{needs}
 use Rattle.loopback.proofs.loopback.Statement.{statement}
 use Rattle.loopback.proofs.loopback.Tie as tie
 
-check-numbers-requires : tie.Need-check-numbers-requires
-check-numbers-requires c κs = search needs
-
-enum-told : tie.Need-enum-told
-enum-told c = search needs
-
-enum-told-2 : tie.Need-enum-told-2
-enum-told-2 c = search needs
-
-refused-frame-requires : tie.Need-refused-frame-requires
-refused-frame-requires c κs = search needs
-
 returns : tie.Need-returns
 returns c =
     let a = c .before .before .before .before .before .before .before .before .before .before .before .before .args in
@@ -33,27 +21,6 @@ returns c =
     ∙ loopback-numbers (a .m) (a .t) (a .size) (a .blocks) (a .rounds) (a .own .now) (a .parity .now) (a .inverse .now) (a .info-errors .now) (a .red-errors .now)
     (a .info .now) (a .red .now) (length (a .work .now)) _
     (c .before .before .before .check-numbers .ensures) (c .before .enum-told2 .given .1)
-
-encode-requires : tie.Need-encode-requires
-encode-requires c κs = search needs
-
-enum-told-3 : tie.Need-enum-told-3
-enum-told-3 c = search needs
-
-enum-told-4 : tie.Need-enum-told-4
-enum-told-4 c = search needs
-
-refused-frame-requires-2 : tie.Need-refused-frame-requires-2
-refused-frame-requires-2 c κs = search needs
-
-same-length : tie.Need-same-length
-same-length c = search needs
-
-same-length-2 : tie.Need-same-length-2
-same-length-2 c = search needs
-
-same-length-3 : tie.Need-same-length-3
-same-length-3 c = search needs
 
 returns-2 : tie.Need-returns-2
 returns-2 c =
@@ -64,12 +31,6 @@ returns-2 c =
     ∙ loopback-encoder (a .m) (a .t) (a .size) (a .blocks) (a .rounds) (a .own .now) (a .parity .now) (a .inverse .now) (a .info-errors .now) (a .red-errors .now)
     (a .info .now) (a .red .now) (length (a .work .now)) ok _ _
     (encoded .encode .ensures .0) (encoded .encode .ensures .1) (c .before .enum-told4 .given .1)
-
-turn-bits-requires : tie.Need-turn-bits-requires
-turn-bits-requires c κs = search needs
-
-turn-bits-requires-2 : tie.Need-turn-bits-requires-2
-turn-bits-requires-2 c κs = search needs
 
 decode-front-requires : tie.Need-decode-front-requires
 decode-front-requires c κs =
@@ -84,15 +45,6 @@ decode-front-requires c κs =
       working-fits (a .m) (a .t) (a .size) (a .blocks) (a .rounds) (a .own .now) (a .parity .now) (a .inverse .now) (a .info-errors .now) (a .red-errors .now)
           (a .info .now) (a .red .now) (length (a .work .now)) ok v,
     )
-
-same-length-4 : tie.Need-same-length-4
-same-length-4 c = search needs
-
-same-length-5 : tie.Need-same-length-5
-same-length-5 c = search needs
-
-same-length-6 : tie.Need-same-length-6
-same-length-6 c = search needs
 
 returns-3 : tie.Need-returns-3
 unfolding wordWork
@@ -118,24 +70,6 @@ returns-3 c =
 pub loopback-spec : {M : Type 1} → statement M
 loopback-spec =
     tie.close
-    (tie.spec
-    check-numbers-requires
-    enum-told
-    enum-told-2
-    refused-frame-requires
-    returns
-    encode-requires
-    enum-told-3
-    enum-told-4
-    refused-frame-requires-2
-    same-length
-    same-length-2
-    same-length-3
-    returns-2
-    turn-bits-requires
-    turn-bits-requires-2
-    decode-front-requires
-    same-length-4
-    same-length-5
-    same-length-6
-    returns-3)
+    (tie.spec (λ c κs. search needs) (λ c. search needs) (λ c. search needs) (λ c κs. search needs) returns (λ c κs. search needs) (λ c. search needs)
+    (λ c. search needs) (λ c κs. search needs) (λ c. search needs) (λ c. search needs) (λ c. search needs) returns-2 (λ c κs. search needs)
+    (λ c κs. search needs) decode-front-requires (λ c. search needs) (λ c. search needs) (λ c. search needs) returns-3)

@@ -62,16 +62,5 @@ returns c = let l = c .before .loop in l .inv .3 ∙ filled-all _ _ _ _ (omega a
 pub turn-bits-spec : {M : Type 1} → statement M
 turn-bits-spec =
     tie.close
-    (tie.spec
-    Inv-loop
-    μ-loop
-    loop-holds
-    error-at-requires
-    slice-read-turned-bit
-    turned-bit-requires
-    slice-write-bits
-    add-k
-    loop-less
-    loop-again
-    same-length
-    returns)
+    (tie.spec Inv-loop μ-loop loop-holds error-at-requires slice-read-turned-bit turned-bit-requires slice-write-bits add-k loop-less loop-again
+    same-length returns)

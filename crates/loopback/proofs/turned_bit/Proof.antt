@@ -23,4 +23,6 @@ returns-3 c =
     let h : _≡_ {A = ℕ} 0 (1 - a .b) = omega arith in h ∙ sym (ap (λ (z : Bool). cond z (a .b) (1 - a .b)) (ne-eqb (a .e) 0 (c .before .if1 .left)))
 
 pub turned-bit-spec : {M : Type 1} → statement M
-turned-bit-spec = tie.close (tie.spec returns returns-2 returns-3)
+turned-bit-spec =
+    tie.close
+    (tie.spec returns returns-2 returns-3)

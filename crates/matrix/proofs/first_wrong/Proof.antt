@@ -75,14 +75,4 @@ returns-2 c =
 pub first-wrong-spec : {M : Type 1} → statement M
 first-wrong-spec =
     tie.close
-    (tie.spec
-    Inv-loop
-    μ-loop
-    loop-holds
-    shared-slice-read-odd
-    identity-entry-requires
-    returns
-    add-x
-    loop-less
-    loop-again
-    returns-2)
+    (tie.spec Inv-loop μ-loop loop-holds shared-slice-read-odd identity-entry-requires returns add-x loop-less loop-again returns-2)

@@ -11,4 +11,6 @@ returns-2 : tie.Need-returns-2
 returns-2 c = rw (ne-eqb (c .before .args .i) (c .before .args .j) (c .if1 .left))
 
 pub identity-entry-spec : {M : Type 1} → statement M
-identity-entry-spec = tie.close (tie.spec returns returns-2)
+identity-entry-spec =
+    tie.close
+    (tie.spec returns returns-2)

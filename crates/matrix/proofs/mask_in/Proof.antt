@@ -65,15 +65,4 @@ returns c =
 pub mask-in-spec : {M : Type 1} → statement M
 mask-in-spec =
     tie.close
-    (tie.spec
-    Inv-loop
-    μ-loop
-    loop-holds
-    slice-read-acc
-    shared-slice-read-acc
-    slice-write-acc
-    add-x
-    loop-less
-    loop-again
-    same-length
-    returns)
+    (tie.spec Inv-loop μ-loop loop-holds slice-read-acc shared-slice-read-acc slice-write-acc add-x loop-less loop-again same-length returns)

@@ -90,20 +90,5 @@ returns c =
 pub mask-rows-spec : {M : Type 1} → statement M
 mask-rows-spec =
     tie.close
-    (tie.spec
-    Inv-loop
-    μ-loop
-    clear-requires
-    loop-holds
-    shared-slice-read-v
-    mul-a
-    add-e
-    sub-mask-in
-    part-mask-in-start
-    part-mask-in-end
-    mask-in-requires
-    add-b
-    loop-less
-    loop-again
-    same-length
-    returns)
+    (tie.spec Inv-loop μ-loop clear-requires loop-holds shared-slice-read-v mul-a add-e sub-mask-in part-mask-in-start part-mask-in-end
+    mask-in-requires add-b loop-less loop-again same-length returns)

@@ -55,14 +55,4 @@ returns c =
 pub shared-odd-spec : {M : Type 1} → statement M
 shared-odd-spec =
     tie.close
-    (tie.spec
-    Inv-loop
-    μ-loop
-    loop-holds
-    shared-slice-read-acc
-    shared-slice-read-acc-2
-    add-i
-    loop-less
-    loop-again
-    cast-result
-    returns)
+    (tie.spec Inv-loop μ-loop loop-holds shared-slice-read-acc shared-slice-read-acc-2 add-i loop-less loop-again cast-result returns)

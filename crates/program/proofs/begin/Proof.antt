@@ -11,24 +11,6 @@ returns c = long-kit-stops _ _ _ (c .if1 .taken)
 returns-2 : tie.Need-returns-2
 returns-2 c = long-text-stops _ _ _ (c .before .if1 .left) (c .if2 .taken)
 
-scan-kit-requires : tie.Need-scan-kit-requires
-scan-kit-requires c κs = search needs
-
-enum-known-scan : tie.Need-enum-known-scan
-enum-known-scan c = search needs
-
-begin-text-requires : tie.Need-begin-text-requires
-begin-text-requires c κs = search needs
-
-enum-known-scan-2 : tie.Need-enum-known-scan-2
-enum-known-scan-2 c = search needs
-
-of-refusal-requires : tie.Need-of-refusal-requires
-of-refusal-requires c κs = search needs
-
-enum-known-scan-3 : tie.Need-enum-known-scan-3
-enum-known-scan-3 c = search needs
-
 returns-3 : tie.Need-returns-3
 returns-3 c = c .begin-text .ensures _ (kit-starts _ _ (c .before .before .before .before .before .before .if1 .left) (c .before .before .before .before .before .if2 .left) _ (c .before .before .before .before .scan-kit .ensures .0) _ (c .before .before .scan .given .1) (c .before .before .before .before .scan-kit .ensures .1))
 
@@ -41,15 +23,5 @@ returns-5 c = broken-kit-stops _ _ (c .before .before .before .before .before .i
 pub begin-spec : {M : Type 1} → statement M
 begin-spec =
     tie.close
-    (tie.spec
-    returns
-    returns-2
-    scan-kit-requires
-    enum-known-scan
-    begin-text-requires
-    enum-known-scan-2
-    of-refusal-requires
-    enum-known-scan-3
-    returns-3
-    returns-4
-    returns-5)
+    (tie.spec returns returns-2 (λ c κs. search needs) (λ c. search needs) (λ c κs. search needs) (λ c. search needs) (λ c κs. search needs)
+    (λ c. search needs) returns-3 returns-4 returns-5)

@@ -5,21 +5,6 @@ use borrow.Author.Needs.{needs}
 use Rattle.program.proofs.begin_text.Statement.{statement}
 use Rattle.program.proofs.begin_text.Tie as tie
 
-scan-text-requires : tie.Need-scan-text-requires
-scan-text-requires c κs = search needs
-
-enum-known-scan : tie.Need-enum-known-scan
-enum-known-scan c = search needs
-
-enum-known-scan-2 : tie.Need-enum-known-scan-2
-enum-known-scan-2 c = search needs
-
-of-refusal-requires : tie.Need-of-refusal-requires
-of-refusal-requires c κs = search needs
-
-enum-known-scan-3 : tie.Need-enum-known-scan-3
-enum-known-scan-3 c = search needs
-
 returns : tie.Need-returns
 returns c = λ kit S. text-goes _ _ kit _ S _ (c .before .before .before .scan-text .ensures .0) _ (c .before .scan .given .1) (c .before .before .before .scan-text .ensures .1)
 
@@ -32,12 +17,4 @@ returns-3 c = λ kit S. broken-text-stops _ _ kit _ S _ (c .before .before .befo
 pub begin-text-spec : {M : Type 1} → statement M
 begin-text-spec =
     tie.close
-    (tie.spec
-    scan-text-requires
-    enum-known-scan
-    enum-known-scan-2
-    of-refusal-requires
-    enum-known-scan-3
-    returns
-    returns-2
-    returns-3)
+    (tie.spec (λ c κs. search needs) (λ c. search needs) (λ c. search needs) (λ c κs. search needs) (λ c. search needs) returns returns-2 returns-3)

@@ -8,4 +8,6 @@ returns : tie.Need-returns
 returns c = room-for _ 362 0 (c .pre)
 
 pub list-bytes-spec : {M : Type 1} → statement M
-list-bytes-spec = tie.close (tie.spec returns)
+list-bytes-spec =
+    tie.close
+    (tie.spec returns)

@@ -8,4 +8,6 @@ returns : tie.Need-returns
 returns c = room-for _ 4163 0 (c .pre)
 
 pub matrix-bytes-spec : {M : Type 1} → statement M
-matrix-bytes-spec = tie.close (tie.spec returns)
+matrix-bytes-spec =
+    tie.close
+    (tie.spec returns)

@@ -5,14 +5,10 @@ use borrow.Author.Needs.{needs}
 use Rattle.program.proofs.put_refusal.Statement.{statement}
 use Rattle.program.proofs.put_refusal.Tie as tie
 
-refusal-lines-requires : tie.Need-refusal-lines-requires
-refusal-lines-requires c κs = search needs
-
-same-length : tie.Need-same-length
-same-length c = search needs
-
 returns : tie.Need-returns
 returns c = printed-refusal _ _ _ _ _ (c .before .before .before .before .before .pre) (c .before .before .refusal-lines .ensures .0) (c .before .before .refusal-lines .ensures .1)
 
 pub put-refusal-spec : {M : Type 1} → statement M
-put-refusal-spec = tie.close (tie.spec refusal-lines-requires same-length returns)
+put-refusal-spec =
+    tie.close
+    (tie.spec (λ c κs. search needs) (λ c. search needs) returns)

@@ -8,4 +8,6 @@ returns : tie.Need-returns
 returns c = room-for _ 32768 0 (c .pre)
 
 pub text-bits-spec : {M : Type 1} → statement M
-text-bits-spec = tie.close (tie.spec returns)
+text-bits-spec =
+    tie.close
+    (tie.spec returns)

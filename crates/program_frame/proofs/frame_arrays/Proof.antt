@@ -66,35 +66,10 @@ slice-aggregate-frame-call-6 c = c .before .before .before .before .before .befo
 frame-call-requires : tie.Need-frame-call-requires
 frame-call-requires c κs = let z = c .before .before .before .before .before .before .before .before .before .before .before .before .before .sizes-of .ensures in (ready _ _ _ _ _ (c .before .before .before .before .before .before .before .before .before .before .before .before .before .before .before .before .before .pre .0) _ z _ _ _ _ _ _ _ (c .before .before .before .before .before .before .before .before .before .before .before .before .list-bytes .ensures .1) (c .before .before .before .before .before .before .before .before .before .before .before .list-bytes2 .ensures .1) (c .before .before .before .before .before .before .before .before .before .before .matrix-bytes .ensures .1) (c .before .before .before .before .before .before .before .before .text-bits .ensures .1) (c .before .before .before .before .before .before .before .group-bits .ensures .1) (sym (c .before .before .before .before .before .before .before .before .before .matrix-bytes2 .ensures .1) ∙ z .inverse-is), c .before .before .before .before .before .before .before .before .before .before .before .before .before .before .before .before .before .pre .1)
 
-same-length : tie.Need-same-length
-same-length c = search needs
-
-returns : tie.Need-returns
-returns c = search needs
-
 pub frame-arrays-spec : {M : Type 1} → statement M
 frame-arrays-spec =
     tie.close
-    (tie.spec
-    sizes-of-requires
-    list-bytes-requires
-    list-bytes-requires-2
-    matrix-bytes-requires
-    matrix-bytes-requires-2
-    text-bits-requires
-    group-bits-requires
-    array-borrow-prefix-own
-    slice-aggregate-frame-call
-    array-borrow-prefix-parity
-    slice-aggregate-frame-call-2
-    array-borrow-prefix-inverse
-    slice-aggregate-frame-call-3
-    array-borrow-prefix-info
-    slice-aggregate-frame-call-4
-    array-borrow-prefix-red
-    slice-aggregate-frame-call-5
-    array-borrow-prefix-work
-    slice-aggregate-frame-call-6
-    frame-call-requires
-    same-length
-    returns)
+    (tie.spec sizes-of-requires list-bytes-requires list-bytes-requires-2 matrix-bytes-requires matrix-bytes-requires-2 text-bits-requires
+    group-bits-requires array-borrow-prefix-own slice-aggregate-frame-call array-borrow-prefix-parity slice-aggregate-frame-call-2
+    array-borrow-prefix-inverse slice-aggregate-frame-call-3 array-borrow-prefix-info slice-aggregate-frame-call-4 array-borrow-prefix-red
+    slice-aggregate-frame-call-5 array-borrow-prefix-work slice-aggregate-frame-call-6 frame-call-requires (λ c. search needs) (λ c. search needs))

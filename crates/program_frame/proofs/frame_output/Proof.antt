@@ -8,14 +8,10 @@ use Rattle.program_frame.proofs.frame_output.Tie as tie
 returns : tie.Need-returns
 returns c = output-none _ _ (c .if1 .taken)
 
-frame-inputs-requires : tie.Need-frame-inputs-requires
-frame-inputs-requires c κs = search needs
-
-same-length : tie.Need-same-length
-same-length c = search needs
-
 returns-2 : tie.Need-returns-2
 returns-2 c = output-printed _ _ _ _ (c .before .before .before .before .if1 .left) (c .before .before .frame-inputs .ensures)
 
 pub frame-output-spec : {M : Type 1} → statement M
-frame-output-spec = tie.close (tie.spec returns frame-inputs-requires same-length returns-2)
+frame-output-spec =
+    tie.close
+    (tie.spec returns (λ c κs. search needs) (λ c. search needs) returns-2)

@@ -8,4 +8,6 @@ returns : tie.Need-returns
 returns c = room-for _ 245941 0 (c .pre)
 
 pub group-bits-spec : {M : Type 1} → statement M
-group-bits-spec = tie.close (tie.spec returns)
+group-bits-spec =
+    tie.close
+    (tie.spec returns)

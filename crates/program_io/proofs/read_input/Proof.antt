@@ -60,20 +60,5 @@ returns-2 c = (omega arith, sym (length-take-le _ _ (omega arith)))
 pub read-input-spec : {M : Type 1} → statement M
 read-input-spec =
     tie.close
-    (tie.spec
-    Inv-loop
-    μ-loop
-    loop-holds
-    sub-rest
-    part-rest-start
-    part-rest-end
-    read-once-requires
-    count-requires
-    ended-requires
-    same-length
-    returns
-    add-count
-    loop-less
-    loop-again
-    same-length-2
-    returns-2)
+    (tie.spec Inv-loop μ-loop loop-holds sub-rest part-rest-start part-rest-end read-once-requires count-requires ended-requires same-length returns
+    add-count loop-less loop-again same-length-2 returns-2)

@@ -49,17 +49,5 @@ returns-2 c = tt
 pub read-once-spec : {M : Type 1} → statement M
 read-once-spec =
     tie.close
-    (tie.spec
-    Inv-loop
-    μ-loop
-    loop-holds
-    read-requires
-    interrupted-requires
-    same-length
-    returns
-    add-counter
-    loop-less
-    loop-again
-    read-requires-2
-    same-length-2
-    returns-2)
+    (tie.spec Inv-loop μ-loop loop-holds read-requires interrupted-requires same-length returns add-counter loop-less loop-again read-requires-2
+    same-length-2 returns-2)

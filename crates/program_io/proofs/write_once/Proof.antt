@@ -41,15 +41,4 @@ returns-2 c = tt
 pub write-once-spec : {M : Type 1} → statement M
 write-once-spec =
     tie.close
-    (tie.spec
-    Inv-loop
-    μ-loop
-    loop-holds
-    write-requires
-    interrupted-requires
-    returns
-    add-counter
-    loop-less
-    loop-again
-    write-requires-2
-    returns-2)
+    (tie.spec Inv-loop μ-loop loop-holds write-requires interrupted-requires returns add-counter loop-less loop-again write-requires-2 returns-2)

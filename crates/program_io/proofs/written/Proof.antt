@@ -48,17 +48,5 @@ returns-2 c = tt
 pub written-spec : {M : Type 1} → statement M
 written-spec =
     tie.close
-    (tie.spec
-    Inv-loop
-    μ-loop
-    loop-holds
-    sub-rest
-    part-rest-start
-    part-rest-end
-    write-once-requires
-    count-requires
-    returns
-    add-done
-    loop-less
-    loop-again
-    returns-2)
+    (tie.spec Inv-loop μ-loop loop-holds sub-rest part-rest-start part-rest-end write-once-requires count-requires returns add-done loop-less
+    loop-again returns-2)

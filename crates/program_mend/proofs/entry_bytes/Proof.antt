@@ -8,4 +8,6 @@ returns : tie.Need-returns
 returns c = room-for _ 181 0 (c .pre)
 
 pub entry-bytes-spec : {M : Type 1} → statement M
-entry-bytes-spec = tie.close (tie.spec returns)
+entry-bytes-spec =
+    tie.close
+    (tie.spec returns)

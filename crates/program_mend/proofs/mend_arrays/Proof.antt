@@ -67,35 +67,10 @@ slice-aggregate-mend-call-6 c = c .before .before .before .before .before .befor
 mend-call-requires : tie.Need-mend-call-requires
 mend-call-requires c κs = let z = c .before .before .before .before .before .before .before .before .before .before .before .before .before .sizes-of .ensures in (ready _ _ _ _ _ (c .before .before .before .before .before .before .before .before .before .before .before .before .before .before .before .before .before .pre .0) _ z _ _ _ _ _ _ _ (c .before .before .before .before .before .before .before .before .before .before .before .before .list-bytes .ensures .1) (c .before .before .before .before .before .before .before .before .before .before .before .list-bytes2 .ensures .1) (c .before .before .before .before .before .before .before .before .before .before .matrix-bytes .ensures .1) (c .before .before .before .before .before .before .before .before .text-bits .ensures .1) (c .before .before .before .before .before .before .before .text-bits2 .ensures .1) (sym (c .before .before .before .before .before .before .before .before .before .entry-bytes .ensures .1) ∙ z .order-is), c .before .before .before .before .before .before .before .before .before .before .before .before .before .before .before .before .before .pre .1)
 
-same-length : tie.Need-same-length
-same-length c = search needs
-
-returns : tie.Need-returns
-returns c = search needs
-
 pub mend-arrays-spec : {M : Type 1} → statement M
 mend-arrays-spec =
     tie.close
-    (tie.spec
-    sizes-of-requires
-    list-bytes-requires
-    list-bytes-requires-2
-    matrix-bytes-requires
-    entry-bytes-requires
-    text-bits-requires
-    text-bits-requires-2
-    array-borrow-prefix-own
-    slice-aggregate-mend-call
-    array-borrow-prefix-parity
-    slice-aggregate-mend-call-2
-    array-borrow-prefix-inverse
-    slice-aggregate-mend-call-3
-    array-borrow-prefix-info
-    slice-aggregate-mend-call-4
-    array-borrow-prefix-red
-    slice-aggregate-mend-call-5
-    array-borrow-prefix-work
-    slice-aggregate-mend-call-6
-    mend-call-requires
-    same-length
-    returns)
+    (tie.spec sizes-of-requires list-bytes-requires list-bytes-requires-2 matrix-bytes-requires entry-bytes-requires text-bits-requires
+    text-bits-requires-2 array-borrow-prefix-own slice-aggregate-mend-call array-borrow-prefix-parity slice-aggregate-mend-call-2
+    array-borrow-prefix-inverse slice-aggregate-mend-call-3 array-borrow-prefix-info slice-aggregate-mend-call-4 array-borrow-prefix-red
+    slice-aggregate-mend-call-5 array-borrow-prefix-work slice-aggregate-mend-call-6 mend-call-requires (λ c. search needs) (λ c. search needs))

@@ -8,14 +8,10 @@ use Rattle.program_mend.proofs.mend_output.Tie as tie
 returns : tie.Need-returns
 returns c = output-none _ _ (c .if1 .taken)
 
-mend-inputs-requires : tie.Need-mend-inputs-requires
-mend-inputs-requires c κs = search needs
-
-same-length : tie.Need-same-length
-same-length c = search needs
-
 returns-2 : tie.Need-returns-2
 returns-2 c = output-printed _ _ _ _ (c .before .before .before .before .if1 .left) (c .before .before .mend-inputs .ensures)
 
 pub mend-output-spec : {M : Type 1} → statement M
-mend-output-spec = tie.close (tie.spec returns mend-inputs-requires same-length returns-2)
+mend-output-spec =
+    tie.close
+    (tie.spec returns (λ c κs. search needs) (λ c. search needs) returns-2)

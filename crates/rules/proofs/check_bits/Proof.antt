@@ -12,20 +12,13 @@ use borrow.Author.Needs.{needs}
 use Rattle.rules.proofs.check_bits.Statement.{statement}
 use Rattle.rules.proofs.check_bits.Tie as tie
 
-greatest-requires : tie.Need-greatest-requires
-greatest-requires c κs = search needs
-
 returns : tie.Need-returns
 unfolding bitRule verdictOf
 returns c =
     let a = c .before .before .before .args in
     sym (refuseFirst-accepted 10 (a .base) (length (a .bytes .now)) (λ k. ltb 1 (getD (a .bytes .now) k 0)) (λ k h. le-ltb 1 (getD (a .bytes .now) k 0) (le-trans (c .before .greatest .ensures k h) (c .if1 .taken))))
 
-search-bits-requires : tie.Need-search-bits-requires
-search-bits-requires c κs = search needs
-
-returns-2 : tie.Need-returns-2
-returns-2 c = search needs
-
 pub check-bits-spec : {M : Type 1} → statement M
-check-bits-spec = tie.close (tie.spec greatest-requires returns search-bits-requires returns-2)
+check-bits-spec =
+    tie.close
+    (tie.spec (λ c κs. search needs) returns (λ c κs. search needs) (λ c. search needs))

@@ -104,21 +104,5 @@ returns-3 c =
 pub check-list-spec : {M : Type 1} → statement M
 check-list-spec =
     tie.close
-    (tie.spec
-    Inv-loop
-    μ-loop
-    clear-requires
-    loop-holds
-    entry-requires
-    add-place
-    same-length
-    returns
-    slice-read-if2
-    same-length-2
-    returns-2
-    slice-write-marks
-    add-p
-    loop-less
-    loop-again
-    same-length-3
-    returns-3)
+    (tie.spec Inv-loop μ-loop clear-requires loop-holds entry-requires add-place same-length returns slice-read-if2 same-length-2 returns-2
+    slice-write-marks add-p loop-less loop-again same-length-3 returns-3)

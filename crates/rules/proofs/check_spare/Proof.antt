@@ -95,21 +95,5 @@ returns-2 c =
 pub check-spare-spec : {M : Type 1} → statement M
 check-spare-spec =
     tie.close
-    (tie.spec
-    Inv-loop
-    μ-loop
-    add-width
-    add-used
-    add-used-2
-    shl-limit
-    loop-holds
-    mul-wide
-    sub-wide
-    add-wide
-    shared-slice-read-wide
-    wide-requires
-    returns
-    add-i
-    loop-less
-    loop-again
-    returns-2)
+    (tie.spec Inv-loop μ-loop add-width add-used add-used-2 shl-limit loop-holds mul-wide sub-wide add-wide shared-slice-read-wide wide-requires
+    returns add-i loop-less loop-again returns-2)

@@ -60,14 +60,4 @@ returns-2 c =
 pub search-bits-spec : {M : Type 1} → statement M
 search-bits-spec =
     tie.close
-    (tie.spec
-    Inv-loop
-    μ-loop
-    loop-holds
-    shared-slice-read-if1
-    add-place
-    returns
-    add-i
-    loop-less
-    loop-again
-    returns-2)
+    (tie.spec Inv-loop μ-loop loop-holds shared-slice-read-if1 add-place returns add-i loop-less loop-again returns-2)

@@ -8,15 +8,6 @@ use Rattle.rules_verdict.specs.Number.{number, placeOf, judgedOf}
 use Rattle.rules_verdict.proofs.of_check.Statement.{statement}
 use Rattle.rules_verdict.proofs.of_check.Tie as tie
 
-enum-told : tie.Need-enum-told
-enum-told c = search needs
-
-enum-known-c : tie.Need-enum-known-c
-enum-known-c c = search needs
-
-of-refusal-requires : tie.Need-of-refusal-requires
-of-refusal-requires c κs = tt
-
 returns : tie.Need-returns
 unfolding number placeOf verdictOf
 returns c = sym (ap (λ (x : Check). judgedOf (verdictOf x)) (c .enum-told .given .1))
@@ -26,4 +17,6 @@ unfolding verdictOf
 returns-2 c = c .of-refusal .ensures ∙ sym (ap (λ (x : Check). judgedOf (verdictOf x)) (c .before .before .c .given .1))
 
 pub of-check-spec : {M : Type 1} → statement M
-of-check-spec = tie.close (tie.spec enum-told enum-known-c of-refusal-requires returns returns-2)
+of-check-spec =
+    tie.close
+    (tie.spec (λ c. search needs) (λ c. search needs) (λ c κs. tt) returns returns-2)

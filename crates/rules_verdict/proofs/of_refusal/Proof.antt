@@ -8,36 +8,6 @@ use Rattle.rules_verdict.specs.Number.{number, placeOf, judgedOf}
 use Rattle.rules_verdict.proofs.of_refusal.Statement.{statement}
 use Rattle.rules_verdict.proofs.of_refusal.Tie as tie
 
-enum-known-r : tie.Need-enum-known-r
-enum-known-r c = search needs
-
-enum-known-r-2 : tie.Need-enum-known-r-2
-enum-known-r-2 c = search needs
-
-enum-known-r-3 : tie.Need-enum-known-r-3
-enum-known-r-3 c = search needs
-
-enum-known-r-4 : tie.Need-enum-known-r-4
-enum-known-r-4 c = search needs
-
-enum-known-r-5 : tie.Need-enum-known-r-5
-enum-known-r-5 c = search needs
-
-enum-known-r-6 : tie.Need-enum-known-r-6
-enum-known-r-6 c = search needs
-
-enum-known-r-7 : tie.Need-enum-known-r-7
-enum-known-r-7 c = search needs
-
-enum-known-r-8 : tie.Need-enum-known-r-8
-enum-known-r-8 c = search needs
-
-enum-known-r-9 : tie.Need-enum-known-r-9
-enum-known-r-9 c = search needs
-
-enum-known-r-10 : tie.Need-enum-known-r-10
-enum-known-r-10 c = search needs
-
 returns : tie.Need-returns
 unfolding number placeOf refusalVerdict
 returns c = sym (ap (λ (r : Refusal). judgedOf (refusalVerdict r)) (c .before .r .given .1))
@@ -81,24 +51,6 @@ returns-10 c = sym (ap (λ (r : Refusal). judgedOf (refusalVerdict r)) (c .befor
 pub of-refusal-spec : {M : Type 1} → statement M
 of-refusal-spec =
     tie.close
-    (tie.spec
-    enum-known-r
-    enum-known-r-2
-    enum-known-r-3
-    enum-known-r-4
-    enum-known-r-5
-    enum-known-r-6
-    enum-known-r-7
-    enum-known-r-8
-    enum-known-r-9
-    enum-known-r-10
-    returns
-    returns-2
-    returns-3
-    returns-4
-    returns-5
-    returns-6
-    returns-7
-    returns-8
-    returns-9
-    returns-10)
+    (tie.spec (λ c. search needs) (λ c. search needs) (λ c. search needs) (λ c. search needs) (λ c. search needs) (λ c. search needs)
+    (λ c. search needs) (λ c. search needs) (λ c. search needs) (λ c. search needs) returns returns-2 returns-3 returns-4 returns-5 returns-6
+    returns-7 returns-8 returns-9 returns-10)

@@ -8,27 +8,12 @@ use borrow.Author.Needs.{needs}
 use Rattle.show.proofs.check_frame.Statement.{statement}
 use Rattle.show.proofs.check_frame.Tie as tie
 
-check-count-requires : tie.Need-check-count-requires
-check-count-requires c κs = search needs
-
-enum-told : tie.Need-enum-told
-enum-told c = search needs
-
-enum-told-2 : tie.Need-enum-told-2
-enum-told-2 c = search needs
-
 returns : tie.Need-returns
 unfolding frameRules
 returns c = refused-then _ (c .before .before .check-count .ensures) (c .enum-told2 .given .1)
 
 check-part-requires : tie.Need-check-part-requires
 check-part-requires c κs = count-limits _ (sym (c .before .before .check-count .ensures) ∙ check-passed (c .enum-told .given .1)) .1
-
-enum-told-3 : tie.Need-enum-told-3
-enum-told-3 c = search needs
-
-enum-told-4 : tie.Need-enum-told-4
-enum-told-4 c = search needs
 
 returns-2 : tie.Need-returns-2
 unfolding frameRules
@@ -50,14 +35,5 @@ returns-3 c =
 pub check-frame-spec : {M : Type 1} → statement M
 check-frame-spec =
     tie.close
-    (tie.spec
-    check-count-requires
-    enum-told
-    enum-told-2
-    returns
-    check-part-requires
-    enum-told-3
-    enum-told-4
-    returns-2
-    check-frame-lengths-requires
-    returns-3)
+    (tie.spec (λ c κs. search needs) (λ c. search needs) (λ c. search needs) returns check-part-requires (λ c. search needs) (λ c. search needs)
+    returns-2 check-frame-lengths-requires returns-3)

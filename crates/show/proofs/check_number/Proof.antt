@@ -22,4 +22,6 @@ unfolding verdictOf refusalVerdict
 returns-3 c = let a = c .before .before .args in rw (inRange 1 (a .most) (a .number) (omega arith) (omega arith))
 
 pub check-number-spec : {M : Type 1} → statement M
-check-number-spec = tie.close (tie.spec returns returns-2 returns-3)
+check-number-spec =
+    tie.close
+    (tie.spec returns returns-2 returns-3)

@@ -9,21 +9,6 @@ use borrow.Author.Needs.{needs}
 use Rattle.show.proofs.check_part.Statement.{statement}
 use Rattle.show.proofs.check_part.Tie as tie
 
-group-count-requires : tie.Need-group-count-requires
-group-count-requires c κs = search needs
-
-enum-known-part : tie.Need-enum-known-part
-enum-known-part c = search needs
-
-check-number-requires : tie.Need-check-number-requires
-check-number-requires c κs = search needs
-
-enum-known-part-2 : tie.Need-enum-known-part-2
-enum-known-part-2 c = search needs
-
-check-number-requires-2 : tie.Need-check-number-requires-2
-check-number-requires-2 c κs = search needs
-
 returns : tie.Need-returns
 unfolding partOf
 returns c =
@@ -42,11 +27,4 @@ returns-2 c =
 pub check-part-spec : {M : Type 1} → statement M
 check-part-spec =
     tie.close
-    (tie.spec
-    group-count-requires
-    enum-known-part
-    check-number-requires
-    enum-known-part-2
-    check-number-requires-2
-    returns
-    returns-2)
+    (tie.spec (λ c κs. search needs) (λ c. search needs) (λ c κs. search needs) (λ c. search needs) (λ c κs. search needs) returns returns-2)

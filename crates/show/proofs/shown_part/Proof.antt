@@ -7,35 +7,17 @@ use borrow.Author.Needs.{needs}
 use Rattle.show.proofs.shown_part.Statement.{statement}
 use Rattle.show.proofs.shown_part.Tie as tie
 
-area-requires : tie.Need-area-requires
-area-requires c κs = search needs
-
-order-requires : tie.Need-order-requires
-order-requires c κs = search needs
-
-mul-group-size : tie.Need-mul-group-size
-mul-group-size c = search needs
-
-enum-known-part : tie.Need-enum-known-part
-enum-known-part c = search needs
-
 stretch-of-requires : tie.Need-stretch-of-requires
 unfolding HasPart partOf
 stretch-of-requires c κs =
     rw (c .before .before .before .before .area .ensures .0)
     (rw (c .before .part .given .1) at (c .before .before .before .before .before .before .before .pre))
 
-enum-known-part-2 : tie.Need-enum-known-part-2
-enum-known-part-2 c = search needs
-
 stretch-of-requires-2 : tie.Need-stretch-of-requires-2
 unfolding HasPart partOf
 stretch-of-requires-2 c κs =
     rw (c .before .before .before .order .ensures .0)
     (rw (c .before .part2 .given .1) at (c .before .before .before .before .before .before .before .pre))
-
-pick-requires : tie.Need-pick-requires
-pick-requires c κs = search needs
 
 returns : tie.Need-returns
 unfolding partOf
@@ -48,14 +30,5 @@ returns-2 c = c .pick .ensures ∙ c .before .stretch-of2 .ensures ∙ rw (c .be
 pub shown-part-spec : {M : Type 1} → statement M
 shown-part-spec =
     tie.close
-    (tie.spec
-    area-requires
-    order-requires
-    mul-group-size
-    enum-known-part
-    stretch-of-requires
-    enum-known-part-2
-    stretch-of-requires-2
-    pick-requires
-    returns
-    returns-2)
+    (tie.spec (λ c κs. search needs) (λ c κs. search needs) (λ c. search needs) (λ c. search needs) stretch-of-requires (λ c. search needs)
+    stretch-of-requires-2 (λ c κs. search needs) returns returns-2)

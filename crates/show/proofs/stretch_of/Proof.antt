@@ -8,20 +8,11 @@ use borrow.Author.Needs.{needs}
 use Rattle.show.proofs.stretch_of.Statement.{statement}
 use Rattle.show.proofs.stretch_of.Tie as tie
 
-sub-before : tie.Need-sub-before
-sub-before c = search needs
-
 mul-at : tie.Need-mul-at
 mul-at c = omega (arith, stretch-end (c .args .number - 1) (c .args .number) (c .args .n) (omega arith))
 
 add-result : tie.Need-add-result
 add-result c = omega (arith, stretch-end (c .args .number - 1) (c .args .number) (c .args .n) (omega arith))
-
-sub-result : tie.Need-sub-result
-sub-result c = search needs
-
-part-result-start : tie.Need-part-result-start
-part-result-start c = search needs
 
 part-result-end : tie.Need-part-result-end
 part-result-end c = omega (arith, stretch-end (c .args .number - 1) (c .args .number) (c .args .n) (omega arith))
@@ -32,4 +23,4 @@ returns c = simp add-sub-cancel-left
 pub stretch-of-spec : {M : Type 1} → statement M
 stretch-of-spec =
     tie.close
-    (tie.spec sub-before mul-at add-result sub-result part-result-start part-result-end returns)
+    (tie.spec (λ c. search needs) mul-at add-result (λ c. search needs) (λ c. search needs) part-result-end returns)

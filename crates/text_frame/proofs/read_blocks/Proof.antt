@@ -9,21 +9,6 @@ use borrow.Author.Needs.{needs}
 use Rattle.text_frame.proofs.read_blocks.Statement.{statement}
 use Rattle.text_frame.proofs.read_blocks.Tie as tie
 
-area-requires : tie.Need-area-requires
-area-requires c κs = search needs
-
-judge-blocks-requires : tie.Need-judge-blocks-requires
-judge-blocks-requires c κs = search needs
-
-enum-known-found : tie.Need-enum-known-found
-enum-known-found c = search needs
-
-enum-told : tie.Need-enum-told
-enum-told c = search needs
-
-told-requires : tie.Need-told-requires
-told-requires c κs = search needs
-
 returns : tie.Need-returns
 returns c = blocks-refused _ _ _ _ (c .before .before .before .before .area .ensures .0) (c .before .before .before .judge-blocks .ensures) _ _ _ (c .before .enum-told .given .1) (c .told .ensures)
 
@@ -33,15 +18,6 @@ mul-check-length c =
     let area = c .before .before .before .before .area .result in
     let few = blocks-few _ _ _ _ (c .before .before .before .before .area .ensures .0) (c .before .before .before .judge-blocks .ensures) n (c .before .found .given .1) in
     omega (arith, small-product n area most-blocks 4294967296 few (omega (arith, c .before .before .before .before .area .ensures .1)))
-
-check-length-requires : tie.Need-check-length-requires
-check-length-requires c κs = search needs
-
-enum-known-length : tie.Need-enum-known-length
-enum-known-length c = search needs
-
-enum-told-2 : tie.Need-enum-told-2
-enum-told-2 c = search needs
 
 fill-lines-requires : tie.Need-fill-lines-requires
 fill-lines-requires c κs =
@@ -53,27 +29,11 @@ fill-lines-requires c κs =
 returns-2 : tie.Need-returns-2
 returns-2 c = blocks-length _ _ _ _ (c .before .before .before .before .before .before .before .before .area .ensures .0) (c .before .before .before .before .before .before .before .judge-blocks .ensures) _ (c .before .before .before .before .before .found .given .1) _ _ (c .before .before .before .check-length .ensures) _ (c .before .length .given .1)
 
-same-length : tie.Need-same-length
-same-length c = search needs
-
 returns-3 : tie.Need-returns-3
 returns-3 c = blocks-filled _ _ _ _ (c .before .before .before .before .before .before .before .before .before .before .before .area .ensures .0) (c .before .before .before .before .before .before .before .before .before .before .judge-blocks .ensures) _ (c .before .before .before .before .before .before .before .before .found .given .1) _ _ (c .before .before .before .before .before .before .check-length .ensures) _ _ (c .before .before .before .before .enum-told2 .given .1) (c .before .before .fill-lines .ensures)
 
 pub read-blocks-spec : {M : Type 1} → statement M
 read-blocks-spec =
     tie.close
-    (tie.spec
-    area-requires
-    judge-blocks-requires
-    enum-known-found
-    enum-told
-    told-requires
-    returns
-    mul-check-length
-    check-length-requires
-    enum-known-length
-    enum-told-2
-    fill-lines-requires
-    returns-2
-    same-length
-    returns-3)
+    (tie.spec (λ c κs. search needs) (λ c κs. search needs) (λ c. search needs) (λ c. search needs) (λ c κs. search needs) returns mul-check-length
+    (λ c κs. search needs) (λ c. search needs) (λ c. search needs) fill-lines-requires returns-2 (λ c. search needs) returns-3)

@@ -8,35 +8,11 @@ use borrow.Author.Needs.{needs}
 use Rattle.text_frame.proofs.read_frame.Statement.{statement}
 use Rattle.text_frame.proofs.read_frame.Tie as tie
 
-area-requires : tie.Need-area-requires
-area-requires c κs = search needs
-
-order-requires : tie.Need-order-requires
-order-requires c κs = search needs
-
-judge-frame-requires : tie.Need-judge-frame-requires
-judge-frame-requires c κs = search needs
-
-enum-known-found : tie.Need-enum-known-found
-enum-known-found c = search needs
-
-enum-told : tie.Need-enum-told
-enum-told c = search needs
-
-told-requires : tie.Need-told-requires
-told-requires c κs = search needs
-
 returns : tie.Need-returns
 returns c = frame-refused _ _ _ _ _ _ _ (c .before .before .before .before .before .area .ensures .0) (c .before .before .before .before .order .ensures .0) (c .before .before .before .judge-frame .ensures) _ _ _ _ (c .before .enum-told .given .1) (c .told .ensures)
 
 check-frame-lengths-requires : tie.Need-check-frame-lengths-requires
 check-frame-lengths-requires c κs = frame-few _ _ _ _ _ _ _ (c .before .before .before .before .before .before .before .area .ensures .0) (c .before .before .before .before .before .before .order .ensures .0) (c .before .before .before .before .before .judge-frame .ensures) _ (c .before .before .before .found .given .1)
-
-enum-known-lengths : tie.Need-enum-known-lengths
-enum-known-lengths c = search needs
-
-enum-told-2 : tie.Need-enum-told-2
-enum-told-2 c = search needs
 
 group-count-requires : tie.Need-group-count-requires
 group-count-requires c κs = frame-few _ _ _ _ _ _ _ (c .before .before .before .before .before .before .before .before .before .before .area .ensures .0) (c .before .before .before .before .before .before .before .before .before .order .ensures .0) (c .before .before .before .before .before .before .before .before .judge-frame .ensures) _ (c .before .before .before .before .before .before .found .given .1)
@@ -50,20 +26,8 @@ add-fill-groups c = let h = groups-room _ _ _ _ _ _ _ (c .before .before .before
 fill-groups-requires : tie.Need-fill-groups-requires
 fill-groups-requires c κs = let v = c .before .before .before .before .before .before .before .before .before .before .before .before .before .before .before .before .before .before .before .before .args in let t = c .before .before .before .before .before .before .before .before .before .before .before .before .before .before .judge-frame .ensures in let a = c .before .before .before .before .before .before .before .before .before .before .before .before .before .before .before .before .area .ensures .0 in let o = c .before .before .before .before .before .before .before .before .before .before .before .before .before .before .before .order .ensures .0 in let g = c .before .before .before .before .before .before .before .before .before .before .before .before .found .given .1 in let e = c .before .before .before .before .before .group-count .ensures in let h = frame-few _ _ _ _ _ _ _ a o t _ g in (omega (arith, h, e), frame-room (v .d .m) (v .d .t) (v .d .size) _ _ _ _ a o t _ g (v .info .now) (v .red .now) _ (c .before .before .before .before .before .before .before .before .check-frame-lengths .ensures) (c .before .before .before .before .before .before .enum-told2 .given .1) .1 ∙ ap (λ (k : ℕ). k * (2 * c .before .before .before .before .before .before .before .before .before .before .before .before .before .before .before .order .result)) (sym e), groups-pass _ _ _ _ _ _ _ a o t _ g _ _ (c .before .before .before .fill-lines .ensures) _ e)
 
-same-length : tie.Need-same-length
-same-length c = search needs
-
-same-length-2 : tie.Need-same-length-2
-same-length-2 c = search needs
-
 returns-2 : tie.Need-returns-2
 returns-2 c = frame-length _ _ _ _ _ _ _ (c .before .before .before .before .before .before .before .before .before .before .before .area .ensures .0) (c .before .before .before .before .before .before .before .before .before .before .order .ensures .0) (c .before .before .before .before .before .before .before .before .before .judge-frame .ensures) _ (c .before .before .before .before .before .before .before .found .given .1) _ _ _ (c .before .before .before .check-frame-lengths .ensures) _ (c .before .lengths .given .1)
-
-same-length-3 : tie.Need-same-length-3
-same-length-3 c = search needs
-
-same-length-4 : tie.Need-same-length-4
-same-length-4 c = search needs
 
 returns-3 : tie.Need-returns-3
 returns-3 c = frame-filled _ _ _ _ _ _ _ (c .before .before .before .before .before .before .before .before .before .before .before .before .before .before .before .before .before .before .before .area .ensures .0) (c .before .before .before .before .before .before .before .before .before .before .before .before .before .before .before .before .before .before .order .ensures .0) (c .before .before .before .before .before .before .before .before .before .before .before .before .before .before .before .before .before .judge-frame .ensures) _ (c .before .before .before .before .before .before .before .before .before .before .before .before .before .before .before .found .given .1) _ _ _ (c .before .before .before .before .before .before .before .before .before .before .before .check-frame-lengths .ensures) _ _ _ _ _ (c .before .before .before .before .before .before .before .before .before .enum-told2 .given .1) (c .before .before .before .before .before .before .fill-lines .ensures) (c .before .before .before .before .before .before .before .before .group-count .ensures) (c .before .before .fill-groups .ensures)
@@ -71,24 +35,6 @@ returns-3 c = frame-filled _ _ _ _ _ _ _ (c .before .before .before .before .bef
 pub read-frame-spec : {M : Type 1} → statement M
 read-frame-spec =
     tie.close
-    (tie.spec
-    area-requires
-    order-requires
-    judge-frame-requires
-    enum-known-found
-    enum-told
-    told-requires
-    returns
-    check-frame-lengths-requires
-    enum-known-lengths
-    enum-told-2
-    group-count-requires
-    fill-lines-requires
-    add-fill-groups
-    fill-groups-requires
-    same-length
-    same-length-2
-    returns-2
-    same-length-3
-    same-length-4
-    returns-3)
+    (tie.spec (λ c κs. search needs) (λ c κs. search needs) (λ c κs. search needs) (λ c. search needs) (λ c. search needs) (λ c κs. search needs)
+    returns check-frame-lengths-requires (λ c. search needs) (λ c. search needs) group-count-requires fill-lines-requires add-fill-groups
+    fill-groups-requires (λ c. search needs) (λ c. search needs) returns-2 (λ c. search needs) (λ c. search needs) returns-3)

@@ -5,21 +5,10 @@ use borrow.Author.Needs.{needs}
 use Rattle.text_frame.proofs.scan_frame.Statement.{statement}
 use Rattle.text_frame.proofs.scan_frame.Tie as tie
 
-area-requires : tie.Need-area-requires
-area-requires c κs = search needs
-
-order-requires : tie.Need-order-requires
-order-requires c κs = search needs
-
-judge-frame-requires : tie.Need-judge-frame-requires
-judge-frame-requires c κs = search needs
-
-told-requires : tie.Need-told-requires
-told-requires c κs = search needs
-
 returns : tie.Need-returns
 returns c = frame-told _ _ _ _ _ (c .before .judge-frame .result) (c .before .before .before .area .ensures .0) (c .before .before .order .ensures .0) (c .before .judge-frame .ensures) _ (c .told .ensures)
 
 pub scan-frame-spec : {M : Type 1} → statement M
 scan-frame-spec =
-    tie.close (tie.spec area-requires order-requires judge-frame-requires told-requires returns)
+    tie.close
+    (tie.spec (λ c κs. search needs) (λ c κs. search needs) (λ c κs. search needs) (λ c κs. search needs) returns)

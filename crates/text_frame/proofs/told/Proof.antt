@@ -5,12 +5,6 @@ use borrow.Author.Needs.{needs}
 use Rattle.text_frame.proofs.told.Statement.{statement}
 use Rattle.text_frame.proofs.told.Tie as tie
 
-enum-known-found : tie.Need-enum-known-found
-enum-known-found c = search needs
-
-enum-known-found-2 : tie.Need-enum-known-found-2
-enum-known-found-2 c = search needs
-
 returns : tie.Need-returns
 returns c = count-told _ _ (c .before .found .given .1)
 
@@ -18,4 +12,6 @@ returns-2 : tie.Need-returns-2
 returns-2 c = place-told _ _ (c .before .found2 .given .1)
 
 pub told-spec : {M : Type 1} → statement M
-told-spec = tie.close (tie.spec enum-known-found enum-known-found-2 returns returns-2)
+told-spec =
+    tie.close
+    (tie.spec (λ c. search needs) (λ c. search needs) returns returns-2)

@@ -64,16 +64,4 @@ returns c =
 pub fill-bits-spec : {M : Type 1} → statement M
 fill-bits-spec =
     tie.close
-    (tie.spec
-    Inv-loop
-    μ-loop
-    loop-holds
-    shared-slice-read-out
-    sub-out
-    slice-write-out
-    add-q
-    add-k
-    loop-less
-    loop-again
-    same-length
-    returns)
+    (tie.spec Inv-loop μ-loop loop-holds shared-slice-read-out sub-out slice-write-out add-q add-k loop-less loop-again same-length returns)

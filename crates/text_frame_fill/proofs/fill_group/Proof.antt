@@ -6,15 +6,6 @@ use borrow.Author.Needs.{needs}
 use Rattle.text_frame_fill.proofs.fill_group.Statement.{statement}
 use Rattle.text_frame_fill.proofs.fill_group.Tie as tie
 
-number-is-requires : tie.Need-number-is-requires
-number-is-requires c κs = search needs
-
-enum-known-number : tie.Need-enum-known-number
-enum-known-number c = search needs
-
-enum-told : tie.Need-enum-told
-enum-told c = search needs
-
 returns : tie.Need-returns
 returns c =
     let a = c .before .before .before .before .before .args in
@@ -35,9 +26,6 @@ add-result c =
     let a = c .before .before .before .before .before .before .before .before .before .before .before .before .before .before .args in
     omega (arith, feed-there (a .n) (a .p) (a .s .now) (a .at) (c .before .before .before .before .before .before .before .before .before .before .before .before .before .before .pre .2) _ (c .before .before .before .before .before .before .before .before .before .before .before .number-is .ensures) _ (c .before .before .before .before .before .before .before .before .before .number .given .1) _ (c .before .before .before .before .before .before .fill-half .ensures .0) _ (c .before .before .fill-half2 .ensures .0))
 
-same-length : tie.Need-same-length
-same-length c = search needs
-
 returns-2 : tie.Need-returns-2
 returns-2 c =
     let a = c .before .before .before .before .before .before .before .before .before .before .before .before .before .before .args in
@@ -46,13 +34,5 @@ returns-2 c =
 pub fill-group-spec : {M : Type 1} → statement M
 fill-group-spec =
     tie.close
-    (tie.spec
-    number-is-requires
-    enum-known-number
-    enum-told
-    returns
-    fill-half-requires
-    fill-half-requires-2
-    add-result
-    same-length
-    returns-2)
+    (tie.spec (λ c κs. search needs) (λ c. search needs) (λ c. search needs) returns fill-half-requires fill-half-requires-2 add-result
+    (λ c. search needs) returns-2)

@@ -95,21 +95,5 @@ returns c =
 pub fill-groups-spec : {M : Type 1} → statement M
 fill-groups-spec =
     tie.close
-    (tie.spec
-    Inv-loop
-    μ-loop
-    loop-holds
-    mul-a
-    mul-a-2
-    add-fill-group
-    mul-fill-group
-    add-fill-group-2
-    sub-fill-group
-    part-fill-group-start
-    part-fill-group-end
-    fill-group-requires
-    add-i
-    loop-less
-    loop-again
-    same-length
-    returns)
+    (tie.spec Inv-loop μ-loop loop-holds mul-a mul-a-2 add-fill-group mul-fill-group add-fill-group-2 sub-fill-group part-fill-group-start
+    part-fill-group-end fill-group-requires add-i loop-less loop-again same-length returns)

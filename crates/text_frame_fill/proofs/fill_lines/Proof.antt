@@ -81,19 +81,5 @@ returns c =
 pub fill-lines-spec : {M : Type 1} → statement M
 fill-lines-spec =
     tie.close
-    (tie.spec
-    Inv-loop
-    μ-loop
-    loop-holds
-    mul-a
-    add-fill-line
-    add-fill-line-2
-    sub-fill-line
-    part-fill-line-start
-    part-fill-line-end
-    fill-line-requires
-    add-i
-    loop-less
-    loop-again
-    same-length
-    returns)
+    (tie.spec Inv-loop μ-loop loop-holds mul-a add-fill-line add-fill-line-2 sub-fill-line part-fill-line-start part-fill-line-end fill-line-requires
+    add-i loop-less loop-again same-length returns)

@@ -19,13 +19,12 @@ fill-bits-requires c κs =
     let a = c .before .before .before .args in
     subst Passes (byte-there 32 (bits (length (a .out .now))) (a .s .now) (a .at) (omega arith) (c .before .before .before .pre) .1) (c .before .before .before .pre)
 
-same-length : tie.Need-same-length
-same-length c = search needs
-
 returns : tie.Need-returns
 returns c =
     let a = c .before .before .before .before .before .before .args in
     c .before .before .fill-bits .ensures ∙ sym (byte-there 32 (bits (length (a .out .now))) (a .s .now) (a .at) (omega arith) (c .before .before .before .before .before .before .pre) .1)
 
 pub fill-part-spec : {M : Type 1} → statement M
-fill-part-spec = tie.close (tie.spec add-fill-bits fill-bits-requires same-length returns)
+fill-part-spec =
+    tie.close
+    (tie.spec add-fill-bits fill-bits-requires (λ c. search needs) returns)

@@ -62,16 +62,4 @@ returns-2 c =
 pub group-lines-spec : {M : Type 1} → statement M
 group-lines-spec =
     tie.close
-    (tie.spec
-    Inv-loop
-    μ-loop
-    loop-holds
-    add-group-line
-    group-line-requires
-    enum-told
-    returns
-    enum-known-line
-    add-i
-    loop-less
-    loop-again
-    returns-2)
+    (tie.spec Inv-loop μ-loop loop-holds add-group-line group-line-requires enum-told returns enum-known-line add-i loop-less loop-again returns-2)

@@ -8,18 +8,6 @@ use borrow.Author.Needs.{needs}
 use Rattle.text_frame_scan.proofs.judge_blocks.Statement.{statement}
 use Rattle.text_frame_scan.proofs.judge_blocks.Tie as tie
 
-front-requires : tie.Need-front-requires
-front-requires c κs = search needs
-
-enum-known-first : tie.Need-enum-known-first
-enum-known-first c = search needs
-
-enum-known-first-2 : tie.Need-enum-known-first-2
-enum-known-first-2 c = search needs
-
-more-blocks-requires : tie.Need-more-blocks-requires
-more-blocks-requires c κs = search needs
-
 returns : tie.Need-returns
 unfolding blockFormat
 returns c = front-wrong _ (blockTail _ (most-blocks - 1) 1) _ _ (c .before .before .before .front .ensures) _ (c .before .first .given .1)
@@ -31,10 +19,4 @@ returns-2 c = front-on _ (blockTail _ (most-blocks - 1) 1) _ _ (c .before .befor
 pub judge-blocks-spec : {M : Type 1} → statement M
 judge-blocks-spec =
     tie.close
-    (tie.spec
-    front-requires
-    enum-known-first
-    enum-known-first-2
-    more-blocks-requires
-    returns
-    returns-2)
+    (tie.spec (λ c κs. search needs) (λ c. search needs) (λ c. search needs) (λ c κs. search needs) returns returns-2)

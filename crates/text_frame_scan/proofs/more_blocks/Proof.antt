@@ -56,18 +56,5 @@ returns-4 c = sym (c .before .before .loop .inv .2 ∙ ap verdict (tail-over _ m
 pub more-blocks-spec : {M : Type 1} → statement M
 more-blocks-spec =
     tie.close
-    (tie.spec
-    Inv-loop
-    μ-loop
-    loop-holds
-    returns
-    add-bits-line
-    bits-line-requires
-    enum-known-line
-    returns-2
-    enum-known-line-2
-    add-i
-    loop-less
-    loop-again
-    returns-3
-    returns-4)
+    (tie.spec Inv-loop μ-loop loop-holds returns add-bits-line bits-line-requires enum-known-line returns-2 enum-known-line-2 add-i loop-less
+    loop-again returns-3 returns-4)

@@ -80,26 +80,6 @@ returns-4 c = sym (c .before .before .before .before .before .loop .inv .2 ∙ a
 pub more-frame-spec : {M : Type 1} → statement M
 more-frame-spec =
     tie.close
-    (tie.spec
-    Inv-loop
-    μ-loop
-    loop-holds
-    byte-is-requires
-    enum-known-sign
-    group-text-requires
-    returns
-    enum-told
-    add-bits-line
-    bits-line-requires
-    enum-known-line
-    returns-2
-    enum-known-line-2
-    add-i
-    loop-less
-    loop-again
-    byte-is-requires-2
-    enum-known-last
-    group-text-requires-2
-    enum-known-last-2
-    returns-3
-    returns-4)
+    (tie.spec Inv-loop μ-loop loop-holds byte-is-requires enum-known-sign group-text-requires returns enum-told add-bits-line bits-line-requires
+    enum-known-line returns-2 enum-known-line-2 add-i loop-less loop-again byte-is-requires-2 enum-known-last group-text-requires-2 enum-known-last-2
+    returns-3 returns-4)

@@ -48,16 +48,4 @@ returns-4 c = sym (c .before .loop .inv .1 ∙ ap stepOf (bits-done _ _ _ _ (c .
 pub bit-run-spec : {M : Type 1} → statement M
 bit-run-spec =
     tie.close
-    (tie.spec
-    Inv-loop
-    μ-loop
-    loop-holds
-    returns
-    shared-slice-read-c
-    returns-2
-    returns-3
-    add-q
-    add-i
-    loop-less
-    loop-again
-    returns-4)
+    (tie.spec Inv-loop μ-loop loop-holds returns shared-slice-read-c returns-2 returns-3 add-q add-i loop-less loop-again returns-4)

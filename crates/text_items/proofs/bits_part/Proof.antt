@@ -5,20 +5,8 @@ use borrow.Author.Needs.{needs}
 use Rattle.text_items.proofs.bits_part.Statement.{statement}
 use Rattle.text_items.proofs.bits_part.Tie as tie
 
-byte-is-requires : tie.Need-byte-is-requires
-byte-is-requires c κs = search needs
-
-enum-known-space : tie.Need-enum-known-space
-enum-known-space c = search needs
-
-enum-told : tie.Need-enum-told
-enum-told c = search needs
-
 returns : tie.Need-returns
 returns c = part-space (c .before .before .before .before .args .n) (c .before .before .before .before .args .s .now) (c .before .before .before .before .args .at) _ (c .before .before .byte-is .ensures) _ (c .enum-told .given .1)
-
-bit-run-requires : tie.Need-bit-run-requires
-bit-run-requires c κs = search needs
 
 returns-2 : tie.Need-returns-2
 returns-2 c = part-bits (c .before .before .before .before .before .before .args .n) (c .before .before .before .before .before .before .args .s .now) (c .before .before .before .before .before .before .args .at) _ (c .before .before .before .before .byte-is .ensures) _ (c .before .before .space .given .1) _ (c .bit-run .ensures)
@@ -26,4 +14,4 @@ returns-2 c = part-bits (c .before .before .before .before .before .before .args
 pub bits-part-spec : {M : Type 1} → statement M
 bits-part-spec =
     tie.close
-    (tie.spec byte-is-requires enum-known-space enum-told returns bit-run-requires returns-2)
+    (tie.spec (λ c κs. search needs) (λ c. search needs) (λ c. search needs) returns (λ c κs. search needs) returns-2)

@@ -10,17 +10,13 @@ use Rattle.text_items.proofs.byte_is.Tie as tie
 returns : tie.Need-returns
 returns c = sym (walk-end _ [] _ _ (search needs) (c .if1 .taken))
 
-shared-slice-read-if2 : tie.Need-shared-slice-read-if2
-shared-slice-read-if2 c = search needs
-
 returns-2 : tie.Need-returns-2
 returns-2 c = sym (walk-other _ [] _ _ (c .before .before .if1 .left) (c .if2 .taken))
-
-add-t4 : tie.Need-add-t4
-add-t4 c = search needs
 
 returns-3 : tie.Need-returns-3
 returns-3 c = sym (this-byte _ _ _ (c .before .before .if1 .left) (c .if2 .left))
 
 pub byte-is-spec : {M : Type 1} → statement M
-byte-is-spec = tie.close (tie.spec returns shared-slice-read-if2 returns-2 add-t4 returns-3)
+byte-is-spec =
+    tie.close
+    (tie.spec returns (λ c. search needs) returns-2 (λ c. search needs) returns-3)

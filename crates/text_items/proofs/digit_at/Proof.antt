@@ -8,21 +8,16 @@ use Rattle.text_items.proofs.digit_at.Tie as tie
 returns : tie.Need-returns
 returns c = digitAt-out _ _ (c .if1 .taken)
 
-shared-slice-read-c : tie.Need-shared-slice-read-c
-shared-slice-read-c c = search needs
-
 returns-2 : tie.Need-returns-2
 returns-2 c = low-read _ _ (c .before .before .if1 .left) (c .if2 .taken)
 
 returns-3 : tie.Need-returns-3
 returns-3 c = high-read _ _ (c .before .before .before .if1 .left) (c .if3 .taken)
 
-cast-result : tie.Need-cast-result
-cast-result c = search needs
-
 returns-4 : tie.Need-returns-4
 returns-4 c = digit-read _ _ (c .before .before .before .if1 .left) (c .before .if2 .left) (c .if3 .left)
 
 pub digit-at-spec : {M : Type 1} → statement M
 digit-at-spec =
-    tie.close (tie.spec returns shared-slice-read-c returns-2 returns-3 cast-result returns-4)
+    tie.close
+    (tie.spec returns (λ c. search needs) returns-2 returns-3 (λ c. search needs) returns-4)

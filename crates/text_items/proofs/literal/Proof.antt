@@ -55,16 +55,5 @@ returns-2 c = sym (c .before .loop .inv .1 ∙ lit-done _ _ _ _ (c .loop-test .l
 pub literal-spec : {M : Type 1} → statement M
 literal-spec =
     tie.close
-    (tie.spec
-    Inv-loop
-    μ-loop
-    loop-holds
-    shared-slice-read-byte-is
-    byte-is-requires
-    enum-known-step
-    enum-told
-    returns
-    add-i
-    loop-less
-    loop-again
+    (tie.spec Inv-loop μ-loop loop-holds shared-slice-read-byte-is byte-is-requires enum-known-step enum-told returns add-i loop-less loop-again
     returns-2)

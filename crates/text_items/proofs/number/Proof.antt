@@ -64,22 +64,5 @@ returns-4 c = leading-full _ _ _ _ (c .before .loop .inv) (c .loop-test .left)
 pub number-spec : {M : Type 1} → statement M
 number-spec =
     tie.close
-    (tie.spec
-    Inv-loop
-    μ-loop
-    digit-at-requires
-    returns
-    add-t8
-    returns-2
-    loop-holds
-    add-digit-at
-    digit-at-requires-2
-    add-t11
-    returns-3
-    mul-v
-    add-v
-    add-n
-    loop-less
-    loop-again
-    add-t12
-    returns-4)
+    (tie.spec Inv-loop μ-loop digit-at-requires returns add-t8 returns-2 loop-holds add-digit-at digit-at-requires-2 add-t11 returns-3 mul-v add-v
+    add-n loop-less loop-again add-t12 returns-4)

@@ -12,20 +12,11 @@ use borrow.Author.Needs.{needs}
 use Rattle.text_items.proofs.number_is.Statement.{statement}
 use Rattle.text_items.proofs.number_is.Tie as tie
 
-slice-aggregate-put-number : tie.Need-slice-aggregate-put-number
-slice-aggregate-put-number c = search needs
-
-put-number-requires : tie.Need-put-number-requires
-put-number-requires c κs = search needs
-
 array-share-prefix-text : tie.Need-array-share-prefix-text
 array-share-prefix-text c = omega (arith, c .before .put-number .ensures .0, c .before .put-number .kept .0, dec-short (c .before .before .before .before .args .p))
 
 slice-aggregate-literal : tie.Need-slice-aggregate-literal
 slice-aggregate-literal c = sym (length-take-le _ _ (omega (arith, c .before .before .put-number .ensures .0, c .before .before .put-number .kept .0, dec-short (c .before .before .before .before .before .args .p))))
-
-literal-requires : tie.Need-literal-requires
-literal-requires c κs = search needs
 
 returns : tie.Need-returns
 returns c = c .literal .ensures ∙ ap (λ (l : List ℕ). walk (lits l) (c .before .before .before .before .before .before .args .s .now) (c .before .before .before .before .before .before .args .at)) (written-front _ _ _ (c .before .before .before .before .before .before .args .p) (c .before .before .before .put-number .ensures .0) (c .before .before .before .put-number .ensures .1) (omega arith))
@@ -33,10 +24,4 @@ returns c = c .literal .ensures ∙ ap (λ (l : List ℕ). walk (lits l) (c .bef
 pub number-is-spec : {M : Type 1} → statement M
 number-is-spec =
     tie.close
-    (tie.spec
-    slice-aggregate-put-number
-    put-number-requires
-    array-share-prefix-text
-    slice-aggregate-literal
-    literal-requires
-    returns)
+    (tie.spec (λ c. search needs) (λ c κs. search needs) array-share-prefix-text slice-aggregate-literal (λ c κs. search needs) returns)

@@ -5,24 +5,6 @@ use Rattle.text_items.proofs.Fields.{then-bad, then-stop, then-got}
 use Rattle.text_items.proofs.number_then.Statement.{statement}
 use Rattle.text_items.proofs.number_then.Tie as tie
 
-number-requires : tie.Need-number-requires
-number-requires c κs = search needs
-
-enum-told : tie.Need-enum-told
-enum-told c = search needs
-
-enum-known-found : tie.Need-enum-known-found
-enum-known-found c = search needs
-
-byte-is-requires : tie.Need-byte-is-requires
-byte-is-requires c κs = search needs
-
-enum-known-end : tie.Need-enum-known-end
-enum-known-end c = search needs
-
-enum-known-end-2 : tie.Need-enum-known-end-2
-enum-known-end-2 c = search needs
-
 returns : tie.Need-returns
 returns c = then-bad _ _ _ _ (c .before .before .number .ensures) (c .enum-told .given .1)
 
@@ -35,13 +17,5 @@ returns-3 c = then-got _ _ _ _ (c .before .before .before .before .before .befor
 pub number-then-spec : {M : Type 1} → statement M
 number-then-spec =
     tie.close
-    (tie.spec
-    number-requires
-    enum-told
-    enum-known-found
-    byte-is-requires
-    enum-known-end
-    enum-known-end-2
-    returns
-    returns-2
-    returns-3)
+    (tie.spec (λ c κs. search needs) (λ c. search needs) (λ c. search needs) (λ c κs. search needs) (λ c. search needs) (λ c. search needs) returns
+    returns-2 returns-3)

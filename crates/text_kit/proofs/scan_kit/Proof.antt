@@ -5,29 +5,8 @@ use borrow.Author.Needs.{needs}
 use Rattle.text_kit.proofs.scan_kit.Statement.{statement}
 use Rattle.text_kit.proofs.scan_kit.Tie as tie
 
-read-front-requires : tie.Need-read-front-requires
-read-front-requires c κs = search needs
-
-enum-known-start : tie.Need-enum-known-start
-enum-known-start c = search needs
-
-enum-known-start-2 : tie.Need-enum-known-start-2
-enum-known-start-2 c = search needs
-
-enum-known-start-3 : tie.Need-enum-known-start-3
-enum-known-start-3 c = search needs
-
-order-requires : tie.Need-order-requires
-order-requires c κs = search needs
-
 judge-rest-requires : tie.Need-judge-rest-requires
 judge-rest-requires c κs = small-order _ _ _ (opens _ _ (c .before .before .before .before .read-front .ensures) _ _ (c .before .before .start3 .given .1)) _ (c .order .ensures .0)
-
-enum-known-whole : tie.Need-enum-known-whole
-enum-known-whole c = search needs
-
-enum-told : tie.Need-enum-told
-enum-told c = search needs
 
 returns : tie.Need-returns
 returns c = scan-none _ _ (c .before .before .before .read-front .ensures) _ (c .before .start .given .1)
@@ -44,16 +23,5 @@ returns-4 c = scan-whole _ _ (c .before .before .before .before .before .before 
 pub scan-kit-spec : {M : Type 1} → statement M
 scan-kit-spec =
     tie.close
-    (tie.spec
-    read-front-requires
-    enum-known-start
-    enum-known-start-2
-    enum-known-start-3
-    order-requires
-    judge-rest-requires
-    enum-known-whole
-    enum-told
-    returns
-    returns-2
-    returns-3
-    returns-4)
+    (tie.spec (λ c κs. search needs) (λ c. search needs) (λ c. search needs) (λ c. search needs) (λ c κs. search needs) judge-rest-requires
+    (λ c. search needs) (λ c. search needs) returns returns-2 returns-3 returns-4)

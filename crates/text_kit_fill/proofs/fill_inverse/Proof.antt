@@ -46,15 +46,4 @@ returns c = packed-all _ _ _ _ (c .before .before .before .before .pre .0) (c .b
 pub fill-inverse-spec : {M : Type 1} → statement M
 fill-inverse-spec =
     tie.close
-    (tie.spec
-    Inv-loop
-    μ-loop
-    add-w
-    loop-holds
-    mul-fill-row
-    fill-row-requires
-    add-p
-    loop-less
-    loop-again
-    same-length
-    returns)
+    (tie.spec Inv-loop μ-loop add-w loop-holds mul-fill-row fill-row-requires add-p loop-less loop-again same-length returns)

@@ -61,21 +61,5 @@ returns-2 c = (filled-own _ _ _ _ _ (c .before .before .before .before .before .
 pub fill-lists-spec : {M : Type 1} → statement M
 fill-lists-spec =
     tie.close
-    (tie.spec
-    Inv-loop
-    μ-loop
-    loop-holds
-    pair-line-requires
-    enum-known-line
-    enum-told
-    same-length
-    same-length-2
-    returns
-    put-entry-requires
-    put-entry-requires-2
-    add-p
-    loop-less
-    loop-again
-    same-length-3
-    same-length-4
-    returns-2)
+    (tie.spec Inv-loop μ-loop loop-holds pair-line-requires enum-known-line enum-told same-length same-length-2 returns put-entry-requires
+    put-entry-requires-2 add-p loop-less loop-again same-length-3 same-length-4 returns-2)

@@ -6,15 +6,6 @@ use borrow.Author.Needs.{needs}
 use Rattle.text_kit_fill.proofs.fill_row.Statement.{statement}
 use Rattle.text_kit_fill.proofs.fill_row.Tie as tie
 
-number-is-requires : tie.Need-number-is-requires
-number-is-requires c κs = search needs
-
-enum-known-number : tie.Need-enum-known-number
-enum-known-number c = search needs
-
-enum-told : tie.Need-enum-told
-enum-told c = search needs
-
 returns : tie.Need-returns
 returns c = absurd (row-not _ _ _ _ _ (c .before .before .number-is .ensures) _ (c .enum-told .given .1) (c .before .before .before .before .before .pre .1 .0))
 
@@ -38,9 +29,6 @@ add-result-2 c =
     let P = row-parts _ _ _ _ _ (c .before .before .before .before .before .before .before .number-is .ensures) _ (c .before .before .before .before .before .number .given .1) (c .before .before .before .before .before .before .before .before .before .before .pre .1 .0) in
     omega (arith, P .room, c .before .before .before .before .before .before .before .before .before .before .good)
 
-same-length : tie.Need-same-length
-same-length c = search needs
-
 returns-2 : tie.Need-returns-2
 returns-2 c =
     let e = c .before .before .before .before .before .before .before .number-is .ensures in
@@ -51,14 +39,5 @@ returns-2 c =
 pub fill-row-spec : {M : Type 1} → statement M
 fill-row-spec =
     tie.close
-    (tie.spec
-    number-is-requires
-    enum-known-number
-    enum-told
-    returns
-    add-first
-    pack-row-requires
-    add-result
-    add-result-2
-    same-length
-    returns-2)
+    (tie.spec (λ c κs. search needs) (λ c. search needs) (λ c. search needs) returns add-first pack-row-requires add-result add-result-2
+    (λ c. search needs) returns-2)

@@ -51,16 +51,4 @@ returns c =
 pub gather-spec : {M : Type 1} → statement M
 gather-spec =
     tie.close
-    (tie.spec
-    Inv-loop
-    μ-loop
-    loop-holds
-    sub-k
-    add-b
-    shared-slice-read-b
-    cast-b
-    mul-v
-    add-v
-    loop-less
-    loop-again
-    returns)
+    (tie.spec Inv-loop μ-loop loop-holds sub-k add-b shared-slice-read-b cast-b mul-v add-v loop-less loop-again returns)

@@ -82,22 +82,5 @@ returns c =
 pub pack-row-spec : {M : Type 1} → statement M
 pack-row-spec =
     tie.close
-    (tie.spec
-    Inv-loop
-    μ-loop
-    add-w
-    loop-holds
-    mul-least
-    sub-least
-    least-requires
-    mul-gather
-    add-gather
-    gather-requires
-    cast-out
-    add-out
-    slice-write-out
-    add-b
-    loop-less
-    loop-again
-    same-length
-    returns)
+    (tie.spec Inv-loop μ-loop add-w loop-holds mul-least sub-least least-requires mul-gather add-gather gather-requires cast-out add-out
+    slice-write-out add-b loop-less loop-again same-length returns)

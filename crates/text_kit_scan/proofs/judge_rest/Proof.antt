@@ -5,36 +5,6 @@ use borrow.Author.Needs.{needs}
 use Rattle.text_kit_scan.proofs.judge_rest.Statement.{statement}
 use Rattle.text_kit_scan.proofs.judge_rest.Tie as tie
 
-slice-aggregate-literal : tie.Need-slice-aggregate-literal
-slice-aggregate-literal c = search needs
-
-literal-requires : tie.Need-literal-requires
-literal-requires c κs = search needs
-
-enum-known-names : tie.Need-enum-known-names
-enum-known-names c = search needs
-
-enum-known-names-2 : tie.Need-enum-known-names-2
-enum-known-names-2 c = search needs
-
-pairs-requires : tie.Need-pairs-requires
-pairs-requires c κs = search needs
-
-enum-known-lists : tie.Need-enum-known-lists
-enum-known-lists c = search needs
-
-enum-known-lists-2 : tie.Need-enum-known-lists-2
-enum-known-lists-2 c = search needs
-
-rows-and-end-requires : tie.Need-rows-and-end-requires
-rows-and-end-requires c κs = search needs
-
-enum-known-inverse : tie.Need-enum-known-inverse
-enum-known-inverse c = search needs
-
-enum-known-inverse-2 : tie.Need-enum-known-inverse-2
-enum-known-inverse-2 c = search needs
-
 returns : tie.Need-returns
 returns c = rest-names _ _ _ _ (c .before .before .before .literal .ensures) _ (c .before .names .given .1)
 
@@ -50,18 +20,5 @@ returns-4 c = rest-whole _ _ _ _ (c .before .before .before .before .before .bef
 pub judge-rest-spec : {M : Type 1} → statement M
 judge-rest-spec =
     tie.close
-    (tie.spec
-    slice-aggregate-literal
-    literal-requires
-    enum-known-names
-    enum-known-names-2
-    pairs-requires
-    enum-known-lists
-    enum-known-lists-2
-    rows-and-end-requires
-    enum-known-inverse
-    enum-known-inverse-2
-    returns
-    returns-2
-    returns-3
-    returns-4)
+    (tie.spec (λ c. search needs) (λ c κs. search needs) (λ c. search needs) (λ c. search needs) (λ c κs. search needs) (λ c. search needs)
+    (λ c. search needs) (λ c κs. search needs) (λ c. search needs) (λ c. search needs) returns returns-2 returns-3 returns-4)

@@ -5,27 +5,6 @@ use borrow.Author.Needs.{needs}
 use Rattle.text_kit_scan.proofs.pair_line.Statement.{statement}
 use Rattle.text_kit_scan.proofs.pair_line.Tie as tie
 
-number-is-requires : tie.Need-number-is-requires
-number-is-requires c κs = search needs
-
-enum-known-place : tie.Need-enum-known-place
-enum-known-place c = search needs
-
-enum-known-place-2 : tie.Need-enum-known-place-2
-enum-known-place-2 c = search needs
-
-byte-is-requires : tie.Need-byte-is-requires
-byte-is-requires c κs = search needs
-
-enum-known-space : tie.Need-enum-known-space
-enum-known-space c = search needs
-
-enum-known-space-2 : tie.Need-enum-known-space-2
-enum-known-space-2 c = search needs
-
-two-numbers-requires : tie.Need-two-numbers-requires
-two-numbers-requires c κs = search needs
-
 returns : tie.Need-returns
 returns c = place-wrong _ _ _ _ (c .before .before .before .number-is .ensures) _ (c .before .place .given .1)
 
@@ -38,14 +17,5 @@ returns-3 c = pair-read _ _ _ _ (c .before .before .before .before .before .befo
 pub pair-line-spec : {M : Type 1} → statement M
 pair-line-spec =
     tie.close
-    (tie.spec
-    number-is-requires
-    enum-known-place
-    enum-known-place-2
-    byte-is-requires
-    enum-known-space
-    enum-known-space-2
-    two-numbers-requires
-    returns
-    returns-2
-    returns-3)
+    (tie.spec (λ c κs. search needs) (λ c. search needs) (λ c. search needs) (λ c κs. search needs) (λ c. search needs) (λ c. search needs)
+    (λ c κs. search needs) returns returns-2 returns-3)

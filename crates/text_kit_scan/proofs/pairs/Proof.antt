@@ -48,15 +48,4 @@ returns-2 c = sym (c .before .loop .inv .1 ∙ ap stepOf (lines-end pairLine _ _
 pub pairs-spec : {M : Type 1} → statement M
 pairs-spec =
     tie.close
-    (tie.spec
-    Inv-loop
-    μ-loop
-    loop-holds
-    pair-line-requires
-    enum-known-line
-    returns
-    enum-known-line-2
-    add-place
-    loop-less
-    loop-again
-    returns-2)
+    (tie.spec Inv-loop μ-loop loop-holds pair-line-requires enum-known-line returns enum-known-line-2 add-place loop-less loop-again returns-2)

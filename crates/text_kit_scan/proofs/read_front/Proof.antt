@@ -5,24 +5,6 @@ use borrow.Author.Needs.{needs}
 use Rattle.text_kit_scan.proofs.read_front.Statement.{statement}
 use Rattle.text_kit_scan.proofs.read_front.Tie as tie
 
-read-head-requires : tie.Need-read-head-requires
-read-head-requires c κs = search needs
-
-enum-known-head : tie.Need-enum-known-head
-enum-known-head c = search needs
-
-enum-known-head-2 : tie.Need-enum-known-head-2
-enum-known-head-2 c = search needs
-
-new-requires : tie.Need-new-requires
-new-requires c κs = search needs
-
-enum-known-designed : tie.Need-enum-known-designed
-enum-known-designed c = search needs
-
-enum-known-designed-2 : tie.Need-enum-known-designed-2
-enum-known-designed-2 c = search needs
-
 returns : tie.Need-returns
 returns c = front-none _ _ (c .before .before .before .read-head .ensures) _ (c .before .head .given .1)
 
@@ -35,13 +17,5 @@ returns-3 c = front-starts _ _ (c .before .before .before .before .before .befor
 pub read-front-spec : {M : Type 1} → statement M
 read-front-spec =
     tie.close
-    (tie.spec
-    read-head-requires
-    enum-known-head
-    enum-known-head-2
-    new-requires
-    enum-known-designed
-    enum-known-designed-2
-    returns
-    returns-2
-    returns-3)
+    (tie.spec (λ c κs. search needs) (λ c. search needs) (λ c. search needs) (λ c κs. search needs) (λ c. search needs) (λ c. search needs) returns
+    returns-2 returns-3)

@@ -5,36 +5,6 @@ use borrow.Author.Needs.{needs}
 use Rattle.text_kit_scan.proofs.read_head.Statement.{statement}
 use Rattle.text_kit_scan.proofs.read_head.Tie as tie
 
-slice-aggregate-literal : tie.Need-slice-aggregate-literal
-slice-aggregate-literal c = search needs
-
-literal-requires : tie.Need-literal-requires
-literal-requires c κs = search needs
-
-enum-known-names : tie.Need-enum-known-names
-enum-known-names c = search needs
-
-enum-known-names-2 : tie.Need-enum-known-names-2
-enum-known-names-2 c = search needs
-
-number-then-requires : tie.Need-number-then-requires
-number-then-requires c κs = search needs
-
-enum-known-first : tie.Need-enum-known-first
-enum-known-first c = search needs
-
-enum-known-first-2 : tie.Need-enum-known-first-2
-enum-known-first-2 c = search needs
-
-two-numbers-requires : tie.Need-two-numbers-requires
-two-numbers-requires c κs = search needs
-
-enum-known-others : tie.Need-enum-known-others
-enum-known-others c = search needs
-
-enum-known-others-2 : tie.Need-enum-known-others-2
-enum-known-others-2 c = search needs
-
 returns : tie.Need-returns
 returns c = lines-names _ _ (c .before .before .before .literal .ensures) _ (c .before .names .given .1)
 
@@ -50,18 +20,5 @@ returns-4 c = lines-read _ _ (c .before .before .before .before .before .before 
 pub read-head-spec : {M : Type 1} → statement M
 read-head-spec =
     tie.close
-    (tie.spec
-    slice-aggregate-literal
-    literal-requires
-    enum-known-names
-    enum-known-names-2
-    number-then-requires
-    enum-known-first
-    enum-known-first-2
-    two-numbers-requires
-    enum-known-others
-    enum-known-others-2
-    returns
-    returns-2
-    returns-3
-    returns-4)
+    (tie.spec (λ c. search needs) (λ c κs. search needs) (λ c. search needs) (λ c. search needs) (λ c κs. search needs) (λ c. search needs)
+    (λ c. search needs) (λ c κs. search needs) (λ c. search needs) (λ c. search needs) returns returns-2 returns-3 returns-4)

@@ -47,15 +47,4 @@ returns-2 c = sym (c .before .loop .inv .1 ∙ ap stepOf (lines-end (bitsLine _)
 pub rows-spec : {M : Type 1} → statement M
 rows-spec =
     tie.close
-    (tie.spec
-    Inv-loop
-    μ-loop
-    loop-holds
-    bits-line-requires
-    enum-known-line
-    returns
-    enum-known-line-2
-    add-row
-    loop-less
-    loop-again
-    returns-2)
+    (tie.spec Inv-loop μ-loop loop-holds bits-line-requires enum-known-line returns enum-known-line-2 add-row loop-less loop-again returns-2)

@@ -5,24 +5,6 @@ use borrow.Author.Needs.{needs}
 use Rattle.text_kit_scan.proofs.two_numbers.Statement.{statement}
 use Rattle.text_kit_scan.proofs.two_numbers.Tie as tie
 
-number-then-requires : tie.Need-number-then-requires
-number-then-requires c κs = search needs
-
-enum-known-first : tie.Need-enum-known-first
-enum-known-first c = search needs
-
-enum-known-first-2 : tie.Need-enum-known-first-2
-enum-known-first-2 c = search needs
-
-number-then-requires-2 : tie.Need-number-then-requires-2
-number-then-requires-2 c κs = search needs
-
-enum-known-second : tie.Need-enum-known-second
-enum-known-second c = search needs
-
-enum-known-second-2 : tie.Need-enum-known-second-2
-enum-known-second-2 c = search needs
-
 returns : tie.Need-returns
 returns c = two-first _ _ _ (c .before .before .before .number-then .ensures) _ (c .before .first .given .1)
 
@@ -35,13 +17,5 @@ returns-3 c = two-read _ _ _ (c .before .before .before .before .before .before 
 pub two-numbers-spec : {M : Type 1} → statement M
 two-numbers-spec =
     tie.close
-    (tie.spec
-    number-then-requires
-    enum-known-first
-    enum-known-first-2
-    number-then-requires-2
-    enum-known-second
-    enum-known-second-2
-    returns
-    returns-2
-    returns-3)
+    (tie.spec (λ c κs. search needs) (λ c. search needs) (λ c. search needs) (λ c κs. search needs) (λ c. search needs) (λ c. search needs) returns
+    returns-2 returns-3)

@@ -31,4 +31,6 @@ returns : tie.Need-returns Inv-loop μ-loop
 returns c = omega (arith, dec-one-length (c .before .loop .x) (omega arith))
 
 pub digits-spec : {M : Type 1} → statement M
-digits-spec = tie.close (tie.spec Inv-loop μ-loop loop-holds add-n loop-less loop-again returns)
+digits-spec =
+    tie.close
+    (tie.spec Inv-loop μ-loop loop-holds add-n loop-less loop-again returns)

@@ -56,17 +56,5 @@ returns c = (refl, copied-all _ _ _ _ _ (c .before .loop .inv .2) (omega (arith,
 pub put-bits-spec : {M : Type 1} → statement M
 put-bits-spec =
     tie.close
-    (tie.spec
-    Inv-loop
-    μ-loop
-    loop-holds
-    shared-slice-read-out
-    add-out
-    add-out-2
-    slice-write-out
-    add-i
-    loop-less
-    loop-again
-    add-result
-    same-length
+    (tie.spec Inv-loop μ-loop loop-holds shared-slice-read-out add-out add-out-2 slice-write-out add-i loop-less loop-again add-result same-length
     returns)

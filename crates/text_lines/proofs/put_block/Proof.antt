@@ -6,14 +6,8 @@ use borrow.Author.Needs.{needs}
 use Rattle.text_lines.proofs.put_block.Statement.{statement}
 use Rattle.text_lines.proofs.put_block.Tie as tie
 
-put-field-requires : tie.Need-put-field-requires
-put-field-requires c κs = omega arith
-
 put-run-requires : tie.Need-put-run-requires
 put-run-requires c κs = omega (arith, c .before .before .before .put-field .ensures .0)
-
-same-length : tie.Need-same-length
-same-length c = search needs
 
 returns : tie.Need-returns
 returns c =
@@ -22,4 +16,6 @@ returns c =
     (c .before .before .put-run .ensures)
 
 pub put-block-spec : {M : Type 1} → statement M
-put-block-spec = tie.close (tie.spec put-field-requires put-run-requires same-length returns)
+put-block-spec =
+    tie.close
+    (tie.spec (λ c κs. omega arith) put-run-requires (λ c. search needs) returns)

@@ -6,12 +6,6 @@ use borrow.Author.Needs.{needs}
 use Rattle.text_lines.proofs.put_counts.Statement.{statement}
 use Rattle.text_lines.proofs.put_counts.Tie as tie
 
-slice-aggregate-put-bytes : tie.Need-slice-aggregate-put-bytes
-slice-aggregate-put-bytes c = search needs
-
-put-bytes-requires : tie.Need-put-bytes-requires
-put-bytes-requires c κs = omega arith
-
 put-field-requires : tie.Need-put-field-requires
 put-field-requires c κs = omega (arith, c .before .before .before .put-bytes .ensures .0)
 
@@ -25,9 +19,6 @@ put-field-requires-3 c κs =
     let two = c .before .before .before .put-field2 in
     omega (arith, names .ensures .0, one .ensures .0, two .ensures .0)
 
-same-length : tie.Need-same-length
-same-length c = search needs
-
 returns : tie.Need-returns
 returns c =
     let a = c .before .before .before .before .before .before .before .before .before .before .before .before .before .before .before .before .before .before .args in
@@ -39,11 +30,4 @@ returns c =
 pub put-counts-spec : {M : Type 1} → statement M
 put-counts-spec =
     tie.close
-    (tie.spec
-    slice-aggregate-put-bytes
-    put-bytes-requires
-    put-field-requires
-    put-field-requires-2
-    put-field-requires-3
-    same-length
-    returns)
+    (tie.spec (λ c. search needs) (λ c κs. omega arith) put-field-requires put-field-requires-2 put-field-requires-3 (λ c. search needs) returns)

@@ -9,14 +9,8 @@ use borrow.Author.Needs.{needs}
 use Rattle.text_lines.proofs.put_field.Statement.{statement}
 use Rattle.text_lines.proofs.put_field.Tie as tie
 
-put-digits-requires : tie.Need-put-digits-requires
-put-digits-requires c κs = omega arith
-
 put-byte-requires : tie.Need-put-byte-requires
 put-byte-requires c κs = omega (arith, c .before .before .before .put-digits .ensures .0)
-
-same-length : tie.Need-same-length
-same-length c = search needs
 
 returns : tie.Need-returns
 returns c =
@@ -25,4 +19,6 @@ returns c =
     (c .before .before .before .before .before .before .put-digits .ensures) (c .before .before .put-byte .ensures)
 
 pub put-field-spec : {M : Type 1} → statement M
-put-field-spec = tie.close (tie.spec put-digits-requires put-byte-requires same-length returns)
+put-field-spec =
+    tie.close
+    (tie.spec (λ c κs. omega arith) put-byte-requires (λ c. search needs) returns)

@@ -6,17 +6,11 @@ use borrow.Author.Needs.{needs}
 use Rattle.text_lines.proofs.put_group.Statement.{statement}
 use Rattle.text_lines.proofs.put_group.Tie as tie
 
-put-field-requires : tie.Need-put-field-requires
-put-field-requires c κs = omega arith
-
 put-run-requires : tie.Need-put-run-requires
 put-run-requires c κs = omega (arith, c .before .before .before .put-field .ensures .0)
 
 put-run-requires-2 : tie.Need-put-run-requires-2
 put-run-requires-2 c κs = omega (arith, c .before .before .before .before .before .before .before .put-field .ensures .0, c .before .before .before .put-run .ensures .0)
-
-same-length : tie.Need-same-length
-same-length c = search needs
 
 returns : tie.Need-returns
 returns c =
@@ -27,4 +21,5 @@ returns c =
 
 pub put-group-spec : {M : Type 1} → statement M
 put-group-spec =
-    tie.close (tie.spec put-field-requires put-run-requires put-run-requires-2 same-length returns)
+    tie.close
+    (tie.spec (λ c κs. omega arith) put-run-requires put-run-requires-2 (λ c. search needs) returns)

@@ -6,20 +6,11 @@ use borrow.Author.Needs.{needs}
 use Rattle.text_lines.proofs.put_refusal.Statement.{statement}
 use Rattle.text_lines.proofs.put_refusal.Tie as tie
 
-slice-aggregate-put-bytes : tie.Need-slice-aggregate-put-bytes
-slice-aggregate-put-bytes c = search needs
-
-put-bytes-requires : tie.Need-put-bytes-requires
-put-bytes-requires c κs = omega arith
-
 put-field-requires : tie.Need-put-field-requires
 put-field-requires c κs = omega (arith, c .before .before .before .put-bytes .ensures .0)
 
 put-field-requires-2 : tie.Need-put-field-requires-2
 put-field-requires-2 c κs = omega (arith, c .before .before .before .before .before .before .before .put-bytes .ensures .0, c .before .before .before .put-field .ensures .0)
-
-same-length : tie.Need-same-length
-same-length c = search needs
 
 returns : tie.Need-returns
 returns c =
@@ -31,10 +22,4 @@ returns c =
 pub put-refusal-spec : {M : Type 1} → statement M
 put-refusal-spec =
     tie.close
-    (tie.spec
-    slice-aggregate-put-bytes
-    put-bytes-requires
-    put-field-requires
-    put-field-requires-2
-    same-length
-    returns)
+    (tie.spec (λ c. search needs) (λ c κs. omega arith) put-field-requires put-field-requires-2 (λ c. search needs) returns)

@@ -9,14 +9,8 @@ use borrow.Author.Needs.{needs}
 use Rattle.text_lines.proofs.put_run.Statement.{statement}
 use Rattle.text_lines.proofs.put_run.Tie as tie
 
-put-bits-requires : tie.Need-put-bits-requires
-put-bits-requires c κs = omega arith
-
 put-byte-requires : tie.Need-put-byte-requires
 put-byte-requires c κs = omega (arith, c .before .before .before .put-bits .ensures .0)
-
-same-length : tie.Need-same-length
-same-length c = search needs
 
 returns : tie.Need-returns
 returns c =
@@ -25,4 +19,6 @@ returns c =
     (c .before .before .before .before .before .before .put-bits .ensures) (c .before .before .put-byte .ensures)
 
 pub put-run-spec : {M : Type 1} → statement M
-put-run-spec = tie.close (tie.spec put-bits-requires put-byte-requires same-length returns)
+put-run-spec =
+    tie.close
+    (tie.spec (λ c κs. omega arith) put-byte-requires (λ c. search needs) returns)

@@ -9,20 +9,8 @@ use borrow.Author.Needs.{needs}
 use Rattle.text_write.proofs.count_lines.Statement.{statement}
 use Rattle.text_write.proofs.count_lines.Tie as tie
 
-digits-requires : tie.Need-digits-requires
-digits-requires c κs = search needs
-
-digits-requires-2 : tie.Need-digits-requires-2
-digits-requires-2 c κs = search needs
-
-digits-requires-3 : tie.Need-digits-requires-3
-digits-requires-3 c κs = search needs
-
 add-has-room : tie.Need-add-has-room
 add-has-room c = omega (arith, dec-short (c .before .before .before .before .args .rounds), c .before .before .digits .ensures)
-
-has-room-requires : tie.Need-has-room-requires
-has-room-requires c κs = search needs
 
 put-counts-requires : tie.Need-put-counts-requires
 put-counts-requires c κs =
@@ -32,9 +20,6 @@ put-counts-requires c κs =
     let f = c .before .before .before .digits3 in
     let room = told-room (a .out .now) (a .at) _ (c .before .before .has-room .ensures) (c .before .if1 .taken) in
     omega (arith, room, d .ensures, e .ensures, f .ensures)
-
-same-length : tie.Need-same-length
-same-length c = search needs
 
 returns : tie.Need-returns
 returns c =
@@ -60,13 +45,5 @@ returns-2 c =
 pub count-lines-spec : {M : Type 1} → statement M
 count-lines-spec =
     tie.close
-    (tie.spec
-    digits-requires
-    digits-requires-2
-    digits-requires-3
-    add-has-room
-    has-room-requires
-    put-counts-requires
-    same-length
-    returns
-    returns-2)
+    (tie.spec (λ c κs. search needs) (λ c κs. search needs) (λ c κs. search needs) add-has-room (λ c κs. search needs) put-counts-requires
+    (λ c. search needs) returns returns-2)

@@ -9,14 +9,8 @@ use borrow.Author.Needs.{needs}
 use Rattle.text_write.proofs.group_line.Statement.{statement}
 use Rattle.text_write.proofs.group_line.Tie as tie
 
-digits-requires : tie.Need-digits-requires
-digits-requires c κs = search needs
-
 add-has-room : tie.Need-add-has-room
 add-has-room c = omega (arith, dec-short (c .before .before .before .before .args .number), c .digits .ensures)
-
-has-room-requires : tie.Need-has-room-requires
-has-room-requires c κs = search needs
 
 put-group-requires : tie.Need-put-group-requires
 put-group-requires c κs =
@@ -24,9 +18,6 @@ put-group-requires c κs =
     let d = c .before .before .before .digits in
     let room = told-room (a .out .now) (a .at) _ (c .before .before .has-room .ensures) (c .before .if1 .taken) in
     omega (arith, room, d .ensures)
-
-same-length : tie.Need-same-length
-same-length c = search needs
 
 returns : tie.Need-returns
 returns c =
@@ -48,11 +39,4 @@ returns-2 c =
 pub group-line-spec : {M : Type 1} → statement M
 group-line-spec =
     tie.close
-    (tie.spec
-    digits-requires
-    add-has-room
-    has-room-requires
-    put-group-requires
-    same-length
-    returns
-    returns-2)
+    (tie.spec (λ c κs. search needs) add-has-room (λ c κs. search needs) put-group-requires (λ c. search needs) returns returns-2)

@@ -21,4 +21,6 @@ returns-4 c =
     last-fits (a .len) (a .at) (a .a) (a .b) (a .c) (c .before .before .if1 .left) (c .before .if2 .left) (c .if3 .left)
 
 pub has-room-spec : {M : Type 1} → statement M
-has-room-spec = tie.close (tie.spec returns returns-2 returns-3 returns-4)
+has-room-spec =
+    tie.close
+    (tie.spec returns returns-2 returns-3 returns-4)

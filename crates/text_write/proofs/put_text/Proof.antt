@@ -6,16 +6,10 @@ use borrow.Author.Needs.{needs}
 use Rattle.text_write.proofs.put_text.Statement.{statement}
 use Rattle.text_write.proofs.put_text.Tie as tie
 
-has-room-requires : tie.Need-has-room-requires
-has-room-requires c κs = search needs
-
 put-bytes-requires : tie.Need-put-bytes-requires
 put-bytes-requires c κs =
     let a = c .before .before .before .before .before .args in
     omega (arith, told-room (a .out .now) (a .at) _ (c .before .before .has-room .ensures) (c .before .if1 .taken))
-
-same-length : tie.Need-same-length
-same-length c = search needs
 
 returns : tie.Need-returns
 returns c =
@@ -30,4 +24,5 @@ returns-2 c =
 
 pub put-text-spec : {M : Type 1} → statement M
 put-text-spec =
-    tie.close (tie.spec has-room-requires put-bytes-requires same-length returns returns-2)
+    tie.close
+    (tie.spec (λ c κs. search needs) put-bytes-requires (λ c. search needs) returns returns-2)

@@ -8,15 +8,6 @@ use borrow.Author.Needs.{needs}
 use Rattle.text_write.proofs.refusal_lines.Statement.{statement}
 use Rattle.text_write.proofs.refusal_lines.Tie as tie
 
-digits-requires : tie.Need-digits-requires
-digits-requires c κs = search needs
-
-digits-requires-2 : tie.Need-digits-requires-2
-digits-requires-2 c κs = search needs
-
-has-room-requires : tie.Need-has-room-requires
-has-room-requires c κs = search needs
-
 put-refusal-requires : tie.Need-put-refusal-requires
 put-refusal-requires c κs =
     let a = c .before .before .before .before .before .before .args in
@@ -24,9 +15,6 @@ put-refusal-requires c κs =
     let e = c .before .before .before .digits2 in
     let room = told-room (a .out .now) (a .at) _ (c .before .before .has-room .ensures) (c .before .if1 .taken) in
     omega (arith, room, d .ensures, e .ensures)
-
-same-length : tie.Need-same-length
-same-length c = search needs
 
 returns : tie.Need-returns
 returns c =
@@ -50,11 +38,4 @@ returns-2 c =
 pub refusal-lines-spec : {M : Type 1} → statement M
 refusal-lines-spec =
     tie.close
-    (tie.spec
-    digits-requires
-    digits-requires-2
-    has-room-requires
-    put-refusal-requires
-    same-length
-    returns
-    returns-2)
+    (tie.spec (λ c κs. search needs) (λ c κs. search needs) (λ c κs. search needs) put-refusal-requires (λ c. search needs) returns returns-2)

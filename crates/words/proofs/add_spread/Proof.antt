@@ -9,9 +9,6 @@ use Rattle.words.proofs.Columns.{spread-bits, spread-length, spread-add
 use Rattle.words.proofs.add_spread.Statement.{statement}
 use Rattle.words.proofs.add_spread.Tie as tie
 
-gather-requires : tie.Need-gather-requires
-gather-requires c κs = search needs
-
 add-columns-requires : tie.Need-add-columns-requires
 add-columns-requires c κs =
     let s = c .before .before .before .before .before .before .before .before .before .before .before in
@@ -20,12 +17,6 @@ add-columns-requires c κs =
     let g = c .before .before .before .before .gather in
     let long = spread-length (g .last .1 .1 .1 .0) (a .bits .now) n (λ p. a .at + getD (entries n (a .list .now)) p 0) (g .ensures) in
     (omega (arith, long, s .pre .1), spread-bits (g .last .1 .1 .1 .0) (a .bits .now) n (λ p. a .at + getD (entries n (a .list .now)) p 0) (g .ensures) (s .pre .3), s .pre .4)
-
-same-length : tie.Need-same-length
-same-length c = search needs
-
-same-length-2 : tie.Need-same-length-2
-same-length-2 c = search needs
 
 returns : tie.Need-returns
 returns c =
@@ -38,4 +29,6 @@ returns c =
     (a .table .now) (a .sums .now) (added .last .0) (a .from) (a .r) (s .pre .1) (added .ensures)
 
 pub add-spread-spec : {M : Type 1} → statement M
-add-spread-spec = tie.close (tie.spec gather-requires add-columns-requires same-length same-length-2 returns)
+add-spread-spec =
+    tie.close
+    (tie.spec (λ c κs. search needs) add-columns-requires (λ c. search needs) (λ c. search needs) returns)

@@ -17,33 +17,6 @@ mul-area c =
     let n = length (s .args .columns .now) in
     omega (arith, small-product n n 512 512 (s .pre .0 .few-columns) (s .pre .0 .few-columns))
 
-mul-block-of : tie.Need-mul-block-of
-mul-block-of c = search needs
-
-add-block-of : tie.Need-add-block-of
-add-block-of c = search needs
-
-block-of-requires : tie.Need-block-of-requires
-block-of-requires c κs = search needs
-
-mul-block-of-2 : tie.Need-mul-block-of-2
-mul-block-of-2 c = search needs
-
-add-block-of-2 : tie.Need-add-block-of-2
-add-block-of-2 c = search needs
-
-block-of-requires-2 : tie.Need-block-of-requires-2
-block-of-requires-2 c κs = search needs
-
-mul-is-sent : tie.Need-mul-is-sent
-mul-is-sent c = search needs
-
-add-is-sent : tie.Need-add-is-sent
-add-is-sent c = search needs
-
-is-sent-requires : tie.Need-is-sent-requires
-is-sent-requires c κs = search needs
-
 column-sums-requires : tie.Need-column-sums-requires
 column-sums-requires c κs =
     let s = c .before .before .before .before .before .before .before in
@@ -54,9 +27,6 @@ column-sums-requires c κs =
     let block = block-lent (a .blocks) n (a .info .now) (a .table .now) (s .pre .0) in
     let o = block (2 * a .i + 1) (odd .result .now) (odd .ensures) (sent-odd (a .blocks) (a .i) (s .pre .1)) in
     (o .0, o .1, λ e. block (2 * a .i + 2) (even .result .now) (even .ensures) (sym (c .before .is-sent .ensures) ∙ e), s .pre .0 .powers)
-
-same-length : tie.Need-same-length
-same-length c = search needs
 
 returns : tie.Need-returns
 returns c =
@@ -72,17 +42,5 @@ returns c =
 pub block-columns-spec : {M : Type 1} → statement M
 block-columns-spec =
     tie.close
-    (tie.spec
-    mul-area
-    mul-block-of
-    add-block-of
-    block-of-requires
-    mul-block-of-2
-    add-block-of-2
-    block-of-requires-2
-    mul-is-sent
-    add-is-sent
-    is-sent-requires
-    column-sums-requires
-    same-length
-    returns)
+    (tie.spec mul-area (λ c. search needs) (λ c. search needs) (λ c κs. search needs) (λ c. search needs) (λ c. search needs) (λ c κs. search needs)
+    (λ c. search needs) (λ c. search needs) (λ c κs. search needs) column-sums-requires (λ c. search needs) returns)

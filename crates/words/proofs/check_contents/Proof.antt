@@ -14,18 +14,6 @@ use Rattle.words.specs.Checks.{contentRules}
 use Rattle.words.proofs.check_contents.Statement.{statement}
 use Rattle.words.proofs.check_contents.Tie as tie
 
-order-requires : tie.Need-order-requires
-order-requires c κs = search needs
-
-check-length-requires : tie.Need-check-length-requires
-check-length-requires c κs = search needs
-
-enum-told : tie.Need-enum-told
-enum-told c = search needs
-
-enum-told-2 : tie.Need-enum-told-2
-enum-told-2 c = search needs
-
 returns : tie.Need-returns
 unfolding contentRules wordWork
 returns c =
@@ -44,15 +32,6 @@ check-lists-requires c κs =
     let w : length (a .work .now) ≡ order .result = length-equal 6 _ _ (sym (c .before .before .before .check-length .ensures) ∙ check-passed (c .before .enum-told .given .1)) in
     (s .pre .1 ∙ sym (ap (λ (k : ℕ). 2 * k) e), s .pre .2 ∙ sym (ap (λ (k : ℕ). 2 * k) e), w, omega (arith, s .pre .0 .order-high))
 
-enum-told-3 : tie.Need-enum-told-3
-enum-told-3 c = search needs
-
-enum-told-4 : tie.Need-enum-told-4
-enum-told-4 c = search needs
-
-same-length : tie.Need-same-length
-same-length c = search needs
-
 returns-2 : tie.Need-returns-2
 unfolding contentRules wordWork
 returns-2 c =
@@ -62,18 +41,6 @@ returns-2 c =
     let work = c .before .before .before .before .before .before .before .before .check-length .ensures ∙ ap (λ (k : ℕ). lengthRule 6 (length (a .work .now)) k) e in
     let lists = lists-rule (a .d) (order .result) e (a .own .now) (a .parity .now) (c .before .before .before .before .check-lists .ensures) in
     refused-then _ lists (c .enum-told4 .given .1) ∙ passed-then _ work (c .before .before .before .before .before .before .enum-told .given .1)
-
-check-bits-requires : tie.Need-check-bits-requires
-check-bits-requires c κs = search needs
-
-enum-told-5 : tie.Need-enum-told-5
-enum-told-5 c = search needs
-
-enum-told-6 : tie.Need-enum-told-6
-enum-told-6 c = search needs
-
-same-length-2 : tie.Need-same-length-2
-same-length-2 c = search needs
 
 returns-3 : tie.Need-returns-3
 unfolding contentRules wordWork frameBits
@@ -86,12 +53,6 @@ returns-3 c =
     refused-then _ (c .before .before .check-bits .ensures) (c .enum-told6 .given .1)
     ∙ passed-then _ lists (c .before .before .before .enum-told3 .given .1)
     ∙ passed-then _ work (c .before .before .before .before .before .before .before .before .before .enum-told .given .1)
-
-check-bits-requires-2 : tie.Need-check-bits-requires-2
-check-bits-requires-2 c κs = search needs
-
-same-length-3 : tie.Need-same-length-3
-same-length-3 c = search needs
 
 returns-4 : tie.Need-returns-4
 unfolding contentRules wordWork frameBits
@@ -109,22 +70,6 @@ returns-4 c =
 pub check-contents-spec : {M : Type 1} → statement M
 check-contents-spec =
     tie.close
-    (tie.spec
-    order-requires
-    check-length-requires
-    enum-told
-    enum-told-2
-    returns
-    check-lists-requires
-    enum-told-3
-    enum-told-4
-    same-length
-    returns-2
-    check-bits-requires
-    enum-told-5
-    enum-told-6
-    same-length-2
-    returns-3
-    check-bits-requires-2
-    same-length-3
-    returns-4)
+    (tie.spec (λ c κs. search needs) (λ c κs. search needs) (λ c. search needs) (λ c. search needs) returns check-lists-requires (λ c. search needs)
+    (λ c. search needs) (λ c. search needs) returns-2 (λ c κs. search needs) (λ c. search needs) (λ c. search needs) (λ c. search needs) returns-3
+    (λ c κs. search needs) (λ c. search needs) returns-4)

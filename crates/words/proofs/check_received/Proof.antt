@@ -10,27 +10,9 @@ use Rattle.words.proofs.Verdict.{lengths-small}
 use Rattle.words.proofs.check_received.Statement.{statement}
 use Rattle.words.proofs.check_received.Tie as tie
 
-check-list-lengths-requires : tie.Need-check-list-lengths-requires
-check-list-lengths-requires c κs = search needs
-
-enum-told : tie.Need-enum-told
-enum-told c = search needs
-
-enum-told-2 : tie.Need-enum-told-2
-enum-told-2 c = search needs
-
 returns : tie.Need-returns
 unfolding receivedRules
 returns c = refused-then _ (c .before .before .check-list-lengths .ensures) (c .enum-told2 .given .1)
-
-check-frame-lengths-requires : tie.Need-check-frame-lengths-requires
-check-frame-lengths-requires c κs = search needs
-
-enum-told-3 : tie.Need-enum-told-3
-enum-told-3 c = search needs
-
-enum-told-4 : tie.Need-enum-told-4
-enum-told-4 c = search needs
 
 returns-2 : tie.Need-returns-2
 unfolding receivedRules
@@ -46,9 +28,6 @@ check-contents-requires c κs =
     let frame = sym (c .before .before .before .check-frame-lengths .ensures) ∙ check-passed (c .before .enum-told3 .given .1) in
     (s .pre .0, lists .0, lists .1, lengths-small (a .d) (a .blocks) (a .info .now) (a .red .now) (s .pre .0) (s .pre .1) frame)
 
-same-length : tie.Need-same-length
-same-length c = search needs
-
 returns-3 : tie.Need-returns-3
 unfolding receivedRules
 returns-3 c =
@@ -59,15 +38,5 @@ returns-3 c =
 pub check-received-spec : {M : Type 1} → statement M
 check-received-spec =
     tie.close
-    (tie.spec
-    check-list-lengths-requires
-    enum-told
-    enum-told-2
-    returns
-    check-frame-lengths-requires
-    enum-told-3
-    enum-told-4
-    returns-2
-    check-contents-requires
-    same-length
-    returns-3)
+    (tie.spec (λ c κs. search needs) (λ c. search needs) (λ c. search needs) returns (λ c κs. search needs) (λ c. search needs) (λ c. search needs)
+    returns-2 check-contents-requires (λ c. search needs) returns-3)

@@ -9,21 +9,6 @@ use Rattle.words.proofs.Verdict.{frame-received, frame-working, words-d
 use Rattle.words.proofs.check_words.Statement.{statement}
 use Rattle.words.proofs.check_words.Tie as tie
 
-new-requires : tie.Need-new-requires
-new-requires c κs = search needs
-
-enum-known-designed : tie.Need-enum-known-designed
-enum-known-designed c = search needs
-
-enum-told : tie.Need-enum-told
-enum-told c = search needs
-
-design-check-requires : tie.Need-design-check-requires
-design-check-requires c κs = search needs
-
-refused-count-requires : tie.Need-refused-count-requires
-refused-count-requires c κs = search needs
-
 returns : tie.Need-returns
 returns c =
     let a = c .before .before .before .before .before .before .before .before .before .before .args in
@@ -34,18 +19,6 @@ returns c =
 
 check-frame-requires : tie.Need-check-frame-requires
 check-frame-requires c κs = made-allowed (c .before .before .designed .given .1) (c .before .before .before .before .new .ensures .2)
-
-enum-told-2 : tie.Need-enum-told-2
-enum-told-2 c = search needs
-
-enum-told-3 : tie.Need-enum-told-3
-enum-told-3 c = search needs
-
-refused-count-requires-2 : tie.Need-refused-count-requires-2
-refused-count-requires-2 c κs = search needs
-
-same-length : tie.Need-same-length
-same-length c = search needs
 
 returns-2 : tie.Need-returns-2
 returns-2 c =
@@ -64,9 +37,6 @@ count-received-requires c κs =
     let work = frame-working _ (a .blocks) (a .own .now) (a .parity .now) (a .info .now) (a .red .now) (length (a .work .now)) e in
     (frame-received _ (a .blocks) (a .own .now) (a .parity .now) (a .info .now) (a .red .now) (length (a .work .now)) e allowed, omega (arith, work))
 
-same-length-2 : tie.Need-same-length-2
-same-length-2 c = search needs
-
 returns-3 : tie.Need-returns-3
 returns-3 c =
     let a = c .before .before .before .before .before .before .before .before .before .before .before .before .before .before .before .before .before .before .before .args in
@@ -80,19 +50,6 @@ returns-3 c =
 pub check-words-spec : {M : Type 1} → statement M
 check-words-spec =
     tie.close
-    (tie.spec
-    new-requires
-    enum-known-designed
-    enum-told
-    design-check-requires
-    refused-count-requires
-    returns
-    check-frame-requires
-    enum-told-2
-    enum-told-3
-    refused-count-requires-2
-    same-length
-    returns-2
-    count-received-requires
-    same-length-2
-    returns-3)
+    (tie.spec (λ c κs. search needs) (λ c. search needs) (λ c. search needs) (λ c κs. search needs) (λ c κs. search needs) returns
+    check-frame-requires (λ c. search needs) (λ c. search needs) (λ c κs. search needs) (λ c. search needs) returns-2 count-received-requires
+    (λ c. search needs) returns-3)

@@ -8,23 +8,8 @@ use Rattle.words.proofs.Groups.{blocks-lent, order-is, group-end, colum
 use Rattle.words.proofs.column_remainders.Statement.{statement}
 use Rattle.words.proofs.column_remainders.Tie as tie
 
-r-requires : tie.Need-r-requires
-r-requires c κs = search needs
-
-order-requires : tie.Need-order-requires
-order-requires c κs = search needs
-
-mul-y : tie.Need-mul-y
-mul-y c = search needs
-
 mul-y-2 : tie.Need-mul-y-2
 mul-y-2 c = let s = c .before .before .before .before .before .before .before .before in omega (arith, group-end (s .pre .0) (s .pre .1) (c .order .ensures .0))
-
-size-requires : tie.Need-size-requires
-size-requires c κs = search needs
-
-mul-x : tie.Need-mul-x
-mul-x c = search needs
 
 block-columns-requires : tie.Need-block-columns-requires
 block-columns-requires c κs = let s = c .before .before .before .before .before .before .before .before .before .before in (blocks-lent (s .pre .0) (s .pre .2) (s .pre .3), s .pre .1)
@@ -43,9 +28,6 @@ add-columns-requires c κs =
 add-add-columns : tie.Need-add-add-columns
 add-add-columns c = let s = c .before .before .before .before .before .before .before .before .before .before .before .before .before .before .before .before .before .before in omega (arith, group-end (s .pre .0) (s .pre .1) (c .before .before .before .before .before .before .before .before .before .before .order .ensures .0))
 
-add-add-columns-2 : tie.Need-add-add-columns-2
-add-add-columns-2 c = search needs
-
 add-columns-requires-2 : tie.Need-add-columns-requires-2
 add-columns-requires-2 c κs =
     let s = c .before .before .before .before .before .before .before .before .before .before .before .before .before .before .before .before .before .before in
@@ -56,9 +38,6 @@ add-columns-requires-2 c κs =
       s .pre .0 .frame .redBits,
       omega (arith, s .pre .2 .long, r .ensures .0),
     )
-
-same-length : tie.Need-same-length
-same-length c = search needs
 
 returns : tie.Need-returns
 returns c =
@@ -73,17 +52,5 @@ returns c =
 pub column-remainders-spec : {M : Type 1} → statement M
 column-remainders-spec =
     tie.close
-    (tie.spec
-    r-requires
-    order-requires
-    mul-y
-    mul-y-2
-    size-requires
-    mul-x
-    block-columns-requires
-    add-columns-requires
-    add-add-columns
-    add-add-columns-2
-    add-columns-requires-2
-    same-length
-    returns)
+    (tie.spec (λ c κs. search needs) (λ c κs. search needs) (λ c. search needs) mul-y-2 (λ c κs. search needs) (λ c. search needs)
+    block-columns-requires add-columns-requires add-add-columns (λ c. search needs) add-columns-requires-2 (λ c. search needs) returns)

@@ -75,16 +75,5 @@ returns c =
 pub count-groups-spec : {M : Type 1} → statement M
 count-groups-spec =
     tie.close
-    (tie.spec
-    Inv-loop
-    μ-loop
-    group-count-requires
-    loop-holds
-    group-outside-requires
-    add-total
-    add-i
-    loop-less
-    loop-again
-    same-length
-    same-length-2
+    (tie.spec Inv-loop μ-loop group-count-requires loop-holds group-outside-requires add-total add-i loop-less loop-again same-length same-length-2
     returns)

@@ -53,15 +53,4 @@ returns c =
 pub count-nonzero-spec : {M : Type 1} → statement M
 count-nonzero-spec =
     tie.close
-    (tie.spec
-    Inv-loop
-    μ-loop
-    loop-holds
-    mul-nonzero
-    shared-slice-read-nonzero
-    nonzero-requires
-    add-n
-    add-k
-    loop-less
-    loop-again
-    returns)
+    (tie.spec Inv-loop μ-loop loop-holds mul-nonzero shared-slice-read-nonzero nonzero-requires add-n add-k loop-less loop-again returns)

@@ -7,38 +7,14 @@ use Rattle.words_blocks.proofs.Sums.{part-length}
 use Rattle.words.proofs.count_outside.Statement.{statement}
 use Rattle.words.proofs.count_outside.Tie as tie
 
-size-requires : tie.Need-size-requires
-size-requires c κs = search needs
-
-sub-count-groups : tie.Need-sub-count-groups
-sub-count-groups c = search needs
-
-part-sums-start : tie.Need-part-sums-start
-part-sums-start c = search needs
-
-part-sums-end : tie.Need-part-sums-end
-part-sums-end c = search needs
-
 count-groups-requires : tie.Need-count-groups-requires
 count-groups-requires c κs =
     let s = c .before .before .before .before .before .before .before .before .before in
     let n = c .before .before .size .result in
     (s .pre .0, s .pre .1, s .pre .2, part-length _ 0 n n (omega arith) (omega (arith, s .pre .0 .allowed .M-high)) ∙ c .before .before .size .ensures)
 
-same-length : tie.Need-same-length
-same-length c = search needs
-
-returns : tie.Need-returns
-returns c = search needs
-
 pub count-outside-spec : {M : Type 1} → statement M
 count-outside-spec =
     tie.close
-    (tie.spec
-    size-requires
-    sub-count-groups
-    part-sums-start
-    part-sums-end
-    count-groups-requires
-    same-length
-    returns)
+    (tie.spec (λ c κs. search needs) (λ c. search needs) (λ c. search needs) (λ c. search needs) count-groups-requires (λ c. search needs)
+    (λ c. search needs))

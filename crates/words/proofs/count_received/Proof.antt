@@ -12,28 +12,10 @@ use Rattle.words_positions.proofs.Parts.{part-fits, part-is}
 use Rattle.words.proofs.count_received.Statement.{statement}
 use Rattle.words.proofs.count_received.Tie as tie
 
-n-requires : tie.Need-n-requires
-n-requires c κs = search needs
-
-sub-fill-table : tie.Need-sub-fill-table
-sub-fill-table c = search needs
-
-part-table-start : tie.Need-part-table-start
-part-table-start c = search needs
-
 part-table-end : tie.Need-part-table-end
 part-table-end c =
     let s = c .before .before .before .before .before .before in
     omega (arith, bits-small (s .args .d) (s .pre .0 .allowed))
-
-fill-table-requires : tie.Need-fill-table-requires
-fill-table-requires c κs = search needs
-
-sub-count-outside : tie.Need-sub-count-outside
-sub-count-outside c = search needs
-
-part-count-outside-start : tie.Need-part-count-outside-start
-part-count-outside-start c = search needs
 
 part-count-outside-end : tie.Need-part-count-outside-end
 part-count-outside-end c =
@@ -55,24 +37,8 @@ count-outside-requires c κs =
       s .pre .1,
     )
 
-same-length : tie.Need-same-length
-same-length c = search needs
-
-returns : tie.Need-returns
-returns c = search needs
-
 pub count-received-spec : {M : Type 1} → statement M
 count-received-spec =
     tie.close
-    (tie.spec
-    n-requires
-    sub-fill-table
-    part-table-start
-    part-table-end
-    fill-table-requires
-    sub-count-outside
-    part-count-outside-start
-    part-count-outside-end
-    count-outside-requires
-    same-length
-    returns)
+    (tie.spec (λ c κs. search needs) (λ c. search needs) (λ c. search needs) part-table-end (λ c κs. search needs) (λ c. search needs)
+    (λ c. search needs) part-count-outside-end count-outside-requires (λ c. search needs) (λ c. search needs))

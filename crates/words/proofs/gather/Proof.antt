@@ -82,16 +82,4 @@ returns c =
 pub gather-spec : {M : Type 1} → statement M
 gather-spec =
     tie.close
-    (tie.spec
-    Inv-loop
-    μ-loop
-    loop-holds
-    entry-requires
-    add-out
-    shared-slice-read-out
-    slice-write-out
-    add-p
-    loop-less
-    loop-again
-    same-length
-    returns)
+    (tie.spec Inv-loop μ-loop loop-holds entry-requires add-out shared-slice-read-out slice-write-out add-p loop-less loop-again same-length returns)

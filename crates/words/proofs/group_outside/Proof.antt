@@ -11,30 +11,15 @@ use Rattle.words.proofs.Count.{group-count, group-bound}
 use Rattle.words.proofs.group_outside.Statement.{statement}
 use Rattle.words.proofs.group_outside.Tie as tie
 
-row-remainders-requires : tie.Need-row-remainders-requires
-row-remainders-requires c κs = search needs
-
-count-nonzero-requires : tie.Need-count-nonzero-requires
-count-nonzero-requires c κs = search needs
-
 column-remainders-requires : tie.Need-column-remainders-requires
 column-remainders-requires c κs =
     let s = c .before .before .before .before .before .before .before .before .before .before .before .before .before .before .before .before .before in
     (s .pre .0, s .pre .1, s .pre .2, omega (arith, s .pre .4))
 
-count-nonzero-requires-2 : tie.Need-count-nonzero-requires-2
-count-nonzero-requires-2 c κs = search needs
-
 add-result : tie.Need-add-result
 add-result c =
     let s = c .before .before .before .before .before .before .before .before .before .before .before .before .before .before .before .before .before .before .before .before .before .before in
     omega (arith, s .pre .4, s .pre .0 .allowed .M-high, c .before .before .before .before .before .before .count-nonzero .ensures .1, c .count-nonzero2 .ensures .1)
-
-same-length : tie.Need-same-length
-same-length c = search needs
-
-same-length-2 : tie.Need-same-length-2
-same-length-2 c = search needs
 
 returns : tie.Need-returns
 returns c =
@@ -54,12 +39,5 @@ returns c =
 pub group-outside-spec : {M : Type 1} → statement M
 group-outside-spec =
     tie.close
-    (tie.spec
-    row-remainders-requires
-    count-nonzero-requires
-    column-remainders-requires
-    count-nonzero-requires-2
-    add-result
-    same-length
-    same-length-2
-    returns)
+    (tie.spec (λ c κs. search needs) (λ c κs. search needs) column-remainders-requires (λ c κs. search needs) add-result (λ c. search needs)
+    (λ c. search needs) returns)

@@ -15,4 +15,6 @@ returns-2 : tie.Need-returns-2
 returns-2 c = (sym (ap (λ (z : Bool). cond {A = ℕ} z 0 1) (ne-eqb (c .before .args .x) 0 (c .if1 .left))), omega arith)
 
 pub nonzero-spec : {M : Type 1} → statement M
-nonzero-spec = tie.close (tie.spec returns returns-2)
+nonzero-spec =
+    tie.close
+    (tie.spec returns returns-2)

@@ -11,12 +11,6 @@ use Rattle.words.proofs.Verdict.{counted-refused}
 use Rattle.words.proofs.refused_count.Statement.{statement}
 use Rattle.words.proofs.refused_count.Tie as tie
 
-enum-told : tie.Need-enum-told
-enum-told c = search needs
-
-enum-known-a : tie.Need-enum-known-a
-enum-known-a c = search needs
-
 returns : tie.Need-returns
 unfolding countedOf
 returns c = sym (ap (λ (v : Verdict). countedBy v 0) (check-passed (c .enum-told .given .1)))
@@ -26,4 +20,6 @@ unfolding countedOf verdictOf
 returns-2 c = counted-refused _ ∙ sym (ap (λ (v : Verdict). countedBy v 0) (ap verdictOf (c .before .a .given .1)))
 
 pub refused-count-spec : {M : Type 1} → statement M
-refused-count-spec = tie.close (tie.spec enum-told enum-known-a returns returns-2)
+refused-count-spec =
+    tie.close
+    (tie.spec (λ c. search needs) (λ c. search needs) returns returns-2)

@@ -9,20 +9,8 @@ use Rattle.words.proofs.Groups.{blocks-lent, own-sends, parity-sends, o
 use Rattle.words.proofs.row_remainders.Statement.{statement}
 use Rattle.words.proofs.row_remainders.Tie as tie
 
-r-requires : tie.Need-r-requires
-r-requires c κs = search needs
-
-mul-y : tie.Need-mul-y
-mul-y c = search needs
-
 mul-y-2 : tie.Need-mul-y-2
 mul-y-2 c = let s = c .before .before .before .before .before .before .before .before in omega (arith, group-end (s .pre .0) (s .pre .1) (s .pre .3))
-
-size-requires : tie.Need-size-requires
-size-requires c κs = search needs
-
-mul-x : tie.Need-mul-x
-mul-x c = search needs
 
 block-rows-requires : tie.Need-block-rows-requires
 block-rows-requires c κs = let s = c .before .before .before .before .before .before .before .before .before .before in (blocks-lent (s .pre .0) (s .pre .2) (s .pre .4), s .pre .1)
@@ -42,9 +30,6 @@ add-spread-requires c κs =
 add-add-spread : tie.Need-add-add-spread
 add-add-spread c = let s = c .before .before .before .before .before .before .before .before .before .before .before .before .before .before .before .before .before .before .before .before .before in omega (arith, group-end (s .pre .0) (s .pre .1) (s .pre .3))
 
-add-add-spread-2 : tie.Need-add-add-spread-2
-add-add-spread-2 c = search needs
-
 add-spread-requires-2 : tie.Need-add-spread-requires-2
 add-spread-requires-2 c κs =
     let s = c .before .before .before .before .before .before .before .before .before .before .before .before .before .before .before .before .before .before .before .before .before .before in
@@ -59,12 +44,6 @@ add-spread-requires-2 c κs =
       s .pre .0 .frame .redBits,
       omega (arith, s .pre .2 .long, r .ensures .0, M .ensures),
     )
-
-same-length : tie.Need-same-length
-same-length c = search needs
-
-same-length-2 : tie.Need-same-length-2
-same-length-2 c = search needs
 
 returns : tie.Need-returns
 returns c =
@@ -82,17 +61,5 @@ returns c =
 pub row-remainders-spec : {M : Type 1} → statement M
 row-remainders-spec =
     tie.close
-    (tie.spec
-    r-requires
-    mul-y
-    mul-y-2
-    size-requires
-    mul-x
-    block-rows-requires
-    add-spread-requires
-    add-add-spread
-    add-add-spread-2
-    add-spread-requires-2
-    same-length
-    same-length-2
-    returns)
+    (tie.spec (λ c κs. search needs) (λ c. search needs) mul-y-2 (λ c κs. search needs) (λ c. search needs) block-rows-requires add-spread-requires
+    add-add-spread (λ c. search needs) add-spread-requires-2 (λ c. search needs) (λ c. search needs) returns)

@@ -14,21 +14,6 @@ returns c =
     let a = c .before .before .before .before .args in
     unsent-added (a .sent) (a .column) (a .block .now) (a .table .now) (a .sums .now) (a .from) (not-true (a .sent) (c .if1 .taken))
 
-add-part : tie.Need-add-part
-add-part c = search needs
-
-mul-part : tie.Need-mul-part
-mul-part c = search needs
-
-sub-part : tie.Need-sub-part
-sub-part c = search needs
-
-part-part-start : tie.Need-part-part-start
-part-part-start c = search needs
-
-part-part-end : tie.Need-part-part-end
-part-part-end c = search needs
-
 add-rows-requires : tie.Need-add-rows-requires
 add-rows-requires c κs =
     let s = c .before .before .before .before .before .before .before in
@@ -36,9 +21,6 @@ add-rows-requires c κs =
     let n = length (a .sums .now) in
     let block = s .pre .0 (not-false (a .sent) (c .before .before .before .if1 .left)) in
     (square _ _ n n (block .0) (row-length (a .table .now) (a .from) n (s .pre .1)) refl, block .1)
-
-same-length : tie.Need-same-length
-same-length c = search needs
 
 returns-2 : tie.Need-returns-2
 returns-2 c =
@@ -56,9 +38,6 @@ add-dots-requires c κs =
     let block = s .pre .0 (not-false (a .sent) (c .before .before .before .if1 .left)) in
     (square _ n _ n (block .0) refl (row-length (a .table .now) (a .from) n (s .pre .1)), block .1)
 
-same-length-2 : tie.Need-same-length-2
-same-length-2 c = search needs
-
 returns-3 : tie.Need-returns-3
 returns-3 c =
     let s = c .before .before .before .before .before .before .before .before .before .before in
@@ -70,16 +49,5 @@ returns-3 c =
 pub add-block-spec : {M : Type 1} → statement M
 add-block-spec =
     tie.close
-    (tie.spec
-    returns
-    add-part
-    mul-part
-    sub-part
-    part-part-start
-    part-part-end
-    add-rows-requires
-    same-length
-    returns-2
-    add-dots-requires
-    same-length-2
-    returns-3)
+    (tie.spec returns (λ c. search needs) (λ c. search needs) (λ c. search needs) (λ c. search needs) (λ c. search needs) add-rows-requires
+    (λ c. search needs) returns-2 add-dots-requires (λ c. search needs) returns-3)

@@ -94,22 +94,5 @@ returns c =
 pub add-dots-spec : {M : Type 1} → statement M
 add-dots-spec =
     tie.close
-    (tie.spec
-    Inv-loop
-    μ-loop
-    loop-holds
-    mul-from
-    mul-acc
-    slice-read-acc
-    add-dot
-    sub-dot
-    part-dot-start
-    part-dot-end
-    dot-requires
-    mul-acc-2
-    slice-write-acc
-    add-a
-    loop-less
-    loop-again
-    same-length
-    returns)
+    (tie.spec Inv-loop μ-loop loop-holds mul-from mul-acc slice-read-acc add-dot sub-dot part-dot-start part-dot-end dot-requires mul-acc-2
+    slice-write-acc add-a loop-less loop-again same-length returns)

@@ -11,18 +11,6 @@ use Rattle.words_blocks.proofs.Blocks.{sent-at, block-none, block-some,
 use Rattle.words_blocks.proofs.block_of.Statement.{statement}
 use Rattle.words_blocks.proofs.block_of.Tie as tie
 
-is-sent-requires : tie.Need-is-sent-requires
-is-sent-requires c κs = search needs
-
-sub-result : tie.Need-sub-result
-sub-result c = search needs
-
-part-result-start : tie.Need-part-result-start
-part-result-start c = search needs
-
-part-result-end : tie.Need-part-result-end
-part-result-end c = search needs
-
 returns : tie.Need-returns
 returns c = block-none _ _ _ _ (sym (c .before .before .is-sent .ensures) ∙ not-true (c .before .before .is-sent .result) (c .before .if1 .taken))
 
@@ -44,12 +32,6 @@ add-result c =
     let a = c .before .before .before .args in
     omega (arith, block-end (a .blocks) (a .area) (a .info .now) (a .b) (c .before .before .before .pre) e)
 
-sub-result-2 : tie.Need-sub-result-2
-sub-result-2 c = search needs
-
-part-result-start-2 : tie.Need-part-result-start-2
-part-result-start-2 c = search needs
-
 part-result-end-2 : tie.Need-part-result-end-2
 part-result-end-2 c =
     let e = sym (c .before .is-sent .ensures) ∙ not-false (c .before .is-sent .result) (c .if1 .left) in
@@ -65,16 +47,5 @@ returns-2 c =
 pub block-of-spec : {M : Type 1} → statement M
 block-of-spec =
     tie.close
-    (tie.spec
-    is-sent-requires
-    sub-result
-    part-result-start
-    part-result-end
-    returns
-    sub-at
-    mul-at
-    add-result
-    sub-result-2
-    part-result-start-2
-    part-result-end-2
-    returns-2)
+    (tie.spec (λ c κs. search needs) (λ c. search needs) (λ c. search needs) (λ c. search needs) returns sub-at mul-at add-result (λ c. search needs)
+    (λ c. search needs) part-result-end-2 returns-2)

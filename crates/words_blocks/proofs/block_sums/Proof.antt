@@ -9,9 +9,6 @@ use Rattle.words_blocks.proofs.Sums.{square, blocks-added}
 use Rattle.words_blocks.proofs.block_sums.Statement.{statement}
 use Rattle.words_blocks.proofs.block_sums.Tie as tie
 
-clear-requires : tie.Need-clear-requires
-clear-requires c κs = search needs
-
 add-block-requires : tie.Need-add-block-requires
 add-block-requires c κs =
     let s = c .before .before .before .before .before .before .before .before .before in
@@ -26,9 +23,6 @@ add-block-requires-2 c κs =
     let wide : length (c .before .before .before .add-block .last .0) ≡ n = omega (arith, c .before .before .before .before .before .before .sums .given, c .before .before .sums2 .given) in
     (λ e. (square _ _ _ n (s .pre .1 e .0) wide wide, s .pre .1 e .1), omega (arith, wide, s .pre .2))
 
-same-length : tie.Need-same-length
-same-length c = search needs
-
 returns : tie.Need-returns
 returns c =
     let a = c .before .before .before .before .before .before .before .before .before .before .before .before .before .before .before .before .args in
@@ -39,4 +33,6 @@ returns c =
     (cleared .last .0) (one .last .0) (two .last .0) (cleared .ensures) (one .ensures) (two .ensures)
 
 pub block-sums-spec : {M : Type 1} → statement M
-block-sums-spec = tie.close (tie.spec clear-requires add-block-requires add-block-requires-2 same-length returns)
+block-sums-spec =
+    tie.close
+    (tie.spec (λ c κs. search needs) add-block-requires add-block-requires-2 (λ c. search needs) returns)

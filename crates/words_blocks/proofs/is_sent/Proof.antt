@@ -11,4 +11,6 @@ returns-2 : tie.Need-returns-2
 returns-2 c = sent-some _ _ (c .if1 .left)
 
 pub is-sent-spec : {M : Type 1} → statement M
-is-sent-spec = tie.close (tie.spec returns returns-2)
+is-sent-spec =
+    tie.close
+    (tie.spec returns returns-2)

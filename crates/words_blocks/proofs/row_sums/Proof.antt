@@ -5,15 +5,11 @@ use Rattle.words_blocks.specs.Blocks.{sentBit, rowSum, bitPlace, blockSu
 use Rattle.words_blocks.proofs.row_sums.Statement.{statement}
 use Rattle.words_blocks.proofs.row_sums.Tie as tie
 
-block-sums-requires : tie.Need-block-sums-requires
-block-sums-requires c κs = search needs
-
-same-length : tie.Need-same-length
-same-length c = search needs
-
 returns : tie.Need-returns
 unfolding sentBit rowSum bitPlace blockSum
 returns c = c .before .before .block-sums .ensures
 
 pub row-sums-spec : {M : Type 1} → statement M
-row-sums-spec = tie.close (tie.spec block-sums-requires same-length returns)
+row-sums-spec =
+    tie.close
+    (tie.spec (λ c κs. search needs) (λ c. search needs) returns)

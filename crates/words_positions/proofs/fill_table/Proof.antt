@@ -12,20 +12,8 @@ use Rattle.design.proofs.Allowed.{code-of, r-small}
 use Rattle.words_positions.proofs.fill_table.Statement.{statement}
 use Rattle.words_positions.proofs.fill_table.Tie as tie
 
-r-requires : tie.Need-r-requires
-r-requires c κs = search needs
-
-m-requires : tie.Need-m-requires
-m-requires c κs = search needs
-
-t-requires : tie.Need-t-requires
-t-requires c κs = search needs
-
 generator-of-requires : tie.Need-generator-of-requires
 generator-of-requires c κs = rw (c .before .m .ensures, c .t .ensures) (search needs)
-
-cast-fill-positions : tie.Need-cast-fill-positions
-cast-fill-positions c = search needs
 
 shl-fill-positions : tie.Need-shl-fill-positions
 shl-fill-positions c = let a = c .before .before .before .before .before .args in omega (arith, r-small (a .d) (c .before .before .before .before .before .pre))
@@ -40,9 +28,6 @@ fill-positions-requires c κs =
     let g = rw (c .before .before .before .m .ensures, c .before .before .t .ensures) at (c .before .generator-of .ensures .0) in
     (omega (arith, degree-positive (d .m) (d .t) k), u, shl-exact {a = 1} 1 (c .before .before .before .before .r .result) 32 (omega arith) (omega arith) ∙ one-mul (2 ^ c .before .before .before .before .r .result), ap₂ (λ (g x : ℕ). g / 2 ^ x) g e ∙ degree (d .m) (d .t) k)
 
-same-length : tie.Need-same-length
-same-length c = search needs
-
 returns : tie.Need-returns
 returns c =
     let f = c .before .before .fill-positions in
@@ -52,13 +37,5 @@ returns c =
 pub fill-table-spec : {M : Type 1} → statement M
 fill-table-spec =
     tie.close
-    (tie.spec
-    r-requires
-    m-requires
-    t-requires
-    generator-of-requires
-    cast-fill-positions
-    shl-fill-positions
-    fill-positions-requires
-    same-length
-    returns)
+    (tie.spec (λ c κs. search needs) (λ c κs. search needs) (λ c κs. search needs) generator-of-requires (λ c. search needs) shl-fill-positions
+    fill-positions-requires (λ c. search needs) returns)

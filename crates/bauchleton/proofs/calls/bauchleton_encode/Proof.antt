@@ -8,21 +8,6 @@ use Rattle.rules_verdict.proofs.Stores.{told-alike}
 use Rattle.bauchleton.proofs.calls.bauchleton_encode.Statement.{statement}
 use Rattle.bauchleton.proofs.calls.bauchleton_encode.Tie as tie
 
-encode-requires : tie.Need-encode-requires
-encode-requires c κs = tt
-
-tell-check-requires : tie.Need-tell-check-requires
-tell-check-requires c κs = tt
-
-same-length : tie.Need-same-length
-same-length c = search needs
-
-same-length-2 : tie.Need-same-length-2
-same-length-2 c = search needs
-
-same-length-3 : tie.Need-same-length-3
-same-length-3 c = search needs
-
 returns : tie.Need-returns
 returns c =
     let t = told-alike number (λ (v : Verdict). placeOf v ∷ []) (c .before .before .before .before .before .before .before .before .before .before .before .before .before .before .before .before .before .before .args .answer .now) (c .before .before .before .before .before .before .before .before .encode .ensures .0) (c .before .before .tell-check .ensures) in
@@ -31,10 +16,4 @@ returns c =
 pub bauchleton-encode-spec : {M : Type 1} → statement M
 bauchleton-encode-spec =
     tie.close
-    (tie.spec
-    encode-requires
-    tell-check-requires
-    same-length
-    same-length-2
-    same-length-3
-    returns)
+    (tie.spec (λ c κs. tt) (λ c κs. tt) (λ c. search needs) (λ c. search needs) (λ c. search needs) returns)

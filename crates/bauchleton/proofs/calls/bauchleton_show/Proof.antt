@@ -7,30 +7,6 @@ use Rattle.bauchleton.proofs.Answers.{show-told}
 use Rattle.bauchleton.proofs.calls.bauchleton_show.Statement.{statement}
 use Rattle.bauchleton.proofs.calls.bauchleton_show.Tie as tie
 
-part-of-requires : tie.Need-part-of-requires
-part-of-requires c κs = tt
-
-check-show-requires : tie.Need-check-show-requires
-check-show-requires c κs = tt
-
-show-requires : tie.Need-show-requires
-show-requires c κs = tt
-
-paste-requires : tie.Need-paste-requires
-paste-requires c κs = tt
-
-of-check-requires : tie.Need-of-check-requires
-of-check-requires c κs = tt
-
-tell-two-requires : tie.Need-tell-two-requires
-tell-two-requires c κs = tt
-
-same-length : tie.Need-same-length
-same-length c = search needs
-
-same-length-2 : tie.Need-same-length-2
-same-length-2 c = search needs
-
 returns : tie.Need-returns
 returns c =
     let a = c .before .before .before .before .before .before .before .before .before .before .before .before .before .before .before .before .args in
@@ -40,13 +16,4 @@ returns c =
 pub bauchleton-show-spec : {M : Type 1} → statement M
 bauchleton-show-spec =
     tie.close
-    (tie.spec
-    part-of-requires
-    check-show-requires
-    show-requires
-    paste-requires
-    of-check-requires
-    tell-two-requires
-    same-length
-    same-length-2
-    returns)
+    (tie.spec (λ c κs. tt) (λ c κs. tt) (λ c κs. tt) (λ c κs. tt) (λ c κs. tt) (λ c κs. tt) (λ c. search needs) (λ c. search needs) returns)

@@ -14,4 +14,6 @@ unfolding partOf
 returns-2 c = part-group _ _ (c .if1 .left)
 
 pub part-of-spec : {M : Type 1} → statement M
-part-of-spec = tie.close (tie.spec returns returns-2)
+part-of-spec =
+    tie.close
+    (tie.spec returns returns-2)

@@ -46,15 +46,4 @@ returns-2 c = c .before .loop .inv .3 ∙ pasted-all (c .before .before .before 
 pub paste-spec : {M : Type 1} → statement M
 paste-spec =
     tie.close
-    (tie.spec
-    Inv-loop
-    μ-loop
-    returns
-    loop-holds
-    shared-slice-read-out
-    slice-write-out
-    add-k
-    loop-less
-    loop-again
-    same-length
-    returns-2)
+    (tie.spec Inv-loop μ-loop returns loop-holds shared-slice-read-out slice-write-out add-k loop-less loop-again same-length returns-2)

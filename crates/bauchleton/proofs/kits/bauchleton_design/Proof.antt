@@ -10,36 +10,6 @@ use Rattle.bauchleton.proofs.Answers.{design-made, design-refused}
 use Rattle.bauchleton.proofs.kits.bauchleton_design.Statement.{statement}
 use Rattle.bauchleton.proofs.kits.bauchleton_design.Tie as tie
 
-new-requires : tie.Need-new-requires
-new-requires c κs = tt
-
-enum-known-d : tie.Need-enum-known-d
-enum-known-d c = search needs
-
-r-requires : tie.Need-r-requires
-r-requires c κs = tt
-
-n-requires : tie.Need-n-requires
-n-requires c κs = tt
-
-k-requires : tie.Need-k-requires
-k-requires c κs = tt
-
-tell-four-requires : tie.Need-tell-four-requires
-tell-four-requires c κs = tt
-
-enum-known-r : tie.Need-enum-known-r
-enum-known-r c = search needs
-
-of-refusal-requires : tie.Need-of-refusal-requires
-of-refusal-requires c κs = tt
-
-tell-four-requires-2 : tie.Need-tell-four-requires-2
-tell-four-requires-2 c κs = tt
-
-same-length : tie.Need-same-length
-same-length c = search needs
-
 returns : tie.Need-returns
 returns c =
     let a = c .before .before .before .before .before .before .before .before .before .before .before .before .args in
@@ -47,9 +17,6 @@ returns c =
       c .before .before .tell-four .ensures .0 ∙ q .0,
       c .before .before .tell-four .ensures .1 ∙ ap (λ (l : List ℕ). told l (a .answer .now)) (q .1),
     )
-
-same-length-2 : tie.Need-same-length-2
-same-length-2 c = search needs
 
 returns-2 : tie.Need-returns-2
 returns-2 c =
@@ -61,17 +28,5 @@ returns-2 c =
 pub bauchleton-design-spec : {M : Type 1} → statement M
 bauchleton-design-spec =
     tie.close
-    (tie.spec
-    new-requires
-    enum-known-d
-    r-requires
-    n-requires
-    k-requires
-    tell-four-requires
-    enum-known-r
-    of-refusal-requires
-    tell-four-requires-2
-    same-length
-    returns
-    same-length-2
-    returns-2)
+    (tie.spec (λ c κs. tt) (λ c. search needs) (λ c κs. tt) (λ c κs. tt) (λ c κs. tt) (λ c κs. tt) (λ c. search needs) (λ c κs. tt) (λ c κs. tt)
+    (λ c. search needs) returns (λ c. search needs) returns-2)

@@ -8,24 +8,6 @@ use Rattle.bauchleton_text.proofs.Answers.{told-by}
 use Rattle.bauchleton_text.proofs.readings.bauchleton_read_kit.Statement.{statement}
 use Rattle.bauchleton_text.proofs.readings.bauchleton_read_kit.Tie as tie
 
-read-kit-requires : tie.Need-read-kit-requires
-read-kit-requires c κs = tt
-
-tell-kit-requires : tie.Need-tell-kit-requires
-tell-kit-requires c κs = tt
-
-same-length : tie.Need-same-length
-same-length c = search needs
-
-same-length-2 : tie.Need-same-length-2
-same-length-2 c = search needs
-
-same-length-3 : tie.Need-same-length-3
-same-length-3 c = search needs
-
-same-length-4 : tie.Need-same-length-4
-same-length-4 c = search needs
-
 returns : tie.Need-returns
 returns c =
     let a = c .before .before .before .before .before .before .before .before .before .before .before .before .before .before .before .before .before .before .before .args in
@@ -37,11 +19,4 @@ returns c =
 pub bauchleton-read-kit-spec : {M : Type 1} → statement M
 bauchleton-read-kit-spec =
     tie.close
-    (tie.spec
-    read-kit-requires
-    tell-kit-requires
-    same-length
-    same-length-2
-    same-length-3
-    same-length-4
-    returns)
+    (tie.spec (λ c κs. tt) (λ c κs. tt) (λ c. search needs) (λ c. search needs) (λ c. search needs) (λ c. search needs) returns)

@@ -7,15 +7,6 @@ use Rattle.bauchleton_text.proofs.Answers.{told-by}
 use Rattle.bauchleton_text.proofs.readings.bauchleton_scan_kit.Statement.{statement}
 use Rattle.bauchleton_text.proofs.readings.bauchleton_scan_kit.Tie as tie
 
-scan-kit-requires : tie.Need-scan-kit-requires
-scan-kit-requires c κs = tt
-
-tell-kit-requires : tie.Need-tell-kit-requires
-tell-kit-requires c κs = tt
-
-same-length : tie.Need-same-length
-same-length c = search needs
-
 returns : tie.Need-returns
 returns c =
     let a = c .before .before .before .before .before .before .before .args in
@@ -26,8 +17,4 @@ returns c =
 pub bauchleton-scan-kit-spec : {M : Type 1} → statement M
 bauchleton-scan-kit-spec =
     tie.close
-    (tie.spec
-    scan-kit-requires
-    tell-kit-requires
-    same-length
-    returns)
+    (tie.spec (λ c κs. tt) (λ c κs. tt) (λ c. search needs) returns)

@@ -74,17 +74,5 @@ returns c =
 pub fill-logs-spec : {M : Type 1} → statement M
 fill-logs-spec =
     tie.close
-    (tie.spec
-    Inv-loop
-    μ-loop
-    clear-requires
-    loop-holds
-    cast-logs
-    power-at-requires
-    mul-logs
-    slice-write-logs
-    add-j
-    loop-less
-    loop-again
-    same-length
+    (tie.spec Inv-loop μ-loop clear-requires loop-holds cast-logs power-at-requires mul-logs slice-write-logs add-j loop-less loop-again same-length
     returns)

@@ -80,17 +80,5 @@ returns c =
 pub fill-solutions-spec : {M : Type 1} → statement M
 fill-solutions-spec =
     tie.close
-    (tie.spec
-    Inv-loop
-    μ-loop
-    clear-requires
-    loop-holds
-    solved-by-requires
-    cast-table
-    mul-table
-    slice-write-table
-    add-e
-    loop-less
-    loop-again
-    same-length
-    returns)
+    (tie.spec Inv-loop μ-loop clear-requires loop-holds solved-by-requires cast-table mul-table slice-write-table add-e loop-less loop-again
+    same-length returns)

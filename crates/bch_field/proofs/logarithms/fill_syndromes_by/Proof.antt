@@ -73,17 +73,5 @@ returns c =
 pub fill-syndromes-by-spec : {M : Type 1} → statement M
 fill-syndromes-by-spec =
     tie.close
-    (tie.spec
-    Inv-loop
-    μ-loop
-    loop-holds
-    sub-syndromes-of
-    sub-syndromes-of-2
-    syndromes-of-requires
-    mul-table
-    slice-write-table
-    add-j
-    loop-less
-    loop-again
-    same-length
-    returns)
+    (tie.spec Inv-loop μ-loop loop-holds sub-syndromes-of sub-syndromes-of-2 syndromes-of-requires mul-table slice-write-table add-j loop-less
+    loop-again same-length returns)

@@ -26,4 +26,6 @@ returns c =
     (e, omega arith, omega (arith, sizes (a .m) (p .0) (p .1)))
 
 pub power-at-spec : {M : Type 1} → statement M
-power-at-spec = tie.close (tie.spec mul-result shared-slice-read-result cast-result returns)
+power-at-spec =
+    tie.close
+    (tie.spec mul-result shared-slice-read-result cast-result returns)

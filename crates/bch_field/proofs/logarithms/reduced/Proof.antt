@@ -18,4 +18,6 @@ returns-2 c =
     (sym (mod-eq-sub-mod l ∙ mod-eq-of-lt h), h)
 
 pub reduced-spec : {M : Type 1} → statement M
-reduced-spec = tie.close (tie.spec returns returns-2)
+reduced-spec =
+    tie.close
+    (tie.spec returns returns-2)

@@ -77,13 +77,4 @@ returns c =
 pub solved-by-spec : {M : Type 1} → statement M
 solved-by-spec =
     tie.close
-    (tie.spec
-    mul-reduced
-    reduced-requires
-    power-at-requires
-    mul-f
-    shared-slice-read-f
-    cast-f
-    add-reduced
-    reduced-requires-2
-    returns)
+    (tie.spec mul-reduced reduced-requires power-at-requires mul-f shared-slice-read-f cast-f add-reduced reduced-requires-2 returns)

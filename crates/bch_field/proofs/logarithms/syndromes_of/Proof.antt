@@ -27,23 +27,11 @@ reduced-requires-2 c κs =
     let a = c .before .before .args in
     omega (arith, c .reduced .ensures, powers-length (a .m) (a .powers .now) (c .before .before .pre .2))
 
-power-at-requires : tie.Need-power-at-requires
-power-at-requires c κs = search needs
-
 power-at-requires-2 : tie.Need-power-at-requires-2
 power-at-requires-2 c κs =
     let a = c .before .before .before .before .args in
     let p = c .before .before .before .before .pre in
     (p .0, p .1, p .2, omega (arith, c .before .reduced2 .ensures, powers-length (a .m) (a .powers .now) (p .2)))
-
-mul-result : tie.Need-mul-result
-mul-result c = search needs
-
-add-result : tie.Need-add-result
-add-result c = search needs
-
-cast-result : tie.Need-cast-result
-cast-result c = search needs
 
 returns : tie.Need-returns
 returns c =
@@ -57,14 +45,5 @@ returns c =
 pub syndromes-of-spec : {M : Type 1} → statement M
 syndromes-of-spec =
     tie.close
-    (tie.spec
-    mul-reduced
-    reduced-requires
-    add-reduced
-    reduced-requires-2
-    power-at-requires
-    power-at-requires-2
-    mul-result
-    add-result
-    cast-result
-    returns)
+    (tie.spec mul-reduced reduced-requires add-reduced reduced-requires-2 (λ c κs. search needs) power-at-requires-2 (λ c. search needs)
+    (λ c. search needs) (λ c. search needs) returns)

@@ -8,12 +8,6 @@ use borrow.Author.Needs.{needs}
 use Rattle.design.proofs.Design.area.Statement.{statement}
 use Rattle.design.proofs.Design.area.Tie as tie
 
-cast-result : tie.Need-cast-result
-cast-result c = search needs
-
-cast-result-2 : tie.Need-cast-result-2
-cast-result-2 c = search needs
-
 mul-result : tie.Need-mul-result
 mul-result c = product-fits _ _ (omega arith) (omega arith)
 
@@ -21,4 +15,6 @@ returns : tie.Need-returns
 returns c = let d = c .before .before .args .self in (refl, omega (arith, small-product (d .size) (d .size) 65535 65535 (omega arith) (omega arith)))
 
 pub area-spec : {M : Type 1} → statement M
-area-spec = tie.close (tie.spec cast-result cast-result-2 mul-result returns)
+area-spec =
+    tie.close
+    (tie.spec (λ c. search needs) (λ c. search needs) mul-result returns)

@@ -21,17 +21,11 @@ in-range c =
     (sym (c .before .before .before .out-of-range2 .ensures) ∙ c .before .before .if2 .left)
     (sym (c .before .out-of-range3 .ensures) ∙ c .if3 .left)
 
-out-of-range-requires : tie.Need-out-of-range-requires
-out-of-range-requires c κs = search needs
-
 returns : tie.Need-returns
 unfolding designVerdict refusalVerdict DesignIs DesignAllowed
 returns c =
     let a = c .before .before .args in
     (no-m (a .m) (a .t) (a .size) (sym (c .before .out-of-range .ensures) ∙ c .if1 .taken), tt, tt)
-
-out-of-range-requires-2 : tie.Need-out-of-range-requires-2
-out-of-range-requires-2 c κs = search needs
 
 returns-2 : tie.Need-returns-2
 unfolding designVerdict refusalVerdict DesignIs DesignAllowed
@@ -40,9 +34,6 @@ returns-2 c =
     let no = no-t (a .m) (a .t) (a .size) (sym (c .before .before .before .out-of-range .ensures) ∙ c .before .before .if1 .left)
     (sym (c .before .out-of-range2 .ensures) ∙ c .if2 .taken) in
     (no, tt, tt)
-
-out-of-range-requires-3 : tie.Need-out-of-range-requires-3
-out-of-range-requires-3 c κs = search needs
 
 returns-3 : tie.Need-returns-3
 unfolding designVerdict refusalVerdict DesignIs DesignAllowed
@@ -122,23 +113,5 @@ returns-6 c =
 pub new-spec : {M : Type 1} → statement M
 new-spec =
     tie.close
-    (tie.spec
-    out-of-range-requires
-    returns
-    out-of-range-requires-2
-    returns-2
-    out-of-range-requires-3
-    returns-3
-    mul-r
-    mul-n
-    mul-n-2
-    add-n
-    shl-longest
-    sub-longest
-    returns-4
-    mul-order
-    returns-5
-    cast-t19
-    cast-t20
-    cast-t21
-    returns-6)
+    (tie.spec (λ c κs. search needs) returns (λ c κs. search needs) returns-2 (λ c κs. search needs) returns-3 mul-r mul-n mul-n-2 add-n shl-longest
+    sub-longest returns-4 mul-order returns-5 cast-t19 cast-t20 cast-t21 returns-6)

@@ -9,12 +9,6 @@ use borrow.Author.Needs.{needs}
 use Rattle.design.proofs.Design.order.Statement.{statement}
 use Rattle.design.proofs.Design.order.Tie as tie
 
-cast-result : tie.Need-cast-result
-cast-result c = search needs
-
-r-requires : tie.Need-r-requires
-r-requires c κs = search needs
-
 mul-result : tie.Need-mul-result
 mul-result c = product-fits _ _ (omega arith) (omega arith)
 
@@ -24,4 +18,6 @@ returns c =
     (ap (λ (r : ℕ). d .size * r) (c .r .ensures .0), omega (arith, small-product (d .size) (c .r .result) 65535 65535 (omega arith) (omega arith)))
 
 pub order-spec : {M : Type 1} → statement M
-order-spec = tie.close (tie.spec cast-result r-requires mul-result returns)
+order-spec =
+    tie.close
+    (tie.spec (λ c. search needs) (λ c κs. search needs) mul-result returns)

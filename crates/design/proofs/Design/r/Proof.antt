@@ -8,12 +8,6 @@ use borrow.Author.Needs.{needs}
 use Rattle.design.proofs.Design.r.Statement.{statement}
 use Rattle.design.proofs.Design.r.Tie as tie
 
-cast-result : tie.Need-cast-result
-cast-result c = search needs
-
-cast-result-2 : tie.Need-cast-result-2
-cast-result-2 c = search needs
-
 mul-result : tie.Need-mul-result
 mul-result c = product-fits _ _ (omega arith) (omega arith)
 
@@ -21,4 +15,6 @@ returns : tie.Need-returns
 returns c = let d = c .before .before .args .self in (refl, omega (arith, small-product (d .m) (d .t) 255 255 (omega arith) (omega arith)))
 
 pub r-spec : {M : Type 1} → statement M
-r-spec = tie.close (tie.spec cast-result cast-result-2 mul-result returns)
+r-spec =
+    tie.close
+    (tie.spec (λ c. search needs) (λ c. search needs) mul-result returns)

@@ -48,27 +48,6 @@ constant-bits-requires c κs =
       T .within,
     )
 
-mul-group-bits : tie.Need-mul-group-bits
-mul-group-bits c = omega arith
-
-mul-group-bits-2 : tie.Need-mul-group-bits-2
-mul-group-bits-2 c = omega arith
-
-add-group-bits : tie.Need-add-group-bits
-add-group-bits c = omega arith
-
-mul-group-bits-3 : tie.Need-mul-group-bits-3
-mul-group-bits-3 c = omega arith
-
-sub-group-bits : tie.Need-sub-group-bits
-sub-group-bits c = omega arith
-
-part-group-bits-start : tie.Need-part-group-bits-start
-part-group-bits-start c = omega arith
-
-part-group-bits-end : tie.Need-part-group-bits-end
-part-group-bits-end c = omega arith
-
 group-bits-requires : tie.Need-group-bits-requires
 group-bits-requires c κs =
     let s = c .before .before .before .before .before .before .before .before .before .before .before .before .before .before .before .before .before .before .before .before .before .before .before .before .before .before .before .before in
@@ -84,18 +63,6 @@ group-bits-requires c κs =
       T .few-rows,
       T .small,
     )
-
-same-length : tie.Need-same-length
-same-length c = omega arith
-
-same-length-2 : tie.Need-same-length-2
-same-length-2 c = omega arith
-
-same-length-3 : tie.Need-same-length-3
-same-length-3 c = omega arith
-
-same-length-4 : tie.Need-same-length-4
-same-length-4 c = omega arith
 
 returns : tie.Need-returns
 returns c =
@@ -114,20 +81,6 @@ returns c =
 pub group-in-spec : {M : Type 1} → statement M
 group-in-spec =
     tie.close
-    (tie.spec
-    column-sums-requires
-    row-sums-requires
-    constant-bits-requires
-    mul-group-bits
-    mul-group-bits-2
-    add-group-bits
-    mul-group-bits-3
-    sub-group-bits
-    part-group-bits-start
-    part-group-bits-end
-    group-bits-requires
-    same-length
-    same-length-2
-    same-length-3
-    same-length-4
-    returns)
+    (tie.spec column-sums-requires row-sums-requires constant-bits-requires (λ c. omega arith) (λ c. omega arith) (λ c. omega arith)
+    (λ c. omega arith) (λ c. omega arith) (λ c. omega arith) (λ c. omega arith) group-bits-requires (λ c. omega arith) (λ c. omega arith)
+    (λ c. omega arith) (λ c. omega arith) returns)

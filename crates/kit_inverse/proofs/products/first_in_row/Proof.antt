@@ -13,27 +13,6 @@ use Rattle.kit_inverse.proofs.Found.{packed-spare, packed-found}
 use Rattle.kit_inverse.proofs.products.first_in_row.Statement.{statement}
 use Rattle.kit_inverse.proofs.products.first_in_row.Tie as tie
 
-add-rb : tie.Need-add-rb
-add-rb c = search needs
-
-sub-system-row : tie.Need-sub-system-row
-sub-system-row c = search needs
-
-part-row-start : tie.Need-part-row-start
-part-row-start c = search needs
-
-part-row-end : tie.Need-part-row-end
-part-row-end c = search needs
-
-system-row-requires : tie.Need-system-row-requires
-system-row-requires c κs = search needs
-
-sub-first-in-packed : tie.Need-sub-first-in-packed
-sub-first-in-packed c = search needs
-
-part-first-in-packed-start : tie.Need-part-first-in-packed-start
-part-first-in-packed-start c = search needs
-
 part-first-in-packed-end : tie.Need-part-first-in-packed-end
 part-first-in-packed-end c =
     let s = c .before .before .system-row in
@@ -62,14 +41,5 @@ returns c =
 pub first-in-row-spec : {M : Type 1} → statement M
 first-in-row-spec =
     tie.close
-    (tie.spec
-    add-rb
-    sub-system-row
-    part-row-start
-    part-row-end
-    system-row-requires
-    sub-first-in-packed
-    part-first-in-packed-start
-    part-first-in-packed-end
-    first-in-packed-requires
-    returns)
+    (tie.spec (λ c. search needs) (λ c. search needs) (λ c. search needs) (λ c. search needs) (λ c κs. search needs) (λ c. search needs)
+    (λ c. search needs) part-first-in-packed-end first-in-packed-requires returns)

@@ -106,17 +106,5 @@ returns-2 c =
 pub first-in-rows-spec : {M : Type 1} → statement M
 first-in-rows-spec =
     tie.close
-    (tie.spec
-    Inv-loop
-    μ-loop
-    loop-holds
-    source-requires
-    first-in-row-requires
-    mul-result
-    add-result
-    returns
-    add-e
-    loop-less
-    loop-again
-    mul-result-2
+    (tie.spec Inv-loop μ-loop loop-holds source-requires first-in-row-requires mul-result add-result returns add-e loop-less loop-again mul-result-2
     returns-2)

@@ -13,24 +13,6 @@ use Rattle.kit_inverse.proofs.Found.{sent-below, sent-found}
 use Rattle.kit_inverse.proofs.products.first_wrong.Statement.{statement}
 use Rattle.kit_inverse.proofs.products.first_wrong.Tie as tie
 
-sub-fill-inverse : tie.Need-sub-fill-inverse
-sub-fill-inverse c = search needs
-
-part-places-start : tie.Need-part-places-start
-part-places-start c = search needs
-
-part-places-end : tie.Need-part-places-end
-part-places-end c = search needs
-
-fill-inverse-requires : tie.Need-fill-inverse-requires
-fill-inverse-requires c κs = search needs
-
-sub-first-in-rows : tie.Need-sub-first-in-rows
-sub-first-in-rows c = search needs
-
-part-first-in-rows-start : tie.Need-part-first-in-rows-start
-part-first-in-rows-start c = search needs
-
 part-first-in-rows-end : tie.Need-part-first-in-rows-end
 part-first-in-rows-end c =
     let f = c .before .before .fill-inverse in
@@ -60,13 +42,5 @@ returns c =
 pub first-wrong-spec : {M : Type 1} → statement M
 first-wrong-spec =
     tie.close
-    (tie.spec
-    sub-fill-inverse
-    part-places-start
-    part-places-end
-    fill-inverse-requires
-    sub-first-in-rows
-    part-first-in-rows-start
-    part-first-in-rows-end
-    first-in-rows-requires
-    returns)
+    (tie.spec (λ c. search needs) (λ c. search needs) (λ c. search needs) (λ c κs. search needs) (λ c. search needs) (λ c. search needs)
+    part-first-in-rows-end first-in-rows-requires returns)

@@ -67,12 +67,4 @@ returns c =
 pub source-spec : {M : Type 1} → statement M
 source-spec =
     tie.close
-    (tie.spec
-    rem-result
-    mul-result
-    div-result
-    add-result
-    mul-result-2
-    shared-slice-read-result
-    cast-result
-    returns)
+    (tie.spec rem-result mul-result div-result add-result mul-result-2 shared-slice-read-result cast-result returns)

@@ -70,17 +70,4 @@ returns c r s h k =
 pub block-at-spec : {M : Type 1} → statement M
 block-at-spec =
     tie.close
-    (tie.spec
-    Inv-loop
-    μ-loop
-    loop-holds
-    mul-byte-at
-    add-byte-at
-    byte-at-requires
-    cast-q
-    mul-q
-    shl-q
-    add-r
-    loop-less
-    loop-again
-    returns)
+    (tie.spec Inv-loop μ-loop loop-holds mul-byte-at add-byte-at byte-at-requires cast-q mul-q shl-q add-r loop-less loop-again returns)

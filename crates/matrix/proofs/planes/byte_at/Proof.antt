@@ -30,9 +30,4 @@ returns-2 c = rw (lt-ltb (c .before .before .args .i) (c .before .before .args .
 pub byte-at-spec : {M : Type 1} → statement M
 byte-at-spec =
     tie.close
-    (tie.spec
-    returns
-    mul-result
-    add-result
-    shared-slice-read-result
-    returns-2)
+    (tie.spec returns mul-result add-result shared-slice-read-result returns-2)

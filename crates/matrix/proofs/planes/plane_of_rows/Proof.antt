@@ -92,20 +92,5 @@ returns c = (omega arith, λ x h. c .before .loop .inv .2 x (omega arith) h)
 pub plane-of-rows-spec : {M : Type 1} → statement M
 plane-of-rows-spec =
     tie.close
-    (tie.spec
-    Inv-loop
-    μ-loop
-    loop-holds
-    block-at-requires
-    transpose-block-requires
-    mul-x
-    block-end-requires
-    sub-put-block
-    part-put-block-start
-    part-put-block-end
-    put-block-requires
-    add-c
-    loop-less
-    loop-again
-    same-length
-    returns)
+    (tie.spec Inv-loop μ-loop loop-holds block-at-requires transpose-block-requires mul-x block-end-requires sub-put-block part-put-block-start
+    part-put-block-end put-block-requires add-c loop-less loop-again same-length returns)

@@ -83,19 +83,5 @@ returns c =
 pub planes-of-rows-spec : {M : Type 1} → statement M
 planes-of-rows-spec =
     tie.close
-    (tie.spec
-    Inv-loop
-    μ-loop
-    add-rb
-    loop-holds
-    mul-a
-    add-e
-    sub-plane-of-rows
-    part-plane-of-rows-start
-    part-plane-of-rows-end
-    plane-of-rows-requires
-    add-b
-    loop-less
-    loop-again
-    same-length
-    returns)
+    (tie.spec Inv-loop μ-loop add-rb loop-holds mul-a add-e sub-plane-of-rows part-plane-of-rows-start part-plane-of-rows-end plane-of-rows-requires
+    add-b loop-less loop-again same-length returns)

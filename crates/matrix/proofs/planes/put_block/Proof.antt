@@ -65,16 +65,4 @@ returns c =
 pub put-block-spec : {M : Type 1} → statement M
 put-block-spec =
     tie.close
-    (tie.spec
-    Inv-loop
-    μ-loop
-    loop-holds
-    mul-part
-    shr-part
-    cast-part
-    slice-write-part
-    add-s
-    loop-less
-    loop-again
-    same-length
-    returns)
+    (tie.spec Inv-loop μ-loop loop-holds mul-part shr-part cast-part slice-write-part add-s loop-less loop-again same-length returns)

@@ -14,4 +14,6 @@ returns c r s h l =
     transposed-bit (c .args .x) (8 * s + r) (omega arith) ∙ rw e
 
 pub transpose-block-spec : {M : Type 1} → statement M
-transpose-block-spec = tie.close (tie.spec returns)
+transpose-block-spec =
+    tie.close
+    (tie.spec returns)

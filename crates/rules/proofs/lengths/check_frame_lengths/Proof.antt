@@ -11,41 +11,17 @@ use borrow.Author.Needs.{needs}
 use Rattle.rules.proofs.lengths.check_frame_lengths.Statement.{statement}
 use Rattle.rules.proofs.lengths.check_frame_lengths.Tie as tie
 
-area-requires : tie.Need-area-requires
-area-requires c κs = search needs
-
 mul-info-length : tie.Need-mul-info-length
 mul-info-length c = omega (arith, small-product (c .before .before .before .args .blocks) (c .area .result) most-blocks 4294967296 (omega arith) (omega arith))
 
-group-count-requires : tie.Need-group-count-requires
-group-count-requires c κs = search needs
-
-order-requires : tie.Need-order-requires
-order-requires c κs = search needs
-
-mul-red-length : tie.Need-mul-red-length
-mul-red-length c = search needs
-
 mul-red-length-2 : tie.Need-mul-red-length-2
 mul-red-length-2 c = omega (arith, small-product (c .before .group-count .result) (2 * c .order .result) most-blocks 8589934592 (omega arith) (omega arith))
-
-check-length-requires : tie.Need-check-length-requires
-check-length-requires c κs = search needs
-
-enum-told : tie.Need-enum-told
-enum-told c = search needs
-
-enum-told-2 : tie.Need-enum-told-2
-enum-told-2 c = search needs
 
 returns : tie.Need-returns
 unfolding frameLengths
 returns c =
     refused-then _ (rw (c .before .before .before .before .before .area .ensures .0) at (c .before .before .check-length .ensures))
     (c .enum-told2 .given .1)
-
-check-length-requires-2 : tie.Need-check-length-requires-2
-check-length-requires-2 c κs = search needs
 
 returns-2 : tie.Need-returns-2
 unfolding frameLengths
@@ -57,16 +33,5 @@ returns-2 c =
 pub check-frame-lengths-spec : {M : Type 1} → statement M
 check-frame-lengths-spec =
     tie.close
-    (tie.spec
-    area-requires
-    mul-info-length
-    group-count-requires
-    order-requires
-    mul-red-length
-    mul-red-length-2
-    check-length-requires
-    enum-told
-    enum-told-2
-    returns
-    check-length-requires-2
-    returns-2)
+    (tie.spec (λ c κs. search needs) mul-info-length (λ c κs. search needs) (λ c κs. search needs) (λ c. search needs) mul-red-length-2
+    (λ c κs. search needs) (λ c. search needs) (λ c. search needs) returns (λ c κs. search needs) returns-2)

@@ -11,31 +11,13 @@ use Rattle.design.proofs.Answers.{refused-then, passed-then}
 use Rattle.rules.proofs.lengths.check_kit_lengths.Statement.{statement}
 use Rattle.rules.proofs.lengths.check_kit_lengths.Tie as tie
 
-check-list-lengths-requires : tie.Need-check-list-lengths-requires
-check-list-lengths-requires c κs = search needs
-
-enum-told : tie.Need-enum-told
-enum-told c = search needs
-
-enum-told-2 : tie.Need-enum-told-2
-enum-told-2 c = search needs
-
 returns : tie.Need-returns
 unfolding kitLengths
 returns c = refused-then _ (c .before .before .check-list-lengths .ensures) (c .enum-told2 .given .1)
 
-order-requires : tie.Need-order-requires
-order-requires c κs = search needs
-
-row-bytes-requires : tie.Need-row-bytes-requires
-row-bytes-requires c κs = search needs
-
 mul-check-length : tie.Need-mul-check-length
 mul-check-length c =
     omega (arith, small-product (c .before .order .result) (c .row-bytes .result) 4294967295 536870912 (omega arith) (omega arith))
-
-check-length-requires : tie.Need-check-length-requires
-check-length-requires c κs = search needs
 
 returns-2 : tie.Need-returns-2
 unfolding kitLengths
@@ -47,13 +29,5 @@ returns-2 c =
 pub check-kit-lengths-spec : {M : Type 1} → statement M
 check-kit-lengths-spec =
     tie.close
-    (tie.spec
-    check-list-lengths-requires
-    enum-told
-    enum-told-2
-    returns
-    order-requires
-    row-bytes-requires
-    mul-check-length
-    check-length-requires
-    returns-2)
+    (tie.spec (λ c κs. search needs) (λ c. search needs) (λ c. search needs) returns (λ c κs. search needs) (λ c κs. search needs) mul-check-length
+    (λ c κs. search needs) returns-2)

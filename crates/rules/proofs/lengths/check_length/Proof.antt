@@ -15,4 +15,6 @@ unfolding verdictOf refusalVerdict
 returns-2 c = rw (eq-eqb (c .before .args .have) (c .before .args .want) (omega arith))
 
 pub check-length-spec : {M : Type 1} → statement M
-check-length-spec = tie.close (tie.spec returns returns-2)
+check-length-spec =
+    tie.close
+    (tie.spec returns returns-2)

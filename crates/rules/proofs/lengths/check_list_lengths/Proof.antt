@@ -10,21 +10,6 @@ use Rattle.design.specs.Sizes.{orderOf}
 use Rattle.rules.proofs.lengths.check_list_lengths.Statement.{statement}
 use Rattle.rules.proofs.lengths.check_list_lengths.Tie as tie
 
-order-requires : tie.Need-order-requires
-order-requires c κs = search needs
-
-mul-check-length : tie.Need-mul-check-length
-mul-check-length c = search needs
-
-check-length-requires : tie.Need-check-length-requires
-check-length-requires c κs = search needs
-
-enum-told : tie.Need-enum-told
-enum-told c = search needs
-
-enum-told-2 : tie.Need-enum-told-2
-enum-told-2 c = search needs
-
 returns : tie.Need-returns
 unfolding listLengths
 returns c =
@@ -32,12 +17,6 @@ returns c =
     let e : c .before .before .before .order .result ≡ orderOf (a .d) = c .before .before .before .order .ensures .0 in
     let x = c .before .before .check-length .ensures ∙ ap (λ (k : ℕ). lengthRule 1 (length (a .own .now)) (2 * k)) e in
     refused-then _ x (c .enum-told2 .given .1)
-
-mul-check-length-2 : tie.Need-mul-check-length-2
-mul-check-length-2 c = search needs
-
-check-length-requires-2 : tie.Need-check-length-requires-2
-check-length-requires-2 c κs = search needs
 
 returns-2 : tie.Need-returns-2
 unfolding listLengths
@@ -51,13 +30,5 @@ returns-2 c =
 pub check-list-lengths-spec : {M : Type 1} → statement M
 check-list-lengths-spec =
     tie.close
-    (tie.spec
-    order-requires
-    mul-check-length
-    check-length-requires
-    enum-told
-    enum-told-2
-    returns
-    mul-check-length-2
-    check-length-requires-2
-    returns-2)
+    (tie.spec (λ c κs. search needs) (λ c. search needs) (λ c κs. search needs) (λ c. search needs) (λ c. search needs) returns (λ c. search needs)
+    (λ c κs. search needs) returns-2)

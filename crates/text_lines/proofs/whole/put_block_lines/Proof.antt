@@ -75,18 +75,5 @@ returns c =
 pub put-block-lines-spec : {M : Type 1} → statement M
 put-block-lines-spec =
     tie.close
-    (tie.spec
-    Inv-loop
-    μ-loop
-    loop-holds
-    add-e
-    sub-put-block
-    part-put-block-start
-    part-put-block-end
-    put-block-requires
-    add-block
-    sub-left
-    loop-less
-    loop-again
-    same-length
-    returns)
+    (tie.spec Inv-loop μ-loop loop-holds add-e sub-put-block part-put-block-start part-put-block-end put-block-requires add-block sub-left loop-less
+    loop-again same-length returns)

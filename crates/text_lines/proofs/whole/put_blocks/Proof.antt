@@ -6,9 +6,6 @@ use borrow.Author.Needs.{needs}
 use Rattle.text_lines.proofs.whole.put_blocks.Statement.{statement}
 use Rattle.text_lines.proofs.whole.put_blocks.Tie as tie
 
-slice-aggregate-put-bytes : tie.Need-slice-aggregate-put-bytes
-slice-aggregate-put-bytes c = search needs
-
 put-bytes-requires : tie.Need-put-bytes-requires
 put-bytes-requires c κs = let a = c .before .before .before .before .args in omega (arith, block-text-parts (a .area) (a .count) (a .info .now) (c .before .before .before .before .pre .0))
 
@@ -17,9 +14,6 @@ put-block-lines-requires c κs =
     let a = c .before .before .before .before .before .before .before .before .args in
     let p = c .before .before .before .before .before .before .before .before .pre in
     (p .0, (p .1 .0, omega (arith, p .1 .1, block-text-parts (a .area) (a .count) (a .info .now) (p .0), c .before .before .before .put-bytes .ensures .0)))
-
-same-length : tie.Need-same-length
-same-length c = search needs
 
 returns : tie.Need-returns
 returns c =
@@ -30,9 +24,4 @@ returns c =
 pub put-blocks-spec : {M : Type 1} → statement M
 put-blocks-spec =
     tie.close
-    (tie.spec
-    slice-aggregate-put-bytes
-    put-bytes-requires
-    put-block-lines-requires
-    same-length
-    returns)
+    (tie.spec (λ c. search needs) put-bytes-requires put-block-lines-requires (λ c. search needs) returns)

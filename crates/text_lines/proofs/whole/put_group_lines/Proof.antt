@@ -91,22 +91,5 @@ returns c =
 pub put-group-lines-spec : {M : Type 1} → statement M
 put-group-lines-spec =
     tie.close
-    (tie.spec
-    Inv-loop
-    μ-loop
-    loop-holds
-    add-mid
-    add-e
-    sub-put-group
-    part-put-group-start
-    part-put-group-end
-    sub-put-group-2
-    part-put-group-start-2
-    part-put-group-end-2
-    put-group-requires
-    add-group
-    sub-left
-    loop-less
-    loop-again
-    same-length
-    returns)
+    (tie.spec Inv-loop μ-loop loop-holds add-mid add-e sub-put-group part-put-group-start part-put-group-end sub-put-group-2 part-put-group-start-2
+    part-put-group-end-2 put-group-requires add-group sub-left loop-less loop-again same-length returns)
