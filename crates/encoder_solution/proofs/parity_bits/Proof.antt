@@ -5,10 +5,9 @@ use Prim.Native.Nat.{ℕ, _+_, _-_, _*_, _/_, _%_, _≤_}
 use native.Mathlib.Nat.{zero-mul, mul-comm, add-mul, one-mul}
 use native.Mathlib.Omega.{arith}
 use lib.ListN.{length, getD}
-use Rattle.staircase.proofs.Fill.{filled, filled-none, filled-all}
+use Rattle.staircase.proofs.Fill.{filled, filled-none, filled-all, filled-stretch}
 use Rattle.bch_remainders.proofs.Rows.{row-end, row-length}
 use Rattle.encoder_solution.specs.Bits.{digit}
-use Rattle.encoder_solution.proofs.Fill.{filled-stretch}
 use Rattle.encoder_solution.proofs.Stack.{digit-row}
 use Rattle.encoder_solution.proofs.parity_bits.Statement.{statement}
 use Rattle.encoder_solution.proofs.parity_bits.Tie as tie

@@ -9,7 +9,7 @@ use Rattle.staircase.specs.System.{rowBytes, inverseEntry}
 use Rattle.matrix.specs.Packed.{packedBit}
 use Rattle.bch_remainders.proofs.Rows.{row-length}
 use Rattle.encoder_solution.specs.Bits.{productBit}
-use Rattle.encoder_solution.proofs.Fill.{Placed, placed-next, placed-all}
+use Rattle.staircase.proofs.Fill.{Placed, placed-next, placed-all}
 use Rattle.encoder_solution.proofs.Packed.{row-within, inverse-row}
 use Rattle.encoder_solution.proofs.Stack.{place, stack-entry, stack-place, place-stack}
 use Rattle.encoder_solution.proofs.self_bits.Statement.{statement}
