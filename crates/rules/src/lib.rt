@@ -16,6 +16,10 @@
 mod lengths;
 
 pub use lengths::INFORMATION;
+pub use lengths::INVERSE;
+pub use lengths::PARITY;
+pub use lengths::REDUNDANCY;
+pub use lengths::SELF;
 pub use lengths::WORKING;
 pub use lengths::check_frame_lengths;
 pub use lengths::check_kit_lengths;
