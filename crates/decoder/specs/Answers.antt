@@ -1,24 +1,18 @@
--- The rules of the decoder after the design's, and what its answer says.
---   frameRules       rules 4 to 7 and 10
+-- What the decoder's answer says.
 --   correctedOf      the answer and the frame that the call leaves, as document 01's result
 --   correctedFrame   the result for a frame that no rule refuses
 --   refusedFrame     the result for one that is refused
 -- Assumes nothing.
-use mathlib.Core.List.{List}
 use Prim.Native.Nat.{ℕ}
 use Rattle.staircase.specs.Design.{Params, Interleavers}
 use Rattle.staircase.specs.Frame.{Frame, outside}
 use Rattle.staircase.specs.Decoder.{Decoded, decoded}
-use Rattle.staircase.specs.Rules.{Verdict, _then_, countRule, roundsRule}
+use Rattle.staircase.specs.Rules.{Verdict}
 use Rattle.staircase.specs.Rules.Verdict.{accepted}
 use Rattle.staircase.specs.Calls.{Corrected, correctedBy}
 use Rattle.design.specs.Answers.{refusalVerdict}
-use Rattle.words.specs.Checks.{receivedRules}
 use Rattle.decoder.specs.declared.Decoding.{Decoding}
 use Rattle.decoder.specs.declared.Decoding.the-variants as decoding
-
-unfoldable pub frameRules : Params → ℕ → ℕ → List ℕ → List ℕ → List ℕ → List ℕ → ℕ → Verdict
-frameRules s L k self parity info red work = countRule L then roundsRule k then receivedRules s L self parity info red work
 
 -- "The result: rounds made .., bits turned .., words outside the code at the end"; a refused call counts nothing
 unfoldable pub correctedOf : Decoding → Frame → Corrected

@@ -7,10 +7,10 @@ ghost use lib.ListN.{length};
 ghost use Rattle.staircase.specs.Design.{most-rounds, wordLength};
 ghost use Rattle.staircase.specs.Frame.{Frame, frameOf};
 ghost use Rattle.staircase.specs.Calls.{decodeCall};
-ghost use Rattle.design.specs.Answers.{verdictOf, Allowed};
+ghost use Rattle.design.specs.Answers.{verdictOf};
 ghost use Rattle.design.specs.Sizes.{paramsOf, orderOf, listsOf};
 ghost use Rattle.rules.specs.Received.{Received};
-ghost use Rattle.decoder.specs.Answers.{correctedOf, correctedFrame, refusedFrame, frameRules};
+ghost use Rattle.decoder.specs.Answers.{correctedOf, correctedFrame, refusedFrame};
 ghost use Rattle.decoder.specs.declared.Decoding.the-variants as Decoding;
 use design::Check;
 use design::Design;
@@ -150,32 +150,6 @@ fn correct_frame(
     )
 }
 
-// Rules 4 to 7 and 10, for an allowed design.
-fn check_frame(
-    d: Design,
-    blocks: u64,
-    rounds: u64,
-    own: &[u8],
-    parity: &[u8],
-    info: &[u8],
-    red: &[u8],
-    work: &mut [u8],
-) -> Check
-    requires { ⌜ Allowed d ⌝ }
-    ensures { λ a. ⌜ verdictOf a ≡ frameRules (paramsOf d) blocks rounds (now (own .entry)) (now (parity .entry)) (now (info .entry)) (now (red .entry))
-        (length (now (work .entry))) ⌝ }
-{
-    let count = design::check_count(blocks);
-    let Check::Passed = count else {
-        return count;
-    };
-    let limit = design::check_rounds(rounds);
-    let Check::Passed = limit else {
-        return limit;
-    };
-    words::check_received(d, blocks, own, parity, info, red, work)
-}
-
 // A refused check as the decoder's answer; for calls that end in a decoding.
 pub fn refused_frame(a: Check) -> Decoding
     ensures { λ c. ⌜ ((f : Frame) → correctedOf c f ≡ refusedFrame (verdictOf a) f) ⌝ }
@@ -212,9 +186,9 @@ pub fn decode(
     let Designed::Made(d) = designed else {
         return refused_frame(design::design_check(designed));
     };
-    let frame = check_frame(d, blocks, rounds, own, parity, &info[..], &red[..], work);
-    let Check::Passed = frame else {
-        return refused_frame(frame);
+    let received = words::check_received(d, blocks, rounds, own, parity, &info[..], &red[..], work);
+    let Check::Passed = received else {
+        return refused_frame(received);
     };
     Decoding::Decoded(correct_frame(d, blocks as usize, rounds, own, parity, info, red, work))
 }

@@ -1,17 +1,18 @@
 -- The encoder's verdict step by step, and what it leaves.
---   encodable                                  what the rules say once they accept
+--   frame-sized, encodable                     what the rules say once they accept
 --   encode-design, encode-frame, encode-made   the call's answer at each of its ends
 -- Assumes nothing.
 use mathlib.Core.Path.{_≡_, refl, sym, ap, _∙_}
 use mathlib.Core.Logic.{_≢_}
 use mathlib.Core.List.{List}
 use Prim.Native.Nat.{ℕ}
+use lib.ListN.{length}
 use Rattle.staircase.specs.Design.{Params, params}
 use Rattle.staircase.specs.System.{redundancy}
-use Rattle.staircase.specs.Rules.{Verdict, _then_, designRules, countRule, lengthRule, frameLengths, kitLengths, kitWork, interleavers, listRule, spareRule, inverseRule, kitRules, bitRule, contentRules}
+use Rattle.staircase.specs.Rules.{Verdict, _then_, designRules, roundsRule, kitWork, interleavers, listRule, spareRule, inverseRule, kitRules, contentRules}
 use Rattle.staircase.specs.Rules.Verdict.{accepted, refused}
 use Rattle.staircase.specs.Calls.{encodeVerdict, encodedBy, encodeCall}
-use Rattle.staircase.proofs.Rules.{then-first, then-rest, count-limits, frame-lengths, lists-permute, bytes-bits, lengths-fit, content-accepted}
+use Rattle.staircase.proofs.Rules.{then-first, then-rest, lists-permute, bytes-bits, content-accepted}
 use Rattle.design.specs.declared.Refusal.{Refusal}
 use Rattle.design.specs.declared.Check.{Check}
 use Rattle.design.specs.declared.Check.the-variants as check
@@ -22,51 +23,39 @@ use Rattle.design.specs.Sizes.{paramsOf, listsOf}
 use Rattle.design.specs.Answers.{verdictOf, designVerdict, DesignIs, Allowed}
 use Rattle.design.proofs.Answers.{check-refused, check-passed, made-params, refused-design, made-design}
 use Rattle.encoder_frame.specs.Groups.{Encodable}
-use Rattle.encoder.specs.Checks.{workingRules, lengthRules, frameRules}
+use Rattle.rules.specs.Lengths.{lengthsOf, kitDue, frameDue, frameRules}
+use Rattle.rules.proofs.Chain.{encode-rules}
+use Rattle.rules.proofs.Accepted.{frame-accepted}
+use Rattle.kit_inverse.specs.Fits.{KitSized}
+use Rattle.encoder.specs.Checks.{encodeRules}
 
-module _ (d : Design) (L : ℕ) (own parity w info red : List ℕ) (work : ℕ) (allowed : Allowed d) (e : frameRules (paramsOf d) L own parity w info red work ≡ accepted) where
+module _ (d : Design) (L : ℕ) (own parity w info red : List ℕ) (work : ℕ) (allowed : Allowed d) where
   abbrev s : Params
   s = paramsOf d
 
-  after-count : lengthRules s L own parity w info red work ≡ accepted
-  unfolding frameRules
-  after-count = then-rest (countRule L) (lengthRules s L own parity w info red work) e
+  abbrev numbers : Verdict
+  numbers = frameRules s L 0 (lengthsOf own parity w info red work) (kitDue s)
 
-  counted : countRule L ≡ accepted
-  unfolding frameRules
-  counted = then-first (countRule L) (lengthRules s L own parity w info red work) e
+  pub frame-sized : (bytes : List ℕ) → work ≡ length bytes → numbers ≡ accepted → KitSized d own parity w bytes
+  unfolding kitDue frameDue kitWork
+  frame-sized bytes same e =
+      let n = frame-accepted s L 0 (lengthsOf own parity w info red work) (kitDue s) e .3 in
+      record { allowed = allowed; ownLength = n .0; parityLength = n .1; inverseLength = n .2; workLength = sym same ∙ n .5 }
 
-  kit-long : kitLengths s own parity w ≡ accepted
-  unfolding lengthRules
-  kit-long = then-first (kitLengths s own parity w) (frameLengths s L info red then workingRules s own parity w info work) after-count
-
-  after-kit : (frameLengths s L info red then workingRules s own parity w info work) ≡ accepted
-  unfolding lengthRules
-  after-kit = then-rest (kitLengths s own parity w) (frameLengths s L info red then workingRules s own parity w info work) after-count
-
-  content : (kitRules s (interleavers s own parity) w ≡ accepted) × (bitRule 0 info ≡ accepted)
-  unfolding workingRules
-  content =
-      content-accepted s (interleavers s own parity) w info
-      (then-rest (lengthRule 6 work (kitWork s)) (contentRules s (interleavers s own parity) w info)
-      (then-rest (frameLengths s L info red) (workingRules s own parity w info work) after-kit))
-
-  lists : listRule s (interleavers s own parity) ≡ accepted
-  unfolding kitRules
-  lists = then-first (listRule s (interleavers s own parity)) (spareRule s w then inverseRule s (interleavers s own parity) w) (content .0)
-
-  pub encodable : Encodable d L parity w info red
-  encodable =
-      let k = lengths-fit s own parity w kit-long in
-      let f = frame-lengths s L info red (then-first (frameLengths s L info red) (workingRules s own parity w info work) after-kit) in
+  pub encodable : encodeRules s L own parity w info red work ≡ accepted → Encodable d L parity w info red
+  unfolding encodeRules kitRules kitDue frameDue
+  encodable e =
+      let l = interleavers s own parity in
+      let n = frame-accepted s L 0 (lengthsOf own parity w info red work) (kitDue s) (then-first numbers (contentRules s l w info) e) in
+      let content = content-accepted s l w info (then-rest numbers (contentRules s l w info) e) in
       record {
         allowed = allowed;
-        few-blocks = count-limits L counted .1;
-        parityLength = k .parityLength;
-        inverseLength = k .inverseLength;
-        infoLength = f .0;
-        redLength = f .1;
-        parityPermutes = lists-permute s (interleavers s own parity) lists .1;
+        few-blocks = n .1;
+        parityLength = n .3 .1;
+        inverseLength = n .3 .2;
+        infoLength = n .3 .3;
+        redLength = n .3 .4;
+        parityPermutes = lists-permute s l (then-first (listRule s l) (spareRule s w then inverseRule s l w) (content .0)) .1;
         bits = bytes-bits 0 info (content .1);
       }
 
@@ -103,18 +92,20 @@ module _ (m t M L : ℕ) (own parity w info red : List ℕ) (work : ℕ) where
       (e ∙ by-verdict call red new, a ∙ by-new call red new (sym e ∙ check-passed g))
 
   abbrev rules : Params → Verdict
-  rules s = frameRules s L own parity w info red work
+  rules s = encodeRules s L own parity w info red work
 
-  whole : (designRules m t M then frameRules (params m t M) L own parity w info red work) ≡ encodeVerdict m t M L own parity w info red work
-  unfolding encodeVerdict frameRules lengthRules workingRules
-  whole = refl
+  whole : (designRules m t M then encodeRules (params m t M) L own parity w info red work) ≡ encodeVerdict m t M L own parity w info red work
+  unfolding encodeVerdict encodeRules roundsRule
+  whole =
+      ap (λ (z : Verdict). designRules m t M then z)
+      (encode-rules (params m t M) own parity work (contentRules (params m t M) (interleavers (params m t M) own parity) w info) L 0 info red w)
 
   module _ (a : Designed) (n : designVerdict a ≡ designRules m t M) where
     pub encode-design : (x : Check) (r : Refusal) → a ≡ designed.Refused r → verdictOf x ≡ designVerdict a
         → (verdictOf x ≡ (encodeCall m t M L own parity w info red work) .verdict) × (red ≡ (encodeCall m t M L own parity w info red work) .red)
     encode-design x r g e = let q = refused-design m t M rules a n x g e in refused-call x (q .0) (q .1 ∙ whole)
 
-    module _ (i : DesignIs a m t M) (d : Design) (g : a ≡ designed.Made d) (x : Check) (e : verdictOf x ≡ frameRules (paramsOf d) L own parity w info red work) where
+    module _ (i : DesignIs a m t M) (d : Design) (g : a ≡ designed.Made d) (x : Check) (e : verdictOf x ≡ encodeRules (paramsOf d) L own parity w info red work) where
       verdict-is : verdictOf x ≡ encodeVerdict m t M L own parity w info red work
       verdict-is = made-design m t M rules a n x i g e ∙ whole
 

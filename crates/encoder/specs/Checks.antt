@@ -1,18 +1,12 @@
--- The encoder's rules after the design's, from the last on.
---   workingRules   rule 6 for the working bytes, then rules 7, 8, 10 and 9
---   lengthRules    rule 6, then these
---   frameRules     rule 4, then these
+-- The encoder's rules after the design's.
+--   encodeRules    rules 4 and 6, then 7, 8, 10 and 9; a number of rounds of 0 passes rule 5
 -- Assumes nothing.
 use mathlib.Core.List.{List}
 use Prim.Native.Nat.{ℕ}
 use Rattle.staircase.specs.Design.{Params}
-use Rattle.staircase.specs.Rules.{Verdict, _then_, countRule, lengthRule, kitLengths, frameLengths, kitWork, interleavers, contentRules}
+use Rattle.staircase.specs.Rules.{Verdict, _then_, interleavers, contentRules}
+use Rattle.rules.specs.Lengths.{lengthsOf, kitDue, frameRules}
 
-unfoldable pub workingRules : Params → List ℕ → List ℕ → List ℕ → List ℕ → ℕ → Verdict
-workingRules s self parity w info work = lengthRule 6 work (kitWork s) then contentRules s (interleavers s self parity) w info
-
-unfoldable pub lengthRules : Params → ℕ → List ℕ → List ℕ → List ℕ → List ℕ → List ℕ → ℕ → Verdict
-lengthRules s L self parity w info red work = kitLengths s self parity w then frameLengths s L info red then workingRules s self parity w info work
-
-unfoldable pub frameRules : Params → ℕ → List ℕ → List ℕ → List ℕ → List ℕ → List ℕ → ℕ → Verdict
-frameRules s L self parity w info red work = countRule L then lengthRules s L self parity w info red work
+unfoldable pub encodeRules : Params → ℕ → List ℕ → List ℕ → List ℕ → List ℕ → List ℕ → ℕ → Verdict
+encodeRules s L self parity w info red work =
+    frameRules s L 0 (lengthsOf self parity w info red work) (kitDue s) then contentRules s (interleavers s self parity) w info

@@ -3,65 +3,15 @@
 //
 // All rules are judged before the first byte is written, and rule 10 before the product that rule 9 makes. The crate `encoder_frame` makes the redundancy.
 ghost use mathlib.Core.Path.{_≡_};
-ghost use Prim.Native.Nat.{_≤_};
 ghost use lib.ListN.{length};
-ghost use Rattle.staircase.specs.Design.{most-blocks};
-ghost use Rattle.staircase.specs.Demand2.{FitsOrder};
 ghost use Rattle.staircase.specs.Calls.{encodeCall};
-ghost use Rattle.design.specs.Sizes.{paramsOf, orderOf};
+ghost use Rattle.design.specs.Sizes.{paramsOf};
 ghost use Rattle.design.specs.Answers.{verdictOf, Allowed};
-ghost use Rattle.encoder.specs.Checks.{workingRules, lengthRules, frameRules};
+ghost use Rattle.encoder.specs.Checks.{encodeRules};
 use design::Check;
 use design::Design;
 use design::Designed;
-
-// Rule 6 for the working bytes, then rules 7, 8, 10 and 9, for a kit and a frame whose other lengths are right.
-fn check_contents(
-    d: Design,
-    own: &[u8],
-    parity: &[u8],
-    inverse: &[u8],
-    info: &[u8],
-    work: &mut [u8],
-) -> Check
-    requires { ⌜ Allowed d × FitsOrder (orderOf d) (now own) (now parity) (now inverse) ⌝ }
-    ensures { λ a. ⌜ verdictOf a
-        ≡ workingRules (paramsOf d) (now (own .entry)) (now (parity .entry)) (now (inverse .entry)) (now (info .entry)) (length (now (work .entry))) ⌝ }
-{
-    let n = d.order();
-    let rb = d.row_bytes();
-    let working = rules::check_length(rules::WORKING, work.len(), n * rb);
-    let Check::Passed = working else {
-        return working;
-    };
-    kit::check_content(d, own, parity, inverse, info, work)
-}
-
-// Rules 6 to 10, for an allowed design and number of blocks.
-fn check_lengths(
-    d: Design,
-    blocks: u64,
-    own: &[u8],
-    parity: &[u8],
-    inverse: &[u8],
-    info: &[u8],
-    red: &[u8],
-    work: &mut [u8],
-) -> Check
-    requires { ⌜ Allowed d × (blocks ≤ most-blocks) ⌝ }
-    ensures { λ a. ⌜ verdictOf a ≡ lengthRules (paramsOf d) blocks (now (own .entry)) (now (parity .entry)) (now (inverse .entry)) (now (info .entry))
-        (now (red .entry)) (length (now (work .entry))) ⌝ }
-{
-    let kit = rules::check_kit_lengths(d, own, parity, inverse);
-    let Check::Passed = kit else {
-        return kit;
-    };
-    let frame = rules::check_frame_lengths(d, blocks, info, red);
-    let Check::Passed = frame else {
-        return frame;
-    };
-    check_contents(d, own, parity, inverse, info, work)
-}
+use rules::Lengths;
 
 // Rules 4 and 6 to 10, for an allowed design.
 fn check_frame(
@@ -75,14 +25,22 @@ fn check_frame(
     work: &mut [u8],
 ) -> Check
     requires { ⌜ Allowed d ⌝ }
-    ensures { λ a. ⌜ verdictOf a ≡ frameRules (paramsOf d) blocks (now (own .entry)) (now (parity .entry)) (now (inverse .entry)) (now (info .entry))
+    ensures { λ a. ⌜ verdictOf a ≡ encodeRules (paramsOf d) blocks (now (own .entry)) (now (parity .entry)) (now (inverse .entry)) (now (info .entry))
         (now (red .entry)) (length (now (work .entry))) ⌝ }
 {
-    let count = design::check_count(blocks);
-    let Check::Passed = count else {
-        return count;
+    let have = Lengths {
+        own: own.len(),
+        parity: parity.len(),
+        inverse: inverse.len(),
+        info: info.len(),
+        red: red.len(),
+        work: work.len(),
     };
-    check_lengths(d, blocks, own, parity, inverse, info, red, work)
+    let lengths = rules::check_frame(d, blocks, 0, have, rules::kit_due(d));
+    let Check::Passed = lengths else {
+        return lengths;
+    };
+    kit::check_content(d, own, parity, inverse, info, work)
 }
 
 // Makes the redundancy of a frame of `blocks` blocks from its information, one bit a byte, under the kit: rules 1 to 4 and 6 to 10, with the table's

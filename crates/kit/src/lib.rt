@@ -2,8 +2,8 @@
 //   check_kit       judges a kit
 //   check_content   rules 7, 8, 10 and 9 of a kit and the information under it
 //
-// The rules are judged one after the other; the crate `rules` has rules 6, 7, 8 and 10, and `kit_inverse` rule 9, which is most of the work. So the encoder,
-// which has rule 10 too, asks it before rule 9: `check_content` has both, and the kit checker gives it no information.
+// The crate `rules` has rules 6 to 8 and 10, and `kit_inverse` rule 9, which is most of the work. Rule 10, of the information that the encoder has, comes
+// before it; the kit checker has no information.
 ghost use mathlib.Core.Path.{_≡_};
 ghost use lib.ListN.{length};
 ghost use Rattle.staircase.specs.Rules.{contentRules};
@@ -14,6 +14,7 @@ ghost use Rattle.kit_inverse.specs.Fits.{KitSized};
 use design::Check;
 use design::Design;
 use design::Designed;
+use rules::Lengths;
 
 // Rules 7, 8, 10 and 9 for a kit of an allowed design, with slices of their lengths, and information of any length.
 pub fn check_content(
@@ -30,17 +31,9 @@ pub fn check_content(
 {
     let n = d.order();
     let mut marks = [0u8; 4096];
-    let lists = rules::check_lists(own, parity, n, &mut marks[0..n]);
-    let Check::Passed = lists else {
-        return lists;
-    };
-    let spare = rules::check_spare(inverse, n);
-    let Check::Passed = spare else {
-        return spare;
-    };
-    let bits = rules::check_bits(info, 0);
-    let Check::Passed = bits else {
-        return bits;
+    let bytes = rules::check_bytes(d, own, parity, inverse, info, &info[..0], &mut marks[0..n]);
+    let Check::Passed = bytes else {
+        return bytes;
     };
     kit_inverse::check_inverse(d, own, parity, inverse, work)
 }
@@ -62,15 +55,17 @@ pub fn check_kit(
     let Designed::Made(d) = designed else {
         return design::design_check(designed);
     };
-    let fit = rules::check_kit_lengths(d, own, parity, inverse);
-    let Check::Passed = fit else {
-        return fit;
+    let have = Lengths {
+        own: own.len(),
+        parity: parity.len(),
+        inverse: inverse.len(),
+        info: 0,
+        red: 0,
+        work: work.len(),
     };
-    let n = d.order();
-    let rb = d.row_bytes();
-    let working = rules::check_length(rules::WORKING, work.len(), n * rb);
-    let Check::Passed = working else {
-        return working;
+    let lengths = rules::check_lengths(have, rules::kit_due(d));
+    let Check::Passed = lengths else {
+        return lengths;
     };
     check_content(d, own, parity, inverse, &own[..0], work)
 }

@@ -1,3 +1,5 @@
+pub mod Accepted
+pub mod Chain
 pub mod Entries
 pub mod Spare
 pub mod OfDesign

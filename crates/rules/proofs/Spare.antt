@@ -1,14 +1,15 @@
 -- Laws of rule 8: the spare bits of a row are the bits of its last byte that no column uses.
 --   usedBits n               how many bits of a row's last byte are columns
 --   spare-none, spare-some   the rule's test by the size of the last byte
+--   empty-spare              an empty matrix has no spare bit of 1
 -- Assumes nothing.
 use mathlib.Core.Path.{_≡_, refl, sym, ap, _∙_}
 use mathlib.Core.Bool.{Bool, true, false}
 use mathlib.Core.List.{List}
 use Prim.Native.Nat.{ℕ, zero, suc, _+_, _-_, _*_, _/_, _%_, _^_, _≤_, _<_}
-use native.Mathlib.Nat.{add-zero, add-suc, div-eq-of-lt, div-lt-iff-lt-mul}
+use native.Mathlib.Nat.{add-zero, add-suc, zero-div, div-eq-of-lt, div-lt-iff-lt-mul}
 use native.Mathlib.Omega.{arith}
-use lib.ListN.{getD}
+use lib.ListN.{length, getD, List·getD-eq-default}
 use lib.Pow.{pow-pos, pow-mono}
 use Rattle.staircase.specs.System.{rowBytes, inverseEntry}
 use Rattle.staircase.specs.Rules.{spareRow}
@@ -60,3 +61,8 @@ module _ (w : List ℕ) (n i : ℕ) (pos : 0 < n) where
           let d : (n + j) % 8 ≡ usedBits n + j = omega arith in
           rw (← d) (sym (spare-bit (n + j) (omega arith) (omega arith)) ∙ spare-zero w n i e (n + j) (omega arith) (omega arith))) in
           absurd (omega arith)
+
+pub empty-spare : (w : List ℕ) (n i : ℕ) → length w ≡ 0 → spareRow w n i ≡ false
+unfolding inverseEntry
+empty-spare w n i e =
+    zero-spare w n i (λ j a b. ap (λ (z : ℕ). z / 2 ^ (j % 8) % 2) (List·getD-eq-default w 0 (omega (arith, e))) ∙ ap (λ (z : ℕ). z % 2) (zero-div (2 ^ (j % 8))))

@@ -1,13 +1,19 @@
-// Rule 6 of document 01's table: "first slice of a wrong length".
-//   check_length(place, have, want)         for one slice
-//   check_list_lengths, check_kit_lengths   for the lists of a design, and for its inverse too
-//   check_frame_lengths                     for the information and the redundancy of a frame
+// Rules 4 to 6 of document 01's table: numbers and lengths, which are judged without a byte being read.
+//   Lengths                             of the six slices that rule 6 counts
+//   check_length(place, have, due)      rule 6 for one slice
+//   check_lengths(have, due)            for all six
+//   kit_due, lists_due, frame_due       the lengths that are due of a kit, of its lists, of a frame
+//   check_list_lengths, check_kit_lengths, check_frame_lengths   rule 6 for some of the slices
+//   check_frame                         rules 4 to 6
+//
+// A call that lacks a slice has 0 for it, and 0 is due. Each rule is judged at once, and `first` picks the first refusal.
 ghost use mathlib.Core.Path.{_≡_};
 ghost use Prim.Native.Nat.{_≤_};
-ghost use Rattle.staircase.specs.Design.{params, most-blocks};
-ghost use Rattle.staircase.specs.Rules.{lengthRule, listLengths, kitLengths, frameLengths};
+ghost use Rattle.staircase.specs.Design.{most-blocks};
+ghost use Rattle.staircase.specs.Rules.{_then_, lengthRule, listLengths, kitLengths, frameLengths};
 ghost use Rattle.design.specs.Sizes.{paramsOf};
 ghost use Rattle.design.specs.Answers.{verdictOf};
+ghost use Rattle.rules.specs.Lengths.{lengthsRule, kitDue, listsDue, frameDue, frameRules};
 use design::Check;
 use design::Design;
 use design::Refusal;
@@ -25,51 +31,163 @@ pub const REDUNDANCY: u64 = 5;
 
 pub const WORKING: u64 = 6;
 
-// Rule 6 for the slice that the rule calls `place`, which has `have` bytes where `want` are due. Constant work.
-pub fn check_length(place: u64, have: usize, want: usize) -> Check
-    ensures { λ a. ⌜ verdictOf a ≡ lengthRule place have want ⌝ }
+// Lengths of the slices of a call, in bytes.
+pub struct Lengths {
+    pub own: usize,
+    pub parity: usize,
+    pub inverse: usize,
+    pub info: usize,
+    pub red: usize,
+    pub work: usize,
+}
+
+// The first refusal of two checks.
+pub fn first(a: Check, b: Check) -> Check
+    ensures { λ c. ⌜ verdictOf c ≡ (verdictOf a then verdictOf b) ⌝ }
 {
-    if have != want {
+    match a {
+        Check::Passed => b,
+        Check::Refused(r) => Check::Refused(r),
+    }
+}
+
+// Rule 6 for the slice that the rule calls `place`, which has `have` bytes where `due` are due. Constant work.
+pub fn check_length(place: u64, have: usize, due: usize) -> Check
+    ensures { λ a. ⌜ verdictOf a ≡ lengthRule place have due ⌝ }
+{
+    if have != due {
         return Check::Refused(Refusal::Length(place));
     }
     Check::Passed
 }
 
-// Rule 6 for the two lists of a design.
+// Rule 6. Constant work.
+pub fn check_lengths(have: Lengths, due: Lengths) -> Check
+    ensures { λ a. ⌜ verdictOf a ≡ lengthsRule have due ⌝ }
+{
+    let own = check_length(SELF, have.own, due.own);
+    let parity = check_length(PARITY, have.parity, due.parity);
+    let inverse = check_length(INVERSE, have.inverse, due.inverse);
+    let info = check_length(INFORMATION, have.info, due.info);
+    let red = check_length(REDUNDANCY, have.red, due.red);
+    let work = check_length(WORKING, have.work, due.work);
+    first(own, first(parity, first(inverse, first(info, first(red, work)))))
+}
+
+// Of the lists and the inverse of a kit, and of working bytes as many as the inverse's.
+pub fn kit_due(d: Design) -> Lengths
+    ensures { λ a. ⌜ a ≡ kitDue (paramsOf d) ⌝ }
+{
+    let n = d.order();
+    let packed = n * d.row_bytes();
+    Lengths {
+        own: 2 * n,
+        parity: 2 * n,
+        inverse: packed,
+        info: 0,
+        red: 0,
+        work: packed,
+    }
+}
+
+// Of the lists of a kit, and of a working byte for each entry of a list.
+pub fn lists_due(d: Design) -> Lengths
+    ensures { λ a. ⌜ a ≡ listsDue (paramsOf d) ⌝ }
+{
+    let n = d.order();
+    Lengths {
+        own: 2 * n,
+        parity: 2 * n,
+        inverse: 0,
+        info: 0,
+        red: 0,
+        work: n,
+    }
+}
+
+// Of the information and the redundancy of a frame of `blocks` blocks, beside what else is due.
+pub fn frame_due(d: Design, blocks: u64, due: Lengths) -> Lengths
+    requires { ⌜ blocks ≤ most-blocks ⌝ }
+    ensures { λ a. ⌜ a ≡ frameDue (paramsOf d) blocks due ⌝ }
+{
+    let info = (blocks as usize) * d.area();
+    let red = (design::group_count(blocks) as usize) * (2 * d.order());
+    Lengths {
+        own: due.own,
+        parity: due.parity,
+        inverse: due.inverse,
+        info: info,
+        red: red,
+        work: due.work,
+    }
+}
+
+// Rule 6 for the two lists alone: what else is due is taken as it is due.
 pub fn check_list_lengths(d: Design, own: &[u8], parity: &[u8]) -> Check
     ensures { λ a. ⌜ verdictOf a ≡ listLengths (paramsOf d) (now (own .entry)) (now (parity .entry)) ⌝ }
 {
-    let n = d.order();
-    let first = check_length(SELF, own.len(), 2 * n);
-    let Check::Passed = first else {
-        return first;
+    let due = kit_due(d);
+    let have = Lengths {
+        own: own.len(),
+        parity: parity.len(),
+        inverse: due.inverse,
+        info: due.info,
+        red: due.red,
+        work: due.work,
     };
-    check_length(PARITY, parity.len(), 2 * n)
+    check_lengths(have, due)
 }
 
 // Rule 6 for the lists and the inverse of a kit.
 pub fn check_kit_lengths(d: Design, own: &[u8], parity: &[u8], inverse: &[u8]) -> Check
     ensures { λ a. ⌜ verdictOf a ≡ kitLengths (paramsOf d) (now (own .entry)) (now (parity .entry)) (now (inverse .entry)) ⌝ }
 {
-    let lists = check_list_lengths(d, own, parity);
-    let Check::Passed = lists else {
-        return lists;
+    let due = kit_due(d);
+    let have = Lengths {
+        own: own.len(),
+        parity: parity.len(),
+        inverse: inverse.len(),
+        info: due.info,
+        red: due.red,
+        work: due.work,
     };
-    let n = d.order();
-    let rb = d.row_bytes();
-    check_length(INVERSE, inverse.len(), n * rb)
+    check_lengths(have, due)
 }
 
-// Rule 6 for the lent information and redundancy of a frame of `blocks` blocks.
+// Rule 6 for the information and the redundancy of a frame of `blocks` blocks.
 pub fn check_frame_lengths(d: Design, blocks: u64, info: &[u8], red: &[u8]) -> Check
     requires { ⌜ blocks ≤ most-blocks ⌝ }
-    ensures { λ a. ⌜ verdictOf a ≡ frameLengths (params (d .m) (d .t) (d .size)) blocks (now (info .entry)) (now (red .entry)) ⌝ }
+    ensures { λ a. ⌜ verdictOf a ≡ frameLengths (paramsOf d) blocks (now (info .entry)) (now (red .entry)) ⌝ }
 {
-    let info_length = (blocks as usize) * d.area();
-    let red_length = (design::group_count(blocks) as usize) * (2 * d.order());
-    let a = check_length(INFORMATION, info.len(), info_length);
-    let Check::Passed = a else {
-        return a;
+    let due = frame_due(d, blocks, lists_due(d));
+    let have = Lengths {
+        own: due.own,
+        parity: due.parity,
+        inverse: due.inverse,
+        info: info.len(),
+        red: red.len(),
+        work: due.work,
     };
-    check_length(REDUNDANCY, red.len(), red_length)
+    check_lengths(have, due)
+}
+
+// A number of blocks that rule 4 accepts, and 0 for one that it refuses.
+fn blocks_allowed(blocks: u64) -> u64
+    ensures { λ a. ⌜ (a ≤ most-blocks) × (blocks ≤ most-blocks → a ≡ blocks) ⌝ }
+{
+    if design::MOST_BLOCKS < blocks {
+        return 0;
+    }
+    blocks
+}
+
+// Rules 4 to 6, for the frame of a design: the number of blocks, the number of rounds, and the lengths, with `due` for those that are not the frame's.
+// Constant work.
+pub fn check_frame(d: Design, blocks: u64, rounds: u64, have: Lengths, due: Lengths) -> Check
+    ensures { λ a. ⌜ verdictOf a ≡ frameRules (paramsOf d) blocks rounds have due ⌝ }
+{
+    let count = design::check_count(blocks);
+    let limit = design::check_rounds(rounds);
+    let lengths = check_lengths(have, frame_due(d, blocks_allowed(blocks), due));
+    first(count, first(limit, lengths))
 }

@@ -1,5 +1,7 @@
-// Those rules of document 01's table that measure lent slices or search through their bytes.
-//   check_length, check_kit_lengths, ..   rule 6 (module lengths)
+// The rules of document 01's table after the design's and before rule 9: numbers and lengths, then what the bytes of the lent slices hold. Every call
+// judges by `check_frame` and `check_bytes`, or by parts of them.
+//   check_frame, check_lengths, ..        rules 4 to 6 (module lengths)
+//   check_bytes                           rules 7, 8 and 10
 //   entry(list, p)                        entry p of a list
 //   check_lists(own, parity, n, marks)    rule 7
 //   check_spare(inverse, n)               rule 8
@@ -17,14 +19,21 @@ mod lengths;
 
 pub use lengths::INFORMATION;
 pub use lengths::INVERSE;
+pub use lengths::Lengths;
 pub use lengths::PARITY;
 pub use lengths::REDUNDANCY;
 pub use lengths::SELF;
 pub use lengths::WORKING;
+pub use lengths::check_frame;
 pub use lengths::check_frame_lengths;
 pub use lengths::check_kit_lengths;
 pub use lengths::check_length;
+pub use lengths::check_lengths;
 pub use lengths::check_list_lengths;
+pub use lengths::first;
+pub use lengths::frame_due;
+pub use lengths::kit_due;
+pub use lengths::lists_due;
 ghost use mathlib.Core.Path.{_≡_};
 ghost use Prim.Native.Nat.{ℕ, _+_, _*_, _^_, _≤_, _<_};
 ghost use lib.ListN.{length, getD, replicate};
@@ -32,7 +41,10 @@ ghost use Rattle.staircase.specs.Design.{most-order};
 ghost use Rattle.staircase.specs.System.{rowBytes};
 ghost use Rattle.staircase.specs.Rules.{_then_, refuseFirst, entries, badEntry, spareRow, bitRule};
 ghost use Rattle.design.specs.Answers.{verdictOf};
+ghost use Rattle.design.specs.Sizes.{paramsOf, listsOf};
+ghost use Rattle.rules.specs.Bytes.{byteRules, Measured};
 use design::Check;
+use design::Design;
 use design::Refusal;
 
 // A byte as a wider number.
@@ -96,8 +108,8 @@ pub fn check_lists(own: &[u8], parity: &[u8], n: usize, marks: &mut [u8]) -> Che
     check_list(parity, n, marks, n as u64)
 }
 
-// Rule 8 for the lent inverse of n rows and columns, packed. Reads one byte of each row.
-pub fn check_spare(inverse: &[u8], n: usize) -> Check
+// Rule 8 for the lent inverse of n rows and columns, packed. Reads one byte of each row, to the first with a spare bit of 1.
+fn search_spare(inverse: &[u8], n: usize) -> Check
     requires { ⌜ (length (now inverse) ≡ n * rowBytes n) × (0 < n) × (n ≤ most-order) ⌝ }
     ensures { λ a. ⌜ verdictOf a ≡ refuseFirst 8 0 n (spareRow (now (inverse .entry)) n) ⌝ }
 {
@@ -110,6 +122,17 @@ pub fn check_spare(inverse: &[u8], n: usize) -> Check
         }
     }
     Check::Passed
+}
+
+// Rule 8 for the lent inverse of n rows and columns, packed, or for an empty one, which has no spare bits.
+pub fn check_spare(inverse: &[u8], n: usize) -> Check
+    requires { ⌜ (0 < length (now inverse) → length (now inverse) ≡ n * rowBytes n) × (0 < n) × (n ≤ most-order) ⌝ }
+    ensures { λ a. ⌜ verdictOf a ≡ refuseFirst 8 0 n (spareRow (now (inverse .entry)) n) ⌝ }
+{
+    if inverse.len() == 0 {
+        return Check::Passed;
+    }
+    search_spare(inverse, n)
 }
 
 // The larger of two bytes.
@@ -154,4 +177,35 @@ pub fn check_bits(bytes: &[u8], base: u64) -> Check
         return Check::Passed;
     }
     search_bits(bytes, base)
+}
+
+// Rules 7, 8 and 10 for slices of their lengths. `marks` is a working byte for each entry of a list, free afterwards. An empty inverse passes rule 8, and
+// an empty buffer rule 10. One pass over each.
+pub fn check_bytes(
+    d: Design,
+    own: &[u8],
+    parity: &[u8],
+    inverse: &[u8],
+    info: &[u8],
+    red: &[u8],
+    marks: &mut [u8],
+) -> Check
+    requires { ⌜ Measured d (now own) (now parity) (now inverse) (now info) (now red) (now marks) ⌝ }
+    ensures { λ a. ⌜ verdictOf a
+        ≡ byteRules (paramsOf d) (listsOf d (now (own .entry)) (now (parity .entry))) (now (inverse .entry)) (now (info .entry)) (now (red .entry)) ⌝ }
+{
+    let n = d.order();
+    let lists = check_lists(own, parity, n, marks);
+    let Check::Passed = lists else {
+        return lists;
+    };
+    let spare = check_spare(inverse, n);
+    let Check::Passed = spare else {
+        return spare;
+    };
+    let bits = check_bits(info, 0);
+    let Check::Passed = bits else {
+        return bits;
+    };
+    check_bits(red, info.len() as u64)
 }

@@ -25,11 +25,12 @@ ghost use Rattle.design.specs.Sizes.{paramsOf, orderOf, listsOf};
 ghost use Rattle.rules.specs.Received.{Received};
 ghost use Rattle.words_blocks.specs.Blocks.{PartAdded};
 ghost use Rattle.words.specs.Words.{rowRemainders, columnRemainders, nonzeros, groupWords, blockRows, blockColumns, WordTable, BlocksLent, Sends};
-ghost use Rattle.words.specs.Checks.{contentRules, receivedRules, frameRules, countedOf};
+ghost use Rattle.words.specs.Checks.{receivedRules, countedOf};
 use design::Check;
 use design::Design;
 use design::Designed;
 use design::Refusal;
+use rules::Lengths;
 
 // The answer of the word checker: the number of words outside the code, or a refusal.
 pub enum WordCount {
@@ -259,65 +260,11 @@ pub fn count_outside(
     )
 }
 
-// Rule 6 for the working bytes, then rules 7 and 10, for lists and a frame whose lengths are right.
-fn check_contents(
-    d: Design,
-    own: &[u8],
-    parity: &[u8],
-    info: &[u8],
-    red: &[u8],
-    work: &mut [u8],
-) -> Check
-    requires { ⌜ Allowed d × (length (now own) ≡ 2 * orderOf d) × (length (now parity) ≡ 2 * orderOf d) × (length (now info) + length (now red) < 2 ^ 63) ⌝ }
-    ensures { λ a. ⌜ verdictOf a
-        ≡ contentRules (paramsOf d) (now (own .entry)) (now (parity .entry)) (now (info .entry)) (now (red .entry)) (length (now (work .entry))) ⌝ }
-{
-    let n = d.order();
-    let working = rules::check_length(rules::WORKING, work.len(), n);
-    let Check::Passed = working else {
-        return working;
-    };
-    let lists = rules::check_lists(own, parity, n, work);
-    let Check::Passed = lists else {
-        return lists;
-    };
-    let information = rules::check_bits(info, 0);
-    let Check::Passed = information else {
-        return information;
-    };
-    rules::check_bits(red, info.len() as u64)
-}
-
-// Rules 6, 7 and 10 for the lists, the frame and the working bytes, for an allowed design and number of blocks. The working bytes are one for each
-// entry of a list, and alone are written. A few steps for each byte.
+// Rules 4 to 7 and 10, for a received frame of an allowed design. The working bytes are one for each entry of a list.
 pub fn check_received(
     d: Design,
     blocks: u64,
-    own: &[u8],
-    parity: &[u8],
-    info: &[u8],
-    red: &[u8],
-    work: &mut [u8],
-) -> Check
-    requires { ⌜ Allowed d × (blocks ≤ most-blocks) ⌝ }
-    ensures { λ a. ⌜ verdictOf a ≡ receivedRules (paramsOf d) blocks (now (own .entry)) (now (parity .entry)) (now (info .entry)) (now (red .entry))
-        (length (now (work .entry))) ⌝ }
-{
-    let lists = rules::check_list_lengths(d, own, parity);
-    let Check::Passed = lists else {
-        return lists;
-    };
-    let frame = rules::check_frame_lengths(d, blocks, info, red);
-    let Check::Passed = frame else {
-        return frame;
-    };
-    check_contents(d, own, parity, info, red, work)
-}
-
-// Rules 4, 6, 7 and 10, for an allowed design.
-fn check_frame(
-    d: Design,
-    blocks: u64,
+    rounds: u64,
     own: &[u8],
     parity: &[u8],
     info: &[u8],
@@ -325,14 +272,22 @@ fn check_frame(
     work: &mut [u8],
 ) -> Check
     requires { ⌜ Allowed d ⌝ }
-    ensures { λ a. ⌜ verdictOf a ≡ frameRules (paramsOf d) blocks (now (own .entry)) (now (parity .entry)) (now (info .entry)) (now (red .entry))
+    ensures { λ a. ⌜ verdictOf a ≡ receivedRules (paramsOf d) blocks rounds (now (own .entry)) (now (parity .entry)) (now (info .entry)) (now (red .entry))
         (length (now (work .entry))) ⌝ }
 {
-    let count = design::check_count(blocks);
-    let Check::Passed = count else {
-        return count;
+    let have = Lengths {
+        own: own.len(),
+        parity: parity.len(),
+        inverse: 0,
+        info: info.len(),
+        red: red.len(),
+        work: work.len(),
     };
-    check_received(d, blocks, own, parity, info, red, work)
+    let lengths = rules::check_frame(d, blocks, rounds, have, rules::lists_due(d));
+    let Check::Passed = lengths else {
+        return lengths;
+    };
+    rules::check_bytes(d, own, parity, &own[..0], info, red, work)
 }
 
 // How many words of a frame are outside the code, once all rules have passed.
@@ -386,9 +341,9 @@ pub fn check_words(
     let Designed::Made(d) = designed else {
         return refused_count(design::design_check(designed));
     };
-    let frame = check_frame(d, blocks, own, parity, info, red, work);
-    let Check::Passed = frame else {
-        return refused_count(frame);
+    let received = check_received(d, blocks, 0, own, parity, info, red, work);
+    let Check::Passed = received else {
+        return refused_count(received);
     };
     WordCount::Counted(count_received(d, blocks as usize, own, parity, info, red, work))
 }

@@ -1,25 +1,41 @@
--- A refusal of rule 4 is the answer; else that of the rest.
+-- A refusal of rules 4 to 6 is the answer; else that of the rules on what the kit and the information hold.
 -- Assumes nothing.
-use borrow.Author.Needs.{needs}
-use mathlib.Core.Path.{sym, _∙_}
+use mathlib.Core.Path.{refl, sym, ap, _∙_}
+use lib.ListN.{length}
+use Rattle.design.specs.Sizes.{paramsOf}
 use Rattle.design.proofs.Answers.{refused-then, passed-then, check-passed}
-use Rattle.encoder.specs.Checks.{frameRules}
-use Rattle.staircase.proofs.Rules.{count-limits}
+use Rattle.rules.specs.Lengths.{lengthsOf, frameRules}
+use Rattle.encoder.specs.Checks.{encodeRules}
+use Rattle.encoder.proofs.Verdict.{frame-sized}
+use borrow.Author.Needs.{needs}
 use Rattle.encoder.proofs.check_frame.Statement.{statement}
 use Rattle.encoder.proofs.check_frame.Tie as tie
 
 returns : tie.Need-returns
-unfolding frameRules
-returns c = refused-then _ (c .before .before .check-count .ensures) (c .enum-told2 .given .1)
+unfolding encodeRules
+returns c =
+    let a = c .before .before .before .before .before .before .before .before .before .before .args in
+    let have = lengthsOf (a .own .now) (a .parity .now) (a .inverse .now) (a .info .now) (a .red .now) (length (a .work .now)) in
+    refused-then _ (c .before .before .check-frame .ensures ∙ ap (frameRules (paramsOf (a .d)) (a .blocks) 0 have) (c .before .before .before .kit-due .ensures)) (c .enum-told2 .given .1)
 
-check-lengths-requires : tie.Need-check-lengths-requires
-check-lengths-requires c κs = (c .before .before .before .before .before .before .before .before .before .before .pre, count-limits _ (sym (c .before .before .before .check-count .ensures) ∙ check-passed (c .before .enum-told .given .1)) .1)
+check-content-requires : tie.Need-check-content-requires
+check-content-requires c κs =
+    let a = c .before .before .before .before .before .before .before .before .before .before .before .args in
+    let have = lengthsOf (a .own .now) (a .parity .now) (a .inverse .now) (a .info .now) (a .red .now) (length (a .work .now)) in
+    let numbers = c .before .before .before .check-frame .ensures ∙ ap (frameRules (paramsOf (a .d)) (a .blocks) 0 have) (c .before .before .before .before .kit-due .ensures) in
+    frame-sized (a .d) (a .blocks) (a .own .now) (a .parity .now) (a .inverse .now) (a .info .now) (a .red .now) (length (a .work .now)) (c .before .before .before .before .before .before .before .before .before .before .before .pre) (a .work .now) refl
+    (sym numbers ∙ check-passed (c .before .enum-told .given .1))
 
 returns-2 : tie.Need-returns-2
-unfolding frameRules
-returns-2 c = c .before .before .check-lengths .ensures ∙ passed-then _ (c .before .before .before .before .before .before .check-count .ensures) (c .before .before .before .before .enum-told .given .1)
+unfolding encodeRules
+returns-2 c =
+    let a = c .before .before .before .before .before .before .before .before .before .before .before .before .before .before .args in
+    let have = lengthsOf (a .own .now) (a .parity .now) (a .inverse .now) (a .info .now) (a .red .now) (length (a .work .now)) in
+    let numbers = c .before .before .before .before .before .before .check-frame .ensures ∙ ap (frameRules (paramsOf (a .d)) (a .blocks) 0 have) (c .before .before .before .before .before .before .before .kit-due .ensures) in
+    c .before .before .check-content .ensures ∙ passed-then _ numbers (c .before .before .before .before .enum-told .given .1)
 
 pub check-frame-spec : {M : Type 1} → statement M
 check-frame-spec =
     tie.close
-    (tie.spec (λ c κs. search needs) (λ c. search needs) (λ c. search needs) returns check-lengths-requires (λ c. search needs) returns-2)
+    (tie.spec (λ c κs. search needs) (λ c κs. search needs) (λ c. search needs) (λ c. search needs) returns check-content-requires
+    (λ c. search needs) returns-2)

@@ -1,37 +1,26 @@
--- The lengths that are due are those of the rule, and fit.
+-- What is not judged has the length that is due.
 -- Assumes nothing.
-use mathlib.Core.Path.{_∙_}
-use Prim.Native.Nat.{_*_}
-use native.Mathlib.Omega.{arith}
-use Rattle.staircase.specs.Design.{most-blocks}
-use Rattle.staircase.specs.Rules.{frameLengths}
-use Rattle.design.proofs.Answers.{refused-then, passed-then}
-use Rattle.staircase.proofs.Bounds.{small-product}
+use mathlib.Core.Path.{_≡_, ap, _∙_}
+use mathlib.Core.List.{[]}
+use lib.ListN.{length}
+use Rattle.design.specs.Sizes.{paramsOf}
+use Rattle.rules.specs.declared.lengths.Lengths.{Lengths}
+use Rattle.rules.specs.Lengths.{lengthsRule, frameDue}
+use Rattle.rules.proofs.Chain.{frame-alone}
 use borrow.Author.Needs.{needs}
 use Rattle.rules.proofs.lengths.check_frame_lengths.Statement.{statement}
 use Rattle.rules.proofs.lengths.check_frame_lengths.Tie as tie
 
-mul-info-length : tie.Need-mul-info-length
-mul-info-length c = omega (arith, small-product (c .before .before .before .args .blocks) (c .area .result) most-blocks 4294967296 (omega arith) (omega arith))
-
-mul-red-length-2 : tie.Need-mul-red-length-2
-mul-red-length-2 c = omega (arith, small-product (c .before .group-count .result) (2 * c .order .result) most-blocks 8589934592 (omega arith) (omega arith))
-
 returns : tie.Need-returns
-unfolding frameLengths
+unfolding frameDue
 returns c =
-    refused-then _ (rw (c .before .before .before .before .before .area .ensures .0) at (c .before .before .check-length .ensures))
-    (c .enum-told2 .given .1)
-
-returns-2 : tie.Need-returns-2
-unfolding frameLengths
-returns-2 c =
-    (rw (c .before .before .before .before .before .group-count .ensures, c .before .before .before .before .order .ensures .0) at (c .check-length2 .ensures))
-    ∙ passed-then _ (rw (c .before .before .before .before .before .before .area .ensures .0) at (c .before .before .before .check-length .ensures))
-    (c .before .enum-told .given .1)
+    let a = c .before .before .before .before .before .args in
+    c .check-lengths .ensures
+    ∙ ap (λ (y : Lengths). lengthsRule (record { own = y .own; parity = y .parity; inverse = y .inverse; info = length (a .info .now); red = length (a .red .now); work = y .work }) y)
+    (c .before .frame-due .ensures ∙ ap (frameDue (paramsOf (a .d)) (a .blocks)) (c .before .before .lists-due .ensures))
+    ∙ frame-alone (paramsOf (a .d)) [] [] [] (a .info .now) (a .red .now) (a .blocks)
 
 pub check-frame-lengths-spec : {M : Type 1} → statement M
 check-frame-lengths-spec =
     tie.close
-    (tie.spec (λ c κs. search needs) mul-info-length (λ c κs. search needs) (λ c κs. search needs) (λ c. search needs) mul-red-length-2
-    (λ c κs. search needs) (λ c. search needs) (λ c. search needs) returns (λ c κs. search needs) returns-2)
+    (tie.spec (λ c κs. search needs) (λ c κs. search needs) (λ c κs. search needs) returns)

@@ -8,11 +8,11 @@ use Rattle.rules.proofs.lengths.check_length.Tie as tie
 
 returns : tie.Need-returns
 unfolding verdictOf refusalVerdict
-returns c = rw (ne-eqb (c .before .args .have) (c .before .args .want) (λ e. omega arith))
+returns c = rw (ne-eqb (c .before .args .have) (c .before .args .due) (λ e. omega arith))
 
 returns-2 : tie.Need-returns-2
 unfolding verdictOf refusalVerdict
-returns-2 c = rw (eq-eqb (c .before .args .have) (c .before .args .want) (omega arith))
+returns-2 c = rw (eq-eqb (c .before .args .have) (c .before .args .due) (omega arith))
 
 pub check-length-spec : {M : Type 1} → statement M
 check-length-spec =

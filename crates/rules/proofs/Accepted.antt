@@ -1,0 +1,104 @@
+-- What rules 4 to 7 and 10 say once they accept.
+--   lengths-equal      each slice has the length that is due
+--   frame-accepted     rules 4 and 5, and the same
+--   frame-small        the lengths of a frame are small
+--   received           what the rules leave of a received frame
+-- Assumes nothing.
+use mathlib.Core.Path.{_≡_}
+use mathlib.Core.List.{List, []}
+use Prim.Native.Nat.{ℕ, _+_, _*_, _^_, _≤_, _<_}
+use native.Mathlib.Omega.{arith}
+use lib.Dec.{ltb}
+use lib.ListN.{length}
+use borrow.Author.Tests.{ltb-false}
+use Rattle.staircase.specs.Design.{Params, order, most-blocks, most-rounds}
+use Rattle.staircase.specs.Frame.{groups}
+use Rattle.staircase.specs.Rules.{Verdict, _then_, countRule, roundsRule, lengthRule, infoLength, redLength, listRule, spareRule, frameBits, interleavers, wordWork}
+use Rattle.staircase.specs.Rules.Verdict.{accepted}
+use Rattle.staircase.proofs.Bounds.{small-product}
+use Rattle.staircase.proofs.Rules.{then-first, then-rest, refuse-false, count-limits, length-equal, lists-permute, frame-bits}
+use Rattle.design.specs.declared.Design.{Design}
+use Rattle.design.specs.Answers.{Allowed}
+use Rattle.design.specs.Sizes.{paramsOf, orderOf}
+use Rattle.rules.specs.declared.lengths.Lengths.{Lengths}
+use Rattle.rules.specs.Lengths.{lengthsOf, lengthsRule, listsDue, frameDue, frameRules}
+use Rattle.rules.specs.Bytes.{byteRules}
+use Rattle.rules.specs.Received.{Received}
+
+abbrev Equal : Lengths → Lengths → Type 0
+Equal have due = (have .own ≡ due .own) × (have .parity ≡ due .parity) × (have .inverse ≡ due .inverse)
+    × (have .info ≡ due .info) × (have .red ≡ due .red) × (have .work ≡ due .work)
+
+pub lengths-equal : (have due : Lengths) → lengthsRule have due ≡ accepted → Equal have due
+unfolding lengthsRule
+lengths-equal have due e =
+    let v5 : Verdict = lengthRule 5 (have .red) (due .red) then lengthRule 6 (have .work) (due .work) in
+    let v4 : Verdict = lengthRule 4 (have .info) (due .info) then v5 in
+    let v3 : Verdict = lengthRule 3 (have .inverse) (due .inverse) then v4 in
+    let v2 : Verdict = lengthRule 2 (have .parity) (due .parity) then v3 in
+    let e2 : v2 ≡ accepted = then-rest (lengthRule 1 (have .own) (due .own)) v2 e in
+    let e3 : v3 ≡ accepted = then-rest (lengthRule 2 (have .parity) (due .parity)) v3 e2 in
+    let e4 : v4 ≡ accepted = then-rest (lengthRule 3 (have .inverse) (due .inverse)) v4 e3 in
+    let e5 : v5 ≡ accepted = then-rest (lengthRule 4 (have .info) (due .info)) v5 e4 in
+    (
+      length-equal 1 (have .own) (due .own) (then-first (lengthRule 1 (have .own) (due .own)) v2 e),
+      length-equal 2 (have .parity) (due .parity) (then-first (lengthRule 2 (have .parity) (due .parity)) v3 e2),
+      length-equal 3 (have .inverse) (due .inverse) (then-first (lengthRule 3 (have .inverse) (due .inverse)) v4 e3),
+      length-equal 4 (have .info) (due .info) (then-first (lengthRule 4 (have .info) (due .info)) v5 e4),
+      length-equal 5 (have .red) (due .red) (then-first (lengthRule 5 (have .red) (due .red)) (lengthRule 6 (have .work) (due .work)) e5),
+      length-equal 6 (have .work) (due .work) (then-rest (lengthRule 5 (have .red) (due .red)) (lengthRule 6 (have .work) (due .work)) e5),
+    )
+
+pub frame-accepted : (s : Params) (L k : ℕ) (have due : Lengths) → frameRules s L k have due ≡ accepted
+    → (1 ≤ L) × (L ≤ most-blocks) × (k ≤ most-rounds) × Equal have (frameDue s L due)
+unfolding frameRules roundsRule
+frame-accepted s L k have due e =
+    let v : Verdict = lengthsRule have (frameDue s L due) in
+    let f : (roundsRule k then v) ≡ accepted = then-rest (countRule L) (roundsRule k then v) e in
+    let n = count-limits L (then-first (countRule L) (roundsRule k then v) e) in
+    (
+      n .0,
+      n .1,
+      ltb-false most-rounds k (refuse-false (ltb most-rounds k) 5 k (then-first (roundsRule k) v f)),
+      lengths-equal have (frameDue s L due) (then-rest (roundsRule k) v f),
+    )
+
+pub frame-small : (d : Design) (L info red : ℕ) → Allowed d → L ≤ most-blocks → info ≡ infoLength (paramsOf d) L → red ≡ redLength (paramsOf d) L → info + red < 2 ^ 63
+frame-small d L info red a h e f =
+    let x = small-product L (d .size * d .size) 4096 250000 h (small-product (d .size) (d .size) 500 500 (a .M-high) (a .M-high)) in
+    let y = small-product (groups L) (2 * orderOf d) 4096 8192 (omega arith) (omega (arith, a .order-high)) in
+    omega (arith, e, f, x, y)
+
+module _ (d : Design) (L k : ℕ) (own parity info red : List ℕ) (work : ℕ) (allowed : Allowed d)
+    (e : (frameRules (paramsOf d) L k (lengthsOf own parity [] info red work) (listsDue (paramsOf d)) then byteRules (paramsOf d) (interleavers (paramsOf d) own parity) [] info red) ≡ accepted) where
+  abbrev s : Params
+  s = paramsOf d
+
+  abbrev first : Verdict
+  first = frameRules s L k (lengthsOf own parity [] info red work) (listsDue s)
+
+  abbrev bytes : Verdict
+  bytes = byteRules s (interleavers s own parity) [] info red
+
+  pub received : Received d L own parity info red
+  unfolding listsDue frameDue byteRules
+  received =
+      let n = frame-accepted s L k (lengthsOf own parity [] info red work) (listsDue s) (then-first first bytes e) in
+      let b : bytes ≡ accepted = then-rest first bytes e in
+      let lists = listRule s (interleavers s own parity) in
+      let p = lists-permute s (interleavers s own parity) (then-first lists (spareRule s [] then frameBits info red) b) in
+      let q = frame-bits info red (then-rest (spareRule s []) (frameBits info red) (then-rest lists (spareRule s [] then frameBits info red) b)) in
+      record {
+        allowed = allowed;
+        some-blocks = n .0;
+        few-blocks = n .1;
+        lists = record { ownLength = n .3 .0; parityLength = n .3 .1; ownPermutes = p .0; parityPermutes = p .1 };
+        frame = record { infoLength = n .3 .3; redLength = n .3 .4; infoBits = q .0; redBits = q .1 };
+      }
+
+  pub received-work : work ≡ orderOf d
+  unfolding listsDue frameDue wordWork
+  received-work = frame-accepted s L k (lengthsOf own parity [] info red work) (listsDue s) (then-first first bytes e) .3 .5
+
+  pub received-rounds : k ≤ most-rounds
+  received-rounds = frame-accepted s L k (lengthsOf own parity [] info red work) (listsDue s) (then-first first bytes e) .2

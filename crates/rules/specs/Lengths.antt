@@ -1,0 +1,56 @@
+-- Rules 4 to 6, over the lengths of a call's slices.
+--   lengthsOf                   the lengths of a call's slices
+--   lengthsRule have due        rule 6
+--   kitDue, listsDue, frameDue  what is due
+--   frameRules                  rules 4 to 6
+-- Assumes nothing.
+use mathlib.Core.List.{List}
+use Prim.Native.Nat.{ℕ, _*_}
+use lib.ListN.{length}
+use Rattle.staircase.specs.Design.{Params, order}
+use Rattle.staircase.specs.System.{rowBytes}
+use Rattle.staircase.specs.Rules.{Verdict, _then_, countRule, roundsRule, lengthRule, infoLength, redLength, kitWork, wordWork}
+use Rattle.rules.specs.declared.lengths.Lengths.{Lengths}
+
+-- the lengths of a call's slices; a call without a slice has an empty one
+abbrev pub lengthsOf : List ℕ → List ℕ → List ℕ → List ℕ → List ℕ → ℕ → Lengths
+lengthsOf self parity w info red work = record {
+  own = length self;
+  parity = length parity;
+  inverse = length w;
+  info = length info;
+  red = length red;
+  work = work;
+}
+
+-- "6 length: 1 self, 2 parity, 3 inverse, 4 information, 5 redundancy, 6 working; first slice of a wrong length"
+unfoldable pub lengthsRule : Lengths → Lengths → Verdict
+lengthsRule have due =
+    lengthRule 1 (have .own) (due .own) then lengthRule 2 (have .parity) (due .parity) then lengthRule 3 (have .inverse) (due .inverse)
+    then lengthRule 4 (have .info) (due .info) then lengthRule 5 (have .red) (due .red) then lengthRule 6 (have .work) (due .work)
+
+unfoldable pub kitDue : Params → Lengths
+kitDue s = record {
+  own = 2 * order s;
+  parity = 2 * order s;
+  inverse = order s * rowBytes (order s);
+  info = 0;
+  red = 0;
+  work = kitWork s;
+}
+
+unfoldable pub listsDue : Params → Lengths
+listsDue s = record { own = 2 * order s; parity = 2 * order s; inverse = 0; info = 0; red = 0; work = wordWork s }
+
+unfoldable pub frameDue : Params → ℕ → Lengths → Lengths
+frameDue s L due = record {
+  own = due .own;
+  parity = due .parity;
+  inverse = due .inverse;
+  info = infoLength s L;
+  red = redLength s L;
+  work = due .work;
+}
+
+unfoldable pub frameRules : Params → ℕ → ℕ → Lengths → Lengths → Verdict
+frameRules s L k have due = countRule L then roundsRule k then lengthsRule have (frameDue s L due)
