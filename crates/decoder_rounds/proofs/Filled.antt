@@ -7,8 +7,8 @@ use mathlib.Core.List.{List, _++_}
 use Prim.Native.Nat.{ℕ, _+_, _-_, _*_, _≤_}
 use native.Mathlib.Nat.{mul-le-mul}
 use native.Mathlib.Omega.{arith}
-use lib.ListN.{length, take, drop, length-drop, length-append}
-use lib.Seq.{length-take-le, take-at}
+use lib.ListN.{length, take, drop}
+use lib.Seq.{length-take-le, length-front, take-at}
 use Rattle.bch.specs.Code.{generator}
 use Rattle.bch.specs.Powers.{PositionPowers}
 use Rattle.bch.specs.Locator.{FieldTables, SyndromeTable}
@@ -23,10 +23,8 @@ use Rattle.decoder_locator.specs.Located.{SumTable, Words, Tables}
 pub values-written : (m n : ℕ) (xs ys : List ℕ) → SyndromeTable m ys → length ys ≡ length (take (n - 0) xs) → length xs ≡ n + 128
     → SyndromeTable m (take n (ys ++ drop (n - 0) xs)) × (length (ys ++ drop (n - 0) xs) ≡ n + 128)
 values-written m n xs ys s l k =
-    let e : length ys ≡ n = omega (arith, l, length-take-le (n - 0) xs (omega (arith, k))) in (
-      subst⁻¹ (SyndromeTable m) (take-at ys (drop (n - 0) xs) n e) s,
-      omega (arith, e, k, length-append ys (drop (n - 0) xs), length-drop (n - 0) xs),
-    )
+    let e : length ys ≡ n = omega (arith, l, length-take-le (n - 0) xs (omega (arith, k))) in
+    (subst⁻¹ (SyndromeTable m) (take-at ys (drop (n - 0) xs) n e) s, length-front xs ys (n - 0) l ∙ k)
 
 -- r of an allowed design, and n, are within what the values of four bits ask for
 pub sums-fit : (d : Design) (n r : ℕ) → Allowed d → n ≡ wordLength (paramsOf d) → r ≡ d .m * d .t → (r ≤ 30) × (r + 3 ≤ n)

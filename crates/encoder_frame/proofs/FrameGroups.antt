@@ -1,16 +1,12 @@
 -- Laws of the groups of a frame.
---   groupFrom-length                    a group has 2 M r bits
---   written, written-none, written-more, written-all   a buffer that a loop fills group by group
---   groups-are                          the groups are the redundancy of the frame's definition
+--   groupFrom-length   a group has 2 M r bits
+--   groups-are         the groups are the redundancy of the frame's definition
 -- Assumes nothing.
-use mathlib.Core.Path.{_≡_, sym, ap, ap₂, _∙_}
-use mathlib.Core.List.{List, _++_, append-nil, append-assoc}
-use Prim.Native.Nat.{ℕ, _+_, _-_, _*_, _<_}
-use native.Mathlib.Nat.{zero-mul, add-mul, one-mul, add-sub-cancel-left}
-use native.Mathlib.Numerals.{add-one}
+use mathlib.Core.Path.{_≡_, ap₂, _∙_}
+use mathlib.Core.List.{List}
+use Prim.Native.Nat.{ℕ, _+_, _*_, _<_}
 use native.Mathlib.Omega.{arith}
-use lib.ListN.{length, getD, take, drop, length-append}
-use lib.Seq.{take-at, drop-at, drop-drop, drop-length}
+use lib.ListN.{length, getD, length-append}
 use Rattle.bch.specs.Polynomial.{Bits}
 use Rattle.staircase.specs.Lists.{tabulate, concat}
 use Rattle.staircase.specs.Design.{Params, Interleavers, order}
@@ -18,7 +14,7 @@ use Rattle.staircase.specs.System.{Contents, preimage, groupRedundancy, redunda
 use Rattle.staircase.specs.Frame.{groups, block}
 use Rattle.staircase.specs.Demand2.{Permutes}
 use Rattle.staircase.proofs.System.{Proper}
-use Rattle.staircase.proofs.Tables.{tabulate-length, concat-last, concat-same, concat-length}
+use Rattle.staircase.proofs.Tables.{tabulate-length, concat-same}
 use Rattle.staircase.proofs.Redundancy.{block-binary}
 use Rattle.words_blocks.specs.Blocks.{sent, blockBytes, sentBit, Powers}
 use Rattle.words_blocks.proofs.Blocks.{sent-odd, block-is, odd-is}
@@ -38,36 +34,6 @@ unfolding groupFrom
 groupFrom-length table sources inverse size r L info i =
     groupOf-length table sources inverse size r (sentBit (sent L (2 * i)) (blockBytes L (size * size) info (2 * i)))
     (λ k. getD (blockBytes L (size * size) info (2 * i + 1)) k 0) (sentBit (sent L (2 * i + 2)) (blockBytes L (size * size) info (2 * i + 2)))
-
--- ---- group by group
-
--- the first i stretches of w bytes by the rule, the rest as it was
-unfoldable pub written : (ℕ → List ℕ) → List ℕ → ℕ → ℕ → List ℕ
-written f l w i = concat i f ++ drop (i * w) l
-
-module _ (f : ℕ → List ℕ) (l : List ℕ) (w : ℕ) where
-  pub written-none : l ≡ written f l w 0
-  unfolding written concat
-  written-none = sym (ap (λ (k : ℕ). drop k l) (zero-mul w))
-
-  pub written-all : (i n : ℕ) → i ≡ n → length l ≡ n * w → written f l w i ≡ concat n f
-  unfolding written
-  written-all i n e long =
-      ap (λ (k : ℕ). concat k f ++ drop (k * w) l) e ∙ ap (λ (k : ℕ). concat n f ++ drop k l) (sym long) ∙ ap (λ (t : List ℕ). concat n f ++ t) (drop-length l)
-      ∙ append-nil (concat n f)
-
-  module _ (wide : (k : ℕ) → length (f k) ≡ w) where
-    -- stretch i was lent and came back as ys
-    pub written-more : (xs ys : List ℕ) (i : ℕ) → xs ≡ written f l w i → ys ≡ f i
-        → take (i * w) xs ++ (ys ++ drop (i * w + w - i * w) (drop (i * w) xs)) ≡ written f l w (i + 1)
-    unfolding written
-    written-more xs ys i e d =
-        let p : List ℕ = concat i f in
-        let long : length p ≡ i * w = concat-length i w f wide in
-        let next : i * w + w ≡ (i + 1) * w = sym (add-mul i 1 w ∙ ap (λ (k : ℕ). i * w + k) (one-mul w)) in
-        rw (e, d, take-at p (drop (i * w) l) (i * w) long, drop-at p (drop (i * w) l) (i * w) long, add-sub-cancel-left (i * w) w, drop-drop w (i * w) l)
-        (sym (append-assoc p (f i) (drop (i * w + w) l))
-        ∙ ap₂ _++_ (sym (concat-last i f) ∙ ap (λ (k : ℕ). concat k f) (sym (add-one i))) (ap (λ (k : ℕ). drop k l) next))
 
 -- ---- the redundancy of the frame
 

@@ -4,13 +4,12 @@
 --   group-made       the group, from the packed constant and the remainders of the column words
 -- Assumes nothing.
 use mathlib.Core.Path.{_≡_, sym, ap, ap₂, _∙_, subst⁻¹}
-use mathlib.Core.List.{List, [], _++_, append-nil}
+use mathlib.Core.List.{List, _++_}
 use Prim.Native.Nat.{ℕ, _+_, _-_, _*_, _/_, _%_, _≤_, _<_}
-use native.Mathlib.Nat.{mod-lt, mul-comm, sub-zero}
+use native.Mathlib.Nat.{mod-lt, mul-comm}
 use native.Mathlib.Omega.{arith}
 use lib.Arith.{digits-lt}
-use lib.ListN.{length, getD, take, drop, length-drop, drop-of-length-le}
-use lib.Seq.{take-at, drop-at}
+use lib.ListN.{length, getD, take, drop, length-drop}
 use Rattle.bch.specs.Polynomial.{_⊕_, Bits}
 use Rattle.bch.specs.Powers.{xorSum}
 use Rattle.bch.proofs.PowerSum.{xorSum-same}
@@ -18,8 +17,10 @@ use Rattle.staircase.specs.Lists.{tabulate}
 use Rattle.staircase.specs.System.{Contents, rowBytes, inverseEntry}
 use Rattle.staircase.proofs.Matrix.{sumBits-lt, sumBits-same}
 use Rattle.staircase.proofs.Tables.{tabulate-length, tabulate-at, tabulate-bits, tabulate-same}
+use Rattle.staircase.proofs.Fill.{front-last}
 use Rattle.matrix.specs.Packed.{packedBit}
 use Rattle.matrix.proofs.Product.{sum-spare}
+use Rattle.words_positions.proofs.Parts.{part-is}
 use Rattle.words_blocks.specs.Blocks.{partSum, columnSum, rowSum}
 use Rattle.words_blocks.proofs.Sums.{part-at}
 use Rattle.encoder_solution.specs.Bits.{digit, Packed, constantBit, productBit}
@@ -40,7 +41,7 @@ module _ (inverse c part columns ys old : List ℕ) (size r : ℕ) (pos : 0 < si
   ys-length = ap length made ∙ tabulate-length n y
 
   front : take (n - 0) (ys ++ rest) ≡ tabulate n y
-  front = ap (λ (k : ℕ). take k (ys ++ rest)) (sub-zero n) ∙ take-at ys rest n ys-length ∙ made
+  front = part-is ys rest n ys-length ∙ made
 
   -- a row for each entry of the part, a column for each entry of the remainders
   pub front-half : (length (take (size * r - 0) (ys ++ drop (size * r - 0) old)) ≡ length part * length columns)
@@ -69,11 +70,10 @@ module _ (inverse c part columns ys old : List ℕ) (size r : ℕ) (pos : 0 < si
         ≡ tabulate (size * r) (productBit inverse c size r)
         ++ tabulate (size * r) (productParity inverse c columns part size r)
     both-halves =
-        let none : drop (2 * n - n) rest ≡ [] = drop-of-length-le rest {i = 2 * n - n} (rw length-drop (omega arith)) in
-        rw (take-at ys rest n ys-length, drop-at ys rest n ys-length, none, append-nil)
-        (ap₂ _++_ made
+        front-last ys rest ps n (2 * n - n) ys-length (rw length-drop (omega arith))
+        ∙ ap₂ _++_ made
         (behind ∙ tabulate-same n (λ q. digit (getD next (q % size) 0) r (q / size)) (productParity inverse c columns part size r)
-        (λ q l. ap (λ (x : ℕ). digit x r (q / size)) (sum-is (q % size) (mod-lt q pos)))))
+        (λ q l. ap (λ (x : ℕ). digit x r (q / size)) (sum-is (q % size) (mod-lt q pos))))
 
 -- ---- the group
 

@@ -1,6 +1,5 @@
 -- The two calls of the loopback, one after the other.
 --   turned-length, turned-bits   a buffer with some bits turned
---   filled-next                  the byte that a filling loop comes to
 --   numbers-accepted             rules 1 to 5 accept what demand 3 takes for given, at an allowed number of rounds
 --   loopback-numbers             the result where rules 1 to 5 refuse
 --   loopback-encoder             where the encoder does
@@ -10,16 +9,14 @@
 use mathlib.Core.Path.{_≡_, refl, sym, ap, ap₂, _∙_, subst}
 use mathlib.Core.Bool.{Bool, true, false, cond}
 use mathlib.Core.Logic.{_≢_}
-use mathlib.Core.List.{List, _++_}
-use Prim.Native.Nat.{ℕ, _+_, _-_, _*_, _≤_, _<_}
+use mathlib.Core.List.{List}
+use Prim.Native.Nat.{ℕ, _-_, _*_, _≤_, _<_}
 use native.Mathlib.Decide.{decLt}
 use native.Mathlib.Omega.{arith}
 use borrow.Author.Tests.{le-ltb, ltb-false}
 use lib.Dec.{eqb, ltb}
-use lib.ListN.{length, getD, drop, List·getD-eq-default}
-use lib.Seq.{getD-append-add, getD-drop}
+use lib.ListN.{length, getD, List·getD-eq-default}
 use Rattle.bch.specs.Polynomial.{Bits}
-use Rattle.staircase.specs.Lists.{tabulate}
 use Rattle.staircase.specs.Design.{Params, Interleavers, params, order, most-blocks, most-rounds}
 use Rattle.staircase.specs.System.{rowBytes, redundancy}
 use Rattle.staircase.specs.Frame.{Frame, frameOf, outside}
@@ -28,7 +25,6 @@ use Rattle.staircase.specs.Rules.{Verdict, _then_, designRules, countRule, roun
 use Rattle.staircase.specs.Rules.Verdict.{accepted, refused}
 use Rattle.staircase.specs.Calls.{encodedBy, encodeVerdict, encodeCall, Corrected, correctedBy, decodeVerdict, decodeCall}
 use Rattle.staircase.specs.Demand3.{Kit, Given}
-use Rattle.staircase.proofs.Fill.{filled}
 use Rattle.staircase.proofs.Bounds.{small-product}
 use Rattle.staircase.proofs.Tables.{tabulate-length, tabulate-at}
 use Rattle.staircase.proofs.Rules.{then-first, then-rest, then-accepted, refuse-false, refuse-accepted, inRange, design-limits}
@@ -60,14 +56,6 @@ turned-bits errors b h k = go (decLt k (length b))
     go : Dec (k < length b) → getD (turned errors b) k 0 < 2
     go (yes l) = subst (λ (z : ℕ). z < 2) (sym (tabulate-at (length b) (λ j. cond (eqb (getD errors j 0) 0) (getD b j 0) (1 - getD b j 0)) 0 k l)) (bit (eqb (getD errors k 0) 0))
     go (no l) = subst (λ (z : ℕ). z < 2) (sym (List·getD-eq-default (turned errors b) 0 {n = k} (omega (arith, turned-length errors b)))) (omega arith)
-
--- the byte that a filling loop comes to is the old one
-pub filled-next : (f : ℕ → ℕ) (l : List ℕ) (i : ℕ) → getD (filled f l i) i 0 ≡ getD l i 0
-unfolding filled
-filled-next f l i =
-    let e : i ≡ length (tabulate i f) + 0 = omega (arith, tabulate-length i f) in
-    ap (λ (z : ℕ). getD (tabulate i f ++ drop i l) z 0) e ∙ getD-append-add (tabulate i f) (drop i l) 0 0 ∙ getD-drop i l 0 0
-    ∙ ap (λ (z : ℕ). getD l z 0) (let q : i + 0 ≡ i = omega arith in q)
 
 -- ---- the verdict
 

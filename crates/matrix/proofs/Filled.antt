@@ -10,10 +10,10 @@ use native.Mathlib.Omega.{arith}
 use lib.Arith.{digits-lt, digits-div, digits-mod}
 use lib.ListN.{length, getD, take, drop}
 use Rattle.staircase.specs.System.{rowBytes}
+use Rattle.staircase.proofs.Fill.{each-part}
 use Rattle.matrix.specs.Packed.{planeBit, Planes}
 use Rattle.matrix.proofs.Bits.{bit}
 use Rattle.matrix.proofs.Packed.{plane-end, plane-length}
-use Rattle.matrix.proofs.Written.{written-part}
 
 abbrev pub PlaneByte : (ℕ → ℕ → ℕ) → ℕ → ℕ → ℕ → Type 0
 PlaneByte f b x v = (r : ℕ) → r < 8 → bit v r ≡ f (8 * b + r) x
@@ -26,7 +26,7 @@ pub planes-more : (n m : ℕ) (f : ℕ → ℕ → ℕ) (t ys : List ℕ) (b : �
 planes-more n m f t ys b h d e before here q l =
     let k : (b + 1) * n ≡ b * n + n = rw (add-mul b 1 n, one-mul n) in
     rw (add-sub-cancel-left (b * n) n)
-    (written-part (λ (q v : ℕ). PlaneByte f (q / n) (q % n) v) t ys (b * n) n (omega (arith, plane-end b n m h)) (e ∙ plane-length t b n m h d) before
+    (each-part (λ (q v : ℕ). PlaneByte f (q / n) (q % n) v) t ys (b * n) n (omega (arith, plane-end b n m h)) (e ∙ plane-length t b n m h d) before
     (λ x k r g. here x k r g ∙ rw (digits-div b k, digits-mod b k)) q (omega arith))
 
 pub planes-all : (t : List ℕ) (n : ℕ) (f : ℕ → ℕ → ℕ) → ((q : ℕ) → q < n * rowBytes n → PlaneByte f (q / n) (q % n) (getD t q 0)) → Planes t n f

@@ -3,4 +3,3 @@ pub mod Block
 pub mod Filled
 pub mod Packed
 pub mod Product
-pub mod Written

@@ -13,8 +13,8 @@ use native.Mathlib.Numerals.{add-one}
 use native.Mathlib.Omega.{arith}
 use lib.Dec.{ltb, eqb}
 use lib.ListN.{length, getD, set, replicate, getD-replicate}
-use lib.Seq.{getD-set-same, getD-set-other}
-use borrow.Author.Tests.{le-leb, lt-leb, eqb-true, eqb-false}
+use borrow.Author.Tests.{le-leb, lt-leb, eq-eqb, ne-eqb}
+use Rattle.bch.proofs.Store.{set-each}
 use Rattle.staircase.specs.Lists.{firstWhere}
 use Rattle.staircase.specs.Rules.{entries, badEntry}
 use Rattle.staircase.proofs.Tables.{tabulate-at}
@@ -43,7 +43,10 @@ module _ (l : List ℕ) where
     module _ (marks : List ℕ) (p : ℕ) (m : Marked marks p) where
       pub marked-more : getD l p 0 < length marks → Marked (set marks (getD l p 0) 1) (p + 1)
       unfolding Marked
-      marked-more h x k = rw (add-one p, seen-more x p) (go (eqb (getD l p 0) x) refl)
+      marked-more h =
+          set-each (λ x z. x < n → z ≡ cond (seen x (p + 1)) 1 0) marks (getD l p 0) 1 h
+          (λ k. rw (add-one p, seen-more (getD l p 0) p, eq-eqb (getD l p 0) (getD l p 0) refl) (sym (or-true (seen (getD l p 0) p))))
+          (λ x d k. rw (add-one p, seen-more x p, ne-eqb (getD l p 0) x (λ e. d (sym e))) (m x k ∙ sym (or-false (seen x p))))
         where
           or-true : (z : Bool) → _≡_ {A = ℕ} (cond (z || true) 1 0) 1
           or-true true = refl
@@ -52,10 +55,6 @@ module _ (l : List ℕ) where
           or-false : (z : Bool) → _≡_ {A = ℕ} (cond (z || false) 1 0) (cond z 1 0)
           or-false true = refl
           or-false false = refl
-
-          go : (z : Bool) → eqb (getD l p 0) x ≡ z → getD (set marks (getD l p 0) 1) x 0 ≡ cond (seen x p || eqb (getD l p 0) x) 1 0
-          go true e = rw (e, ← eqb-true (getD l p 0) x e) (getD-set-same marks (getD l p 0) 1 0 h ∙ sym (or-true (seen (getD l p 0) p)))
-          go false e = rw e (getD-set-other marks (getD l p 0) x 1 0 (λ q. eqb-false (getD l p 0) x e (sym q)) ∙ m x k ∙ sym (or-false (seen x p)))
 
       -- of a number below n the mark decides
       entry-mark : getD l p 0 < n → getD marks (getD l p 0) 0 ≡ cond (badEntry n l p) 1 0

@@ -7,13 +7,14 @@
 use mathlib.Core.Path.{_≡_, sym, ap, _∙_}
 use mathlib.Core.Bool.{Bool, cond}
 use mathlib.Core.Logic.{_≢_}
-use mathlib.Core.List.{List, _∷_, _++_, append-nil}
+use mathlib.Core.List.{List, _∷_}
 use Prim.Native.Nat.{ℕ, _+_}
 use native.Mathlib.Omega.{arith}
-use lib.ListN.{length, drop}
-use lib.Seq.{sets, sets-eq, drop-length}
+use lib.ListN.{length}
+use lib.Seq.{sets, sets-eq}
 use borrow.Author.Tests.{eq-eqb, ne-eqb}
 use Rattle.staircase.specs.Rules.{Verdict}
+use Rattle.staircase.proofs.Fill.{front-all}
 use Rattle.rules_verdict.specs.declared.Judged.{Judged}
 use Rattle.rules_verdict.specs.Number.{number, placeOf, judgedOf, told}
 
@@ -24,8 +25,7 @@ told-other new old h = rw (ne-eqb (length old) (length new) h)
 pub told-all : (new old after : List ℕ) → length old ≡ length new → after ≡ sets old 0 new → after ≡ told new old
 unfolding told
 told-all new old after e h =
-    let end : 0 + length new ≡ length old = omega arith in
-    h ∙ sets-eq new old 0 (omega arith) ∙ ap (λ (k : ℕ). new ++ drop k old) end ∙ ap (λ (l : List ℕ). new ++ l) (drop-length old) ∙ append-nil new
+    h ∙ sets-eq new old 0 (omega arith) ∙ front-all new old (0 + length new) (omega arith)
     ∙ sym (ap (λ (b : Bool). cond b new old) (eq-eqb (length old) (length new) e))
 
 pub told-alike : {A : Type 0} (rule : A → ℕ) (answer : A → List ℕ) (l : List ℕ) {x y : A} {n : ℕ} {k : List ℕ} → x ≡ y

@@ -20,6 +20,7 @@ use lib.Seq.{getD-set-same, getD-set-other, set-out, ext-getD}
 use borrow.Author.Tests.{eq-eqb, ne-eqb}
 use Rattle.bch.specs.Polynomial.{Bits}
 use Rattle.bch.specs.Code.{isCodeword, unlike, distance}
+use Rattle.bch.proofs.Store.{set-each}
 use Rattle.bch.proofs.Distance.{unlike-same, unlike-le, unlike-other, distance-self}
 use Rattle.staircase.specs.Lists.{tabulate}
 use Rattle.staircase.specs.Design.{Params}
@@ -35,12 +36,11 @@ flipBits-length [] u = refl
 flipBits-length (j ∷ c) u = length-set (flipBits c u) j (1 - getD (flipBits c u) j 0) ∙ flipBits-length c u
 
 set-bit : (u : List ℕ) (j b : ℕ) → Bits u → b < 2 → Bits (set u j b)
-set-bit u j b hu hb k = go (ℕ-discrete k j) (decLt j (length u))
+set-bit u j b hu hb = go (decLt j (length u))
   where
-    go : Dec (k ≡ j) → Dec (j < length u) → getD (set u j b) k 0 < 2
-    go (no d) l = subst (λ (z : ℕ). z < 2) (sym (getD-set-other u j k b 0 d)) (hu k)
-    go (yes e) (yes l) = subst (λ (z : ℕ). getD (set u j b) z 0 < 2) (sym e) (subst (λ (z : ℕ). z < 2) (sym (getD-set-same u j b 0 l)) hb)
-    go (yes e) (no l) = subst (λ (z : List ℕ). getD z k 0 < 2) (sym (set-out u j b (omega arith))) (hu k)
+    go : Dec (j < length u) → Bits (set u j b)
+    go (yes l) = set-each (λ k z. z < 2) u j b l hb (λ k d. hu k)
+    go (no l) = subst Bits (sym (set-out u j b (omega arith))) hu
 
 pub flipBits-bits : (c u : List ℕ) → Bits u → Bits (flipBits c u)
 unfolding flipBits

@@ -15,11 +15,11 @@ use mathlib.Core.List.{List, [], _∷_, _++_, append-assoc, append-nil}
 use mathlib.Core.Logic.{_⊎_, inl, inr}
 use native.Mathlib.Omega.{arith}
 use native.Mathlib.Decide.{decLt}
-use native.Mathlib.Nat.{zero-mul, suc-mul}
+use native.Mathlib.Nat.{zero-mul, add-sub-cancel-left}
 use native.Mathlib.Numerals.{add-one}
 use borrow.Rule.Slice.PartMut.{putMid, mid-len, same-len-mid}
-use lib.ListN.{length, getD, set, take, drop, length-append, length-drop, drop-of-length-le}
-use lib.Seq.{length-take-le, take-all, take-at, drop-at, take-suc-set}
+use lib.ListN.{length, getD, set, take, drop, length-append, length-drop}
+use lib.Seq.{length-take-le, take-all, take-at, take-suc-set}
 use Rattle.text_formats.specs.Format.{Item, byte, bit, dec}
 use Rattle.text_formats.specs.Items.{lits, bits, linesFrom, bitsLine, bitsLines, Walk, stuck, past, prep, walk, onward, values, Passes}
 use Rattle.text_formats.proofs.Walking.{prep-nil, prep-prep, walk-append, walk-end, walk-this, walk-other, walk-bit}
@@ -31,6 +31,7 @@ use Rattle.text_formats.proofs.Spelling.{tidy-bits, tidy-bitsLine}
 use Rattle.text_formats.proofs.Takes.{passed-length, part-takes, line-takes}
 use Rattle.text_formats.proofs.Lines.{lines-first, lines-whole, lines-end}
 use Rattle.staircase.proofs.Bounds.{stretch-end}
+use Rattle.staircase.proofs.Fill.{front-last}
 use Rattle.text.specs.FrameText.{groupLine, groupLines}
 use Rattle.text.proofs.GroupLine.{group-takes, tidy-groupLine}
 
@@ -202,10 +203,7 @@ module _ (n p : ℕ) (s : List ℕ) (at : ℕ) (ok : Passes (walk (groupLine n p
 -- ---- a part of a slice
 
 part-length : (out : List ℕ) (a k : ℕ) → a + k ≤ length out → length (take (a + k - a) (drop a out)) ≡ k
-part-length out a k h = mid-len a (a + k) out h ∙ less a k
-  where
-    less : (a k : ℕ) → a + k - a ≡ k
-    less a k = omega arith
+part-length out a k h = mid-len a (a + k) out h ∙ add-sub-cancel-left a k
 
 -- the values of a walk, written from a place on
 module _ (s : List ℕ) (at n from : ℕ) (out : List ℕ) (h : from + n ≤ length out) where
@@ -223,22 +221,16 @@ module _ (s : List ℕ) (at n from : ℕ) (out : List ℕ) (h : from + n ≤ len
       × (putMid from (from + n - from) out ys ≡ take from out ++ (values (walk (byte 32 ∷ bits n) s at) ++ drop n (drop from out)))
   half-filled ys q g =
       let w : past ys q ≡ W = g ∙ ap (λ (k : ℕ). walk (byte 32 ∷ bits k) s at) lent in
-      let v : ys ≡ values W = ap values w in
-      (ap (λ (z : List ℕ). past z q) (sym v) ∙ w, ap₂ (λ (z : List ℕ) (k : ℕ). take from out ++ (z ++ drop k (drop from out))) v (less from n))
-    where
-      less : (a k : ℕ) → a + k - a ≡ k
-      less a k = omega arith
+      let v : ys ≡ values W = ap values w in (
+        ap (λ (z : List ℕ). past z q) (sym v) ∙ w,
+        ap₂ (λ (z : List ℕ) (k : ℕ). take from out ++ (z ++ drop k (drop from out))) v (add-sub-cancel-left from n),
+      )
 
 -- both halves of a slice
-halves : (n : ℕ) (out mid end ys zs : List ℕ) → length out ≡ 2 * n → length ys ≡ n → length zs ≡ n
+halves : (n : ℕ) (out mid end ys zs : List ℕ) → length out ≡ 2 * n → length ys ≡ n
     → mid ≡ take 0 out ++ (ys ++ drop n (drop 0 out)) → end ≡ take n mid ++ (zs ++ drop n (drop n mid)) → end ≡ ys ++ zs
-halves n out mid end ys zs l a b d e =
-    e ∙ ap₂ (λ (u v : List ℕ). u ++ (zs ++ v)) (ap (λ (m : List ℕ). take n m) d ∙ take-at ys (drop n out) n a) rest ∙ ap (λ (v : List ℕ). ys ++ v) (append-nil zs)
-  where
-    rest : drop n (drop n mid) ≡ []
-    rest =
-        ap (λ (m : List ℕ). drop n (drop n m)) d ∙ ap (λ (v : List ℕ). drop n v) (drop-at ys (drop n out) n a)
-        ∙ drop-of-length-le (drop n out) {i = n} (omega (arith, length-drop n out))
+halves n out mid end ys zs l a d e =
+    e ∙ ap (λ (m : List ℕ). take n m ++ (zs ++ drop n (drop n m))) d ∙ front-last ys (drop n out) zs n n a (omega (arith, length-drop n out))
 
 module _ (n p : ℕ) (s : List ℕ) (at : ℕ) (ok : Passes (walk (groupLine n p) s at)) (x : Step) (e : stepWalk x ≡ walk (lits (dec p)) s at) (i : ℕ)
     (f : x ≡ Next i) (j : ℕ) (g : past (values (walk (byte 32 ∷ bits n) s i)) j ≡ walk (byte 32 ∷ bits n) s i) where
@@ -248,8 +240,8 @@ module _ (n p : ℕ) (s : List ℕ) (at : ℕ) (ok : Passes (walk (groupLine n p
   abbrev parity : List ℕ
   parity = values (walk (byte 32 ∷ bits n) s j)
 
-  sized : (at : ℕ) (ys : List ℕ) (q : ℕ) → past ys q ≡ walk (byte 32 ∷ bits n) s at → length ys ≡ n
-  sized at ys q g = passed-length (Part n) s at ys q (omega arith, tidy-bits n) g ∙ part-takes n
+  own-length : length own ≡ n
+  own-length = passed-length (Part n) s i own j (omega arith, tidy-bits n) g ∙ part-takes n
 
   pub parity-there : Passes (walk (byte 32 ∷ bits n) s j)
   parity-there = group-parity n p s at ok x e i f own j g
@@ -261,7 +253,7 @@ module _ (n p : ℕ) (s : List ℕ) (at : ℕ) (ok : Passes (walk (groupLine n p
     pub both-filled : (out mid end : List ℕ) → length out ≡ 2 * n → mid ≡ take 0 out ++ (values (walk (byte 32 ∷ bits n) s i) ++ drop n (drop 0 out))
         → end ≡ take n mid ++ (values (walk (byte 32 ∷ bits n) s j) ++ drop n (drop n mid)) → past end (q + 1) ≡ walk (groupLine n p) s at
     both-filled out mid end l a b =
-        ap (λ (z : List ℕ). past z (q + 1)) (halves n out mid end own parity l (sized i own j g) (sized j parity q h) a b)
+        ap (λ (z : List ℕ). past z (q + 1)) (halves n out mid end own parity l own-length a b)
         ∙ group-filled n p s at ok x e i f own j g parity q h .1
 
 -- ---- lines, of W values each: i of N are written, and w is the walk of all
@@ -307,10 +299,7 @@ module _ (line : ℕ → List Item) (W N i : ℕ) (s : List ℕ) (q : ℕ) (out 
     )
       where
         n : length (take (i * W) out ++ ys) ≡ (i + 1) * W
-        n = length-append (take (i * W) out) ys ∙ sum (length (take (i * W) out)) (length ys) (length-take-le (i * W) out (omega (arith, fits))) m
-          where
-            sum : (a b : ℕ) → a ≡ i * W → b ≡ W → a + b ≡ (i + 1) * W
-            sum a b f g = omega (arith, suc-mul i W)
+        n = omega (arith, length-append (take (i * W) out) ys, length-take-le (i * W) out (omega (arith, fits)), m)
 
         taken : take ((i + 1) * W) (putMid (i * W) (i * W + W - i * W) out ys) ≡ take (i * W) out ++ ys
         taken = rw (← append-assoc) (take-at (take (i * W) out ++ ys) _ ((i + 1) * W) n)

@@ -1,14 +1,15 @@
 -- Filling the two lists from the values of their lines.
 --   halves, pairs-more                      the values of either list, of pairs
---   put-behind, put-more                    bytes written behind those that are known; one entry more in a list
+--   put-more                                one entry more in a list
 --   Filled, filled-start .. filled-parity   the state of the filling after p lines
 -- Assumes nothing.
 use Prim.Native.Nat.{ℕ, zero, suc, _+_, _-_, _*_, _/_, _%_, _≤_, _<_}
 use mathlib.Core.Path.{_≡_, refl, sym, ap, ap₂, _∙_}
 use mathlib.Core.List.{List, [], _∷_, _++_, append-nil}
 use native.Mathlib.Omega.{arith}
-use lib.ListN.{length, drop, length-append, length-drop, drop-of-length-le}
-use lib.Seq.{sets, sets-eq, take-at, drop-drop, drop-append-add}
+use lib.ListN.{length, drop, length-append}
+use lib.Seq.{sets}
+use Rattle.staircase.proofs.Fill.{front-length, front-all, front-sets}
 use Rattle.text_formats.specs.Items.{past, prep, walk, values, Passes}
 use Rattle.text_formats.proofs.Walking.{prep-nil, prep-prep}
 use Rattle.text_formats.proofs.Lines.{lines-whole, lines-end}
@@ -33,21 +34,12 @@ unfolding packs
 packs-more [] a = refl
 packs-more (d ∷ ds) a = ap (λ (l : List ℕ). (d % 256) ∷ (d / 256 % 256) ∷ l) (packs-more ds a)
 
--- Bytes w written behind the bytes g: the old ones follow.
-pub put-behind : (g w l₀ : List ℕ) (k : ℕ) → length g ≡ k → k + length w ≤ length l₀ → sets (g ++ drop k l₀) k w ≡ g ++ w ++ drop (k + length w) l₀
-put-behind g w l₀ k e h =
-    let d : List ℕ = drop k l₀ in
-    sets-eq w (g ++ d) k (omega (arith, e, length-append g d, length-drop k l₀))
-    ∙ ap (λ (x : List ℕ). x ++ w ++ drop (k + length w) (g ++ d)) (take-at g d k e)
-    ∙ ap (λ (i : ℕ). g ++ w ++ drop (i + length w) (g ++ d)) (sym e)
-    ∙ ap (λ (x : List ℕ). g ++ w ++ x) (drop-append-add g d (length w) ∙ drop-drop (length w) k l₀)
-
 -- one entry more
-put-more : (l₀ ds : List ℕ) (p a : ℕ) → length ds ≡ p → 2 * p + 2 ≤ length l₀
+put-more : (l₀ ds : List ℕ) (p a : ℕ) → length (packs ds) ≡ 2 * p → 2 * p + 2 ≤ length l₀
     → sets (packs ds ++ drop (2 * p) l₀) (2 * p) ((a % 256) ∷ (a / 256 % 256) ∷ []) ≡ packs (ds ++ (a ∷ [])) ++ drop (2 * (p + 1)) l₀
 put-more l₀ ds p a e h =
     let z : 2 * p + 2 ≡ 2 * (p + 1) = omega arith in
-    put-behind (packs ds) ((a % 256) ∷ (a / 256 % 256) ∷ []) l₀ (2 * p) (packs-length ds ∙ ap (λ (n : ℕ). 2 * n) e) h
+    front-sets (packs ds) l₀ (2 * p) ((a % 256) ∷ (a / 256 % 256) ∷ []) e h
     ∙ ap₂ (λ (x : List ℕ) (n : ℕ). x ++ drop n l₀) (sym (packs-more ds a)) z
 
 -- After p lines: ws are the values read, and start the two lists; what is left at q is the lines from p on.
@@ -58,9 +50,6 @@ pub record Filled (s : List ℕ) (at n : ℕ) (l₀ m₀ l m : List ℕ) (q p : 
   pub left : l ≡ packs (firsts ws) ++ drop (2 * p) l₀
   pub right : m ≡ packs (seconds ws) ++ drop (2 * p) m₀
   pub rest : walk (pairLines 0 n) s at ≡ prep ws (walk (pairLines p (n - p)) s q)
-
-part-length : (l₀ ds : List ℕ) (p : ℕ) → length ds ≡ p → 2 * p ≤ length l₀ → length (packs ds ++ drop (2 * p) l₀) ≡ length l₀
-part-length l₀ ds p e h = omega (arith, length-append (packs ds) (drop (2 * p) l₀), length-drop (2 * p) l₀, packs-length ds)
 
 module _ (s : List ℕ) (at n : ℕ) (l₀ m₀ : List ℕ) where
   pub filled-start : Filled s at n l₀ m₀ l₀ m₀ at 0
@@ -76,14 +65,16 @@ module _ (s : List ℕ) (at n : ℕ) (l₀ m₀ : List ℕ) where
       }
 
   module _ (hl : length l₀ ≡ 2 * n) (hm : length m₀ ≡ 2 * n) (l m : List ℕ) (q p : ℕ) (F : Filled s at n l₀ m₀ l m q p) where
-    counts : (length (firsts (F .ws)) ≡ p) × (length (seconds (F .ws)) ≡ p)
-    counts = halves p (F .ws) (F .count)
+    sizes : (length (packs (firsts (F .ws))) ≡ 2 * p) × (length (packs (seconds (F .ws))) ≡ 2 * p)
+    sizes =
+        let h = halves p (F .ws) (F .count) in
+        (omega (arith, packs-length (firsts (F .ws)), h .0), omega (arith, packs-length (seconds (F .ws)), h .1))
 
     pub filled-left : length l ≡ length l₀
-    filled-left = rw (F .left) (part-length l₀ (firsts (F .ws)) p (counts .0) (omega (arith, F .within)))
+    filled-left = rw (F .left) (front-length (packs (firsts (F .ws))) l₀ (2 * p) (sizes .0) (omega (arith, F .within)))
 
     pub filled-right : length m ≡ length m₀
-    filled-right = rw (F .right) (part-length m₀ (seconds (F .ws)) p (counts .1) (omega (arith, F .within)))
+    filled-right = rw (F .right) (front-length (packs (seconds (F .ws))) m₀ (2 * p) (sizes .1) (omega (arith, F .within)))
 
     module _ (lt : p < n) (x : Line) (e : lineWalk x ≡ walk (pairLine p) s q) where
       pub filled-wrong : (k : ℕ) → x ≡ NoPair k → Passes (walk (pairLines 0 n) s at) → ⊥
@@ -98,8 +89,8 @@ module _ (s : List ℕ) (at n : ℕ) (l₀ m₀ : List ℕ) where
             within = omega arith;
             ws = F .ws ++ (a ∷ b ∷ []);
             count = omega (arith, length-append (F .ws) (a ∷ b ∷ []), F .count);
-            left = rw (g, F .left, more .0) (put-more l₀ (firsts (F .ws)) p a (counts .0) (omega arith));
-            right = rw (h, F .right, more .1) (put-more m₀ (seconds (F .ws)) p b (counts .1) (omega arith));
+            left = rw (g, F .left, more .0) (put-more l₀ (firsts (F .ws)) p a (sizes .0) (omega arith));
+            right = rw (h, F .right, more .1) (put-more m₀ (seconds (F .ws)) p b (sizes .1) (omega arith));
             rest = rw (F .rest, pairs-next p n s q lt x e a b r f, prep-prep);
           }
 
@@ -107,11 +98,8 @@ module _ (s : List ℕ) (at n : ℕ) (l₀ m₀ : List ℕ) where
       all-read : walk (pairLines 0 n) s at ≡ past (F .ws) q
       all-read = rw (F .rest, lines-end pairLine p n p s q done) (ap (λ (z : List ℕ). past z q) (append-nil (F .ws)))
 
-      nothing-left : (k : List ℕ) → length k ≡ 2 * n → drop (2 * p) k ≡ []
-      nothing-left k h = drop-of-length-le k {i = 2 * p} (omega arith)
-
       pub filled-own : l ≡ packs (firsts (values (walk (pairLines 0 n) s at)))
-      filled-own = rw (all-read, F .left, nothing-left l₀ hl) (append-nil (packs (firsts (F .ws))))
+      filled-own = rw (all-read, F .left) (front-all (packs (firsts (F .ws))) l₀ (2 * p) (omega arith))
 
       pub filled-parity : m ≡ packs (seconds (values (walk (pairLines 0 n) s at)))
-      filled-parity = rw (all-read, F .right, nothing-left m₀ hm) (append-nil (packs (seconds (F .ws))))
+      filled-parity = rw (all-read, F .right) (front-all (packs (seconds (F .ws))) m₀ (2 * p) (omega arith))

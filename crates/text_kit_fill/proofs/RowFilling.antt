@@ -10,7 +10,7 @@ use mathlib.Core.List.{List, [], _∷_, _++_, append-assoc, append-nil}
 use native.Mathlib.Omega.{arith}
 use native.Mathlib.Nat.{mul-le-mul-right}
 use native.Mathlib.Numerals.{add-one}
-use lib.ListN.{length, take, drop, length-append, length-drop, drop-of-length-le}
+use lib.ListN.{length, take, drop, length-append, length-drop}
 use lib.Seq.{sets, take-all, drop-drop, take-append-le, drop-append-le}
 use Rattle.text_formats.specs.Format.{Item, byte, dec}
 use Rattle.text_formats.specs.Items.{lits, Walk, stuck, past, prep, walk, onward, spell, Fit, bits, bitsLine, bitsLines, values, Passes}
@@ -22,10 +22,11 @@ use Rattle.text_items.specs.declared.Step.{Step}
 use Rattle.text_items.specs.declared.Step.the-variants.{Next, Refused}
 use Rattle.text_items.specs.Answers.{stepOf, stepWalk}
 use Rattle.staircase.specs.System.{rowBytes}
+use Rattle.staircase.proofs.Bounds.{stretch-end}
+use Rattle.staircase.proofs.Fill.{front-length, front-all, front-sets}
 use Rattle.text_kit_fill.specs.Bytes.{lows}
 use Rattle.text.proofs.Bytes.{packRows-length, length-pack}
 use Rattle.text.specs.KitReader.{pack, packRows}
-use Rattle.text_kit_fill.proofs.Filling.{put-behind}
 use Rattle.text_items.proofs.Lines.{answer-past}
 
 -- ---- the bits of a line
@@ -108,17 +109,13 @@ packRows-more n zero [] vs e f = append-nil (pack (rowBytes n) (take n vs)) ∙ 
 packRows-more n zero (w ∷ ws) vs e f = absurd (omega arith)
 packRows-more n (suc p) ws vs e f = rows-front n p ws vs e (packRows-more n p (drop n ws) vs (omega (arith, length-drop n ws)) f)
 
--- a row's bytes stand in the inverse's
-pub row-room : (n p : ℕ) → p < n → p * rowBytes n + rowBytes n ≤ n * rowBytes n
-row-room n p h = omega (arith, mul-le-mul-right {m = p + 1} {n = n} (rowBytes n) (omega arith))
-
 put-row : (w₀ ws vs : List ℕ) (n p : ℕ) → length ws ≡ p * n → length vs ≡ n → p * rowBytes n + rowBytes n ≤ length w₀
     → sets (packRows n p ws ++ drop (p * rowBytes n) w₀) (p * rowBytes n) (pack (rowBytes n) vs) ≡ packRows n (p + 1) (ws ++ vs) ++ drop ((p + 1) * rowBytes n) w₀
 put-row w₀ ws vs n p e f h =
     let b : ℕ = rowBytes n in
     let l : length (pack b vs) ≡ b = length-pack b vs in
     let z : p * b + length (pack b vs) ≡ (p + 1) * b = omega (arith, l) in
-    put-behind (packRows n p ws) (pack b vs) w₀ (p * b) (packRows-length n p ws) (omega (arith, l, h))
+    front-sets (packRows n p ws) w₀ (p * b) (pack b vs) (packRows-length n p ws) (omega (arith, l, h))
     ∙ ap₂ (λ (x : List ℕ) (i : ℕ). x ++ drop i w₀) (sym (packRows-more n p ws vs e f) ∙ ap (λ (i : ℕ). packRows n i (ws ++ vs)) (sym (add-one p))) z
 
 -- ---- the state of the filling
@@ -152,13 +149,8 @@ module _ (s : List ℕ) (at n : ℕ) (w₀ : List ℕ) where
     pub packed-length : length w ≡ length w₀
     packed-length =
         rw (F .bytes)
-        (omega (
-          arith,
-          length-append (packRows n p (F .ws)) (drop (p * rowBytes n) w₀),
-          length-drop (p * rowBytes n) w₀,
-          packRows-length n p (F .ws),
-          mul-le-mul-right {m = p} {n = n} (rowBytes n) (F .within),
-        ))
+        (front-length (packRows n p (F .ws)) w₀ (p * rowBytes n) (packRows-length n p (F .ws))
+        (omega (arith, mul-le-mul-right {m = p} {n = n} (rowBytes n) (F .within))))
 
     module _ (lt : p < n) where
       rest-is : walk (bitsLines n 0 n) s at ≡ prep (F .ws) (onward (walk (bitsLine n p) s q) (λ r. walk (bitsLines n (p + 1) (n - (p + 1))) s r))
@@ -178,7 +170,9 @@ module _ (s : List ℕ) (at n : ℕ) (w₀ : List ℕ) where
             within = omega arith;
             ws = F .ws ++ vs;
             count = omega (arith, length-append (F .ws) vs, F .count, c);
-            bytes = f ∙ ap (λ (l : List ℕ). sets l (p * rowBytes n) (pack (rowBytes n) vs)) (F .bytes) ∙ put-row w₀ (F .ws) vs n p (F .count) c (omega (arith, row-room n p lt, hw));
+            bytes =
+                f ∙ ap (λ (l : List ℕ). sets l (p * rowBytes n) (pack (rowBytes n) vs)) (F .bytes)
+                ∙ put-row w₀ (F .ws) vs n p (F .count) c (omega (arith, stretch-end p n (rowBytes n) lt, hw));
             rest = rest-is ∙ ap (λ (k : Walk). prep (F .ws) (onward k next)) v ∙ prep-prep (F .ws) vs (next r);
           }
 
@@ -193,6 +187,5 @@ module _ (s : List ℕ) (at n : ℕ) (w₀ : List ℕ) where
       packed-all =
           F .bytes
           ∙ ap (λ (i : ℕ). packRows n i (F .ws) ++ drop (i * rowBytes n) w₀) whole
-          ∙ ap (λ (l : List ℕ). packRows n n (F .ws) ++ l) (drop-of-length-le w₀ {i = n * rowBytes n} (omega arith))
-          ∙ append-nil (packRows n n (F .ws))
+          ∙ front-all (packRows n n (F .ws)) w₀ (n * rowBytes n) (omega arith)
           ∙ ap (packRows n n) (sym (ap values all-read))

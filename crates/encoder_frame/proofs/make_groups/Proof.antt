@@ -5,17 +5,18 @@ use mathlib.Core.Path.{_≡_, _∙_}
 use Prim.Native.Nat.{_*_, _-_, _≤_}
 use lib.ListN.{length}
 use Rattle.staircase.proofs.Bounds.{stretch-end}
+use Rattle.staircase.proofs.Fill.{stretches, stretches-none, stretches-more, stretches-all}
 use Rattle.staircase.specs.Frame.{groups}
 use Rattle.bch_remainders.proofs.Rows.{row-length}
 use Rattle.encoder_frame.specs.Groups.{groupFrom}
-use Rattle.encoder_frame.proofs.FrameGroups.{groupFrom-length, written, written-none, written-more, written-all}
+use Rattle.encoder_frame.proofs.FrameGroups.{groupFrom-length}
 use Rattle.encoder_frame.proofs.make_groups.Statement.{statement}
 use Rattle.encoder_frame.proofs.make_groups.Tie as tie
 
 abbrev Inv-loop : tie.InvT-loop
 Inv-loop info blocks table sources inverse size r red₀ w count i₀ red i =
     (count ≡ groups blocks) × (i ≤ groups blocks) × (length red ≡ groups blocks * (2 * (size * r)))
-    × (red ≡ written (groupFrom table sources inverse size r blocks info) red₀ (2 * (size * r)) i)
+    × (red ≡ stretches (groupFrom table sources inverse size r blocks info) red₀ (2 * (size * r)) i)
 
 abbrev μ-loop : tie.MeasureT-loop
 μ-loop info blocks table sources inverse size r red₀ w count i₀ red i = groups blocks - i
@@ -32,8 +33,12 @@ group-count-requires c κs = c .before .before .before .before .before .pre .0 .
 loop-holds : tie.Need-loop-holds Inv-loop μ-loop
 loop-holds c =
     let a = c .before .before .before .before .before .before .args in
-    let f = groupFrom (a .table .now) (a .sources .now) (a .inverse .now) (a .size) (a .r) (a .blocks) (a .info .now) in
-    (c .group-count .ensures, omega arith, c .before .before .before .before .before .before .pre .1, written-none f (a .red .now) (2 * (a .size * a .r)))
+    let f = groupFrom (a .table .now) (a .sources .now) (a .inverse .now) (a .size) (a .r) (a .blocks) (a .info .now) in (
+      c .group-count .ensures,
+      omega arith,
+      c .before .before .before .before .before .before .pre .1,
+      stretches-none f (a .red .now) (2 * (a .size * a .r)),
+    )
 
 mul-from : tie.Need-mul-from Inv-loop μ-loop
 mul-from c =
@@ -74,18 +79,23 @@ loop-again c =
     let a = c .before .before .before .before .before .before .before .before .before .before .before .before .args in
     let l = c .before .before .before .before .before .loop in
     let f = groupFrom (a .table .now) (a .sources .now) (a .inverse .now) (a .size) (a .r) (a .blocks) (a .info .now) in
-    let wide = groupFrom-length (a .table .now) (a .sources .now) (a .inverse .now) (a .size) (a .r) (a .blocks) (a .info .now) in
-    (omega arith, omega arith, omega arith, written-more f (a .red .now) (2 * (a .size * a .r)) wide (l .red) _ (l .i) (l .inv .3) (c .before .before .group-at .ensures))
+    let wide = groupFrom-length (a .table .now) (a .sources .now) (a .inverse .now) (a .size) (a .r) (a .blocks) (a .info .now) in (
+      omega arith,
+      omega arith,
+      omega arith,
+      stretches-more f (a .red .now) (2 * (a .size * a .r)) wide (l .red) _ (l .i) (l .inv .3) (c .before .before .group-at .ensures),
+    )
 
 same-length : tie.Need-same-length Inv-loop μ-loop
 same-length c = omega arith
 
 returns : tie.Need-returns Inv-loop μ-loop
 returns c =
-    let a = c .before .before .before .before .before .before .before .before .args in
+    let s = c .before .before .before .before .before .before .before .before in
+    let a = s .args in
     let l = c .before .loop in
     let f = groupFrom (a .table .now) (a .sources .now) (a .inverse .now) (a .size) (a .r) (a .blocks) (a .info .now) in
-    l .inv .3 ∙ written-all f (a .red .now) (2 * (a .size * a .r)) (l .i) (groups (a .blocks)) (omega arith) (c .before .before .before .before .before .before .before .before .pre .1)
+    l .inv .3 ∙ stretches-all f (a .red .now) (2 * (a .size * a .r)) (l .i) (groups (a .blocks)) (omega arith) (s .pre .1)
 
 pub make-groups-spec : {M : Type 1} → statement M
 make-groups-spec =

@@ -5,8 +5,9 @@ use borrow.Author.Needs.{needs}
 use mathlib.Core.Path.{_≡_, ap, _∙_}
 use Prim.Native.Nat.{ℕ, _*_, _-_, _≤_}
 use lib.ListN.{length, take}
+use lib.Seq.{take-append-le}
 use Rattle.design.specs.Sizes.{paramsOf}
-use Rattle.words_positions.proofs.Parts.{part-within, middle-is}
+use Rattle.words_positions.proofs.Parts.{part-within}
 use Rattle.design.proofs.Allowed.{r-small}
 use Rattle.kit_inverse.proofs.KitProduct.{part-of}
 use Rattle.kit_inverse.proofs.check_inverse.Statement.{statement}
@@ -30,7 +31,7 @@ judge-requires c κs =
     let d : r .result - 0 ≡ a .d .m * a .d .t = omega arith in
     let q : r .result ≤ length (f .last .1 .0) = omega arith in
     let w : length (f .last .1 .0) ≡ 2 * (a .d .m * a .d .t) = omega arith in
-    let first = middle-is (f .last .1 .0) _ 0 (r .result) (omega arith) q ∙ ap (λ (k : ℕ). take k (f .last .1 .0)) d in
+    let first = take-append-le (r .result - 0) (f .last .1 .0) _ (omega arith) ∙ ap (λ (k : ℕ). take k (f .last .1 .0)) d in
     (h, part-of (paramsOf (a .d)) (f .last .1 .0) _ (f .ensures .0) w first (c .before .judge-arg .given .2 ∙ d))
 
 pub check-inverse-spec : {M : Type 1} → statement M

@@ -7,9 +7,8 @@ use mathlib.Core.List.{List}
 use Prim.Native.Nat.{ℕ, _-_, _≤_}
 use lib.Dec.{eqb}
 use lib.ListN.{length, getD, set, length-set}
-use Rattle.staircase.proofs.Fill.{filled, filled-none, filled-more, filled-all}
+use Rattle.staircase.proofs.Fill.{filled, filled-none, filled-more, filled-all, filled-next}
 use Rattle.loopback.specs.Link.{turned}
-use Rattle.loopback.proofs.TwoCalls.{filled-next}
 use Rattle.loopback.proofs.turn_bits.Statement.{statement}
 use Rattle.loopback.proofs.turn_bits.Tie as tie
 

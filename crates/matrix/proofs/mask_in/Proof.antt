@@ -7,7 +7,7 @@ use native.Mathlib.Omega.{arith}
 use borrow.Author.Count.{below-none}
 use lib.Bits.{bitAnd, bitXor}
 use lib.ListN.{length, getD, length-set}
-use Rattle.matrix.proofs.Written.{written-more, rest-more}
+use Rattle.staircase.proofs.Fill.{each-more, rest-more}
 use Rattle.matrix.proofs.mask_in.Statement.{statement}
 use Rattle.matrix.proofs.mask_in.Tie as tie
 
@@ -48,7 +48,7 @@ loop-again c =
       omega arith,
       omega arith,
       simp length-set (omega arith),
-      written-more (λ q z. z ≡ masked (a .acc .now) (a .plane .now) (a .v) q) (l .acc) (l .x) _ (omega arith) (l .inv .3)
+      each-more (λ q z. z ≡ masked (a .acc .now) (a .plane .now) (a .v) q) (l .acc) (l .x) _ (omega arith) (l .inv .3)
           (ap (λ (z : ℕ). bitXor z (bitAnd (getD (a .plane .now) (l .x) 0) (a .v))) (l .inv .4 (l .x) (omega arith))),
       rest-more (l .acc) (a .acc .now) (l .x) _ (l .inv .4),
     )

@@ -2,7 +2,9 @@
 -- Assumes nothing.
 use native.Mathlib.Omega.{arith}
 use Prim.Native.Nat.{_-_}
-use Rattle.text_kit_fill.proofs.RowFilling.{Packed, row-room, packed-start, packed-length, packed-line, packed-next, packed-all}
+use Rattle.staircase.specs.System.{rowBytes}
+use Rattle.staircase.proofs.Bounds.{stretch-end}
+use Rattle.text_kit_fill.proofs.RowFilling.{Packed, packed-start, packed-length, packed-line, packed-next, packed-all}
 use Rattle.text_kit_fill.proofs.fill_inverse.Statement.{statement}
 use Rattle.text_kit_fill.proofs.fill_inverse.Tie as tie
 
@@ -19,14 +21,16 @@ loop-holds : tie.Need-loop-holds Inv-loop μ-loop
 loop-holds c = packed-start _ _ _ _
 
 mul-fill-row : tie.Need-mul-fill-row Inv-loop μ-loop
-mul-fill-row c = omega (arith, row-room _ _ (c .before .loop-test .taken), c .before .before .before .before .before .pre .1 .1, c .before .before .before .before .before .good)
+mul-fill-row c =
+    let s = c .before .before .before .before .before in
+    omega (arith, stretch-end _ _ (rowBytes (s .args .n)) (c .before .loop-test .taken), s .pre .1 .1, s .good)
 
 fill-row-requires : tie.Need-fill-row-requires Inv-loop μ-loop
 fill-row-requires c κs =
-    let l = packed-length _ _ _ _ (c .before .before .before .before .before .pre .0) (c .before .before .before .before .before .pre .1 .1) _ _ _ (c .before .before .loop .inv) in (
-      omega arith,
-      (packed-line _ _ _ _ (c .before .before .before .before .before .pre .0) (c .before .before .before .before .before .pre .1 .1) _ _ _ (c .before .before .loop .inv) (c .before .loop-test .taken) (c .before .before .before .before .before .pre .1 .0), omega (arith, l, row-room _ _ (c .before .loop-test .taken), c .before .before .before .before .before .pre .1 .1)),
-    )
+    let s = c .before .before .before .before .before in
+    let l = packed-length _ _ _ _ (s .pre .0) (s .pre .1 .1) _ _ _ (c .before .before .loop .inv) in
+    let line = packed-line _ _ _ _ (s .pre .0) (s .pre .1 .1) _ _ _ (c .before .before .loop .inv) (c .before .loop-test .taken) (s .pre .1 .0) in
+    (omega arith, (line, omega (arith, l, stretch-end _ _ (rowBytes (s .args .n)) (c .before .loop-test .taken), s .pre .1 .1)))
 
 add-p : tie.Need-add-p Inv-loop μ-loop
 add-p c = omega arith

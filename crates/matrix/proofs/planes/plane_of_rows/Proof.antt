@@ -6,9 +6,9 @@ use Prim.Native.Nat.{ℕ, _+_, _-_, _*_, _≤_, _<_}
 use native.Mathlib.Omega.{arith}
 use borrow.Rule.Slice.PartMut.{mid-len, same-len-mid}
 use lib.ListN.{length, getD}
+use Rattle.staircase.proofs.Fill.{each-part}
 use Rattle.matrix.specs.Packed.{paddedEntry}
 use Rattle.matrix.proofs.Bits.{bit}
-use Rattle.matrix.proofs.Written.{written-part}
 use Rattle.matrix.proofs.Filled.{PlaneByte}
 use Rattle.matrix.proofs.planes.plane_of_rows.Statement.{statement}
 use Rattle.matrix.proofs.planes.plane_of_rows.Tie as tie
@@ -75,7 +75,7 @@ loop-again c =
       omega arith,
       same-len-mid (8 * l .c) k (l .plane) (c .before .before .put-block .last .0) (put .0) ∙ l .inv .1,
       λ x h in-n.
-          written-part (Column (a .w .now) (a .n) (a .b)) (l .plane) (c .before .before .put-block .last .0) (8 * l .c) k (omega arith)
+          each-part (Column (a .w .now) (a .n) (a .b)) (l .plane) (c .before .before .put-block .last .0) (8 * l .c) k (omega arith)
           (put .0 ∙ m) (l .inv .2)
           (λ s i.
           block-column (a .w .now) (a .n) (a .b) (l .c) _ _ s _ (omega arith) (put .1 s (omega arith))

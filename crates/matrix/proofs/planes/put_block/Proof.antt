@@ -5,8 +5,8 @@ use Prim.Native.Nat.{ℕ, _+_, _-_, _*_, _/_, _^_, _≤_, _<_}
 use native.Mathlib.Omega.{arith}
 use borrow.Author.Count.{below-none}
 use lib.ListN.{length, getD, length-set}
+use Rattle.staircase.proofs.Fill.{each-more}
 use Rattle.matrix.proofs.Bits.{bit, bit-low, bit-shr}
-use Rattle.matrix.proofs.Written.{written-more}
 use Rattle.matrix.proofs.planes.put_block.Statement.{statement}
 use Rattle.matrix.proofs.planes.put_block.Tie as tie
 
@@ -49,7 +49,7 @@ loop-again c =
       omega arith,
       omega arith,
       simp length-set (omega arith),
-      written-more (ByteOf q) (l .part) (l .s) _ (omega arith) (l .inv .3)
+      each-more (ByteOf q) (l .part) (l .s) _ (omega arith) (l .inv .3)
           (λ r h. bit-low (q / 2 ^ (8 * l .s)) 8 r h ∙ bit-shr q (8 * l .s) r),
     )
 
