@@ -1,2 +1,2 @@
 pub mod Quarters
-pub mod Tables
+pub mod Solved

@@ -14,7 +14,7 @@ use Rattle.bch.specs.Field.{powerTable}
 use Rattle.bch.specs.Locator.{LogTable, HalfTable, CubicTable, FieldTables}
 use Rattle.bch.proofs.Store.{part-written, part-before}
 use Rattle.bch.proofs.Powers.{powers-length}
-use Rattle.bch_field.proofs.Tables.{sizes}
+use Rattle.bch_field.proofs.Solved.{sizes}
 
 abbrev pub two : ℕ → List ℕ → List ℕ → List ℕ → List ℕ
 two q l powers logs = putMid q (2 * q - q) (putMid 0 (q - 1 - 0) l powers) logs

@@ -1,3 +1,3 @@
 pub mod Generators
-pub mod Tables
+pub mod Powers
 pub mod Rows

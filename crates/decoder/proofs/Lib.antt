@@ -1,3 +1,3 @@
 pub mod Room
 pub mod Rounds
-pub mod Verdict
+pub mod DecodeCall

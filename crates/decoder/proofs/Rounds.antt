@@ -18,15 +18,15 @@ use Rattle.staircase.proofs.Rounds.{runRounds-received}
 use Rattle.design.specs.declared.Design.{Design}
 use Rattle.design.specs.Sizes.{paramsOf}
 use Rattle.rules.specs.Received.{FrameFits, Received}
-use Rattle.decoder_locator.specs.Located.{Tables}
+use Rattle.decoder_locator.specs.Located.{LocatorTables}
 use Rattle.decoder_group.proofs.Flips.{received}
 use Rattle.decoder.specs.declared.Counts.{Counts}
 use Rattle.decoder.specs.declared.Decoding.the-variants as decoding
 use Rattle.decoder.specs.Answers.{correctedOf, correctedFrame}
-use Rattle.decoder_rounds.specs.Ready.{Ready}
+use Rattle.decoder_rounds.specs.RoundsReady.{RoundsReady}
 
 pub ready-of : {d : Design} {L : ℕ} {own parity info red : List ℕ} (positions syndromes field : List ℕ) → Received d L own parity info red
-    → Tables (d .m) (d .t) positions syndromes field → length positions ≡ wordLength (paramsOf d) → Ready d L own parity positions syndromes field
+    → LocatorTables (d .m) (d .t) positions syndromes field → length positions ≡ wordLength (paramsOf d) → RoundsReady d L own parity positions syndromes field
 ready-of positions syndromes field R T l =
     record {
       some-blocks = R .some-blocks;

@@ -16,8 +16,8 @@ use Rattle.staircase.specs.Frame.{Frame, Site, bitAt, flip, frameOf}
 use Rattle.staircase.specs.Frame.Site.{unsent, inInfo, inRed}
 use Rattle.staircase.specs.Decoder.{allSent, flipAll}
 use Rattle.staircase.proofs.Flip.{Received, flipAll-received}
-use Rattle.decoder_group.specs.declared.Spot.{Spot}
-use Rattle.decoder_group.specs.declared.Spot.the-variants.{Absent, Unsent, Info, Red}
+use Rattle.decoder_group.specs.declared.BitSite.{BitSite}
+use Rattle.decoder_group.specs.declared.BitSite.the-variants.{Absent, Unsent, Info, Red}
 use Rattle.decoder_group.specs.declared.Spots.{Spots}
 use Rattle.decoder_group.specs.Sites.{sitesOf, listed, Inside}
 
@@ -36,12 +36,12 @@ flipped-bits c info red info' red' a b e =
     subst (λ (z : Frame). Received (frameOf info red) z) (sym e) (flipAll-received c (frameOf info red) (frameOf info red) (received info red a b)) in
     ((λ k. g .binary (inInfo k)), (λ k. g .binary (inRed k)), g .infoLength, g .redLength)
 
-pub flip-ready : (x : Spot) (c : List Site) (info red info' red' : List ℕ) → Bits info → Bits red → Inside x (length info) (length red)
+pub flip-ready : (x : BitSite) (c : List Site) (info red info' red' : List ℕ) → Bits info → Bits red → Inside x (length info) (length red)
     → frameOf info' red' ≡ flipAll c (frameOf info red) → Inside x (length info') (length red') × Bits info' × Bits red'
 unfolding Inside
 flip-ready x c info red info' red' a b h e = let g = flipped-bits c info red info' red' a b e in (go x h (g .2) (g .3), g .0, g .1)
   where
-    go : (x : Spot) → Inside x (length info) (length red) → length info' ≡ length info → length red' ≡ length red → Inside x (length info') (length red')
+    go : (x : BitSite) → Inside x (length info) (length red) → length info' ≡ length info → length red' ≡ length red → Inside x (length info') (length red')
     go Absent h p q = tt
     go Unsent h p q = tt
     go (Info k) h p q = omega (arith, h, p)

@@ -21,7 +21,7 @@ use Rattle.staircase.specs.Frame.Site.{inInfo, inRed}
 use Rattle.staircase.specs.Decoder.{correction, flipAll, Progress, correctWord, correctWords, round}
 use Rattle.staircase.proofs.Member.{In}
 use Rattle.staircase.proofs.System.{Proper}
-use Rattle.staircase.proofs.Tables.{tabulate-length, tabulate-at}
+use Rattle.staircase.proofs.Tabulate.{tabulate-length, tabulate-at}
 use Rattle.staircase.proofs.Flip.{Received}
 use Rattle.staircase.proofs.Bounds.{small-product}
 use Rattle.staircase.proofs.Rounds.{correctWords-last, correctWords-few, correctWords-received}
@@ -31,7 +31,7 @@ use Rattle.design.specs.Sizes.{paramsOf, listsOf}
 use Rattle.design.proofs.Allowed.{proper-of}
 use Rattle.decoder_group.specs.Sites.{wordSites}
 use Rattle.rules.specs.Received.{FrameFits}
-use Rattle.decoder_group.specs.Ready.{GroupReady, remainderOf, wordRemainders}
+use Rattle.decoder_group.specs.GroupReady.{GroupReady, remainderOf, wordRemainders}
 use Rattle.decoder_group.proofs.Flips.{received}
 
 pub kept-fits : {d : Design} {L : ℕ} {info red info' red' : List ℕ} (ws : List (List Site)) → FrameFits d L info red

@@ -34,16 +34,16 @@ use Rattle.decoder_locator.specs.Located.{located, positionsOf}
 use Rattle.decoder_locator.proofs.ErrorPositions.{errorPositions-located}
 use Rattle.decoder_locator.proofs.Choices.{located-zero}
 use Rattle.decoder_locator.proofs.Values.{code-of}
-use Rattle.decoder_group.specs.declared.Spot.{Spot}
-use Rattle.decoder_group.specs.declared.Spot.the-variants.{Absent, Unsent, Info, Red}
+use Rattle.decoder_group.specs.declared.BitSite.{BitSite}
+use Rattle.decoder_group.specs.declared.BitSite.the-variants.{Absent, Unsent, Info, Red}
 use Rattle.decoder_group.specs.declared.Spots.{Spots}
 use Rattle.decoder_group.specs.Sites.{Inside, AllInside, Below, wordSites}
 use Rattle.rules.specs.Received.{FrameFits}
-use Rattle.decoder_group.specs.Ready.{GroupReady, remainderOf}
+use Rattle.decoder_group.specs.GroupReady.{GroupReady, remainderOf}
 use Rattle.decoder_group.proofs.Flips.{received}
 
 -- bits inside a frame's lengths are bytes of its buffers
-inside : (x : Spot) {n k a b : ℕ} → n ≡ a → k ≡ b → Inside x a b → Inside x n k
+inside : (x : BitSite) {n k a b : ℕ} → n ≡ a → k ≡ b → Inside x a b → Inside x n k
 unfolding Inside
 inside Absent e f h = tt
 inside Unsent e f h = tt

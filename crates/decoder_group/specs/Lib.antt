@@ -1,2 +1,2 @@
 pub mod Sites
-pub mod Ready
+pub mod GroupReady

@@ -16,11 +16,11 @@ use Rattle.staircase.specs.Lists.{tabulate}
 use Rattle.staircase.specs.Design.{Params, Interleavers, order}
 use Rattle.staircase.specs.Frame.{Site, rowSites, columnSites}
 use Rattle.staircase.specs.Frame.Site.{unsent, inInfo, inRed}
-use Rattle.decoder_group.specs.declared.Spot.{Spot}
-use Rattle.decoder_group.specs.declared.Spot.the-variants.{Absent, Unsent, Info, Red}
+use Rattle.decoder_group.specs.declared.BitSite.{BitSite}
+use Rattle.decoder_group.specs.declared.BitSite.the-variants.{Absent, Unsent, Info, Red}
 use Rattle.decoder_group.specs.declared.Spots.{Spots}
 
-unfoldable pub sitesOf : Spot → List Site
+unfoldable pub sitesOf : BitSite → List Site
 sitesOf Absent = []
 sitesOf Unsent = unsent ∷ []
 sitesOf (Info k) = inInfo k ∷ []
@@ -29,7 +29,7 @@ sitesOf (Red k) = inRed k ∷ []
 unfoldable pub listed : Spots → List Site
 listed s = sitesOf (s .x) ++ (sitesOf (s .y) ++ sitesOf (s .z))
 
-unfoldable pub Inside : Spot → ℕ → ℕ → Type 0
+unfoldable pub Inside : BitSite → ℕ → ℕ → Type 0
 Inside Absent n k = Unit
 Inside Unsent n k = Unit
 Inside (Info j) n k = j < n

@@ -18,12 +18,12 @@ ghost use Rattle.design.specs.Sizes.{paramsOf, orderOf, listsOf};
 ghost use Rattle.rules.specs.Received.{ListsFit, FrameFits};
 ghost use Rattle.decoder_locator.specs.Located.{positionsOf};
 ghost use Rattle.decoder_group.specs.Sites.{sitesOf, listed, Inside, AllInside, Below, groupBit, wordSites, lineWords};
-ghost use Rattle.decoder_group.specs.Ready.{GroupReady, remainderOf, wordRemainders};
+ghost use Rattle.decoder_group.specs.GroupReady.{GroupReady, remainderOf, wordRemainders};
 use decoder_locator::Located;
 use design::Design;
 
 // Where a bit of a word stands: in a block that is not sent, in a byte of the information or in a byte of the redundancy. `Absent` is no bit.
-enum Spot {
+enum BitSite {
     Absent,
     Unsent,
     Info(usize),
@@ -33,9 +33,9 @@ enum Spot {
 // Where at most three bits of a word stand, and how many there are.
 struct Spots {
     count: usize,
-    x: Spot,
-    y: Spot,
-    z: Spot,
+    x: BitSite,
+    y: BitSite,
+    z: BitSite,
 }
 
 // Place (row, column) of a matrix with `width` columns, row by row.
@@ -47,25 +47,25 @@ fn place(row: usize, width: usize, column: usize) -> usize
 }
 
 // Where bit k of block b stands.
-fn block_site(d: Design, blocks: usize, b: usize, k: usize) -> Spot
+fn block_site(d: Design, blocks: usize, b: usize, k: usize) -> BitSite
     requires { ⌜ (b ≤ most-blocks + 2) × (k < d .size * d .size) ⌝ }
     ensures { λ x. ⌜ (sitesOf x ≡ blockAt (paramsOf d) blocks b k ∷ []) × ((n : ℕ) → Inside x (blocks * (d .size * d .size)) n) ⌝ }
 {
     if b < 1 {
-        return Spot::Unsent;
+        return BitSite::Unsent;
     }
     if blocks <= b - 1 {
-        return Spot::Unsent;
+        return BitSite::Unsent;
     }
-    Spot::Info((b - 1) * d.area() + k)
+    BitSite::Info((b - 1) * d.area() + k)
 }
 
 // Where bit k of a group, which is Y and then P, stands.
-fn group_site(d: Design, blocks: usize, i: usize, k: usize) -> Spot
+fn group_site(d: Design, blocks: usize, i: usize, k: usize) -> BitSite
     requires { ⌜ (blocks ≤ most-blocks) × (i < groups blocks) × (k < 2 * orderOf d) ⌝ }
     ensures { λ x. ⌜ (sitesOf x ≡ inRed (i * (2 * orderOf d) + k) ∷ []) × ((n : ℕ) → Inside x n (groups blocks * (2 * orderOf d))) ⌝ }
 {
-    Spot::Red(i * (2 * d.order()) + k)
+    BitSite::Red(i * (2 * d.order()) + k)
 }
 
 // The first of the two blocks that a row word or a column word of group i crosses; the other is the next.
@@ -113,7 +113,7 @@ fn site_at(
     own: &[u8],
     parity: &[u8],
     p: usize,
-) -> Spot
+) -> BitSite
     requires { ⌜ Allowed d × (blocks ≤ most-blocks) × (i < groups blocks) × (a < d .size) × ListsFit d (now own) (now parity) × (p < wordLength (paramsOf d)) ⌝ }
     ensures { λ x. ⌜ (sitesOf x ≡ getD (wordSites (paramsOf d) (listsOf d (now (own .entry)) (now (parity .entry))) blocks i column a) p unsent ∷ [])
         × Inside x (blocks * (d .size * d .size)) (groups blocks * (2 * orderOf d)) ⌝ }
@@ -132,7 +132,7 @@ fn site_at(
 }
 
 // Where the located positions of row word or column word a of a group stand.
-fn spots_of(
+fn sites_of(
     d: Design,
     blocks: usize,
     i: usize,
@@ -150,17 +150,17 @@ fn spots_of(
     match found {
         Located::Nowhere => Spots {
             count: 0,
-            x: Spot::Absent,
-            y: Spot::Absent,
-            z: Spot::Absent,
+            x: BitSite::Absent,
+            y: BitSite::Absent,
+            z: BitSite::Absent,
         },
         Located::One(p) => {
             let x = site_at(d, blocks, i, column, a, own, parity, p);
             Spots {
                 count: 1,
                 x: x,
-                y: Spot::Absent,
-                z: Spot::Absent,
+                y: BitSite::Absent,
+                z: BitSite::Absent,
             }
         }
         Located::Two(p, q) => {
@@ -170,7 +170,7 @@ fn spots_of(
                 count: 2,
                 x: x,
                 y: y,
-                z: Spot::Absent,
+                z: BitSite::Absent,
             }
         }
         Located::Three(p, q, u) => {
@@ -188,14 +188,14 @@ fn spots_of(
 }
 
 // Whether a bit is in a block that is sent.
-fn is_sent(at: Spot) -> bool
+fn is_sent(at: BitSite) -> bool
     ensures { λ a. ⌜ a ≡ allSent (sitesOf at) ⌝ }
 {
     match at {
-        Spot::Absent => true,
-        Spot::Unsent => false,
-        Spot::Info(_) => true,
-        Spot::Red(_) => true,
+        BitSite::Absent => true,
+        BitSite::Unsent => false,
+        BitSite::Info(_) => true,
+        BitSite::Red(_) => true,
     }
 }
 
@@ -216,15 +216,15 @@ fn all_sent(s: Spots) -> bool
 }
 
 // Flips a bit of the lent buffers.
-fn flip_at(info: &mut [u8], red: &mut [u8], at: Spot)
+fn flip_at(info: &mut [u8], red: &mut [u8], at: BitSite)
     requires { ⌜ Inside at (length (now info)) (length (now red)) × Bits (now info) × Bits (now red) ⌝ }
     ensures { λ u. ⌜ frameOf (now (info .exit)) (now (red .exit)) ≡ flipAll (sitesOf at) (frameOf (now (info .entry)) (now (red .entry))) ⌝ }
 {
     match at {
-        Spot::Absent => {}
-        Spot::Unsent => {}
-        Spot::Info(k) => info[k] = 1 - info[k],
-        Spot::Red(k) => red[k] = 1 - red[k],
+        BitSite::Absent => {}
+        BitSite::Unsent => {}
+        BitSite::Info(k) => info[k] = 1 - info[k],
+        BitSite::Red(k) => red[k] = 1 - red[k],
     }
 }
 
@@ -270,7 +270,7 @@ fn correct_word(
         return 0;
     }
     let found = decoder_locator::locate(d.m(), d.t(), remainder, positions, syndromes, field);
-    let spots = spots_of(d, blocks, i, column, a, own, parity, found);
+    let spots = sites_of(d, blocks, i, column, a, own, parity, found);
     if !all_sent(spots) {
         return 0;
     }

@@ -18,12 +18,12 @@ use Rattle.decoder_locator.specs.declared.Located.the-variants.{Nowhere,
 use Rattle.decoder_locator.specs.declared.Single.the-variants as single
 use Rattle.decoder_locator.specs.declared.Pair.the-variants as pair
 use Rattle.decoder_locator.specs.declared.Triple.the-variants as triple
-use Rattle.decoder_locator.specs.Located.{located, positionsOf, SumTable, Words, Tables}
+use Rattle.decoder_locator.specs.Located.{located, positionsOf, SumTable, Words, LocatorTables}
 use Rattle.decoder_locator.specs.Steps.{NotOne, NotTwo, NotThree, SingleIs, PairIs, TripleIs, CubicRootOf, OneOfThree}
 use Rattle.decoder_locator.proofs.Choices.{located-zero, located-one, located-two, located-three, located-nowhere}
 use Rattle.decoder_locator.proofs.Values.{code-of, triple-of-positions}
 
-pub sums-of : {m t : ℕ} {positions values field : List ℕ} → Tables m t positions values field
+pub sums-of : {m t : ℕ} {positions values field : List ℕ} → LocatorTables m t positions values field
     → (length (take (length values - length positions) (drop (length positions) values)) ≡ 128)
     × SumTable m (m * t) (take (length values - length positions) (drop (length positions) values))
 sums-of {m = m} {t = t} {positions = positions} {values = values} T =

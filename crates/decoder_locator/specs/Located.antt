@@ -5,7 +5,7 @@
 --   positionsOf    the positions that an answer of the code names
 --   SumTable       the values of the polynomials of four bits
 --   Words          m and t of a design, and what the table of its words' positions holds
---   Tables         what the tables lent to `locate` hold
+--   LocatorTables         what the tables lent to `locate` hold
 -- Assumes nothing.
 use mathlib.Core.Path.{_≡_}
 use mathlib.Core.Bool.{cond}
@@ -55,7 +55,7 @@ pub record Words (m t : ℕ) (positions : List ℕ) : Type 0 where
   pub n-fits : length positions ≤ 2 ^ m - 1
 
 -- the values of the positions stand before those of four bits
-pub record Tables (m t : ℕ) (positions syndromes field : List ℕ) : Type 0 where
+pub record LocatorTables (m t : ℕ) (positions syndromes field : List ℕ) : Type 0 where
   pub words : Words m t positions
   pub as-long : length syndromes ≡ length positions + 128
   pub syndrome : SyndromeTable m (take (length positions) syndromes)

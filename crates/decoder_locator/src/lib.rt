@@ -19,7 +19,7 @@ ghost use Prim.Native.Nat.{_+_, _-_, _*_, _%_, _^_, _≤_, _<_};
 ghost use lib.ListN.{length, take, drop};
 ghost use Rattle.bch.specs.Field.{power, valueAt};
 ghost use Rattle.bch.specs.Locator.{FieldTables, PowerIs, SyndromeTable, syndromes};
-ghost use Rattle.decoder_locator.specs.Located.{located, positionsOf, SumTable, Words, Tables};
+ghost use Rattle.decoder_locator.specs.Located.{located, positionsOf, SumTable, Words, LocatorTables};
 ghost use Rattle.decoder_locator.specs.Steps.{Field, LogIs, SolutionIs, NotOne, SingleIs, PairIs, TripleIs, TripleWith, CarryAre, RootOf, ExponentsAre, CubicRootOf};
 
 // The positions of at most three errors, the first in front.
@@ -235,7 +235,7 @@ fn three_with(
     values: &[u32],
     field: &[u16],
 ) -> Triple
-    requires { ⌜ Tables m t (now positions) (now values) (now field) × (2 ≤ t) × (s ≡ syndromes m x) × NotOne (now positions) x
+    requires { ⌜ LocatorTables m t (now positions) (now values) (now field) × (2 ≤ t) × (s ≡ syndromes m x) × NotOne (now positions) x
         × (j < length (now positions)) ⌝ }
     ensures { λ a. ⌜ TripleWith (now (positions .entry)) x j a ⌝ }
 {
@@ -265,7 +265,7 @@ fn three_by_trial(
     values: &[u32],
     field: &[u16],
 ) -> Triple
-    requires { ⌜ Tables m t (now positions) (now values) (now field) × (2 ≤ t) × (s ≡ syndromes m x) × NotOne (now positions) x ⌝ }
+    requires { ⌜ LocatorTables m t (now positions) (now values) (now field) × (2 ≤ t) × (s ≡ syndromes m x) × NotOne (now positions) x ⌝ }
     ensures { λ a. ⌜ TripleIs (now (positions .entry)) x a ⌝ }
 {
     for j in 0..positions.len() {
@@ -337,7 +337,7 @@ fn three(
     values: &[u32],
     field: &[u16],
 ) -> Triple
-    requires { ⌜ Tables m t (now positions) (now values) (now field) × (t ≡ 3) × (s ≡ syndromes m x) × NotOne (now positions) x
+    requires { ⌜ LocatorTables m t (now positions) (now values) (now field) × (t ≡ 3) × (s ≡ syndromes m x) × NotOne (now positions) x
         × (x < 2 ^ (m * t)) ⌝ }
     ensures { λ a. ⌜ TripleIs (now (positions .entry)) x a ⌝ }
 {
@@ -369,7 +369,7 @@ pub fn locate(
     syndromes: &[u32],
     field: &[u16],
 ) -> Located
-    requires { ⌜ Tables m t (now positions) (now syndromes) (now field) × (remainder < 2 ^ (m * t)) ⌝ }
+    requires { ⌜ LocatorTables m t (now positions) (now syndromes) (now field) × (remainder < 2 ^ (m * t)) ⌝ }
     ensures { λ a. ⌜ positionsOf a ≡ located (now (positions .entry)) t remainder ⌝ }
 {
     if remainder == 0 {

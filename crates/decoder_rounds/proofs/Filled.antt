@@ -17,7 +17,7 @@ use Rattle.design.specs.declared.Design.{Design}
 use Rattle.design.specs.Answers.{Allowed}
 use Rattle.design.specs.Sizes.{paramsOf}
 use Rattle.design.proofs.Allowed.{code-of}
-use Rattle.decoder_locator.specs.Located.{SumTable, Words, Tables}
+use Rattle.decoder_locator.specs.Located.{SumTable, Words, LocatorTables}
 
 -- the values of the positions, written before 128 other entries
 pub values-written : (m n : ℕ) (xs ys : List ℕ) → SyndromeTable m ys → length ys ≡ length (take (n - 0) xs) → length xs ≡ n + 128
@@ -36,7 +36,7 @@ sums-fit d n r h l e =
 pub tables-of : (d : Design) (positions syndromes field : List ℕ) (n r : ℕ) → Allowed d
     → PositionPowers (generator (d .m) (d .t)) (d .m * d .t) positions → length positions ≡ wordLength (paramsOf d) → n ≡ wordLength (paramsOf d)
     → r ≡ d .m * d .t → SyndromeTable (d .m) (take n syndromes) → SumTable (d .m) r (drop n syndromes) → length syndromes ≡ n + 128
-    → FieldTables (d .m) field → Tables (d .m) (d .t) positions syndromes field
+    → FieldTables (d .m) field → LocatorTables (d .m) (d .t) positions syndromes field
 tables-of d positions syndromes field n r h p l i q s v k f =
     let c = code-of d h in
     let e : n ≡ length positions = i ∙ sym l in

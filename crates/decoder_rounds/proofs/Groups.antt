@@ -1,5 +1,5 @@
 -- The words of a group and of a frame, corrected one after the other.
---   received-of, table-of    what the remainders of a group's words ask for
+--   received-of, positions-of    what the remainders of a group's words ask for
 --   line-rows, line-columns  these remainders, as correcting words takes them
 --   line-few                 a pass flips at most three bits for each word
 --   round-append             a pass over two lists of words
@@ -20,14 +20,14 @@ use Rattle.staircase.specs.Lists.{tabulate, concat}
 use Rattle.staircase.specs.Design.{Params, Interleavers}
 use Rattle.staircase.specs.Frame.{Frame, Site, groups, rowSites, columnSites, outsideAmong, outside}
 use Rattle.staircase.specs.Decoder.{correction, flipAll, Progress, correctWord, correctWords, round}
-use Rattle.staircase.proofs.Tables.{concat-last}
+use Rattle.staircase.proofs.Tabulate.{concat-last}
 use Rattle.staircase.proofs.Rounds.{correctWords-append, correctWords-from}
 use Rattle.design.specs.declared.Design.{Design}
 use Rattle.rules.specs.Received.{Received, FrameFits}
 use Rattle.words.specs.Words.{nonzeros, WordTable, groupWords, rowRemainders, columnRemainders}
 use Rattle.words.proofs.Count.{group-count, next-group, all-groups}
 use Rattle.decoder_group.specs.Sites.{wordSites, lineWords}
-use Rattle.decoder_group.specs.Ready.{GroupReady, wordRemainders}
+use Rattle.decoder_group.specs.GroupReady.{GroupReady, wordRemainders}
 use Rattle.decoder_group.proofs.Passes.{pass-few}
 
 module _ {d : Design} {L i : ℕ} {own parity positions syndromes field : List ℕ} (R : GroupReady d L i own parity positions syndromes field) where
@@ -41,8 +41,8 @@ module _ {d : Design} {L i : ℕ} {own parity positions syndromes field : List �
         frame = F;
       }
 
-  pub table-of : WordTable d positions
-  table-of = record { long = R .long; powers = R .tables .words .position }
+  pub positions-of : WordTable d positions
+  positions-of = record { long = R .long; powers = R .tables .words .position }
 
 module _ (s : Params) (l : Interleavers) (L : ℕ) (f : Frame) (i : ℕ) (column : Bool) (u : List ℕ) where
   pub line-rows : column ≡ false → u ≡ rowRemainders s l L f i → u ≡ wordRemainders s l L f i column

@@ -17,12 +17,12 @@ ghost use Rattle.staircase.specs.Frame.{frameOf, groups, outsideAmong, words, o
 ghost use Rattle.staircase.specs.Decoder.{round, runRounds, roundsAllowed};
 ghost use Rattle.design.specs.Answers.{Allowed};
 ghost use Rattle.design.specs.Sizes.{paramsOf, orderOf, listsOf};
-ghost use Rattle.decoder_locator.specs.Located.{Tables};
+ghost use Rattle.decoder_locator.specs.Located.{LocatorTables};
 ghost use Rattle.words.specs.Words.{WordTable, nonzeros, groupWords};
 ghost use Rattle.rules.specs.Received.{FrameFits, Received};
 ghost use Rattle.decoder_group.specs.Sites.{lineWords};
-ghost use Rattle.decoder_group.specs.Ready.{GroupReady, wordRemainders};
-ghost use Rattle.decoder_rounds.specs.Ready.{Ready};
+ghost use Rattle.decoder_group.specs.GroupReady.{GroupReady, wordRemainders};
+ghost use Rattle.decoder_rounds.specs.RoundsReady.{RoundsReady};
 use design::Design;
 
 // "0 stands for 7"
@@ -46,7 +46,7 @@ pub struct Made {
 pub fn fill_tables(d: Design, positions: &mut [u32], syndromes: &mut [u32], field: &mut [u16])
     requires { ⌜ Allowed d × (length (now positions) ≡ wordLength (paramsOf d)) × (length (now syndromes) ≡ wordLength (paramsOf d) + 128)
         × (length (now field) ≡ 4 * 2 ^ (d .m)) ⌝ }
-    ensures { λ a. ⌜ Tables (d .m) (d .t) (now (positions .exit)) (now (syndromes .exit)) (now (field .exit))
+    ensures { λ a. ⌜ LocatorTables (d .m) (d .t) (now (positions .exit)) (now (syndromes .exit)) (now (field .exit))
         × (length (now (positions .exit)) ≡ length (now (positions .entry))) ⌝ }
 {
     let m = d.m();
@@ -78,20 +78,20 @@ fn line_remainders(
     parity: &[u8],
     info: &[u8],
     red: &[u8],
-    table: &[u32],
+    positions: &[u32],
     work: &mut [u8],
     sums: &mut [u32],
 )
-    requires { ⌜ Received d blocks (now own) (now parity) (now info) (now red) × (i < groups blocks) × WordTable d (now table)
+    requires { ⌜ Received d blocks (now own) (now parity) (now info) (now red) × (i < groups blocks) × WordTable d (now positions)
         × (length (now work) ≡ orderOf d) × (length (now sums) ≡ d .size) ⌝ }
     ensures { λ u. ⌜ now (sums .exit) ≡ wordRemainders (paramsOf d) (listsOf d (now (own .entry)) (now (parity .entry))) blocks
         (frameOf (now (info .entry)) (now (red .entry))) i column ⌝ }
 {
     if column {
-        words::column_remainders(d, blocks, i, own, parity, info, red, table, sums);
+        words::column_remainders(d, blocks, i, own, parity, info, red, positions, sums);
         return;
     }
-    words::row_remainders(d, blocks, i, own, parity, info, red, table, work, sums);
+    words::row_remainders(d, blocks, i, own, parity, info, red, positions, work, sums);
 }
 
 // Corrects all row words of a group, or all its column words, and counts those that were outside the code: at most 500 words, of three flips each.
@@ -230,7 +230,7 @@ fn correct_once(
     work: &mut [u8],
     sums: &mut [u32],
 ) -> Pass
-    requires { ⌜ Ready d blocks (now own) (now parity) (now positions) (now syndromes) (now field)
+    requires { ⌜ RoundsReady d blocks (now own) (now parity) (now positions) (now syndromes) (now field)
         × FrameFits d blocks (now info) (now red) × (length (now work) ≡ orderOf d) × (length (now sums) ≡ d .size) ⌝ }
     ensures { λ a. ⌜ (record { frame = frameOf (now (info .exit)) (now (red .exit)); flips = a .flips }
         ≡ round (paramsOf d) (words (paramsOf d) (listsOf d (now (own .entry)) (now (parity .entry))) blocks)
@@ -281,7 +281,7 @@ pub fn run_rounds(
     work: &mut [u8],
     sums: &mut [u32],
 ) -> Made
-    requires { ⌜ Ready d blocks (now own) (now parity) (now positions) (now syndromes) (now field)
+    requires { ⌜ RoundsReady d blocks (now own) (now parity) (now positions) (now syndromes) (now field)
         × FrameFits d blocks (now info) (now red) × (length (now work) ≡ orderOf d) × (length (now sums) ≡ d .size) × (limit ≤ most-rounds) ⌝ }
     ensures { λ a. ⌜ (record { frame = frameOf (now (info .exit)) (now (red .exit)); rounds = a .rounds; flips = a .flips }
         ≡ runRounds (paramsOf d) (words (paramsOf d) (listsOf d (now (own .entry)) (now (parity .entry))) blocks) limit
@@ -332,10 +332,10 @@ pub fn outside_after(
     parity: &[u8],
     info: &[u8],
     red: &[u8],
-    table: &[u32],
+    positions: &[u32],
     work: &mut [u8],
 ) -> u64
-    requires { ⌜ Received d blocks (now own) (now parity) (now info) (now red) × WordTable d (now table) × (length (now work) ≡ orderOf d)
+    requires { ⌜ Received d blocks (now own) (now parity) (now info) (now red) × WordTable d (now positions) × (length (now work) ≡ orderOf d)
         × (made .idle ≡ true → made .outside ≡ outside (paramsOf d) (listsOf d (now own) (now parity)) blocks (frameOf (now info) (now red))) ⌝ }
     ensures { λ a. ⌜ a
         ≡ outside (paramsOf d) (listsOf d (now (own .entry)) (now (parity .entry))) blocks (frameOf (now (info .entry)) (now (red .entry))) ⌝ }
@@ -343,5 +343,5 @@ pub fn outside_after(
     if made.idle {
         return made.outside;
     }
-    words::count_outside(d, blocks, own, parity, info, red, table, work)
+    words::count_outside(d, blocks, own, parity, info, red, positions, work)
 }

@@ -11,45 +11,45 @@ use Rattle.bch.specs.Polynomial.{Bits}
 use Rattle.staircase.specs.Lists.{tabulate, concat}
 use Rattle.staircase.specs.Design.{Params, Interleavers, order}
 use Rattle.staircase.specs.System.{Contents, preimage, groupRedundancy, redundancy}
-use Rattle.staircase.specs.Frame.{groups, block}
+use Rattle.staircase.specs.Frame.{groups, blockContents}
 use Rattle.staircase.specs.Demand2.{Permutes}
 use Rattle.staircase.proofs.System.{Proper}
-use Rattle.staircase.proofs.Tables.{tabulate-length, concat-same}
+use Rattle.staircase.proofs.Tabulate.{tabulate-length, concat-same}
 use Rattle.staircase.proofs.Redundancy.{block-binary}
 use Rattle.words_blocks.specs.Blocks.{sent, blockBytes, sentBit, Powers}
 use Rattle.words_blocks.proofs.Blocks.{sent-odd, block-is, odd-is}
-use Rattle.encoder_frame.specs.Group.{selfBit, parityBit, groupOf}
+use Rattle.encoder_frame.specs.Group.{yBit, pBit, groupOf}
 use Rattle.encoder_frame.proofs.GroupMade.{group-is}
 use Rattle.encoder_frame.specs.Groups.{groupFrom}
 
-groupOf-length : (table sources inverse : List ℕ) (size r : ℕ) (before odd even : Contents) → length (groupOf table sources inverse size r before odd even) ≡ 2 * (size * r)
+groupOf-length : (positions preimages inverse : List ℕ) (size r : ℕ) (before odd even : Contents) → length (groupOf positions preimages inverse size r before odd even) ≡ 2 * (size * r)
 unfolding groupOf
-groupOf-length table sources inverse size r before odd even =
-    let y : Contents = selfBit table sources inverse size r before odd even in
-    let p : Contents = parityBit table size r odd even y in
+groupOf-length positions preimages inverse size r before odd even =
+    let y : Contents = yBit positions preimages inverse size r before odd even in
+    let p : Contents = pBit positions size r odd even y in
     length-append (tabulate (size * r) y) (tabulate (size * r) p) ∙ ap₂ (λ (j k : ℕ). j + k) (tabulate-length (size * r) y) (tabulate-length (size * r) p) ∙ omega arith
 
-pub groupFrom-length : (table sources inverse : List ℕ) (size r L : ℕ) (info : List ℕ) (i : ℕ) → length (groupFrom table sources inverse size r L info i) ≡ 2 * (size * r)
+pub groupFrom-length : (positions preimages inverse : List ℕ) (size r L : ℕ) (info : List ℕ) (i : ℕ) → length (groupFrom positions preimages inverse size r L info i) ≡ 2 * (size * r)
 unfolding groupFrom
-groupFrom-length table sources inverse size r L info i =
-    groupOf-length table sources inverse size r (sentBit (sent L (2 * i)) (blockBytes L (size * size) info (2 * i)))
+groupFrom-length positions preimages inverse size r L info i =
+    groupOf-length positions preimages inverse size r (sentBit (sent L (2 * i)) (blockBytes L (size * size) info (2 * i)))
     (λ k. getD (blockBytes L (size * size) info (2 * i + 1)) k 0) (sentBit (sent L (2 * i + 2)) (blockBytes L (size * size) info (2 * i + 2)))
 
 -- ---- the redundancy of the frame
 
-module _ (s : Params) (ok : Proper s) (l : Interleavers) (pp : Permutes (order s) (λ p. getD (l .parity) p 0)) (table sources w : List ℕ)
-    (P : Powers s table) (at : (q : ℕ) → q < order s → getD sources q 0 ≡ preimage (l .parity) (order s) q)
+module _ (s : Params) (ok : Proper s) (l : Interleavers) (pp : Permutes (order s) (λ p. getD (l .parity) p 0)) (positions preimages w : List ℕ)
+    (P : Powers s positions) (at : (q : ℕ) → q < order s → getD preimages q 0 ≡ preimage (l .parity) (order s) q)
     (L : ℕ) (info : List ℕ) (long : length info ≡ L * (s .M * s .M)) (bits : Bits info) where
-  group-same : (i : ℕ) → i < groups L → groupFrom table sources w (s .M) (s .r) L info i ≡ groupRedundancy s l w L info i
+  group-same : (i : ℕ) → i < groups L → groupFrom positions preimages w (s .M) (s .r) L info i ≡ groupRedundancy s l w L info i
   unfolding groupFrom groupRedundancy
   group-same i h =
-      group-is s ok table P l pp sources at
+      group-is s ok positions P l pp preimages at
       (sentBit (sent L (2 * i)) (blockBytes L (s .M * s .M) info (2 * i))) (λ k. getD (blockBytes L (s .M * s .M) info (2 * i + 1)) k 0)
       (sentBit (sent L (2 * i + 2)) (blockBytes L (s .M * s .M) info (2 * i + 2)))
-      (block s L info (2 * i)) (block s L info (2 * i + 1)) (block s L info (2 * i + 2))
+      (blockContents s L info (2 * i)) (blockContents s L info (2 * i + 1)) (blockContents s L info (2 * i + 2))
       (block-binary s L info bits (2 * i)) (block-binary s L info bits (2 * i + 1)) (block-binary s L info bits (2 * i + 2))
       (λ k m. block-is s L info long k m (2 * i)) (λ k m. odd-is s L info long k m (2 * i + 1) (sent-odd L i h)) (λ k m. block-is s L info long k m (2 * i + 2)) w
 
-  pub groups-are : concat (groups L) (groupFrom table sources w (s .M) (s .r) L info) ≡ redundancy s l w L info
+  pub groups-are : concat (groups L) (groupFrom positions preimages w (s .M) (s .r) L info) ≡ redundancy s l w L info
   unfolding redundancy
-  groups-are = concat-same (groups L) (groupFrom table sources w (s .M) (s .r) L info) (groupRedundancy s l w L info) group-same
+  groups-are = concat-same (groups L) (groupFrom positions preimages w (s .M) (s .r) L info) (groupRedundancy s l w L info) group-same

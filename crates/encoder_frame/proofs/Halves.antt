@@ -16,15 +16,15 @@ use Rattle.bch.proofs.PowerSum.{xorSum-same}
 use Rattle.staircase.specs.Lists.{tabulate}
 use Rattle.staircase.specs.System.{Contents, rowBytes, inverseEntry}
 use Rattle.staircase.proofs.Matrix.{sumBits-lt, sumBits-same}
-use Rattle.staircase.proofs.Tables.{tabulate-length, tabulate-at, tabulate-bits, tabulate-same}
+use Rattle.staircase.proofs.Tabulate.{tabulate-length, tabulate-at, tabulate-bits, tabulate-same}
 use Rattle.staircase.proofs.Fill.{front-last}
 use Rattle.matrix.specs.Packed.{packedBit}
 use Rattle.matrix.proofs.Product.{sum-spare}
 use Rattle.words_positions.proofs.Parts.{part-is}
 use Rattle.words_blocks.specs.Blocks.{partSum, columnSum, rowSum}
 use Rattle.words_blocks.proofs.Sums.{part-at}
-use Rattle.encoder_solution.specs.Bits.{digit, Packed, constantBit, productBit}
-use Rattle.encoder_frame.specs.Group.{productParity, selfBit, parityBit, groupOf}
+use Rattle.encoder_solution.specs.Bits.{remainderDigit, Packed, constantBit, productBit}
+use Rattle.encoder_frame.specs.Group.{productP, yBit, pBit, groupOf}
 
 module _ (inverse c part columns ys old : List ℕ) (size r : ℕ) (pos : 0 < size) (long : length part ≡ r) (wide : length columns ≡ size)
     (made : ys ≡ tabulate (size * r) (productBit inverse c size r)) where
@@ -55,7 +55,7 @@ module _ (inverse c part columns ys old : List ℕ) (size r : ℕ) (pos : 0 < si
   module _ (next ps : List ℕ)
       (added : (a : ℕ) → a < length columns → getD next a 0
       ≡ getD columns a 0 ⊕ xorSum (length part) (λ j. getD (take (size * r - 0) (ys ++ drop (size * r - 0) old)) (j * length columns + a) 0 * getD part j 0))
-      (behind : ps ≡ tabulate (size * r) (λ q. digit (getD next (q % size) 0) r (q / size))) (room : length old ≡ 2 * (size * r)) where
+      (behind : ps ≡ tabulate (size * r) (λ q. remainderDigit (getD next (q % size) 0) r (q / size))) (room : length old ≡ 2 * (size * r)) where
     sum-is : (a : ℕ) → a < size → getD next a 0 ≡ getD columns a 0 ⊕ xorSum r (λ b. y (b * size + a) * getD part b 0)
     sum-is a h =
         added a (omega (arith, wide))
@@ -68,50 +68,50 @@ module _ (inverse c part columns ys old : List ℕ) (size r : ℕ) (pos : 0 < si
     pub both-halves : take (size * r) (ys ++ drop (size * r - 0) old)
         ++ (ps ++ drop (2 * (size * r) - size * r) (drop (size * r) (ys ++ drop (size * r - 0) old)))
         ≡ tabulate (size * r) (productBit inverse c size r)
-        ++ tabulate (size * r) (productParity inverse c columns part size r)
+        ++ tabulate (size * r) (productP inverse c columns part size r)
     both-halves =
         front-last ys rest ps n (2 * n - n) ys-length (rw length-drop (omega arith))
         ∙ ap₂ _++_ made
-        (behind ∙ tabulate-same n (λ q. digit (getD next (q % size) 0) r (q / size)) (productParity inverse c columns part size r)
-        (λ q l. ap (λ (x : ℕ). digit x r (q / size)) (sum-is (q % size) (mod-lt q pos))))
+        (behind ∙ tabulate-same n (λ q. remainderDigit (getD next (q % size) 0) r (q / size)) (productP inverse c columns part size r)
+        (λ q l. ap (λ (x : ℕ). remainderDigit x r (q / size)) (sum-is (q % size) (mod-lt q pos))))
 
 -- ---- the group
 
-module _ (table sources inverse c columns rows : List ℕ) (size r : ℕ) (before odd even : Contents) (pos : 0 < size) (fits : 2 * size + r ≤ length table)
-    (by-columns : columns ≡ tabulate size (columnSum table size odd even)) (by-rows : rows ≡ tabulate size (rowSum table size before odd))
-    (constant : Packed (size * r) c (constantBit columns rows sources size r)) where
+module _ (positions preimages inverse c columns rows : List ℕ) (size r : ℕ) (before odd even : Contents) (pos : 0 < size) (fits : 2 * size + r ≤ length positions)
+    (by-columns : columns ≡ tabulate size (columnSum positions size odd even)) (by-rows : rows ≡ tabulate size (rowSum positions size before odd))
+    (constant : Packed (size * r) c (constantBit columns rows preimages size r)) where
   abbrev part-y : List ℕ
-  part-y = take (2 * size + r - 2 * size) (drop (2 * size) table)
+  part-y = take (2 * size + r - 2 * size) (drop (2 * size) positions)
 
   abbrev made-y : Contents
-  made-y = selfBit table sources inverse size r before odd even
+  made-y = yBit positions preimages inverse size r before odd even
 
   product-is : (q : ℕ) → productBit inverse c size r q ≡ made-y q
-  unfolding selfBit
+  unfolding yBit
   product-is q =
       let n : ℕ = size * r in
       let w : ℕ → ℕ = inverseEntry inverse n (q % size * r + q / size) in
       sumBits-same (8 * rowBytes n) (λ k. w k * packedBit c k) (λ k. packedBit c k * w k) (λ k l. mul-comm (w k) (packedBit c k))
       ∙ sum-spare c n w (λ k h l. constant .1 k h)
       ∙ sumBits-same n (λ k. packedBit c k * w k)
-      (λ k. w k * constantBit (tabulate size (columnSum table size odd even)) (tabulate size (rowSum table size before odd)) sources size r k)
+      (λ k. w k * constantBit (tabulate size (columnSum positions size odd even)) (tabulate size (rowSum positions size before odd)) preimages size r k)
       (λ k l. mul-comm (packedBit c k) (w k) ∙ ap (λ (x : ℕ). w k * x)
-      (constant .0 k l ∙ ap₂ (λ (s t : List ℕ). constantBit s t sources size r k) by-columns by-rows))
+      (constant .0 k l ∙ ap₂ (λ (s t : List ℕ). constantBit s t preimages size r k) by-columns by-rows))
 
-  parity-is : (q : ℕ) → productParity inverse c columns part-y size r q ≡ parityBit table size r odd even made-y q
-  unfolding parityBit partSum
+  parity-is : (q : ℕ) → productP inverse c columns part-y size r q ≡ pBit positions size r odd even made-y q
+  unfolding pBit partSum
   parity-is q =
-      ap₂ (λ (s t : ℕ). digit (s ⊕ t) r (q / size))
-      (ap (λ (t : List ℕ). getD t (q % size) 0) by-columns ∙ tabulate-at size (columnSum table size odd even) 0 (q % size) (mod-lt q pos))
+      ap₂ (λ (s t : ℕ). remainderDigit (s ⊕ t) r (q / size))
+      (ap (λ (t : List ℕ). getD t (q % size) 0) by-columns ∙ tabulate-at size (columnSum positions size odd even) 0 (q % size) (mod-lt q pos))
       (xorSum-same r (λ b. productBit inverse c size r (b * size + q % size) * getD part-y b 0)
-      (λ b. made-y (b * size + q % size) * getD table (2 * size + b) 0)
-      (λ b l. ap₂ _*_ (product-is (b * size + q % size)) (part-at table (2 * size) (2 * size + r) r (omega arith) fits b l)))
+      (λ b. made-y (b * size + q % size) * getD positions (2 * size + b) 0)
+      (λ b l. ap₂ _*_ (product-is (b * size + q % size)) (part-at positions (2 * size) (2 * size + r) r (omega arith) fits b l)))
 
   module _ (out : List ℕ)
       (made : out ≡ tabulate (size * r) (productBit inverse c size r)
-      ++ tabulate (size * r) (productParity inverse c columns (take (2 * size + r - 2 * size) (drop (2 * size) table)) size r)) where
-    pub group-made : out ≡ groupOf table sources inverse size r before odd even
+      ++ tabulate (size * r) (productP inverse c columns (take (2 * size + r - 2 * size) (drop (2 * size) positions)) size r)) where
+    pub group-made : out ≡ groupOf positions preimages inverse size r before odd even
     unfolding groupOf
     group-made =
         made ∙ ap₂ _++_ (tabulate-same (size * r) (productBit inverse c size r) made-y (λ q l. product-is q))
-        (tabulate-same (size * r) (productParity inverse c columns part-y size r) (parityBit table size r odd even made-y) (λ q l. parity-is q))
+        (tabulate-same (size * r) (productP inverse c columns part-y size r) (pBit positions size r odd even made-y) (λ q l. parity-is q))

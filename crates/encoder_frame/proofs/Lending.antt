@@ -11,14 +11,14 @@ use Rattle.bch.specs.Polynomial.{Bits}
 use Rattle.staircase.specs.Frame.{groups}
 use Rattle.words_blocks.specs.Blocks.{sent, blockBytes, sentBit}
 use Rattle.words_blocks.proofs.Blocks.{sent-odd, block-fits}
-use Rattle.encoder_frame.specs.Group.{groupOf, Tables, Lent}
-use Rattle.encoder_frame.specs.Groups.{groupFrom, Ready}
+use Rattle.encoder_frame.specs.Group.{groupOf, GroupTables, Lent}
+use Rattle.encoder_frame.specs.Groups.{groupFrom, FrameReady}
 
-module _ (L size r : ℕ) (info table sources inverse : List ℕ) (i : ℕ) (odd even before : List ℕ) (has-even has-before : Bool)
+module _ (L size r : ℕ) (info positions preimages inverse : List ℕ) (i : ℕ) (odd even before : List ℕ) (has-even has-before : Bool)
     (eo : odd ≡ blockBytes L (size * size) info (2 * i + 1)) (ee : even ≡ blockBytes L (size * size) info (2 * i + 2))
     (eb : before ≡ blockBytes L (size * size) info (2 * i)) (se : has-even ≡ sent L (2 * i + 2)) (sb : has-before ≡ sent L (2 * i)) where
-  pub lent-from : Ready L size r info table sources inverse → i < groups L → (out : List ℕ) → length out ≡ 2 * (size * r)
-      → Tables size r table sources inverse × Lent size r odd has-even even has-before before out
+  pub lent-from : FrameReady L size r info positions preimages inverse → i < groups L → (out : List ℕ) → length out ≡ 2 * (size * r)
+      → GroupTables size r positions preimages inverse × Lent size r odd has-even even has-before before out
   lent-from R h out long = (
     R .tables,
     record {
@@ -29,7 +29,7 @@ module _ (L size r : ℕ) (info table sources inverse : List ℕ) (i : ℕ) (odd
     },
   )
 
-  pub group-from : (out : List ℕ) → out ≡ groupOf table sources inverse size r (sentBit has-before before) (λ k. getD odd k 0) (sentBit has-even even)
-      → out ≡ groupFrom table sources inverse size r L info i
+  pub group-from : (out : List ℕ) → out ≡ groupOf positions preimages inverse size r (sentBit has-before before) (λ k. getD odd k 0) (sentBit has-even even)
+      → out ≡ groupFrom positions preimages inverse size r L info i
   unfolding groupFrom
   group-from out made = made ∙ rw (eo, ee, eb, se, sb)

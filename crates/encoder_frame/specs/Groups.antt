@@ -1,6 +1,6 @@
 -- The groups of a frame by what code has at hand: parts of the information, the table of powers of x, and the places that the parity list brings.
 --   groupFrom   the group that i groups precede
---   Ready       what is asked of the sizes and slices of a frame
+--   FrameReady       what is asked of the sizes and slices of a frame
 --   Encodable   what the encoder's rules leave of a design, its kit and a frame
 -- Assumes nothing.
 use mathlib.Core.Path.{_≡_}
@@ -17,16 +17,16 @@ use Rattle.design.specs.declared.Design.{Design}
 use Rattle.design.specs.Answers.{Allowed}
 use Rattle.design.specs.Sizes.{orderOf}
 use Rattle.words_blocks.specs.Blocks.{sent, blockBytes, sentBit}
-use Rattle.encoder_frame.specs.Group.{groupOf, Tables}
+use Rattle.encoder_frame.specs.Group.{groupOf, GroupTables}
 
 unfoldable pub groupFrom : List ℕ → List ℕ → List ℕ → ℕ → ℕ → ℕ → List ℕ → ℕ → List ℕ
-groupFrom table sources inverse size r L info i =
-    groupOf table sources inverse size r (sentBit (sent L (2 * i)) (blockBytes L (size * size) info (2 * i)))
+groupFrom positions preimages inverse size r L info i =
+    groupOf positions preimages inverse size r (sentBit (sent L (2 * i)) (blockBytes L (size * size) info (2 * i)))
     (λ k. getD (blockBytes L (size * size) info (2 * i + 1)) k 0) (sentBit (sent L (2 * i + 2)) (blockBytes L (size * size) info (2 * i + 2)))
 
-pub record Ready (L size r : ℕ) (info table sources inverse : List ℕ) : Type 0 where
+pub record FrameReady (L size r : ℕ) (info positions preimages inverse : List ℕ) : Type 0 where
   pub few-blocks : L ≤ most-blocks
-  pub tables : Tables size r table sources inverse
+  pub tables : GroupTables size r positions preimages inverse
   pub blocks : length info ≡ L * (size * size)
   pub bits : Bits info
 

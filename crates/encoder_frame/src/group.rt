@@ -15,7 +15,7 @@ ghost use Rattle.staircase.specs.Design.{most-order};
 ghost use Rattle.staircase.specs.System.{rowBytes};
 ghost use Rattle.words_blocks.specs.Blocks.{sentBit};
 ghost use Rattle.encoder_solution.specs.Bits.{productBit};
-ghost use Rattle.encoder_frame.specs.Group.{productParity, groupOf, Tables, Lent};
+ghost use Rattle.encoder_frame.specs.Group.{productP, groupOf, GroupTables, Lent};
 
 // Makes Y and P in `out` from the packed constant and the remainders of the blocks of the column words, to which it adds those of Y.
 fn group_bits(
@@ -30,12 +30,12 @@ fn group_bits(
     requires { ⌜ (length (now inverse) ≡ size * r * rowBytes (size * r)) × (length (now c) ≡ rowBytes (size * r)) × (length (now part) ≡ r)
         × (length (now columns) ≡ size) × (length (now out) ≡ 2 * (size * r)) × (0 < size) × (0 < r) × (r ≤ 32) × (size * r ≤ most-order) ⌝ }
     ensures { λ u. ⌜ now (out .exit) ≡ tabulate (size * r) (productBit (now (inverse .entry)) (now (c .entry)) size r)
-        ++ tabulate (size * r) (productParity (now (inverse .entry)) (now (c .entry)) (now (columns .entry)) (now (part .entry)) size r) ⌝ }
+        ++ tabulate (size * r) (productP (now (inverse .entry)) (now (c .entry)) (now (columns .entry)) (now (part .entry)) size r) ⌝ }
 {
     let n = size * r;
-    encoder_solution::self_bits(inverse, c, size, r, &mut out[0..n]);
+    encoder_solution::y_bits(inverse, c, size, r, &mut out[0..n]);
     bch_remainders::add_rows(&mut columns[..], &out[0..n], part);
-    encoder_solution::parity_bits(&columns[..], size, r, &mut out[n..2 * n]);
+    encoder_solution::p_bits(&columns[..], size, r, &mut out[n..2 * n]);
 }
 
 // `make_group` with its working entries lent: `columns` and `rows` for the remainders of the words, `c` for the packed constant.
@@ -45,8 +45,8 @@ fn group_in(
     has_even: bool,
     before: &[u8],
     has_before: bool,
-    table: &[u32],
-    sources: &[u16],
+    positions: &[u32],
+    preimages: &[u16],
     inverse: &[u8],
     size: usize,
     r: usize,
@@ -55,18 +55,18 @@ fn group_in(
     c: &mut [u8],
     out: &mut [u8],
 )
-    requires { ⌜ Tables size r (now table) (now sources) (now inverse) × Lent size r (now odd) «has_even» (now even) «has_before» (now before) (now out)
+    requires { ⌜ GroupTables size r (now positions) (now preimages) (now inverse) × Lent size r (now odd) «has_even» (now even) «has_before» (now before) (now out)
         × (length (now columns) ≡ size) × (length (now rows) ≡ size) × (length (now c) ≡ rowBytes (size * r)) ⌝ }
-    ensures { λ u. ⌜ now (out .exit) ≡ groupOf (now (table .entry)) (now (sources .entry)) (now (inverse .entry)) size r
+    ensures { λ u. ⌜ now (out .exit) ≡ groupOf (now (positions .entry)) (now (preimages .entry)) (now (inverse .entry)) size r
         (sentBit «has_before» (now (before .entry))) (λ k. getD (now (odd .entry)) k 0) (sentBit «has_even» (now (even .entry))) ⌝ }
 {
-    words_blocks::column_sums(odd, even, has_even, table, &mut columns[..]);
-    words_blocks::row_sums(before, has_before, odd, table, &mut rows[..]);
-    encoder_solution::constant_bits(&columns[..], &rows[..], sources, size, r, &mut c[..]);
+    words_blocks::column_sums(odd, even, has_even, positions, &mut columns[..]);
+    words_blocks::row_sums(before, has_before, odd, positions, &mut rows[..]);
+    encoder_solution::constant_bits(&columns[..], &rows[..], preimages, size, r, &mut c[..]);
     group_bits(
         inverse,
         &c[..],
-        &table[2 * size..2 * size + r],
+        &positions[2 * size..2 * size + r],
         size,
         r,
         columns,
@@ -84,15 +84,15 @@ pub fn make_group(
     has_even: bool,
     before: &[u8],
     has_before: bool,
-    table: &[u32],
-    sources: &[u16],
+    positions: &[u32],
+    preimages: &[u16],
     inverse: &[u8],
     size: usize,
     r: usize,
     out: &mut [u8],
 )
-    requires { ⌜ Tables size r (now table) (now sources) (now inverse) × Lent size r (now odd) «has_even» (now even) «has_before» (now before) (now out) ⌝ }
-    ensures { λ u. ⌜ now (out .exit) ≡ groupOf (now (table .entry)) (now (sources .entry)) (now (inverse .entry)) size r
+    requires { ⌜ GroupTables size r (now positions) (now preimages) (now inverse) × Lent size r (now odd) «has_even» (now even) «has_before» (now before) (now out) ⌝ }
+    ensures { λ u. ⌜ now (out .exit) ≡ groupOf (now (positions .entry)) (now (preimages .entry)) (now (inverse .entry)) size r
         (sentBit «has_before» (now (before .entry))) (λ k. getD (now (odd .entry)) k 0) (sentBit «has_even» (now (even .entry))) ⌝ }
 {
     let w = (size * r + 7) / 8;
@@ -105,8 +105,8 @@ pub fn make_group(
         has_even,
         before,
         has_before,
-        table,
-        sources,
+        positions,
+        preimages,
         inverse,
         size,
         r,

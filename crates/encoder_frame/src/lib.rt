@@ -13,7 +13,7 @@ ghost use Rattle.staircase.specs.Lists.{concat};
 ghost use Rattle.staircase.specs.Frame.{groups};
 ghost use Rattle.staircase.specs.System.{redundancy};
 ghost use Rattle.design.specs.Sizes.{paramsOf, listsOf};
-ghost use Rattle.encoder_frame.specs.Groups.{groupFrom, Ready, Encodable};
+ghost use Rattle.encoder_frame.specs.Groups.{groupFrom, FrameReady, Encodable};
 use design::Design;
 
 // Makes the redundancy of the group that i groups precede.
@@ -21,15 +21,15 @@ fn group_at(
     info: &[u8],
     blocks: usize,
     i: usize,
-    table: &[u32],
-    sources: &[u16],
+    positions: &[u32],
+    preimages: &[u16],
     inverse: &[u8],
     size: usize,
     r: usize,
     out: &mut [u8],
 )
-    requires { ⌜ Ready blocks size r (now info) (now table) (now sources) (now inverse) × (i < groups blocks) × (length (now out) ≡ 2 * (size * r)) ⌝ }
-    ensures { λ u. ⌜ now (out .exit) ≡ groupFrom (now (table .entry)) (now (sources .entry)) (now (inverse .entry)) size r blocks (now (info .entry)) i ⌝ }
+    requires { ⌜ FrameReady blocks size r (now info) (now positions) (now preimages) (now inverse) × (i < groups blocks) × (length (now out) ≡ 2 * (size * r)) ⌝ }
+    ensures { λ u. ⌜ now (out .exit) ≡ groupFrom (now (positions .entry)) (now (preimages .entry)) (now (inverse .entry)) size r blocks (now (info .entry)) i ⌝ }
 {
     let area = size * size;
     let before = words_blocks::block_of(info, area, blocks, 2 * i);
@@ -43,8 +43,8 @@ fn group_at(
         has_even,
         before,
         has_before,
-        table,
-        sources,
+        positions,
+        preimages,
         inverse,
         size,
         r,
@@ -56,16 +56,16 @@ fn group_at(
 fn make_groups(
     info: &[u8],
     blocks: usize,
-    table: &[u32],
-    sources: &[u16],
+    positions: &[u32],
+    preimages: &[u16],
     inverse: &[u8],
     size: usize,
     r: usize,
     red: &mut [u8],
 )
-    requires { ⌜ Ready blocks size r (now info) (now table) (now sources) (now inverse) × (length (now red) ≡ groups blocks * (2 * (size * r))) ⌝ }
+    requires { ⌜ FrameReady blocks size r (now info) (now positions) (now preimages) (now inverse) × (length (now red) ≡ groups blocks * (2 * (size * r))) ⌝ }
     ensures { λ u. ⌜ now (red .exit)
-        ≡ concat (groups blocks) (groupFrom (now (table .entry)) (now (sources .entry)) (now (inverse .entry)) size r blocks (now (info .entry))) ⌝ }
+        ≡ concat (groups blocks) (groupFrom (now (positions .entry)) (now (preimages .entry)) (now (inverse .entry)) size r blocks (now (info .entry))) ⌝ }
 {
     let w = 2 * (size * r);
     let count = design::group_count(blocks as u64) as usize;
@@ -75,8 +75,8 @@ fn make_groups(
             info,
             blocks,
             i,
-            table,
-            sources,
+            positions,
+            preimages,
             inverse,
             size,
             r,
@@ -102,15 +102,15 @@ pub fn make_redundancy(
     let r = d.r();
     let bits = d.n();
     let size = d.size();
-    let mut table = [0u32; 1024];
-    words_positions::fill_table(d, &mut table[0..bits]);
-    let mut sources = [0u16; 4096];
-    kit_system::fill_inverse(parity, n, &mut sources[0..n]);
+    let mut positions = [0u32; 1024];
+    words_positions::fill_table(d, &mut positions[0..bits]);
+    let mut preimages = [0u16; 4096];
+    kit_system::fill_preimages(parity, n, &mut preimages[0..n]);
     make_groups(
         info,
         blocks,
-        &table[0..bits],
-        &sources[0..n],
+        &positions[0..bits],
+        &preimages[0..n],
         inverse,
         size,
         r,

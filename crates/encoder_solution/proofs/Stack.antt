@@ -16,8 +16,8 @@ use lib.ListN.{length, getD}
 use Rattle.bch.specs.Polynomial.{Bits}
 use Rattle.bch.proofs.Sum.{mod2-bit}
 use Rattle.staircase.specs.Lists.{bitSum, tabulate}
-use Rattle.staircase.proofs.Tables.{tabulate-at, tabulate-bits, tabulate-same}
-use Rattle.encoder_solution.specs.Bits.{digit, constantBit}
+use Rattle.staircase.proofs.Tabulate.{tabulate-at, tabulate-bits, tabulate-same}
+use Rattle.encoder_solution.specs.Bits.{remainderDigit, constantBit}
 
 -- place p of a matrix of n columns and m rows, and where it lies in the transposed one
 pub record Place (n m p : ℕ) : Type 0 where
@@ -45,24 +45,24 @@ place-stack size r q pos h =
     let a = place size r q pos h .quotient in
     ap₂ (λ (x y : ℕ). x * size + y) (digits-mod (q % size) a) (digits-div (q % size) a) ∙ div-add-mod' q size
 
-pub digit-row : (columns ys : List ℕ) (size r a : ℕ) → length columns ≡ size → ys ≡ tabulate (length columns) (λ b. digit (getD columns b 0) r a)
-    → ys ≡ tabulate size (λ b. digit (getD columns ((a * size + b) % size) 0) r ((a * size + b) / size))
+pub digit-row : (columns ys : List ℕ) (size r a : ℕ) → length columns ≡ size → ys ≡ tabulate (length columns) (λ b. remainderDigit (getD columns b 0) r a)
+    → ys ≡ tabulate size (λ b. remainderDigit (getD columns ((a * size + b) % size) 0) r ((a * size + b) / size))
 digit-row columns ys size r a wide e =
-    e ∙ ap (λ (n : ℕ). tabulate n (λ b. digit (getD columns b 0) r a)) wide
-    ∙ tabulate-same size (λ b. digit (getD columns b 0) r a) (λ b. digit (getD columns ((a * size + b) % size) 0) r ((a * size + b) / size))
-    (λ b l. sym (ap₂ (λ (x y : ℕ). digit (getD columns x 0) r y) (digits-mod a l) (digits-div a l)))
+    e ∙ ap (λ (n : ℕ). tabulate n (λ b. remainderDigit (getD columns b 0) r a)) wide
+    ∙ tabulate-same size (λ b. remainderDigit (getD columns b 0) r a) (λ b. remainderDigit (getD columns ((a * size + b) % size) 0) r ((a * size + b) / size))
+    (λ b l. sym (ap₂ (λ (x y : ℕ). remainderDigit (getD columns x 0) r y) (digits-mod a l) (digits-div a l)))
 
 -- Q is given by its bits, place by place
-module _ (rows q : List ℕ) (size r : ℕ) (by-rows : q ≡ tabulate (size * r) (λ p. digit (getD rows (p % size) 0) r (p / size))) where
+module _ (rows q : List ℕ) (size r : ℕ) (by-rows : q ≡ tabulate (size * r) (λ p. remainderDigit (getD rows (p % size) 0) r (p / size))) where
   abbrev bit : ℕ → ℕ
-  bit p = digit (getD rows (p % size) 0) r (p / size)
+  bit p = remainderDigit (getD rows (p % size) 0) r (p / size)
 
   pub parity-binary : Bits q
   parity-binary = subst⁻¹ Bits by-rows (tabulate-bits (size * r) bit (λ p. mod2-bit (getD rows (p % size) 0 / 2 ^ (r - 1 - p / size))))
 
-  pub constantBit-sum : (columns sources : List ℕ) (k v : ℕ) → getD sources (k % r * size + k / r) 0 < size * r
-      → v ≡ bitSum (digit (getD columns (k / r) 0) r (k % r)) (getD q (getD sources (k % r * size + k / r) 0) 0) → v ≡ constantBit columns rows sources size r k
+  pub constantBit-sum : (columns preimages : List ℕ) (k v : ℕ) → getD preimages (k % r * size + k / r) 0 < size * r
+      → v ≡ bitSum (remainderDigit (getD columns (k / r) 0) r (k % r)) (getD q (getD preimages (k % r * size + k / r) 0) 0) → v ≡ constantBit columns rows preimages size r k
   unfolding constantBit
-  constantBit-sum columns sources k v within e =
-      let p : ℕ = getD sources (k % r * size + k / r) 0 in
-      e ∙ ap (bitSum (digit (getD columns (k / r) 0) r (k % r))) (ap (λ (t : List ℕ). getD t p 0) by-rows ∙ tabulate-at (size * r) bit 0 p within)
+  constantBit-sum columns preimages k v within e =
+      let p : ℕ = getD preimages (k % r * size + k / r) 0 in
+      e ∙ ap (bitSum (remainderDigit (getD columns (k / r) 0) r (k % r))) (ap (λ (t : List ℕ). getD t p 0) by-rows ∙ tabulate-at (size * r) bit 0 p within)

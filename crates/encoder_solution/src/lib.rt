@@ -1,7 +1,7 @@
 // The system of a group, A y + c: its constant, its solution and the parity after it, bit by bit.
 //   constant_bits(..)   packs the constant c
-//   self_bits(..)       makes Y, the inverse times the constant
-//   parity_bits(..)     makes P, or Q, from the remainders of its words
+//   y_bits(..)       makes Y, the inverse times the constant
+//   p_bits(..)     makes P, or Q, from the remainders of its words
 //
 // The digits of the remainders of a group's words without Y are P and Q as they would be for Y = 0, and the constant is the one plus the other where
 // the parity list brings it. So y = W c, with W the inverse of A that the kit has.
@@ -16,7 +16,7 @@ ghost use Rattle.bch.specs.Polynomial.{Bits};
 ghost use Rattle.staircase.specs.Lists.{bitSum, tabulate};
 ghost use Rattle.staircase.specs.Design.{most-order};
 ghost use Rattle.staircase.specs.System.{rowBytes};
-ghost use Rattle.encoder_solution.specs.Bits.{digit, Packed, constantBit, productBit};
+ghost use Rattle.encoder_solution.specs.Bits.{remainderDigit, Packed, constantBit, productBit};
 
 // Bit a of the r digits of a remainder x, the highest first.
 fn digit_of(x: u32, r: usize, a: usize) -> u8
@@ -38,7 +38,7 @@ fn digits(columns: &[u32], shift: usize, out: &mut [u8])
 
 // Makes P in the lent `out`, or Q, from the lent remainders of its words: bit a of word b stands at place a × size + b. One step for each of the
 // size × r bits.
-pub fn parity_bits(columns: &[u32], size: usize, r: usize, out: &mut [u8])
+pub fn p_bits(columns: &[u32], size: usize, r: usize, out: &mut [u8])
     requires { ⌜ (length (now columns) ≡ size) × (length (now out) ≡ size * r) × (0 < size) × (r ≤ 32) ⌝ }
     ensures { λ u. ⌜ now (out .exit) ≡ tabulate (size * r) (λ q. getD (now (columns .entry)) (q % size) 0 / 2 ^ (r - 1 - q / size) % 2) ⌝ }
 {
@@ -49,15 +49,22 @@ pub fn parity_bits(columns: &[u32], size: usize, r: usize, out: &mut [u8])
 }
 
 // Entry k of the constant, from the remainders of the column words and from Q, a byte for each bit.
-fn constant_entry(columns: &[u32], q: &[u8], sources: &[u16], size: usize, r: usize, k: usize) -> u8
-    requires { ⌜ (length (now columns) ≡ size) × (length (now q) ≡ size * r) × Bits (now q) × (length (now sources) ≡ size * r) × (0 < r) × (r ≤ 32)
-        × (size * r ≤ most-order) × (k < size * r) × (getD (now sources) (k % r * size + k / r) 0 < size * r) ⌝ }
-    ensures { λ v. ⌜ (v ≡ bitSum (digit (getD (now (columns .entry)) (k / r) 0) r (k % r))
-        (getD (now (q .entry)) (getD (now (sources .entry)) (k % r * size + k / r) 0) 0)) × (v < 2) ⌝ }
+fn constant_entry(
+    columns: &[u32],
+    q: &[u8],
+    preimages: &[u16],
+    size: usize,
+    r: usize,
+    k: usize,
+) -> u8
+    requires { ⌜ (length (now columns) ≡ size) × (length (now q) ≡ size * r) × Bits (now q) × (length (now preimages) ≡ size * r) × (0 < r) × (r ≤ 32)
+        × (size * r ≤ most-order) × (k < size * r) × (getD (now preimages) (k % r * size + k / r) 0 < size * r) ⌝ }
+    ensures { λ v. ⌜ (v ≡ bitSum (remainderDigit (getD (now (columns .entry)) (k / r) 0) r (k % r))
+        (getD (now (q .entry)) (getD (now (preimages .entry)) (k % r * size + k / r) 0) 0)) × (v < 2) ⌝ }
 {
     let a = k % r;
     let b = k / r;
-    let p = sources[a * size + b] as usize;
+    let p = preimages[a * size + b] as usize;
     (digit_of(columns[b], r, a) + q[p]) % 2
 }
 
@@ -65,22 +72,22 @@ fn constant_entry(columns: &[u32], q: &[u8], sources: &[u16], size: usize, r: us
 fn constant_in(
     columns: &[u32],
     rows: &[u32],
-    sources: &[u16],
+    preimages: &[u16],
     size: usize,
     r: usize,
     q: &mut [u8],
     c: &mut [u8],
 )
-    requires { ⌜ (length (now columns) ≡ size) × (length (now rows) ≡ size) × (length (now sources) ≡ size * r) × (length (now q) ≡ size * r)
+    requires { ⌜ (length (now columns) ≡ size) × (length (now rows) ≡ size) × (length (now preimages) ≡ size * r) × (length (now q) ≡ size * r)
         × (length (now c) ≡ rowBytes (size * r))
-        × (0 < size) × (0 < r) × (r ≤ 32) × (size * r ≤ most-order) × ((p : ℕ) → p < size * r → getD (now sources) p 0 < size * r) ⌝ }
+        × (0 < size) × (0 < r) × (r ≤ 32) × (size * r ≤ most-order) × ((p : ℕ) → p < size * r → getD (now preimages) p 0 < size * r) ⌝ }
     ensures { λ u. ⌜ (length (now (c .exit)) ≡ length (now (c .entry)))
-        × Packed (size * r) (now (c .exit)) (constantBit (now (columns .entry)) (now (rows .entry)) (now (sources .entry)) size r) ⌝ }
+        × Packed (size * r) (now (c .exit)) (constantBit (now (columns .entry)) (now (rows .entry)) (now (preimages .entry)) size r) ⌝ }
 {
-    parity_bits(rows, size, r, q);
+    p_bits(rows, size, r, q);
     matrix::clear(c);
     for k in 0..size * r {
-        matrix::add_bit(c, k, constant_entry(columns, q, sources, size, r, k));
+        matrix::add_bit(c, k, constant_entry(columns, q, preimages, size, r, k));
     }
 }
 
@@ -90,23 +97,23 @@ fn constant_in(
 pub fn constant_bits(
     columns: &[u32],
     rows: &[u32],
-    sources: &[u16],
+    preimages: &[u16],
     size: usize,
     r: usize,
     c: &mut [u8],
 )
-    requires { ⌜ (length (now columns) ≡ size) × (length (now rows) ≡ size) × (length (now sources) ≡ size * r) × (length (now c) ≡ rowBytes (size * r))
-        × (0 < size) × (0 < r) × (r ≤ 32) × (size * r ≤ most-order) × ((p : ℕ) → p < size * r → getD (now sources) p 0 < size * r) ⌝ }
+    requires { ⌜ (length (now columns) ≡ size) × (length (now rows) ≡ size) × (length (now preimages) ≡ size * r) × (length (now c) ≡ rowBytes (size * r))
+        × (0 < size) × (0 < r) × (r ≤ 32) × (size * r ≤ most-order) × ((p : ℕ) → p < size * r → getD (now preimages) p 0 < size * r) ⌝ }
     ensures { λ u. ⌜ (length (now (c .exit)) ≡ length (now (c .entry)))
-        × Packed (size * r) (now (c .exit)) (constantBit (now (columns .entry)) (now (rows .entry)) (now (sources .entry)) size r) ⌝ }
+        × Packed (size * r) (now (c .exit)) (constantBit (now (columns .entry)) (now (rows .entry)) (now (preimages .entry)) size r) ⌝ }
 {
     let mut q = [0u8; 4096];
-    constant_in(columns, rows, sources, size, r, &mut q[0..size * r], c);
+    constant_in(columns, rows, preimages, size, r, &mut q[0..size * r], c);
 }
 
 // Makes Y in the lent `out`: the lent inverse times the lent constant, both packed, each bit at its place in Y. One step for each byte of the
 // inverse.
-pub fn self_bits(inverse: &[u8], c: &[u8], size: usize, r: usize, out: &mut [u8])
+pub fn y_bits(inverse: &[u8], c: &[u8], size: usize, r: usize, out: &mut [u8])
     requires { ⌜ (length (now inverse) ≡ size * r * rowBytes (size * r)) × (length (now c) ≡ rowBytes (size * r)) × (length (now out) ≡ size * r)
         × (0 < size) × (0 < r) × (size * r ≤ most-order) ⌝ }
     ensures { λ u. ⌜ now (out .exit) ≡ tabulate (size * r) (productBit (now (inverse .entry)) (now (c .entry)) size r) ⌝ }

@@ -49,9 +49,9 @@ module _ (n : ℕ) (f : ℕ → ℕ) (R RP : List ℕ) (bits : (k : ℕ) → pac
       (λ x h. ap (λ (z : ℕ). not (eqb z (identity e x)))
       (sumBits-same n (λ k. packedBit R k * planeBit t n k x) (λ k. f k * planeBit t n k x) (λ k l. ap (λ (z : ℕ). z * planeBit t n k x) (bits k))))
 
--- `places` is the inverse of a list, and `lent` what is lent of it
-module _ (n : ℕ) (list : List ℕ) (ok : Permutes n (λ p. getD list p 0)) (places lent : List ℕ)
-    (are : (q : ℕ) → q < n → getD places q 0 ≡ preimage list n q) (same : lent ≡ places) where
+-- `preimages` is the inverse of a list, and `lent` what is lent of it
+module _ (n : ℕ) (list : List ℕ) (ok : Permutes n (λ p. getD list p 0)) (preimages lent : List ℕ)
+    (are : (q : ℕ) → q < n → getD preimages q 0 ≡ preimage list n q) (same : lent ≡ preimages) where
   sent : (q : ℕ) → q < n → getD lent q 0 ≡ preimage list n q
   sent q h = ap (λ (l : List ℕ). getD l q 0) same ∙ are q h
 

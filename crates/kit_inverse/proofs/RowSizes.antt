@@ -23,7 +23,7 @@ pub record Unstacked (size r n e : ℕ) : Type 0 where
 pub unstacked : (size r n e : ℕ) → n ≡ size * r → e < n → Unstacked size r n e
 unstacked size r n e d h =
     let z : Sized size r e e = sized size r n e e d h h in
-    let p = place-below size r (e % r) (e / r) (z .digit) (div-lt-iff-lt-mul (z .r-positive) .1 (omega arith)) in
+    let p = place-below size r (e % r) (e / r) (z .powerDigit) (div-lt-iff-lt-mul (z .r-positive) .1 (omega arith)) in
     record { r-positive = z .r-positive; below = omega (arith, p) }
 
 module _ (n size : ℕ) (list part t : List ℕ) (s : Side n size list part t) (p e : ℕ) (hp : p < n) (he : e < n) where

@@ -45,21 +45,28 @@ fn first_in_row(
 }
 
 // The place that a list sends to row e, from the places of the list's inverse.
-fn source(places: &[u16], size: usize, r: usize, e: usize) -> usize
-    requires { ⌜ (length (now places) ≡ size * r) × (size * r ≤ most-order) × (e < size * r) × ((q : ℕ) → q < size * r → getD (now places) q 0 < size * r) ⌝ }
-    ensures { λ a. ⌜ (a ≡ getD (now (places .entry)) (unstackOf size r e) 0) × (a < size * r) ⌝ }
+fn preimage_of(preimages: &[u16], size: usize, r: usize, e: usize) -> usize
+    requires { ⌜ (length (now preimages) ≡ size * r) × (size * r ≤ most-order) × (e < size * r) × ((q : ℕ) → q < size * r → getD (now preimages) q 0 < size * r) ⌝ }
+    ensures { λ a. ⌜ (a ≡ getD (now (preimages .entry)) (unstackOf size r e) 0) × (a < size * r) ⌝ }
 {
-    places[e % r * size + e / r] as usize
+    preimages[e % r * size + e / r] as usize
 }
 
-// The place of the first wrong entry of A W, row by row, or n²: `places` is the inverse of the parity list.
-fn first_in_rows(own: &[u8], n: usize, part: &[u32], size: usize, t: &[u8], places: &[u16]) -> usize
-    requires { ⌜ Side n size (now own) (now part) (now t) × (length (now places) ≡ n) × ((q : ℕ) → q < n → getD (now places) q 0 < n) ⌝ }
+// The place of the first wrong entry of A W, row by row, or n²: `preimages` is the inverse of the parity list.
+fn first_in_rows(
+    own: &[u8],
+    n: usize,
+    part: &[u32],
+    size: usize,
+    t: &[u8],
+    preimages: &[u16],
+) -> usize
+    requires { ⌜ Side n size (now own) (now part) (now t) × (length (now preimages) ≡ n) × ((q : ℕ) → q < n → getD (now preimages) q 0 < n) ⌝ }
     ensures { λ a. ⌜ a ≡ firstWhere (n * n) (λ i. wrongIn (rowEntry (now (part .entry)) (entries n (now (own .entry))) size
-        (getD (now (places .entry)) (unstackOf size (length (now (part .entry))) (i / n)) 0) (i / n)) (now (t .entry)) n (i / n) (i % n)) ⌝ }
+        (getD (now (preimages .entry)) (unstackOf size (length (now (part .entry))) (i / n)) 0) (i / n)) (now (t .entry)) n (i / n) (i % n)) ⌝ }
 {
     for e in 0..n {
-        let p = source(places, size, part.len(), e);
+        let p = preimage_of(preimages, size, part.len(), e);
         let x = first_in_row(own, n, part, size, t, p, e);
         if x < n {
             return e * n + x;
@@ -81,7 +88,7 @@ pub fn first_wrong(
     ensures { λ a. ⌜ a ≡ firstWhere (n * n) (λ i. productWrong (now (part .entry)) (entries n (now (own .entry))) (entries n (now (parity .entry)))
         size (now (t .entry)) n (i / n) (i % n)) ⌝ }
 {
-    let mut places = [0u16; 4096];
-    kit_system::fill_inverse(parity, n, &mut places[0..n]);
-    first_in_rows(own, n, part, size, t, &places[0..n])
+    let mut preimages = [0u16; 4096];
+    kit_system::fill_preimages(parity, n, &mut preimages[0..n]);
+    first_in_rows(own, n, part, size, t, &preimages[0..n])
 }

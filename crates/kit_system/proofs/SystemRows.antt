@@ -20,7 +20,7 @@ use Rattle.staircase.proofs.System.{Proper}
 use Rattle.staircase.proofs.Entries.{coefficient, system-row}
 use Rattle.kit_system.proofs.Terms.{stackOf-below, run-end}
 use Rattle.staircase.proofs.Bounds.{place-below}
-use Rattle.kit_system.specs.Rows.{PartOf, stackOf, digit, rowTerm, rowEntry}
+use Rattle.kit_system.specs.Rows.{PartOf, stackOf, powerDigit, rowTerm, rowEntry}
 
 -- ---- past the order
 
@@ -32,19 +32,19 @@ module _ (part own : List ℕ) (size : ℕ) (mpos : 0 < size) (rpos : 0 < length
   pub rowEntry-spare : (p e k : ℕ) → e < size * length part → size * length part ≤ k → rowEntry part own size p e k ≡ 0
   unfolding rowEntry
   rowEntry-spare p e k he hk =
-      sumBits-zero r (rowTerm (digit part) r own size p e k)
+      sumBits-zero r (rowTerm (powerDigit part) r own size p e k)
       (λ b h.
       let y : ℕ = getD own (b * size + p % size) 0 in
       let run = run-end size r e rpos he in
       let sent = stackOf-below size r y mpos (small (b * size + p % size) (place-below size r b (p % size) h (mod-lt p mpos))) in
-      ap₂ (λ (u v : Bool). bitSum (cond u (digit part b (e % r)) 0) (cond v (digit part b (p / size)) 0))
+      ap₂ (λ (u v : Bool). bitSum (cond u (powerDigit part b (e % r)) 0) (cond v (powerDigit part b (p / size)) 0))
       (ne-eqb (e / r * r + b) k (λ q. omega (arith, run))) (ne-eqb (stackOf size r y) k (λ q. omega (arith, sent))))
 
 -- ---- the system
 
 module _ (s : Params) (ok : Proper s) (l : Interleavers)
     (ps : Permutes (order s) (λ p. getD (l .self) p 0)) (pp : Permutes (order s) (λ p. getD (l .parity) p 0)) (part : List ℕ) (P : PartOf s part) where
-  digit-is : (b a : ℕ) → b < s .r → digit part b a ≡ coefficient s b a
+  digit-is : (b a : ℕ) → b < s .r → powerDigit part b a ≡ coefficient s b a
   unfolding coefficient
   digit-is b a h = ap₂ (λ (x r : ℕ). x / 2 ^ (r - 1 - a) % 2) (P .powers b h) (P .long)
 
@@ -56,8 +56,8 @@ module _ (s : Params) (ok : Proper s) (l : Interleavers)
       → rowEntry part (l .self) (s .M) (preimage (l .parity) (order s) (unstack s e)) e k ≡ systemEntry s l e k
   unfolding rowEntry
   rowEntry-is e k he hk =
-      ap (λ (r : ℕ). sumBits r (rowTerm (digit part) r (l .self) (s .M) (source e) e k)) (P .long)
-      ∙ sumBits-same (s .r) (rowTerm (digit part) (s .r) (l .self) (s .M) (source e) e k) (rowTerm (coefficient s) (s .r) (l .self) (s .M) (source e) e k)
+      ap (λ (r : ℕ). sumBits r (rowTerm (powerDigit part) r (l .self) (s .M) (source e) e k)) (P .long)
+      ∙ sumBits-same (s .r) (rowTerm (powerDigit part) (s .r) (l .self) (s .M) (source e) e k) (rowTerm (coefficient s) (s .r) (l .self) (s .M) (source e) e k)
       (λ b h.
       ap₂ (λ (u v : ℕ). bitSum (cond (eqb (e / s .r * s .r + b) k) u 0) (cond (eqb (stack s (getD (l .self) (b * s .M + source e % s .M) 0)) k) v 0))
       (digit-is b (e % s .r) h) (digit-is b (source e / s .M) h))

@@ -34,7 +34,7 @@ pub record Sized (size r e p : ℕ) : Type 0 where
   pub size-positive : 0 < size
   pub r-positive : 0 < r
   pub run : e / r * r + r ≤ size * r
-  pub digit : e % r < r
+  pub powerDigit : e % r < r
   pub row : p / size < r
   pub column : p % size < size
   pub digit-of-place : p % r < r
@@ -53,7 +53,7 @@ sized size r n e p d he hp =
       size-positive = hs;
       r-positive = hr;
       run = run-end size r e hr (omega arith);
-      digit = mod-lt e hr;
+      powerDigit = mod-lt e hr;
       row = div-lt-iff-lt-mul hs .1 (omega (arith, mul-comm r size));
       column = mod-lt p hs;
       digit-of-place = mod-lt p hr;

@@ -2,7 +2,7 @@
 -- and the place of Q that the parity list sends to a row.
 --   PartOf s part            `part` holds the powers of x that the bits of X and Y carry
 --   stackOf, unstackOf       the place in the stack of a place of Y or P, and back
---   digit part b a           digit a of power b, the highest first: what bit b of X or Y adds to bit a of the parity
+--   powerDigit part b a           digit a of power b, the highest first: what bit b of X or Y adds to bit a of the parity
 --   rowTerm, rowEntry        what two digits of a power add to an entry of a row of A, and the entry
 -- Assumes nothing.
 use mathlib.Core.Path.{_≡_}
@@ -26,8 +26,8 @@ stackOf size r q = q % size * r + q / size
 abbrev pub unstackOf : ℕ → ℕ → ℕ → ℕ
 unstackOf size r e = e % r * size + e / r
 
-abbrev pub digit : List ℕ → ℕ → ℕ → ℕ
-digit part b a = getD part b 0 / 2 ^ (length part - 1 - a) % 2
+abbrev pub powerDigit : List ℕ → ℕ → ℕ → ℕ
+powerDigit part b a = getD part b 0 / 2 ^ (length part - 1 - a) % 2
 
 -- the two digits of power b, at entry k: one is in the run of r entries that holds entry e, the other where the self list sends bit b of the word of
 -- place p
@@ -38,4 +38,4 @@ rowTerm digits r own size p e k b =
 
 -- entry k of row e of A, for the entries of the self list and the place p of Q that the parity list sends to entry e
 unfoldable pub rowEntry : List ℕ → List ℕ → ℕ → ℕ → ℕ → ℕ → ℕ
-rowEntry part own size p e k = sumBits (length part) (rowTerm (digit part) (length part) own size p e k)
+rowEntry part own size p e k = sumBits (length part) (rowTerm (powerDigit part) (length part) own size p e k)

@@ -1,5 +1,5 @@
 // Rows of the system A, packed, one at a time. A row has at most 2 r ones.
-//   fill_inverse   the inverse of a permutation
+//   fill_preimages   the inverse of a permutation
 //   system_row     one packed row of A
 //
 // A bit of Y is a bit of one column word and, through the self list, of one row word. What it adds to the r parity bits of either word is the power
@@ -13,10 +13,10 @@ ghost use Rattle.staircase.specs.System.{preimage};
 ghost use Rattle.staircase.specs.Rules.{entries};
 ghost use Rattle.staircase.specs.Demand2.{Permutes};
 ghost use Rattle.matrix.specs.Packed.{packedBit};
-ghost use Rattle.kit_system.specs.Rows.{stackOf, digit, rowEntry};
+ghost use Rattle.kit_system.specs.Rows.{stackOf, powerDigit, rowEntry};
 
 // Fills `out` with the inverse of a list of n entries that is a permutation: entry q is the place that the list sends to q.
-pub fn fill_inverse(list: &[u8], n: usize, out: &mut [u16])
+pub fn fill_preimages(list: &[u8], n: usize, out: &mut [u16])
     requires { ⌜ (length (now list) ≡ 2 * n) × (length (now out) ≡ n) × (n ≤ most-order) × Permutes n (λ p. getD (entries n (now list)) p 0) ⌝ }
     ensures { λ u. ⌜ (length (now (out .exit)) ≡ n)
         × ((q : ℕ) → q < n → getD (now (out .exit)) q 0 ≡ preimage (entries n (now (list .entry))) n q) ⌝ }
@@ -30,7 +30,7 @@ pub fn fill_inverse(list: &[u8], n: usize, out: &mut [u16])
 // Digit a of power b, the highest first: what bit b of X or Y adds to bit a of the parity.
 fn digit_at(part: &[u32], b: usize, a: usize) -> u8
     requires { ⌜ (length (now part) ≤ 32) × (b < length (now part)) × (a < length (now part)) ⌝ }
-    ensures { λ v. ⌜ (v ≡ digit (now (part .entry)) b a) × (v < 2) ⌝ }
+    ensures { λ v. ⌜ (v ≡ powerDigit (now (part .entry)) b a) × (v < 2) ⌝ }
 {
     ((part[b] >> (part.len() - 1 - a)) % 2) as u8
 }

@@ -26,7 +26,7 @@ use Rattle.staircase.specs.Rules.Verdict.{accepted, refused}
 use Rattle.staircase.specs.Calls.{encodedBy, encodeVerdict, encodeCall, Corrected, correctedBy, decodeVerdict, decodeCall}
 use Rattle.staircase.specs.Demand3.{Kit, Given}
 use Rattle.staircase.proofs.Bounds.{small-product}
-use Rattle.staircase.proofs.Tables.{tabulate-length, tabulate-at}
+use Rattle.staircase.proofs.Tabulate.{tabulate-length, tabulate-at}
 use Rattle.staircase.proofs.Rules.{then-first, then-rest, then-accepted, refuse-false, refuse-accepted, inRange, design-limits}
 use Rattle.staircase.proofs.BchCode.{proper-of}
 use Rattle.staircase.proofs.Demand3.{decode-admits, made-length, made-bits}

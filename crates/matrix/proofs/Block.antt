@@ -17,7 +17,7 @@ use borrow.Author.Tests.{lt-ltb, le-ltb, ltb-true, ltb-false}
 use Rattle.bch.proofs.Sum.{bit-ind}
 use Rattle.staircase.specs.Lists.{bitSum, tabulate}
 use Rattle.staircase.proofs.Matrix.{bitSum-zero, zero-bitSum}
-use Rattle.staircase.proofs.Tables.{tabulate-at}
+use Rattle.staircase.proofs.Tabulate.{tabulate-at}
 use Rattle.matrix.proofs.Bits.{bit, bit-lt, bit-zero, bit-above, bit-xor, bit-mask, bit-shr, bit-shl}
 
 -- ---- one exchange

@@ -1,4 +1,4 @@
 pub mod Bounds
 pub mod Printing
 pub mod Starting
-pub mod Ready
+pub mod ProgramReady

@@ -7,9 +7,9 @@
 --   StartIs                   that, or the refusal by these rules
 --   SizesAre                  the lengths that go with a design and L blocks
 --   RoomFor                   an array has room for n bytes
---   Ready                     scanned, and the lent slices have these lengths; the call wants `due` working bytes
+--   ProgramReady                     scanned, and the lent slices have these lengths; the call wants `due` working bytes
 --   FrameReady, MendReady     the same for `frame` with the encoder and for `mend` with the decoder
---   GroupsFit, FrameFits      a frame whose groups, or all, are printed: what is printed has room
+--   GroupsFit, FrameSized      a frame whose groups, or all, are printed: what is printed has room
 -- Assumes nothing.
 use mathlib.Core.Path.{_≡_}
 use mathlib.Core.Bool.{Bool, true, false}
@@ -78,7 +78,7 @@ pub record SizesAre (s : Sizes) (d : Design) (L : ℕ) : Type 0 where
 abbrev pub RoomFor : ℕ → List ℕ → Type 0
 RoomFor n a = (n ≤ length a) × (n ≡ length (take n a))
 
-pub record Ready (framed : Bool) (due : ℕ) (d : Design) (L : ℕ) (kit text : List ℕ) (own parity inverse info red work : ℕ) : Type 0 where
+pub record ProgramReady (framed : Bool) (due : ℕ) (d : Design) (L : ℕ) (kit text : List ℕ) (own parity inverse info red work : ℕ) : Type 0 where
   pub scanned : Scanned framed d L kit text
   pub own-length : own ≡ 2 * orderOf d
   pub parity-length : parity ≡ 2 * orderOf d
@@ -89,10 +89,10 @@ pub record Ready (framed : Bool) (due : ℕ) (d : Design) (L : ℕ) (kit text : 
 
 abbrev pub FrameReady : Design → ℕ → List ℕ → List ℕ → ℕ → ℕ → ℕ → ℕ → ℕ → ℕ → Type 0
 FrameReady d L kit text own parity inverse info red work =
-    Ready false (orderOf d * rowBytes (orderOf d)) d L kit text own parity inverse info red work
+    ProgramReady false (orderOf d * rowBytes (orderOf d)) d L kit text own parity inverse info red work
 
 abbrev pub MendReady : Design → ℕ → List ℕ → List ℕ → ℕ → ℕ → ℕ → ℕ → ℕ → ℕ → Type 0
-MendReady d L kit text own parity inverse info red work = Ready true (orderOf d) d L kit text own parity inverse info red work
+MendReady d L kit text own parity inverse info red work = ProgramReady true (orderOf d) d L kit text own parity inverse info red work
 
 -- ---- what is printed
 
@@ -103,7 +103,7 @@ pub record GroupsFit (d : Design) (L red : ℕ) : Type 0 where
   pub short : red ≤ 245941
 
 -- a frame whose frame text has at most 32,768 bytes
-pub record FrameFits (d : Design) (L info red : ℕ) : Type 0 where
+pub record FrameSized (d : Design) (L info red : ℕ) : Type 0 where
   pub few : L ≤ most-blocks
   pub info-length : info ≡ L * (d .size * d .size)
   pub red-length : red ≡ groups L * (2 * orderOf d)

@@ -35,7 +35,7 @@ use Rattle.program.specs.Steps.{textRule, startRule, Started, Scanned, FrameRea
 use Rattle.text.proofs.Programs.{stopped, called}
 use Rattle.program.proofs.Printing.{printed-refused}
 use Rattle.program.proofs.Starting.{behind-kit}
-use Rattle.program.proofs.Ready.{order-is, kit-left, blocks-scanned, few-blocks, red-short}
+use Rattle.program.proofs.ProgramReady.{order-is, kit-left, blocks-scanned, few-blocks, red-short}
 
 -- ---- before the call
 

@@ -41,12 +41,12 @@ use Rattle.text.specs.KitReader.{headNumber, readKitCall}
 use Rattle.text.specs.FrameReader.{frameRule, readFrameCall}
 use Rattle.text.proofs.FramePromises.{frame-holds, frame-left}
 use Rattle.program.specs.Output.{Printed, most-output}
-use Rattle.program.specs.Steps.{textRule, startRule, Scanned, SizesAre, MendReady, FrameFits}
+use Rattle.program.specs.Steps.{textRule, startRule, Scanned, SizesAre, MendReady, FrameSized}
 use Rattle.program.specs.declared.Sizes.{Sizes}
 use Rattle.text.proofs.Programs.{stopped, called}
 use Rattle.program.proofs.Printing.{printed-as, printed-refused}
 use Rattle.program.proofs.Starting.{behind-kit}
-use Rattle.program.proofs.Ready.{order-is, kit-left, frame-scanned, few-blocks}
+use Rattle.program.proofs.ProgramReady.{order-is, kit-left, frame-scanned, few-blocks}
 
 -- ---- before the call
 
@@ -69,7 +69,7 @@ pub red-room : (d : Design) (L : ℕ) (kit text : List ℕ) → Scanned true d L
 red-room d L kit text B s z = omega (arith, z .red-is, short d L kit text B)
 
 pub frame-fits : (d : Design) (L : ℕ) (kit text : List ℕ) (own parity inverse info red work : ℕ) → MendReady d L kit text own parity inverse info red work
-    → (i q : ℕ) → i ≡ info → q ≡ red → FrameFits d L i q
+    → (i q : ℕ) → i ≡ info → q ≡ red → FrameSized d L i q
 frame-fits d L kit text own parity inverse info red work F i q e f =
     record {
       few = few-blocks true d L kit text (F .scanned);
@@ -80,7 +80,7 @@ frame-fits d L kit text own parity inverse info red work F i q e f =
 
 -- ---- the lines
 
-module _ (d : Design) (L : ℕ) (info red : List ℕ) (F : FrameFits d L (length info) (length red)) where
+module _ (d : Design) (L : ℕ) (info red : List ℕ) (F : FrameSized d L (length info) (length red)) where
   module _ (area : ℕ) (ea : area ≡ d .size * d .size) where
     pub block-bits : length info ≡ L * area
     block-bits = F .info-length ∙ ap (λ (k : ℕ). L * k) (sym ea)

@@ -9,7 +9,7 @@ ghost use Rattle.decoder.specs.declared.Decoding.the-variants.{Decoded};
 ghost use Rattle.decoder.specs.Answers.{correctedOf};
 ghost use Rattle.program.specs.Output.{Printed, most-output, Output};
 ghost use Rattle.text.specs.Programs.{printed, mendText, mendOutput};
-ghost use Rattle.program.specs.Steps.{Scanned, RoomFor, MendReady, FrameFits};
+ghost use Rattle.program.specs.Steps.{Scanned, RoomFor, MendReady, FrameSized};
 use decoder::Counts;
 use decoder::Decoding;
 use design::Design;
@@ -32,7 +32,7 @@ fn put_corrected(
     red: &[u8],
     counts: Counts,
 ) -> usize
-    requires { ⌜ FrameFits d blocks (length (now info)) (length (now red)) ⌝ }
+    requires { ⌜ FrameSized d blocks (length (now info)) (length (now red)) ⌝ }
     requires { ⌜ most-output ≤ length (now out) ⌝ }
     ensures { λ a. ⌜ Printed (mendText (d .size) (orderOf d) blocks (correctedOf (Decoded counts) (frameOf (now (info .entry)) (now (red .entry)))))
         a (now (out .entry)) (now (out .exit)) ⌝ }
@@ -52,7 +52,7 @@ fn put_decoded(
     red: &[u8],
     made: Decoding,
 ) -> usize
-    requires { ⌜ FrameFits d blocks (length (now info)) (length (now red)) ⌝ }
+    requires { ⌜ FrameSized d blocks (length (now info)) (length (now red)) ⌝ }
     requires { ⌜ most-output ≤ length (now out) ⌝ }
     ensures { λ a.
         let c = correctedOf made (frameOf (now (info .entry)) (now (red .entry))) in

@@ -9,9 +9,8 @@ use mathlib.Core.List.{List, []}
 use Prim.Native.Nat.{ℕ, _+_, _*_, _^_, _≤_, _<_}
 use native.Mathlib.Omega.{arith}
 use lib.Dec.{ltb}
-use lib.ListN.{length}
 use borrow.Author.Tests.{ltb-false}
-use Rattle.staircase.specs.Design.{Params, order, most-blocks, most-rounds}
+use Rattle.staircase.specs.Design.{Params, most-blocks, most-rounds}
 use Rattle.staircase.specs.Frame.{groups}
 use Rattle.staircase.specs.Rules.{Verdict, _then_, countRule, roundsRule, lengthRule, infoLength, redLength, listRule, spareRule, frameBits, interleavers, wordWork}
 use Rattle.staircase.specs.Rules.Verdict.{accepted}
@@ -39,8 +38,7 @@ lengths-equal have due e =
     let e2 : v2 ≡ accepted = then-rest (lengthRule 1 (have .own) (due .own)) v2 e in
     let e3 : v3 ≡ accepted = then-rest (lengthRule 2 (have .parity) (due .parity)) v3 e2 in
     let e4 : v4 ≡ accepted = then-rest (lengthRule 3 (have .inverse) (due .inverse)) v4 e3 in
-    let e5 : v5 ≡ accepted = then-rest (lengthRule 4 (have .info) (due .info)) v5 e4 in
-    (
+    let e5 : v5 ≡ accepted = then-rest (lengthRule 4 (have .info) (due .info)) v5 e4 in (
       length-equal 1 (have .own) (due .own) (then-first (lengthRule 1 (have .own) (due .own)) v2 e),
       length-equal 2 (have .parity) (due .parity) (then-first (lengthRule 2 (have .parity) (due .parity)) v3 e2),
       length-equal 3 (have .inverse) (due .inverse) (then-first (lengthRule 3 (have .inverse) (due .inverse)) v4 e3),
@@ -55,8 +53,7 @@ unfolding frameRules roundsRule
 frame-accepted s L k have due e =
     let v : Verdict = lengthsRule have (frameDue s L due) in
     let f : (roundsRule k then v) ≡ accepted = then-rest (countRule L) (roundsRule k then v) e in
-    let n = count-limits L (then-first (countRule L) (roundsRule k then v) e) in
-    (
+    let n = count-limits L (then-first (countRule L) (roundsRule k then v) e) in (
       n .0,
       n .1,
       ltb-false most-rounds k (refuse-false (ltb most-rounds k) 5 k (then-first (roundsRule k) v f)),

@@ -17,7 +17,7 @@ use borrow.Author.Tests.{le-leb, lt-leb, eq-eqb, ne-eqb}
 use Rattle.bch.proofs.Store.{set-each}
 use Rattle.staircase.specs.Lists.{firstWhere}
 use Rattle.staircase.specs.Rules.{entries, badEntry}
-use Rattle.staircase.proofs.Tables.{tabulate-at}
+use Rattle.staircase.proofs.Tabulate.{tabulate-at}
 use Rattle.staircase.proofs.Search.{firstWhere-last}
 
 pub entry-at : (n : ℕ) (b : List ℕ) (p : ℕ) → p < n → getD b (2 * p) 0 + 256 * getD b (2 * p + 1) 0 ≡ getD (entries n b) p 0

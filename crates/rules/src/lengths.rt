@@ -71,7 +71,10 @@ pub fn check_lengths(have: Lengths, due: Lengths) -> Check
     let info = check_length(INFORMATION, have.info, due.info);
     let red = check_length(REDUNDANCY, have.red, due.red);
     let work = check_length(WORKING, have.work, due.work);
-    first(own, first(parity, first(inverse, first(info, first(red, work)))))
+    first(
+        own,
+        first(parity, first(inverse, first(info, first(red, work)))),
+    )
 }
 
 // Of the lists and the inverse of a kit, and of working bytes as many as the inverse's.

@@ -20,7 +20,7 @@ use Rattle.staircase.specs.Lists.{tabulate}
 use Rattle.staircase.specs.Design.{Params, Interleavers, order}
 use Rattle.staircase.specs.Word.{rowInfo, rowWord, columnInfo, columnWord}
 use Rattle.staircase.specs.System.{preimage}
-use Rattle.staircase.specs.Frame.{Frame, Site, blockAt, selfAt, parityAt, rowSites, columnSites, read}
+use Rattle.staircase.specs.Frame.{Frame, Site, blockAt, yAt, pAt, rowSites, columnSites, read}
 use Rattle.staircase.specs.Frame.Site.{unsent, inInfo, inRed}
 use Rattle.staircase.specs.Decoder.{errorPositions, allSent, correction, flipAll, Progress, correctWord, correctWords}
 use Rattle.staircase.specs.Demand2.{Permutes}
@@ -84,12 +84,12 @@ module _ (s : Params) (L i : ℕ) (ofBlock ofSelf ofParity : ℕ → ℕ) where
   block-line : (b k : ℕ) → k < s .M * s .M → Sent (blockAt s L b k) → lineOf (blockAt s L b k) ≡ ofBlock k
   block-line b k h sent = let p = block-sent s L b k sent in ap lineOf (p .3) ∙ ap ofBlock (digits-mod (p .0) h)
 
-  self-line : (q : ℕ) → q < order s → lineOf (selfAt s i q) ≡ ofSelf q
+  self-line : (q : ℕ) → q < order s → lineOf (yAt s i q) ≡ ofSelf q
   self-line q h =
       let other : ℕ = ofParity (start + q - (start + order s)) in
       ap (λ (z : ℕ). cond (ltb z (order s)) (ofSelf z) other) (add-sub-cancel-left start q) ∙ ap (λ (z : Bool). cond z (ofSelf q) other) (lt-ltb q (order s) h)
 
-  parity-line : (q : ℕ) → lineOf (parityAt s i q) ≡ ofParity q
+  parity-line : (q : ℕ) → lineOf (pAt s i q) ≡ ofParity q
   parity-line q =
       let k : ℕ = start + order s + q in
       ap (λ (z : Bool). cond z (ofSelf (k - start)) (ofParity (k - (start + order s)))) (le-ltb (k - start) (order s) (omega arith))
@@ -116,7 +116,7 @@ module _ (s : Params) (L : ℕ) (l : Interleavers) (ok : Proper s) where
   column-line i a ha =
       let f : ℕ → ℕ = λ k. k % s .M in
       four-all (s .M) (s .r) (λ j. blockAt s L (2 * i + 1) (j * s .M + a)) (λ j. blockAt s L (2 * i + 2) (j * s .M + a))
-      (λ b. selfAt s i (b * s .M + a)) (λ b. parityAt s i (b * s .M + a)) (λ (y : Site). Sent y → columnOf i y ≡ a)
+      (λ b. yAt s i (b * s .M + a)) (λ b. pAt s i (b * s .M + a)) (λ (y : Site). Sent y → columnOf i y ≡ a)
       (λ j hj sent. block-line s L i f f f (2 * i + 1) (j * s .M + a) (digits-lt hj ha) sent ∙ digits-mod j ha)
       (λ j hj sent. block-line s L i f f f (2 * i + 2) (j * s .M + a) (digits-lt hj ha) sent ∙ digits-mod j ha)
       (λ b hb sent. self-line s L i f f f (b * s .M + a) (place-lt s ok b a hb ha) ∙ digits-mod b ha)
@@ -146,7 +146,7 @@ module _ (s : Params) (L : ℕ) (l : Interleavers) (ok : Proper s) where
         let source : ℕ → ℕ = λ b. b * s .M + a in
         let below : (b : ℕ) → b < s .r → source b < order s = λ b hb. place-lt s ok b a hb ha in
         four-all (s .M) (s .r) (λ j. blockAt s L (2 * i) (a * s .M + j)) (λ j. blockAt s L (2 * i + 1) (a * s .M + j))
-        (λ b. selfAt s i (getD (l .self) (b * s .M + a) 0)) (λ b. parityAt s i (getD (l .parity) (b * s .M + a) 0)) (λ (y : Site). Sent y → rowOf i y ≡ a)
+        (λ b. yAt s i (getD (l .self) (b * s .M + a) 0)) (λ b. pAt s i (getD (l .parity) (b * s .M + a) 0)) (λ (y : Site). Sent y → rowOf i y ≡ a)
         (λ j hj sent. block-line s L i f ofSelf ofParity (2 * i) (a * s .M + j) (digits-lt ha hj) sent ∙ digits-div a hj)
         (λ j hj sent. block-line s L i f ofSelf ofParity (2 * i + 1) (a * s .M + j) (digits-lt ha hj) sent ∙ digits-div a hj)
         (λ b hb sent. self-line s L i f ofSelf ofParity (getD (l .self) (source b) 0) (ps .below (source b) (below b hb))

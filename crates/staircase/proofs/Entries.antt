@@ -29,7 +29,7 @@ use Rattle.staircase.specs.Word.{rowInfo, columnInfo}
 use Rattle.staircase.specs.System.{Contents, zeros, unit, stack, unstack, preimage, columnParity, rowParity, residual, systemEntry}
 use Rattle.staircase.specs.Demand2.{Permutes}
 use Rattle.staircase.proofs.Matrix.{bitSum-assoc, sumBits-same}
-use Rattle.staircase.proofs.Tables.{Binary, tabulate-length, tabulate-at}
+use Rattle.staircase.proofs.Tabulate.{Binary, tabulate-length, tabulate-at}
 use Rattle.staircase.proofs.Stretches.{three, three-bits}
 use Rattle.staircase.proofs.Parity.{bit-⊕}
 use Rattle.staircase.proofs.Permutation.{preimage-sent}

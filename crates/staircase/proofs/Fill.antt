@@ -25,7 +25,7 @@ use lib.ListN.{length, getD, set, take, drop, length-append, length-drop, drop-o
 use lib.Seq.{length-take-le, take-at, drop-at, drop-drop, sets, sets-eq, getD-take, getD-drop, getD-append-add, getD-set-other, ext-getD}
 use Rattle.bch.proofs.Store.{set-each}
 use Rattle.staircase.specs.Lists.{tabulate, concat}
-use Rattle.staircase.proofs.Tables.{tabulate-length, tabulate-at, tabulate-same, tabulate-last, concat-last, concat-length}
+use Rattle.staircase.proofs.Tabulate.{tabulate-length, tabulate-at, tabulate-same, tabulate-last, concat-last, concat-length}
 
 -- ---- a new front: the first a entries are g, the rest as it was
 

@@ -1,7 +1,7 @@
 pub mod Bounds
 pub mod Search
 pub mod Permutation
-pub mod Tables
+pub mod Tabulate
 pub mod Member
 pub mod Stretches
 pub mod Fill

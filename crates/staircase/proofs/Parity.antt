@@ -19,7 +19,7 @@ use Rattle.bch.proofs.Word.{sumWord}
 use Rattle.bch.proofs.Systematic.{sumWord-append, parity-length, parity-bits, parity-makes, parity-alone, parity-sum}
 use Rattle.bch.proofs.Bch.{codeword-zero, zero-codeword}
 use Rattle.staircase.specs.Lists.{bitSum, tabulate}
-use Rattle.staircase.proofs.Tables.{Binary, tabulate-length, tabulate-at, tabulate-bits}
+use Rattle.staircase.proofs.Tabulate.{Binary, tabulate-length, tabulate-at, tabulate-bits}
 use Rattle.staircase.proofs.Stretches.{three, three-length}
 
 pub bit-⊕ : (a b : ℕ) → a < 2 → b < 2 → a ⊕ b ≡ bitSum a b

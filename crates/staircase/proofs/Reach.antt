@@ -12,10 +12,10 @@ use native.Mathlib.Omega.{arith}
 use lib.ListN.{getD, List·getD-eq-default}
 use Rattle.staircase.specs.Design.{Params, Interleavers, order}
 use Rattle.staircase.specs.System.{Contents, zeros, stack, columnParity, constantEntry, inverseEntry, selfEntry, groupBits, groupRedundancy, redundancy}
-use Rattle.staircase.specs.Frame.{groups, block}
+use Rattle.staircase.specs.Frame.{groups, blockContents}
 use Rattle.staircase.specs.Demand2.{Permutes}
 use Rattle.staircase.specs.Demand3.{SameBut}
-use Rattle.staircase.proofs.Tables.{tabulate-same}
+use Rattle.staircase.proofs.Tabulate.{tabulate-same}
 use Rattle.staircase.proofs.Matrix.{sumBits-same}
 use Rattle.staircase.proofs.System.{Proper, Same, order-positive, columnParity-same, residual-same}
 use Rattle.staircase.proofs.Redundancy.{redundancy-length, redundancy-at, block-same}
@@ -52,8 +52,8 @@ module _ (s : Params) (l : Interleavers) (L : ℕ) (ok : Proper s)
 
       group : groupRedundancy s l w L info i ≡ groupRedundancy s l w L other i
       group =
-          group-same (block s L info (2 * i)) (block s L info (2 * i + 1)) (block s L info (2 * i + 2))
-          (block s L other (2 * i)) (block s L other (2 * i + 1)) (block s L other (2 * i + 2))
+          group-same (blockContents s L info (2 * i)) (blockContents s L info (2 * i + 1)) (blockContents s L info (2 * i + 2))
+          (blockContents s L other (2 * i)) (blockContents s L other (2 * i + 1)) (blockContents s L other (2 * i + 2))
           (block-same s L info other c h (2 * i) (λ e. d₀ (sym e))) (block-same s L info other c h (2 * i + 1) (λ e. d₁ (sym e)))
           (block-same s L info other c h (2 * i + 2) (λ e. d₂ (sym e)))
 

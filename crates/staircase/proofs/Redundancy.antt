@@ -23,29 +23,29 @@ use Rattle.staircase.specs.Design.{Params, Interleavers, order}
 use Rattle.staircase.specs.Word.{rowInfo, rowWord, columnInfo, columnWord}
 use Rattle.staircase.specs.System.{Contents, columnParity, systemEntry, inverseEntry, product, identity, selfEntry, groupBits, groupRedundancy, redundancy}
 use Rattle.staircase.specs.Solvable.{Completes}
-use Rattle.staircase.specs.Frame.{Frame, Site, bitAt, groups, blockAt, selfAt, parityAt, rowSites, columnSites, read, inCode, block}
+use Rattle.staircase.specs.Frame.{Frame, Site, bitAt, groups, blockAt, yAt, pAt, rowSites, columnSites, read, inCode, blockContents}
 use Rattle.staircase.specs.Demand2.{Permutes}
 use Rattle.staircase.specs.Demand3.{SameBut}
 use Rattle.staircase.proofs.Stretches.{four, four-map, four-same}
 use Rattle.staircase.proofs.System.{Proper, place-lt, columnParity-lt}
 use Rattle.staircase.proofs.Solution.{selfEntry-lt, group-completes, group-alone}
 use Rattle.staircase.proofs.Sites.{block-ind, red-ind}
-use Rattle.staircase.proofs.Tables.{Binary, tabulate-length, tabulate-at, concat-length, concat-at}
+use Rattle.staircase.proofs.Tabulate.{Binary, tabulate-length, tabulate-at, concat-length, concat-at}
 
 -- ---- the blocks of a frame
 
 module _ (s : Params) (L : ℕ) where
-  block-bit : (info red : List ℕ) (b k : ℕ) → bitAt (record { info = info; red = red }) (blockAt s L b k) ≡ block s L info b k
+  block-bit : (info red : List ℕ) (b k : ℕ) → bitAt (record { info = info; red = red }) (blockAt s L b k) ≡ blockContents s L info b k
   block-bit info red b k =
       block-ind s L (λ (x : Site). bitAt (record { info = info; red = red }) x ≡ bitAt (record { info = info; red = [] }) x) b k refl (λ c e l. refl)
 
-  pub block-binary : (info : List ℕ) → Bits info → (b : ℕ) → Binary (block s L info b)
+  pub block-binary : (info : List ℕ) → Bits info → (b : ℕ) → Binary (blockContents s L info b)
   block-binary info h b k =
       block-ind s L (λ (x : Site). bitAt (record { info = info; red = [] }) x < 2) b k (omega arith) (λ c e l. h (c * (s .M * s .M) + k))
 
   -- two lists of information that agree outside block c have every other block in common
   pub block-same : (info other : List ℕ) (c : ℕ) → SameBut (s .M * s .M) c info other
-      → (b : ℕ) → b ≢ c + 1 → (k : ℕ) → k < s .M * s .M → block s L info b k ≡ block s L other b k
+      → (b : ℕ) → b ≢ c + 1 → (k : ℕ) → k < s .M * s .M → blockContents s L info b k ≡ blockContents s L other b k
   block-same info other c h b d k m =
       block-ind s L (λ (x : Site). bitAt (record { info = info; red = [] }) x ≡ bitAt (record { info = other; red = [] }) x) b k refl
       (λ j e l. h (j * (s .M * s .M) + k) (λ q. d (let z : j ≡ c = sym (digits-div j m) ∙ q in omega (arith, z, e))))
@@ -58,20 +58,20 @@ module _ (s : Params) (l : Interleavers) (L : ℕ) (ok : Proper s)
   read-sites : (info red : List ℕ) (i b c : ℕ) (α ξ θ : ℕ → ℕ) → ((k : ℕ) → k < s .r → ξ k < order s) → ((k : ℕ) → k < s .r → θ k < order s) → (y p : Contents)
       → ((q : ℕ) → q < order s → getD red (i * (2 * order s) + q) 0 ≡ y q) → ((q : ℕ) → q < order s → getD red (i * (2 * order s) + order s + q) 0 ≡ p q)
       → read (record { info = info; red = red })
-      (four (s .M) (s .r) (λ j. blockAt s L b (α j)) (λ j. blockAt s L c (α j)) (λ k. selfAt s i (ξ k)) (λ k. parityAt s i (θ k)))
-      ≡ four (s .M) (s .r) (λ j. block s L info b (α j)) (λ j. block s L info c (α j)) (λ k. y (ξ k)) (λ k. p (θ k))
+      (four (s .M) (s .r) (λ j. blockAt s L b (α j)) (λ j. blockAt s L c (α j)) (λ k. yAt s i (ξ k)) (λ k. pAt s i (θ k)))
+      ≡ four (s .M) (s .r) (λ j. blockContents s L info b (α j)) (λ j. blockContents s L info c (α j)) (λ k. y (ξ k)) (λ k. p (θ k))
   read-sites info red i b c α ξ θ hξ hθ y p hy hp =
       let x : Frame = record { info = info; red = red } in
-      four-map (bitAt x) (s .M) (s .r) (λ j. blockAt s L b (α j)) (λ j. blockAt s L c (α j)) (λ k. selfAt s i (ξ k)) (λ k. parityAt s i (θ k))
-      ∙ four-same (s .M) (s .r) (λ j. bitAt x (blockAt s L b (α j))) (λ j. bitAt x (blockAt s L c (α j))) (λ k. bitAt x (selfAt s i (ξ k)))
-      (λ j. block s L info b (α j)) (λ j. block s L info c (α j)) (λ k. y (ξ k))
+      four-map (bitAt x) (s .M) (s .r) (λ j. blockAt s L b (α j)) (λ j. blockAt s L c (α j)) (λ k. yAt s i (ξ k)) (λ k. pAt s i (θ k))
+      ∙ four-same (s .M) (s .r) (λ j. bitAt x (blockAt s L b (α j))) (λ j. bitAt x (blockAt s L c (α j))) (λ k. bitAt x (yAt s i (ξ k)))
+      (λ j. blockContents s L info b (α j)) (λ j. blockContents s L info c (α j)) (λ k. y (ξ k))
       (λ j m. block-bit s L info red b (α j)) (λ j m. block-bit s L info red c (α j)) (λ k m. hy (ξ k) (hξ k m))
-      (λ k. bitAt x (parityAt s i (θ k))) (λ k. p (θ k)) (λ k m. hp (θ k) (hθ k m))
+      (λ k. bitAt x (pAt s i (θ k))) (λ k. p (θ k)) (λ k m. hp (θ k) (hθ k m))
 
   -- the bits of a word of a frame, as the words of a group
   pub read-row : (info red : List ℕ) (i a : ℕ) → a < s .M → (y p : Contents)
       → ((q : ℕ) → q < order s → getD red (i * (2 * order s) + q) 0 ≡ y q) → ((q : ℕ) → q < order s → getD red (i * (2 * order s) + order s + q) 0 ≡ p q)
-      → read (record { info = info; red = red }) (rowSites s l L i a) ≡ rowWord s l (block s L info (2 * i)) (block s L info (2 * i + 1)) y p a
+      → read (record { info = info; red = red }) (rowSites s l L i a) ≡ rowWord s l (blockContents s L info (2 * i)) (blockContents s L info (2 * i + 1)) y p a
   unfolding rowSites rowWord rowInfo
   read-row info red i a ha =
       let at : (b : ℕ) → b < s .r → b * s .M + a < order s = λ b m. place-lt s ok b a m ha in
@@ -80,7 +80,7 @@ module _ (s : Params) (l : Interleavers) (L : ℕ) (ok : Proper s)
 
   pub read-column : (info red : List ℕ) (i a : ℕ) → a < s .M → (y p : Contents)
       → ((q : ℕ) → q < order s → getD red (i * (2 * order s) + q) 0 ≡ y q) → ((q : ℕ) → q < order s → getD red (i * (2 * order s) + order s + q) 0 ≡ p q)
-      → read (record { info = info; red = red }) (columnSites s L i a) ≡ columnWord s (block s L info (2 * i + 1)) (block s L info (2 * i + 2)) y p a
+      → read (record { info = info; red = red }) (columnSites s L i a) ≡ columnWord s (blockContents s L info (2 * i + 1)) (blockContents s L info (2 * i + 2)) y p a
   unfolding columnSites columnWord columnInfo
   read-column info red i a ha =
       read-sites info red i (2 * i + 1) (2 * i + 2) (λ j. j * s .M + a) (λ b. b * s .M + a) (λ b. b * s .M + a)
@@ -93,9 +93,9 @@ module _ (s : Params) (l : Interleavers) (L : ℕ) (ok : Proper s)
   group-length : (info : List ℕ) (i : ℕ) → length (groupRedundancy s l w L info i) ≡ 2 * order s
   unfolding groupRedundancy groupBits
   group-length info i =
-      let f : Contents = block s L info (2 * i) in
-      let o : Contents = block s L info (2 * i + 1) in
-      let e : Contents = block s L info (2 * i + 2) in
+      let f : Contents = blockContents s L info (2 * i) in
+      let o : Contents = blockContents s L info (2 * i + 1) in
+      let e : Contents = blockContents s L info (2 * i + 2) in
       let Y : Contents = selfEntry s l w f o e in
       let a = tabulate-length (order s) Y in
       let b = tabulate-length (order s) (columnParity s o e Y) in
@@ -113,13 +113,13 @@ module _ (s : Params) (l : Interleavers) (L : ℕ) (ok : Proper s)
 
   module _ (info : List ℕ) (i : ℕ) (hi : i < groups L) where
     abbrev F : Contents
-    F = block s L info (2 * i)
+    F = blockContents s L info (2 * i)
 
     abbrev O : Contents
-    O = block s L info (2 * i + 1)
+    O = blockContents s L info (2 * i + 1)
 
     abbrev E : Contents
-    E = block s L info (2 * i + 2)
+    E = blockContents s L info (2 * i + 2)
 
     abbrev Y : Contents
     Y = selfEntry s l w F O E
@@ -149,7 +149,7 @@ module _ (s : Params) (l : Interleavers) (L : ℕ) (ok : Proper s)
     abbrev made : List ℕ
     made = redundancy s l w L info
 
-    small : (b : ℕ) → Binary (block s L info b)
+    small : (b : ℕ) → Binary (blockContents s L info b)
     small b = block-binary s L info hb b
 
     -- ---- all words of the encoder's frame are in the code

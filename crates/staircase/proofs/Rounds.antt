@@ -21,7 +21,7 @@ use Rattle.staircase.specs.Frame.{Frame, Site, read}
 use Rattle.staircase.specs.Frame.Site.{unsent}
 use Rattle.staircase.specs.Decoder.{errorPositions, allSent, correction, flipAll, Progress, correctWord, correctWords, round, Decoded, runRounds}
 use Rattle.staircase.proofs.Search.{cond-ind}
-use Rattle.staircase.proofs.Tables.{tabulate-last}
+use Rattle.staircase.proofs.Tabulate.{tabulate-last}
 use Rattle.staircase.proofs.Flip.{Received, flipAll-received}
 use Rattle.staircase.proofs.Errors.{errorPositions-positions}
 

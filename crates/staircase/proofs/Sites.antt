@@ -22,7 +22,7 @@ use borrow.Author.Tests.{lt-ltb, ltb-true}
 use Rattle.staircase.specs.Lists.{tabulate}
 use Rattle.staircase.specs.Design.{Params, Interleavers, wordLength, order}
 use Rattle.staircase.specs.Word.{rowInfo, rowWord, columnInfo, columnWord}
-use Rattle.staircase.specs.Frame.{Site, groups, blockAt, selfAt, parityAt, rowSites, columnSites, words}
+use Rattle.staircase.specs.Frame.{Site, groups, blockAt, yAt, pAt, rowSites, columnSites, words}
 use Rattle.staircase.specs.Frame.Site.{unsent, inInfo, inRed}
 use Rattle.staircase.specs.Demand2.{Permutes}
 use Rattle.staircase.proofs.Search.{cond-ind}
@@ -90,10 +90,10 @@ module _ (s : Params) (L : ℕ) where
     B j = blockAt s L c (α j)
 
     abbrev X : ℕ → Site
-    X k = selfAt s i (ξ k)
+    X k = yAt s i (ξ k)
 
     abbrev Q : ℕ → Site
-    Q k = parityAt s i (θ k)
+    Q k = pAt s i (θ k)
 
     in-blocks : (x : Site) → Sent x → In x (tabulate (s .M) A ++ tabulate (s .M) B) → buffer x ≡ 1
     in-blocks x h m = go (in-cases x (tabulate (s .M) A) (tabulate (s .M) B) m)
@@ -167,13 +167,13 @@ module _ (s : Params) (L : ℕ) where
     unfolding rowSites rowWord rowInfo
     rowSites-length i a =
         four-length (s .M) (s .r) (λ j. blockAt s L (2 * i) (a * s .M + j)) (λ j. blockAt s L (2 * i + 1) (a * s .M + j))
-        (λ b. selfAt s i (getD (l .self) (b * s .M + a) 0)) (λ b. parityAt s i (getD (l .parity) (b * s .M + a) 0))
+        (λ b. yAt s i (getD (l .self) (b * s .M + a) 0)) (λ b. pAt s i (getD (l .parity) (b * s .M + a) 0))
 
     pub columnSites-length : (i a : ℕ) → length (columnSites s L i a) ≡ wordLength s
     unfolding columnSites columnWord columnInfo
     columnSites-length i a =
         four-length (s .M) (s .r) (λ j. blockAt s L (2 * i + 1) (j * s .M + a)) (λ j. blockAt s L (2 * i + 2) (j * s .M + a))
-        (λ b. selfAt s i (b * s .M + a)) (λ b. parityAt s i (b * s .M + a))
+        (λ b. yAt s i (b * s .M + a)) (λ b. pAt s i (b * s .M + a))
 
     -- ---- the words, one by one
 
@@ -207,25 +207,25 @@ module _ (s : Params) (L : ℕ) where
     unfolding rowSites rowWord rowInfo
     odd-in i a =
         in-second (s .M) (s .r) (λ j. blockAt s L (2 * i) (a * s .M + j)) (λ j. blockAt s L (2 * i + 1) (a * s .M + j))
-        (λ b. selfAt s i (getD (l .self) (b * s .M + a) 0)) (λ b. parityAt s i (getD (l .parity) (b * s .M + a) 0))
+        (λ b. yAt s i (getD (l .self) (b * s .M + a) 0)) (λ b. pAt s i (getD (l .parity) (b * s .M + a) 0))
 
     even-in : (i a j : ℕ) → j < s .M → In (blockAt s L (2 * i + 2) (j * s .M + a)) (columnSites s L i a)
     unfolding columnSites columnWord columnInfo
     even-in i a =
         in-second (s .M) (s .r) (λ j. blockAt s L (2 * i + 1) (j * s .M + a)) (λ j. blockAt s L (2 * i + 2) (j * s .M + a))
-        (λ b. selfAt s i (b * s .M + a)) (λ b. parityAt s i (b * s .M + a))
+        (λ b. yAt s i (b * s .M + a)) (λ b. pAt s i (b * s .M + a))
 
-    self-in : (i a b : ℕ) → b < s .r → In (selfAt s i (b * s .M + a)) (columnSites s L i a)
+    self-in : (i a b : ℕ) → b < s .r → In (yAt s i (b * s .M + a)) (columnSites s L i a)
     unfolding columnSites columnWord columnInfo
     self-in i a =
         in-third (s .M) (s .r) (λ j. blockAt s L (2 * i + 1) (j * s .M + a)) (λ j. blockAt s L (2 * i + 2) (j * s .M + a))
-        (λ b. selfAt s i (b * s .M + a)) (λ b. parityAt s i (b * s .M + a))
+        (λ b. yAt s i (b * s .M + a)) (λ b. pAt s i (b * s .M + a))
 
-    parity-in : (i a b : ℕ) → b < s .r → In (parityAt s i (b * s .M + a)) (columnSites s L i a)
+    parity-in : (i a b : ℕ) → b < s .r → In (pAt s i (b * s .M + a)) (columnSites s L i a)
     unfolding columnSites columnWord columnInfo
     parity-in i a =
         in-fourth (s .M) (s .r) (λ j. blockAt s L (2 * i + 1) (j * s .M + a)) (λ j. blockAt s L (2 * i + 2) (j * s .M + a))
-        (λ b. selfAt s i (b * s .M + a)) (λ b. parityAt s i (b * s .M + a))
+        (λ b. yAt s i (b * s .M + a)) (λ b. pAt s i (b * s .M + a))
 
     pub info-covered : (k : ℕ) → k < L * (s .M * s .M) → (w : List Site) × In w (words s l L) × In (inInfo k) w
     info-covered k h = go (b % 2) refl
@@ -292,8 +292,8 @@ module _ (s : Params) (L : ℕ) where
     pub red-covered : (k : ℕ) → k < groups L * (2 * order s) → (w : List Site) × In w (words s l L) × In (inRed k) w
     red-covered =
         red-ind (λ (k : ℕ). (w : List Site) × In w (words s l L) × In (inRed k) w)
-        (λ i q hi hq. column i q hi (subst (λ (z : ℕ). In (selfAt s i z) (columnSites s L i (q % s .M))) (div-add-mod' q (s .M)) (self-in i (q % s .M) (q / s .M) (row-of s ok q hq))))
-        (λ i q hi hq. column i q hi (subst (λ (z : ℕ). In (parityAt s i z) (columnSites s L i (q % s .M))) (div-add-mod' q (s .M)) (parity-in i (q % s .M) (q / s .M) (row-of s ok q hq))))
+        (λ i q hi hq. column i q hi (subst (λ (z : ℕ). In (yAt s i z) (columnSites s L i (q % s .M))) (div-add-mod' q (s .M)) (self-in i (q % s .M) (q / s .M) (row-of s ok q hq))))
+        (λ i q hi hq. column i q hi (subst (λ (z : ℕ). In (pAt s i z) (columnSites s L i (q % s .M))) (div-add-mod' q (s .M)) (parity-in i (q % s .M) (q / s .M) (row-of s ok q hq))))
       where
         column : {x : Site} (i q : ℕ) → i < groups L → In x (columnSites s L i (q % s .M)) → (w : List Site) × In w (words s l L) × In x w
         column i q hi m = (columnSites s L i (q % s .M), column-among-words i (q % s .M) hi (column-of s ok q), m)

@@ -12,7 +12,7 @@ use Rattle.staircase.specs.Design.{Params, Interleavers, order}
 use Rattle.staircase.specs.System.{Contents, stack, unstack, columnParity, systemEntry, constantEntry, apply, inverseEntry, product, identity, selfEntry}
 use Rattle.staircase.specs.Solvable.{Completes, Solves}
 use Rattle.staircase.specs.Demand2.{Permutes}
-use Rattle.staircase.proofs.Tables.{Binary}
+use Rattle.staircase.proofs.Tabulate.{Binary}
 use Rattle.staircase.proofs.Matrix.{sumBits-lt, sumBits-same, apply-product, apply-identity}
 use Rattle.staircase.proofs.System.{Proper, stack-lt, stack-unstack, unstack-stack, systemEntry-lt, constantEntry-lt, columnParity-same}
 use Rattle.staircase.proofs.Solvable.{completes-column, completes-solves, solves-completes}

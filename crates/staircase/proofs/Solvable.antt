@@ -22,7 +22,7 @@ use Rattle.staircase.specs.Word.{rowInfo, rowWord, columnInfo, columnWor
 use Rattle.staircase.specs.System.{Contents, stack, unstack, preimage, columnParity, rowParity, residual, systemEntry, constantEntry, apply}
 use Rattle.staircase.specs.Solvable.{Completes, Solves}
 use Rattle.staircase.specs.Demand2.{Permutes}
-use Rattle.staircase.proofs.Tables.{Binary}
+use Rattle.staircase.proofs.Tabulate.{Binary}
 use Rattle.staircase.proofs.Matrix.{bitSum-self, bitSum-equal, sumBits-lt}
 use Rattle.staircase.proofs.Stretches.{three-bits}
 use Rattle.staircase.proofs.Parity.{codeword-table, table-codeword}

@@ -19,7 +19,7 @@ use borrow.Author.Tests.{eq-eqb, ne-eqb}
 use Rattle.bch.proofs.Pigeonhole.{pigeonhole}
 use Rattle.staircase.specs.System.{Contents, product, identity, apply}
 use Rattle.staircase.proofs.Matrix.{sumBits-lt, sumBits-same, sumBits-one, BitMatrix, apply-product, apply-identity}
-use Rattle.staircase.proofs.Tables.{Binary}
+use Rattle.staircase.proofs.Tabulate.{Binary}
 
 -- ---- vectors of bits as numbers
 

@@ -16,7 +16,7 @@ use lib.Seq.{getD-append-add}
 use Rattle.bch.specs.Polynomial.{Bits}
 use Rattle.bch.proofs.Systematic.{append-bits}
 use Rattle.staircase.specs.Lists.{tabulate}
-use Rattle.staircase.proofs.Tables.{Binary, tabulate-length, tabulate-at, tabulate-bits, tabulate-same, tabulate-map}
+use Rattle.staircase.proofs.Tabulate.{Binary, tabulate-length, tabulate-at, tabulate-bits, tabulate-same, tabulate-map}
 use Rattle.staircase.proofs.Member.{In, in-left, in-right, in-cases, in-tabulate, tabulate-in}
 
 abbrev pub three : {S : Type 0} → ℕ → ℕ → (ℕ → S) → (ℕ → S) → (ℕ → S) → List S

@@ -24,7 +24,7 @@ use Rattle.staircase.proofs.Bounds.{place-below}
 use Rattle.staircase.proofs.Matrix.{bitSum-swap, bitSum-zero, zero-bitSum, sumBits-same, linear-units, sum-of-units}
 use Rattle.staircase.proofs.Stretches.{three-same}
 use Rattle.staircase.proofs.Parity.{add, parity-sum-at}
-use Rattle.staircase.proofs.Tables.{Binary}
+use Rattle.staircase.proofs.Tabulate.{Binary}
 
 -- what is asked of a design: sizes that are not 0, and a generator of degree r
 pub record Proper (s : Params) : Type 0 where

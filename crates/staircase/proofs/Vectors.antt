@@ -27,7 +27,7 @@ use Rattle.staircase.specs.Calls.{kitVerdict, encodeVerdict, encodedBy, 
 use Rattle.staircase.specs.RowsK.{RowsK}
 use Rattle.staircase.specs.SecondKit.{paramsS, selfS, parityS, inverseS, systemS, infoS, redS, paramsT, listsT, receivedT, correctionT, correction0T, correction1T, SecondKit}
 use Rattle.staircase.proofs.Search.{firstWhere-before}
-use Rattle.staircase.proofs.Tables.{tabulate-at}
+use Rattle.staircase.proofs.Tabulate.{tabulate-at}
 use Rattle.staircase.proofs.Matrix.{sumBits-same}
 use Rattle.staircase.proofs.Rules.{refuseFirst-accepted, design-limits, bytes-bits}
 use Rattle.staircase.proofs.Errors.{errorsAt, errors}

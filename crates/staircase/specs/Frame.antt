@@ -3,7 +3,7 @@
 --   Frame, frameOf, Site      the buffers, and where a bit of a word stands in them
 --   bitAt, flip               the bit at a site, and the frame with it turned
 --   groups L                  G
---   blockAt, selfAt, parityAt the sites of a block, of Y and of P
+--   blockAt, yAt, pAt the sites of a block, of Y and of P
 --   block                     the bits of a block
 --   rowSites, columnSites     the sites of a row word and of a column word
 --   words                     all words in the order of a round
@@ -54,23 +54,23 @@ abbrev pub blockAt : Params → ℕ → ℕ → ℕ → Site
 blockAt s L zero k = unsent
 blockAt s L (suc b) k = cond (ltb b L) (inInfo (b * (s .M * s .M) + k)) unsent
 
-abbrev pub block : Params → ℕ → List ℕ → ℕ → ℕ → ℕ
-block s L info b k = bitAt (record { info = info; red = [] }) (blockAt s L b k)
+abbrev pub blockContents : Params → ℕ → List ℕ → ℕ → ℕ → ℕ
+blockContents s L info b k = bitAt (record { info = info; red = [] }) (blockAt s L b k)
 
 -- "Group i is Y (r × M), then P (r × M)"
-abbrev pub selfAt : Params → ℕ → ℕ → Site
-selfAt s i q = inRed (i * (2 * order s) + q)
+abbrev pub yAt : Params → ℕ → ℕ → Site
+yAt s i q = inRed (i * (2 * order s) + q)
 
-abbrev pub parityAt : Params → ℕ → ℕ → Site
-parityAt s i q = inRed (i * (2 * order s) + order s + q)
+abbrev pub pAt : Params → ℕ → ℕ → Site
+pAt s i q = inRed (i * (2 * order s) + order s + q)
 
 -- "Row word a of group i: row a of B(2i-2), of B(2i-1), of X, of Q"
 unfoldable pub rowSites : Params → Interleavers → ℕ → ℕ → ℕ → List Site
-rowSites s l L i a = rowWord s l (blockAt s L (2 * i)) (blockAt s L (2 * i + 1)) (selfAt s i) (parityAt s i) a
+rowSites s l L i a = rowWord s l (blockAt s L (2 * i)) (blockAt s L (2 * i + 1)) (yAt s i) (pAt s i) a
 
 -- "Column word a: column a of B(2i-1), of B(2i), of Y, of P"
 unfoldable pub columnSites : Params → ℕ → ℕ → ℕ → List Site
-columnSites s L i a = columnWord s (blockAt s L (2 * i + 1)) (blockAt s L (2 * i + 2)) (selfAt s i) (parityAt s i) a
+columnSites s L i a = columnWord s (blockAt s L (2 * i + 1)) (blockAt s L (2 * i + 2)) (yAt s i) (pAt s i) a
 
 -- "groups 1 to G, in each the row words 0 to M-1, then the column words"
 unfoldable pub words : Params → Interleavers → ℕ → List (List Site)

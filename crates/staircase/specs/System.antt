@@ -19,7 +19,7 @@ use Rattle.bch.specs.Code.{parity}
 use Rattle.staircase.specs.Lists.{bitSum, sumBits, tabulate, concat, firstWhere}
 use Rattle.staircase.specs.Design.{Params, Interleavers, order}
 use Rattle.staircase.specs.Word.{rowInfo, columnInfo}
-use Rattle.staircase.specs.Frame.{groups, block}
+use Rattle.staircase.specs.Frame.{groups, blockContents}
 
 abbrev pub Contents : Type 0
 Contents = ℕ → ℕ
@@ -94,7 +94,7 @@ groupBits s l w before odd even =
     tabulate (order s) (selfEntry s l w before odd even) ++ tabulate (order s) (columnParity s odd even (selfEntry s l w before odd even))
 
 unfoldable pub groupRedundancy : Params → Interleavers → List ℕ → ℕ → List ℕ → ℕ → List ℕ
-groupRedundancy s l w L info i = groupBits s l w (block s L info (2 * i)) (block s L info (2 * i + 1)) (block s L info (2 * i + 2))
+groupRedundancy s l w L info i = groupBits s l w (blockContents s L info (2 * i)) (blockContents s L info (2 * i + 1)) (blockContents s L info (2 * i + 2))
 
 -- "in order of blocks or groups"
 unfoldable pub redundancy : Params → Interleavers → List ℕ → ℕ → List ℕ → List ℕ

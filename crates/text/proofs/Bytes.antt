@@ -10,7 +10,7 @@ use native.Mathlib.Omega.{arith}
 use lib.ListN.{length, getD, take, drop, length-append}
 use Rattle.staircase.specs.System.{rowBytes}
 use Rattle.staircase.specs.Rules.{entries}
-use Rattle.staircase.proofs.Tables.{tabulate-at}
+use Rattle.staircase.proofs.Tabulate.{tabulate-at}
 use Rattle.text.specs.KitReader.{firsts, seconds, packs, pack, packRows}
 
 -- of pairs: how many there are, and one more

@@ -11,7 +11,7 @@ use mathlib.Core.List.{List, [], _∷_, _++_}
 use native.Mathlib.Omega.{arith}
 use lib.ListN.{length, take}
 use lib.Seq.{take-at, drop-at}
-use Rattle.text_formats.specs.Format.{digit, dec}
+use Rattle.text_formats.specs.Format.{isDigit, dec}
 use Rattle.text_formats.specs.Items.{lits, past, walk, spell, Fit, bitsLine, bitsLines}
 use Rattle.text_formats.proofs.Spelling.{Tidy, tidy-append, tidy-dec, tidy-oks, walk-sound, spell-lits}
 use Rattle.text_formats.proofs.Takes.{takes, fit-length, takes-append, takes-lits, line-takes}
@@ -25,7 +25,7 @@ use Rattle.text.specs.KitReader.{firsts, seconds, packs, packRows, kitPa
 -- ---- the lists' lines
 
 pub tidy-pairLine : (p : ℕ) → p < 10000 → Tidy (pairLine p)
-unfolding pairLine digit
+unfolding pairLine isDigit
 tidy-pairLine p h = tidy-append (lits (dec p)) pairTail (tidy-dec p h) (omega arith, (refl, omega arith, (refl, omega arith, tt)))
 
 -- the values of a line, and its bytes

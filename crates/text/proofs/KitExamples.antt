@@ -6,7 +6,7 @@
 use mathlib.Core.Path.{_≡_, refl}
 use mathlib.Core.List.{[], _∷_, _++_}
 use lib.ListN.{take}
-use Rattle.text_formats.specs.Format.{digitsOf, dec, item, numLen, more, digit}
+use Rattle.text_formats.specs.Format.{digitsOf, dec, item, numLen, more, isDigit}
 use Rattle.text_formats.specs.Items.{walk, scanAt, linesFrom, bitsLine}
 use Rattle.text.specs.Rules.{walkRule, scanRule, passed, valuesOf}
 use Rattle.staircase.specs.Rules.{sizeRule, longRule, largeRule, designRules}
@@ -17,40 +17,40 @@ use Rattle.text.specs.TextsK.{textK}
 use Rattle.text.specs.KitReader.{firsts, seconds, packs, binary, pack, packRows, headNumber, headRule, bodyScan, bodyRule, scanKit, selfOf, parityOf, inverseOf}
 
 pub kitK-accepted : scanKit textK ≡ accepted
-unfolding scanKit headRule walkRule headNumber bodyRule bodyScan scanRule scanAt walk passed kitBody linesFrom pairLine bitsLine dec digitsOf item numLen more digit designRules sizeRule longRule largeRule
+unfolding scanKit headRule walkRule headNumber bodyRule bodyScan scanRule scanAt walk passed kitBody linesFrom pairLine bitsLine dec digitsOf item numLen more isDigit designRules sizeRule longRule largeRule
 kitK-accepted = refl
 
 pub kitK-numbers : (headNumber textK 0 ≡ 4) × (headNumber textK 1 ≡ 1) × (headNumber textK 2 ≡ 1)
-unfolding headNumber walk item numLen more digit
+unfolding headNumber walk item numLen more isDigit
 kitK-numbers = (refl, refl, refl)
 
 pub kitK-self : selfOf textK ≡ selfK
-unfolding selfOf packs firsts valuesOf headNumber bodyScan scanAt walk passed kitBody linesFrom pairLine bitsLine dec digitsOf item numLen more digit
+unfolding selfOf packs firsts valuesOf headNumber bodyScan scanAt walk passed kitBody linesFrom pairLine bitsLine dec digitsOf item numLen more isDigit
 kitK-self = refl
 
 pub kitK-parity : parityOf textK ≡ parityK
-unfolding parityOf packs seconds valuesOf headNumber bodyScan scanAt walk passed kitBody linesFrom pairLine bitsLine dec digitsOf item numLen more digit
+unfolding parityOf packs seconds valuesOf headNumber bodyScan scanAt walk passed kitBody linesFrom pairLine bitsLine dec digitsOf item numLen more isDigit
 kitK-parity = refl
 
 pub kitK-inverse : inverseOf textK ≡ inverseK
-unfolding inverseOf packRows pack binary valuesOf headNumber bodyScan scanAt walk passed kitBody linesFrom pairLine bitsLine dec digitsOf item numLen more digit
+unfolding inverseOf packRows pack binary valuesOf headNumber bodyScan scanAt walk passed kitBody linesFrom pairLine bitsLine dec digitsOf item numLen more isDigit
 kitK-inverse = refl
 
 -- the last line feed is missing; a byte too many
 pub kitK-cut : scanKit (take 93 textK) ≡ refused 11 93
-unfolding scanKit headRule walkRule headNumber bodyRule bodyScan scanRule scanAt walk passed kitBody linesFrom pairLine bitsLine dec digitsOf item numLen more digit designRules sizeRule longRule largeRule
+unfolding scanKit headRule walkRule headNumber bodyRule bodyScan scanRule scanAt walk passed kitBody linesFrom pairLine bitsLine dec digitsOf item numLen more isDigit designRules sizeRule longRule largeRule
 kitK-cut = refl
 
 pub kitK-more : scanKit (textK ++ (10 ∷ [])) ≡ refused 11 94
-unfolding scanKit headRule walkRule headNumber bodyRule bodyScan scanRule scanAt walk passed kitBody linesFrom pairLine bitsLine dec digitsOf item numLen more digit designRules sizeRule longRule largeRule
+unfolding scanKit headRule walkRule headNumber bodyRule bodyScan scanRule scanAt walk passed kitBody linesFrom pairLine bitsLine dec digitsOf item numLen more isDigit designRules sizeRule longRule largeRule
 kitK-more = refl
 
 -- `4 1 4`: n is 16, and nothing follows the two lines
 pub design-first : scanKit (names ++ (52 ∷ 32 ∷ 49 ∷ 32 ∷ 52 ∷ 10 ∷ [])) ≡ refused 2 16
-unfolding scanKit headRule walkRule headNumber bodyRule bodyScan scanRule scanAt walk passed kitBody linesFrom pairLine bitsLine dec digitsOf item numLen more digit designRules sizeRule longRule largeRule
+unfolding scanKit headRule walkRule headNumber bodyRule bodyScan scanRule scanAt walk passed kitBody linesFrom pairLine bitsLine dec digitsOf item numLen more isDigit designRules sizeRule longRule largeRule
 design-first = refl
 
 -- a leading zero in the second line is refused before the design is
 pub zero-first : scanKit (names ++ (48 ∷ 52 ∷ 32 ∷ 49 ∷ 32 ∷ 49 ∷ 10 ∷ [])) ≡ refused 11 7
-unfolding scanKit headRule walkRule headNumber bodyRule bodyScan scanRule scanAt walk passed kitBody linesFrom pairLine bitsLine dec digitsOf item numLen more digit designRules sizeRule longRule largeRule
+unfolding scanKit headRule walkRule headNumber bodyRule bodyScan scanRule scanAt walk passed kitBody linesFrom pairLine bitsLine dec digitsOf item numLen more isDigit designRules sizeRule longRule largeRule
 zero-first = refl

@@ -15,7 +15,7 @@ use native.Mathlib.Omega.{arith}
 use native.Mathlib.Decide.{decLt}
 use lib.ListN.{length, getD, take, drop}
 use lib.Seq.{take-append-add}
-use Rattle.text_formats.specs.Format.{digit, Format, end, Renders, Text, Shares, Longest, Scan, refused, read, scan, Clear}
+use Rattle.text_formats.specs.Format.{isDigit, Format, end, Renders, Text, Shares, Longest, Scan, refused, read, scan, Clear}
 use Rattle.text_formats.specs.Items.{lits, seq, Walk, stuck, past, walk, spell, Fit, bitsLine, bitsLines, moved, scanAt}
 use Rattle.text_formats.proofs.Parts.{fit-none}
 use Rattle.text_formats.proofs.Scan.{scan-longest}
@@ -27,7 +27,7 @@ use Rattle.text.proofs.KitCounting.{tidy-pairLine}
 -- ---- the two lines
 
 pub tidy-head : Tidy headItems
-unfolding digit
+unfolding isDigit
 tidy-head =
     (omega arith, (omega arith, (omega arith, (omega arith, (omega arith, (omega arith, (refl, omega arith, (refl, omega arith, (refl, omega arith, tt)))))))))
 

@@ -18,7 +18,7 @@ use Rattle.staircase.specs.Lists.{tabulate, concat}
 use Rattle.staircase.specs.System.{inverseEntry}
 use Rattle.staircase.specs.Rules.{entries}
 use Rattle.staircase.specs.Rules.Verdict.{accepted, refused}
-use Rattle.staircase.proofs.Tables.{tabulate-same, concat-same}
+use Rattle.staircase.proofs.Tabulate.{tabulate-same, concat-same}
 use Rattle.staircase.proofs.Rules.{design-limits}
 use Rattle.text.specs.KitText.{headBytes, listNames, rowNames, pairLines, kitBody, kitValues, tailItems, restFormat}
 use Rattle.text.specs.KitReader.{firsts, seconds, packs, packRows, headNumber, kitParams, bodyScan, scanKit, selfOf, parityOf, inverseOf}

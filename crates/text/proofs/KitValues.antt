@@ -17,7 +17,7 @@ use Rattle.text_formats.proofs.Parts.{fit-split}
 use Rattle.staircase.specs.Lists.{tabulate, concat}
 use Rattle.staircase.specs.System.{rowBytes, inverseEntry}
 use Rattle.staircase.specs.Rules.{entries}
-use Rattle.staircase.proofs.Tables.{tabulate-length, tabulate-at, tabulate-same, concat-same}
+use Rattle.staircase.proofs.Tabulate.{tabulate-length, tabulate-at, tabulate-same, concat-same}
 use Rattle.text.proofs.Bytes.{entry-at, length-pack}
 use Rattle.text.specs.KitText.{pairLine, pairLines}
 use Rattle.text.specs.KitReader.{firsts, seconds, packs, binary, pack, packRows}

@@ -28,7 +28,7 @@ use Rattle.staircase.specs.Rules.Verdict.{accepted}
 use Rattle.staircase.specs.Demand2.{Permutes, FitsOrder}
 use Rattle.staircase.proofs.System.{order-positive}
 use Rattle.staircase.proofs.BchCode.{proper-of}
-use Rattle.staircase.proofs.Tables.{tabulate-length, tabulate-at, concat-at}
+use Rattle.staircase.proofs.Tabulate.{tabulate-length, tabulate-at, concat-at}
 use Rattle.staircase.proofs.Rules.{then-first, then-rest, then-accepted, refuseFirst-false, refuseFirst-accepted, length-accepted, design-limits, lists-permute, spare-zero, zero-spare}
 use Rattle.text.proofs.Bytes.{entry-at, halves, packs-length, packRows-length}
 use Rattle.text.specs.KitText.{headBytes, listNames, rowNames, pairLine, pairLines, pairTail, kitBody, kitFormat, kitValues, kitBytes}

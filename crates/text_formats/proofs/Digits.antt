@@ -21,17 +21,17 @@ use borrow.Author.Tests.{lt-ltb, le-ltb, le-leb, leb-true, ne-eqb}
 use lib.ListN.{length, getD, take, drop, length-append}
 use lib.Seq.{take-suc, append-snoc, getD-append-seam}
 use lib.Dec.{leb}
-use Rattle.text_formats.specs.Format.{digitsOf, dec, digit, more, value, numLen}
+use Rattle.text_formats.specs.Format.{digitsOf, dec, isDigit, more, value, numLen}
 use Rattle.text_formats.proofs.Walking.{getD-there}
 
 -- ---- one byte
 
-pub digit-is : (c : ℕ) → 48 ≤ c → c ≤ 57 → digit c ≡ true
-unfolding digit
+pub digit-is : (c : ℕ) → 48 ≤ c → c ≤ 57 → isDigit c ≡ true
+unfolding isDigit
 digit-is c l h = simp (le-leb 48 c l, le-leb c 57 h)
 
-pub digit-true : (c : ℕ) → digit c ≡ true → (48 ≤ c) × (c ≤ 57)
-unfolding digit
+pub digit-true : (c : ℕ) → isDigit c ≡ true → (48 ≤ c) × (c ≤ 57)
+unfolding isDigit
 digit-true c e = go (leb 48 c) refl e
   where
     go : (b : Bool) → leb 48 c ≡ b → cond b (leb c 57) false ≡ true → (48 ≤ c) × (c ≤ 57)
@@ -107,7 +107,7 @@ digits-lead (suc k) v p h = go (decLt v 10) (digits-lead k (v / 10))
 
 -- ---- the number at the front of a text
 
-pub more-stop : (k : ℕ) (l : List ℕ) → digit (getD l 0 256) ≡ false → more k l ≡ 0
+pub more-stop : (k : ℕ) (l : List ℕ) → isDigit (getD l 0 256) ≡ false → more k l ≡ 0
 unfolding more
 more-stop zero l e = refl
 more-stop (suc k) [] e = refl
@@ -122,7 +122,7 @@ pub more-most : (k : ℕ) (l : List ℕ) → more k l ≤ k
 unfolding more
 more-most zero l = omega arith
 more-most (suc k) [] = omega arith
-more-most (suc k) (c ∷ t) = go (digit c) (more-most k t)
+more-most (suc k) (c ∷ t) = go (isDigit c) (more-most k t)
   where
     go : (b : Bool) → more k t ≤ k → cond b (suc (more k t)) 0 ≤ suc k
     go true h = omega arith
@@ -140,24 +140,24 @@ pub more-front : (k : ℕ) (l : List ℕ) → Front (more k l) l
 unfolding more
 more-front zero l i h = absurd (not-suc-le-zero h)
 more-front (suc k) [] i h = absurd (not-suc-le-zero h)
-more-front (suc k) (c ∷ t) i h = go (digit c) refl (more-front k t) h
+more-front (suc k) (c ∷ t) i h = go (isDigit c) refl (more-front k t) h
   where
-    go : (b : Bool) → digit c ≡ b → Front (more k t) t → i < cond b (suc (more k t)) 0 → (48 ≤ getD (c ∷ t) i 256) × (getD (c ∷ t) i 256 ≤ 57)
+    go : (b : Bool) → isDigit c ≡ b → Front (more k t) t → i < cond b (suc (more k t)) 0 → (48 ≤ getD (c ∷ t) i 256) × (getD (c ∷ t) i 256 ≤ 57)
     go true e f l = front-cons (more k t) c t (digit-true c e .0) (digit-true c e .1) f i l
     go false e f l = absurd (not-suc-le-zero l)
 
-pub more-all : (k : ℕ) (l t : List ℕ) → Digits l → length l ≤ k → digit (getD t 0 256) ≡ false → more k (l ++ t) ≡ length l
+pub more-all : (k : ℕ) (l t : List ℕ) → Digits l → length l ≤ k → isDigit (getD t 0 256) ≡ false → more k (l ++ t) ≡ length l
 more-all k [] t d h e = more-stop k t e
 more-all zero (c ∷ l) t d h e = absurd (omega arith)
 more-all (suc k) (c ∷ l) t d h e = more-digit k (c ∷ l ++ t) (d .0) (d .1) ∙ ap suc (more-all k l t (d .2) (omega arith) e)
 
-pub len-none : (l : List ℕ) → digit (getD l 0 256) ≡ false → numLen l ≡ 0
+pub len-none : (l : List ℕ) → isDigit (getD l 0 256) ≡ false → numLen l ≡ 0
 unfolding numLen
 len-none [] e = refl
 len-none (c ∷ t) e = simp e
 
 pub len-zero : (l : List ℕ) → getD l 0 256 ≡ 48 → numLen l ≡ 1
-unfolding numLen digit
+unfolding numLen isDigit
 len-zero [] e = absurd (omega arith)
 len-zero (c ∷ t) e = rw e
 
@@ -241,7 +241,7 @@ pub record Found (v : ℕ) (t : List ℕ) : Type 0 where
   pub counted : numLen (dec v ++ t) ≡ length (dec v)
   pub valued : value (length (dec v)) (dec v ++ t) ≡ v
 
-pub found : (v : ℕ) (t : List ℕ) → v < 10000 → digit (getD t 0 256) ≡ false → Found v t
+pub found : (v : ℕ) (t : List ℕ) → v < 10000 → isDigit (getD t 0 256) ≡ false → Found v t
 found v t h e = record { counted = go (decLt v 1); valued = rw four (value-digits 4 v t h) }
   where
     four : dec v ≡ digitsOf 4 v

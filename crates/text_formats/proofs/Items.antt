@@ -14,7 +14,7 @@ use lib.ListN.{length, getD, take, drop, List·getD-append, length-append}
 use native.Mathlib.Decide.{decLt}
 use lib.Seq.{getD-take, length-take-le}
 use lib.Dec.{eqb}
-use Rattle.text_formats.specs.Format.{digitsOf, dec, digit, more, value, numLen, numPiece, Item, byte, num, bit, Shows, none, got, item}
+use Rattle.text_formats.specs.Format.{digitsOf, dec, isDigit, more, value, numLen, numPiece, Item, byte, num, bit, Shows, none, got, item}
 use Rattle.text_formats.proofs.Digits.{digits-one, digits-more, dec-one, digit-true, more-most, more-front, len-none, Spelled, spelled, found}
 
 pub record Sound (i : Item) (ws : List ℕ) (n : ℕ) (s : List ℕ) : Type 0 where
@@ -30,7 +30,7 @@ Ok bit = Unit {0}
 num-sound : (s ws : List ℕ) (n : ℕ) → numPiece (numLen s) s ≡ got ws n → Sound num ws n s
 unfolding numLen
 num-sound [] ws n e = let z : _≡_ {A = ℕ} 0 1 = cc in absurd (omega arith)
-num-sound (c ∷ t) ws n e = go (digit c) refl e
+num-sound (c ∷ t) ws n e = go (isDigit c) refl e
   where
     done : (m : ℕ) → Spelled (suc m) (c ∷ t) → numPiece (suc m) (c ∷ t) ≡ got ws n → Sound num ws n (c ∷ t)
     done m h f =
@@ -38,7 +38,7 @@ num-sound (c ∷ t) ws n e = go (digit c) refl e
         let b : ws ≡ value (suc m) (c ∷ t) ∷ [] = cc in
         record { within = omega (arith, h .within); shows = (value (suc m) (c ∷ t), h .small, b, ap (λ (k : ℕ). take k (c ∷ t)) (sym a) ∙ h .spelled) }
 
-    pick : digit c ≡ true → (b : Bool) → eqb c 48 ≡ b → numPiece (cond b 1 (suc (more 3 t))) (c ∷ t) ≡ got ws n → Sound num ws n (c ∷ t)
+    pick : isDigit c ≡ true → (b : Bool) → eqb c 48 ≡ b → numPiece (cond b 1 (suc (more 3 t))) (c ∷ t) ≡ got ws n → Sound num ws n (c ∷ t)
     pick d true z f =
         let q : c ≡ 48 = eqb-true c 48 z in
         let w : value 1 (c ∷ t) ≡ 0 = omega arith in
@@ -48,7 +48,7 @@ num-sound (c ∷ t) ws n e = go (digit c) refl e
         let k : (c ≡ 48 → ⊥) = eqb-false c 48 z in
         done (more 3 t) (spelled (more 3 t) c t (omega arith) (q .1) (more-front 3 t) (more-most 3 t)) f
 
-    go : (b : Bool) → digit c ≡ b → numPiece (cond b (cond (eqb c 48) 1 (suc (more 3 t))) 0) (c ∷ t) ≡ got ws n → Sound num ws n (c ∷ t)
+    go : (b : Bool) → isDigit c ≡ b → numPiece (cond b (cond (eqb c 48) 1 (suc (more 3 t))) 0) (c ∷ t) ≡ got ws n → Sound num ws n (c ∷ t)
     go true d f = pick d (eqb c 48) refl f
     go false d f = let z : _≡_ {A = ℕ} 0 1 = cc in absurd (omega arith)
 
@@ -89,7 +89,7 @@ item-sound bit s ws n h e = go (eqb (getD s 0 256) 48) refl e
 -- What follows an item leaves it alone: no digit after a number.
 abbrev pub Guard : Item → List ℕ → Type 0
 Guard (byte b) t = Unit {0}
-Guard num t = digit (getD t 0 256) ≡ false
+Guard num t = isDigit (getD t 0 256) ≡ false
 Guard bit t = Unit {0}
 
 num-piece : (n v : ℕ) (s : List ℕ) → 0 < n → value n s ≡ v → numPiece n s ≡ got (v ∷ []) n
@@ -122,9 +122,9 @@ more-local : (k n : ℕ) (s r : List ℕ) → more k s ≡ n → n < length s �
 unfolding more
 more-local zero n s r e h = e
 more-local (suc k) n [] r e h = absurd (omega arith)
-more-local (suc k) n (c ∷ t) r e h = go (digit c) refl n e h (more-local k (more k t) t r refl)
+more-local (suc k) n (c ∷ t) r e h = go (isDigit c) refl n e h (more-local k (more k t) t r refl)
   where
-    go : (b : Bool) → digit c ≡ b → (m : ℕ) → cond b (suc (more k t)) 0 ≡ m → m < suc (length t)
+    go : (b : Bool) → isDigit c ≡ b → (m : ℕ) → cond b (suc (more k t)) 0 ≡ m → m < suc (length t)
         → (more k t < length t → more k (take (suc (more k t)) t ++ r) ≡ more k t) → cond b (suc (more k (take m t ++ r))) 0 ≡ m
     go true d m f l ih = rw (← f) (ap suc (ih (omega arith)))
     go false d m f l ih = f
@@ -141,9 +141,9 @@ value-local n s r h = go n (omega arith)
     go zero l = refl
     go (suc m) l = rw (go m (omega arith), at-local m n s r (omega arith) h)
 
-none-digit : (c : ℕ) (t : List ℕ) → numPiece (numLen (c ∷ t)) (c ∷ t) ≡ none → digit c ≡ false
+none-digit : (c : ℕ) (t : List ℕ) → numPiece (numLen (c ∷ t)) (c ∷ t) ≡ none → isDigit c ≡ false
 unfolding numLen
-none-digit c t e = go (digit c) (eqb c 48) e
+none-digit c t e = go (isDigit c) (eqb c 48) e
   where
     go : (b z : Bool) → numPiece (cond b (cond z 1 (suc (more 3 t))) 0) (c ∷ t) ≡ none → b ≡ false
     go false z f = refl
@@ -152,7 +152,7 @@ none-digit c t e = go (digit c) (eqb c 48) e
 
 len-local : (c n : ℕ) (t r : List ℕ) → numLen (c ∷ t) ≡ n → n < suc (length t) → numLen (c ∷ (take n t ++ r)) ≡ n
 unfolding numLen
-len-local c n t r e h = go (digit c) (eqb c 48) n e h
+len-local c n t r e h = go (isDigit c) (eqb c 48) n e h
   where
     go : (b z : Bool) (m : ℕ) → cond b (cond z 1 (suc (more 3 t))) 0 ≡ m → m < suc (length t) → cond b (cond z 1 (suc (more 3 (take m t ++ r)))) 0 ≡ m
     go false z m f l = f

@@ -17,7 +17,7 @@ use borrow.Author.Tests.{eq-eqb, ne-eqb, eqb-true, eqb-false}
 use lib.ListN.{length, getD, take, drop, take-append-drop, length-drop, length-append}
 use lib.Seq.{take-add, drop-append-seam, drop-at, length-take-le}
 use lib.Dec.{eqb}
-use Rattle.text_formats.specs.Format.{dec, digit, Item, byte, num, bit, Shows, Piece, none, got, item, Format, end, _▷_, opt, fork, Renders, Text, Shares, Longest, Scan, refused, read, after, step, scan, Avoids, Begins, Clear}
+use Rattle.text_formats.specs.Format.{dec, isDigit, Item, byte, num, bit, Shows, Piece, none, got, item, Format, end, _▷_, opt, fork, Renders, Text, Shares, Longest, Scan, refused, read, after, step, scan, Avoids, Begins, Clear}
 use Rattle.text_formats.proofs.Digits.{Digits, digits-are}
 use Rattle.text_formats.proofs.Items.{Ok, Guard, item-sound, item-complete, item-none, item-local, first-byte, dec-long}
 
@@ -52,13 +52,13 @@ clear-rest (byte b) F c = c .1
 clear-rest num F c = c .1
 clear-rest bit F c = c
 
-no-digit : digit 256 ≡ false
-unfolding digit
+no-digit : isDigit 256 ≡ false
+unfolding isDigit
 no-digit = refl
 
 clear-guard : (i : Item) (F : Format) (L : ℕ) (us t : List ℕ) → Clear (i ▷ F) → Renders F L us t → Guard i t
 clear-guard (byte b) F L us t c r = tt
-clear-guard num F L us t c r = avoid digit F L us t no-digit (c .0) r
+clear-guard num F L us t c r = avoid isDigit F L us t no-digit (c .0) r
 clear-guard bit F L us t c r = tt
 
 shows-long : (i : Item) (ws q : List ℕ) → Shows i ws q → 0 < length q

@@ -15,7 +15,7 @@ use native.Mathlib.Omega.{arith}
 use native.Mathlib.Nat.{add-zero, zero-add, add-assoc}
 use lib.ListN.{length, take, drop, length-append, take-append-drop}
 use lib.Seq.{drop-drop, drop-append-seam, length-take-le}
-use Rattle.text_formats.specs.Format.{dec, digit, Item, byte, num, bit, Shows, Piece, none, got, item, Format, Renders, Scan, refused, read, after, step, scan, Clear}
+use Rattle.text_formats.specs.Format.{dec, isDigit, Item, byte, num, bit, Shows, Piece, none, got, item, Format, Renders, Scan, refused, read, after, step, scan, Clear}
 use Rattle.text_formats.specs.Items.{lits, seq, Walk, stuck, past, prep, stride, walk, spell, Fit, bits, bitsLine, moved, scanAt}
 use Rattle.text_formats.proofs.Digits.{Digits, digits-are}
 use Rattle.text_formats.proofs.Items.{Sound, Ok, Guard, item-sound, item-complete}
@@ -63,7 +63,7 @@ Tidy [] = Unit {0}
 Tidy (byte b ∷ is) = (b < 256) × Tidy is
 Tidy (bit ∷ is) = Tidy is
 Tidy (num ∷ []) = ⊥
-Tidy (num ∷ byte b ∷ is) = (digit b ≡ false) × (b < 256) × Tidy is
+Tidy (num ∷ byte b ∷ is) = (isDigit b ≡ false) × (b < 256) × Tidy is
 Tidy (num ∷ num ∷ is) = ⊥
 Tidy (num ∷ bit ∷ is) = ⊥
 

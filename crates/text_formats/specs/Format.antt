@@ -71,14 +71,14 @@ pub data Piece : Type 0 where
   none : Piece
   got : List ℕ → ℕ → Piece
 
-unfoldable pub digit : ℕ → Bool
-digit c = cond (leb 48 c) (leb c 57) false
+unfoldable pub isDigit : ℕ → Bool
+isDigit c = cond (leb 48 c) (leb c 57) false
 
 -- How many digits, up to k, stand at the front.
 unfoldable pub more : ℕ → List ℕ → ℕ
 more zero s = 0
 more (suc k) [] = 0
-more (suc k) (c ∷ t) = cond (digit c) (suc (more k t)) 0
+more (suc k) (c ∷ t) = cond (isDigit c) (suc (more k t)) 0
 
 -- The value of the first n bytes as decimal digits.
 abbrev pub value : ℕ → List ℕ → ℕ
@@ -88,7 +88,7 @@ value (suc n) s = value n s * 10 + (getD s n 256 - 48)
 -- The length of the number at the front: 0 where there is none, 1 where it starts with 0.
 unfoldable pub numLen : List ℕ → ℕ
 numLen [] = 0
-numLen (c ∷ t) = cond (digit c) (cond (eqb c 48) 1 (suc (more 3 t))) 0
+numLen (c ∷ t) = cond (isDigit c) (cond (eqb c 48) 1 (suc (more 3 t))) 0
 
 abbrev pub numPiece : ℕ → List ℕ → Piece
 numPiece zero s = none
@@ -142,7 +142,7 @@ Begins (fork b F G) = Begins G
 abbrev pub Clear : Format → Type 0
 Clear (end l) = Unit {0}
 Clear (byte b ▷ F) = (b < 256) × Clear F
-Clear (num ▷ F) = Avoids digit F × Clear F
+Clear (num ▷ F) = Avoids isDigit F × Clear F
 Clear (bit ▷ F) = Clear F
 Clear (opt l F) = Begins F × Clear F
 Clear (fork b F G) = (b < 256) × Avoids (eqb b) G × Clear F × Clear G

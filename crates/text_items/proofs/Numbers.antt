@@ -14,7 +14,7 @@ use native.Mathlib.Numerals.{add-one}
 use borrow.Author.Tests.{le-leb, lt-leb}
 use lib.ListN.{length, getD, drop, List·getD-eq-default}
 use lib.Seq.{getD-drop, drop-drop}
-use Rattle.text_formats.specs.Format.{digit, more, value, numLen}
+use Rattle.text_formats.specs.Format.{isDigit, more, value, numLen}
 use Rattle.text_items.specs.Answers.{digitAt, numAt}
 use Rattle.text_items.specs.declared.Num.the-variants.{Value, Bad}
 use Rattle.text_formats.proofs.Walking.{getD-any, getD-there, head-at}
@@ -22,15 +22,15 @@ use Rattle.text_formats.proofs.Digits.{digit-is, digit-true, more-stop, more-di
 
 -- ---- one digit
 
-digit-low : (c : ℕ) → c < 48 → digit c ≡ false
-unfolding digit
+digit-low : (c : ℕ) → c < 48 → isDigit c ≡ false
+unfolding isDigit
 digit-low c h = simp (lt-leb 48 c h)
 
-digit-high : (c : ℕ) → 57 < c → digit c ≡ false
-unfolding digit
+digit-high : (c : ℕ) → 57 < c → isDigit c ≡ false
+unfolding isDigit
 digit-high c h = simp (le-leb 48 c (omega arith), lt-leb c 57 h)
 
-digitAt-none : (s : List ℕ) (i : ℕ) → digit (getD s i 256) ≡ false → digitAt s i ≡ 10
+digitAt-none : (s : List ℕ) (i : ℕ) → isDigit (getD s i 256) ≡ false → digitAt s i ≡ 10
 unfolding digitAt
 digitAt-none s i e = simp e
 
@@ -61,18 +61,18 @@ pub record Digit (s : List ℕ) (i : ℕ) : Type 0 where
   pub is : digitAt s i ≡ getD s i 256 - 48
 
 pub digitAt-small : (s : List ℕ) (i a : ℕ) → a ≡ digitAt s i → a < 10 → Digit s i
-digitAt-small s i a ea h = go (digit (getD s i 256)) refl
+digitAt-small s i a ea h = go (isDigit (getD s i 256)) refl
   where
-    go : (b : Bool) → digit (getD s i 256) ≡ b → Digit s i
+    go : (b : Bool) → isDigit (getD s i 256) ≡ b → Digit s i
     go true e =
         let d = digit-true (getD s i 256) e in
         record { within = getD-there s i (omega arith); low = d .0; high = d .1; is = digitAt-is s i (d .0) (d .1) }
     go false e = let f = digitAt-none s i e in absurd (omega arith)
 
-digitAt-big : (s : List ℕ) (i a : ℕ) → a ≡ digitAt s i → 10 ≤ a → digit (getD (drop i s) 0 256) ≡ false
-digitAt-big s i a ea h = rw (head-at s i) (go (digit (getD s i 256)) refl)
+digitAt-big : (s : List ℕ) (i a : ℕ) → a ≡ digitAt s i → 10 ≤ a → isDigit (getD (drop i s) 0 256) ≡ false
+digitAt-big s i a ea h = rw (head-at s i) (go (isDigit (getD s i 256)) refl)
   where
-    go : (b : Bool) → digit (getD s i 256) ≡ b → digit (getD s i 256) ≡ false
+    go : (b : Bool) → isDigit (getD s i 256) ≡ b → isDigit (getD s i 256) ≡ false
     go true e = let d = digit-true (getD s i 256) e in let f = digitAt-is s i (d .0) (d .1) in absurd (omega arith)
     go false e = e
 

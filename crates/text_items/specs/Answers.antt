@@ -7,7 +7,7 @@ use Prim.Native.Nat.{ℕ, zero, suc, _+_, _-_}
 use mathlib.Core.Bool.{cond}
 use mathlib.Core.List.{List, [], _∷_}
 use lib.ListN.{getD, drop}
-use Rattle.text_formats.specs.Format.{numLen, value, digit}
+use Rattle.text_formats.specs.Format.{numLen, value, isDigit}
 use Rattle.text_formats.specs.Items.{Walk, stuck, past}
 use Rattle.text_items.specs.declared.Step.{Step}
 use Rattle.text_items.specs.declared.Step.the-variants.{Next, Refused}
@@ -18,7 +18,7 @@ use Rattle.text_items.specs.declared.Field.the-variants.{Got, Stop}
 
 -- The value of the digit at i, and 10 where there is none.
 unfoldable pub digitAt : List ℕ → ℕ → ℕ
-digitAt s i = cond (digit (getD s i 256)) (getD s i 256 - 48) 10
+digitAt s i = cond (isDigit (getD s i 256)) (getD s i 256 - 48) 10
 
 -- The number of n digits at the front of s, which stands at the position `at`; none where n is 0.
 abbrev pub numOf : ℕ → List ℕ → ℕ → Num

@@ -16,7 +16,7 @@ use native.Mathlib.Numerals.{add-one, sub-one}
 use lib.ListN.{length, take, drop, length-append, length-drop}
 use lib.Seq.{sets, length-sets, length-take-le, drop-drop}
 use Rattle.text_formats.specs.Format.{dec}
-use Rattle.text_lines.specs.Written.{linesText, nextBlock, nextGroup, blockLines, groupLines}
+use Rattle.text_lines.specs.Written.{linesText, nextBlock, nextGroup, blockLinesText, groupLinesText}
 use Rattle.text.specs.FrameText.{bitsText, groupLineText, blockNames, groupNames, blockText, groupText}
 use Rattle.text_lines.proofs.Decimal.{dec-four}
 use Rattle.text_lines.proofs.Placing.{bits-length, group-length}
@@ -99,7 +99,7 @@ module _ (line : ℕ → List ℕ → List ℕ) (w : ℕ) where
 
 -- A block's line, from the part of the slice that the code lends.
 module _ (area p k from : ℕ) (info : List ℕ) (some : 0 < k) {o₀ whole o : List ℕ} {at q : ℕ}
-    (h : Rest o₀ at whole o q (blockLines area p k (drop from info))) where
+    (h : Rest o₀ at whole o q (blockLinesText area p k (drop from info))) where
   part : nextBlock area p (drop from info) ≡ bitsText p (take (from + area - from) (drop from info))
   part = ap (λ (n : ℕ). bitsText p (take n (drop from info))) (sym (add-sub-cancel-left from area))
 
@@ -110,12 +110,12 @@ module _ (area p k from : ℕ) (info : List ℕ) (some : 0 < k) {o₀ whole o : 
   pub block-written : {o₁ : List ℕ} {r : ℕ}
       → (r ≡ q + length (bitsText p (take (from + area - from) (drop from info)))) ×
       (o₁ ≡ sets o q (bitsText p (take (from + area - from) (drop from info))))
-      → Rest o₀ at whole o₁ r (blockLines area (p + 1) (k - 1) (drop (from + area) info))
+      → Rest o₀ at whole o₁ r (blockLinesText area (p + 1) (k - 1) (drop (from + area) info))
   block-written = line-written (nextBlock area) area p k from info some h part
 
 -- A group's line, from two parts.
 module _ (n p k from : ℕ) (red : List ℕ) (some : 0 < k) {o₀ whole o : List ℕ} {at q : ℕ}
-    (h : Rest o₀ at whole o q (groupLines n p k (drop from red))) where
+    (h : Rest o₀ at whole o q (groupLinesText n p k (drop from red))) where
   parts : nextGroup n p (drop from red) ≡ groupLineText p (take (from + n - from) (drop from red)) (take (from + n + n - (from + n)) (drop (from + n) red))
   parts = rw (add-sub-cancel-left from n, add-sub-cancel-left (from + n) n, ← drop-drop n from red) refl
 
@@ -131,10 +131,10 @@ module _ (n p k from : ℕ) (red : List ℕ) (some : 0 < k) {o₀ whole o : List
   pub group-written : {o₁ : List ℕ} {r : ℕ}
       → (r ≡ q + length (groupLineText p (take (from + n - from) (drop from red)) (take (from + n + n - (from + n)) (drop (from + n) red))))
       × (o₁ ≡ sets o q (groupLineText p (take (from + n - from) (drop from red)) (take (from + n + n - (from + n)) (drop (from + n) red))))
-      → Rest o₀ at whole o₁ r (groupLines n (p + 1) (k - 1) (drop (from + n + n) red))
+      → Rest o₀ at whole o₁ r (groupLinesText n (p + 1) (k - 1) (drop (from + n + n) red))
   group-written {o₁} {r} e =
       let z : from + 2 * n ≡ from + n + n = omega arith in
-      subst (λ (i : ℕ). Rest o₀ at whole o₁ r (groupLines n (p + 1) (k - 1) (drop i red))) z (line-written (nextGroup n) (2 * n) p k from red some h parts e)
+      subst (λ (i : ℕ). Rest o₀ at whole o₁ r (groupLinesText n (p + 1) (k - 1) (drop i red))) z (line-written (nextGroup n) (2 * n) p k from red some h parts e)
 
 -- One line fewer takes so many bits away.
 pub one-less : (k w : ℕ) → 0 < k → k * w ≡ w + (k - 1) * w
@@ -143,23 +143,23 @@ one-less (suc k) w h = rw (sub-one (suc k)) (omega arith)
 
 -- ---- the whole texts: the line of names, then the others
 
-pub block-text-parts : (area L : ℕ) (info : List ℕ) → length info ≡ L * area → length (blockText area L info) ≡ 11 + length (blockLines area 1 L info)
-block-text-parts area L info e = omega (arith, ap length (blocks-printed area L info e), length-append blockNames (blockLines area 1 L info))
+pub block-text-parts : (area L : ℕ) (info : List ℕ) → length info ≡ L * area → length (blockText area L info) ≡ 11 + length (blockLinesText area 1 L info)
+block-text-parts area L info e = omega (arith, ap length (blocks-printed area L info e), length-append blockNames (blockLinesText area 1 L info))
 
-pub group-text-parts : (n G : ℕ) (red : List ℕ) → length red ≡ G * (2 * n) → length (groupText n G red) ≡ 18 + length (groupLines n 1 G red)
-group-text-parts n G red e = omega (arith, ap length (groups-printed n G red e), length-append groupNames (groupLines n 1 G red))
+pub group-text-parts : (n G : ℕ) (red : List ℕ) → length red ≡ G * (2 * n) → length (groupText n G red) ≡ 18 + length (groupLinesText n 1 G red)
+group-text-parts n G red e = omega (arith, ap length (groups-printed n G red e), length-append groupNames (groupLinesText n 1 G red))
 
 pub block-text-put : (o : List ℕ) (at area L : ℕ) (info : List ℕ) {o₁ o₂ : List ℕ} {i r : ℕ} → length info ≡ L * area
     → (i ≡ at + length blockNames) × (o₁ ≡ sets o at blockNames)
-    → (r ≡ i + length (blockLines area 1 L info)) × (o₂ ≡ sets o₁ i (blockLines area 1 L info))
+    → (r ≡ i + length (blockLinesText area 1 L info)) × (o₂ ≡ sets o₁ i (blockLinesText area 1 L info))
     → (r ≡ at + length (blockText area L info)) × (o₂ ≡ sets o at (blockText area L info))
-block-text-put o at area L info e a b = rw (blocks-printed area L info e) (put-then o blockNames (blockLines area 1 L info) at a b)
+block-text-put o at area L info e a b = rw (blocks-printed area L info e) (put-then o blockNames (blockLinesText area 1 L info) at a b)
 
 pub group-text-put : (o : List ℕ) (at n G : ℕ) (red : List ℕ) {o₁ o₂ : List ℕ} {i r : ℕ} → length red ≡ G * (2 * n)
     → (i ≡ at + length groupNames) × (o₁ ≡ sets o at groupNames)
-    → (r ≡ i + length (groupLines n 1 G red)) × (o₂ ≡ sets o₁ i (groupLines n 1 G red))
+    → (r ≡ i + length (groupLinesText n 1 G red)) × (o₂ ≡ sets o₁ i (groupLinesText n 1 G red))
     → (r ≡ at + length (groupText n G red)) × (o₂ ≡ sets o at (groupText n G red))
-group-text-put o at n G red e a b = rw (groups-printed n G red e) (put-then o groupNames (groupLines n 1 G red) at a b)
+group-text-put o at n G red e a b = rw (groups-printed n G red e) (put-then o groupNames (groupLinesText n 1 G red) at a b)
 
 -- ---- how long they are
 

@@ -11,7 +11,7 @@ use Rattle.text_formats.specs.Format.{Item, byte, dec}
 use Rattle.text_formats.specs.Items.{bits, linesFrom, bitsLine, bitsLines, spell}
 use Rattle.text_formats.proofs.Parts.{spell-then}
 use Rattle.text.specs.FrameText.{blockNames, groupNames, groupLine, blockText, groupText}
-use Rattle.text_lines.specs.Written.{chars, linesText, nextBlock, nextGroup, blockLines, groupLines}
+use Rattle.text_lines.specs.Written.{chars, linesText, nextBlock, nextGroup, blockLinesText, groupLinesText}
 use Rattle.text_lines.proofs.Chars.{block-line, group-line}
 
 spell-bits : (n : ℕ) (is : List Item) (vs : List ℕ) → n ≤ length vs → spell (bits n ++ is) vs ≡ chars (take n vs) ++ spell is (drop n vs)
@@ -53,13 +53,13 @@ module _ (line : ℕ → List Item) (text : ℕ → List ℕ → List ℕ) (w : 
       one p (linesFrom line (suc p) k) vs (omega arith)
       ∙ ap (λ (t : List ℕ). text p vs ++ t) (lines-printed k (suc p) (drop w vs) (omega (arith, length-drop w vs)))
 
-pub blocks-printed : (area L : ℕ) (info : List ℕ) → length info ≡ L * area → blockText area L info ≡ blockNames ++ blockLines area 1 L info
+pub blocks-printed : (area L : ℕ) (info : List ℕ) → length info ≡ L * area → blockText area L info ≡ blockNames ++ blockLinesText area 1 L info
 unfolding blockText
 blocks-printed area L info h =
     spell-then blockNames (bitsLines area 1 L) info
     ∙ ap (λ (t : List ℕ). blockNames ++ t) (lines-printed (bitsLine area) (nextBlock area) area (λ p is vs l. block-first area p is vs l) L 1 info h)
 
-pub groups-printed : (n G : ℕ) (red : List ℕ) → length red ≡ G * (2 * n) → groupText n G red ≡ groupNames ++ groupLines n 1 G red
+pub groups-printed : (n G : ℕ) (red : List ℕ) → length red ≡ G * (2 * n) → groupText n G red ≡ groupNames ++ groupLinesText n 1 G red
 unfolding groupText
 groups-printed n G red h =
     spell-then groupNames (linesFrom (groupLine n) 1 G) red

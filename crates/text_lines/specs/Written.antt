@@ -2,7 +2,7 @@
 --   chars                        the characters of bits
 --   linesText                    lines that each have a number, from a number on
 --   nextBlock, nextGroup         the line of a block, of a group, from the bits that are left
---   blockLines, groupLines       the lines of blocks, of groups
+--   blockLinesText, groupLinesText       the lines of blocks, of groups
 -- A byte is a number below 256; 10 is the line feed and 32 the space. `dec` of the crate `text_formats` is a number in decimal digits.
 -- Assumes nothing: these are definitions.
 use Prim.Native.Nat.{ℕ, zero, suc, _*_}
@@ -29,8 +29,8 @@ abbrev pub nextGroup : ℕ → ℕ → List ℕ → List ℕ
 nextGroup n p bits = groupLineText p (take n bits) (take n (drop n bits))
 
 -- "blocks numbered from 1 in order": here from p on.
-abbrev pub blockLines : ℕ → ℕ → ℕ → List ℕ → List ℕ
-blockLines area p k bits = linesText (nextBlock area) area p k bits
+abbrev pub blockLinesText : ℕ → ℕ → ℕ → List ℕ → List ℕ
+blockLinesText area p k bits = linesText (nextBlock area) area p k bits
 
-abbrev pub groupLines : ℕ → ℕ → ℕ → List ℕ → List ℕ
-groupLines n p k bits = linesText (nextGroup n) (2 * n) p k bits
+abbrev pub groupLinesText : ℕ → ℕ → ℕ → List ℕ → List ℕ
+groupLinesText n p k bits = linesText (nextGroup n) (2 * n) p k bits

@@ -7,16 +7,16 @@ ghost use mathlib.Core.Path.{_≡_};
 ghost use Prim.Native.Nat.{_+_, _*_, _≤_};
 ghost use lib.ListN.{length};
 ghost use lib.Seq.{sets};
-ghost use Rattle.text_lines.specs.Written.{blockLines, groupLines};
+ghost use Rattle.text_lines.specs.Written.{blockLinesText, groupLinesText};
 ghost use Rattle.text.specs.FrameText.{blockText, groupText};
 
 // The lines of the blocks 1 to `count`, for which there is room.
 fn put_block_lines(out: &mut [u8], at: usize, area: usize, count: usize, info: &[u8]) -> usize
     requires { ⌜ length (now info) ≡ count * area ⌝ }
     requires { ⌜ count ≤ 4096 ⌝ }
-    requires { ⌜ at + length (blockLines area 1 count (now info)) ≤ length (now out) ⌝ }
-    ensures { λ r. ⌜ r ≡ at + length (blockLines area 1 count (now (info .entry))) ⌝ }
-    ensures { λ _. ⌜ now (out .exit) ≡ sets (now (out .entry)) at (blockLines area 1 count (now (info .entry))) ⌝ }
+    requires { ⌜ at + length (blockLinesText area 1 count (now info)) ≤ length (now out) ⌝ }
+    ensures { λ r. ⌜ r ≡ at + length (blockLinesText area 1 count (now (info .entry))) ⌝ }
+    ensures { λ _. ⌜ now (out .exit) ≡ sets (now (out .entry)) at (blockLinesText area 1 count (now (info .entry))) ⌝ }
 {
     let mut q = at;
     let mut from: usize = 0;
@@ -36,9 +36,9 @@ fn put_block_lines(out: &mut [u8], at: usize, area: usize, count: usize, info: &
 fn put_group_lines(out: &mut [u8], at: usize, n: usize, count: usize, red: &[u8]) -> usize
     requires { ⌜ length (now red) ≡ count * (2 * n) ⌝ }
     requires { ⌜ count ≤ 4096 ⌝ }
-    requires { ⌜ at + length (groupLines n 1 count (now red)) ≤ length (now out) ⌝ }
-    ensures { λ r. ⌜ r ≡ at + length (groupLines n 1 count (now (red .entry))) ⌝ }
-    ensures { λ _. ⌜ now (out .exit) ≡ sets (now (out .entry)) at (groupLines n 1 count (now (red .entry))) ⌝ }
+    requires { ⌜ at + length (groupLinesText n 1 count (now red)) ≤ length (now out) ⌝ }
+    ensures { λ r. ⌜ r ≡ at + length (groupLinesText n 1 count (now (red .entry))) ⌝ }
+    ensures { λ _. ⌜ now (out .exit) ≡ sets (now (out .entry)) at (groupLinesText n 1 count (now (red .entry))) ⌝ }
 {
     let mut q = at;
     let mut from: usize = 0;

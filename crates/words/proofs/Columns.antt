@@ -12,17 +12,17 @@ use lib.Arith.{digits-lt}
 use lib.ListN.{length, getD, take, drop}
 use Rattle.bch.specs.Polynomial.{Bits, _⊕_}
 use Rattle.staircase.specs.Lists.{tabulate}
-use Rattle.staircase.proofs.Tables.{tabulate-length, tabulate-at, tabulate-bits}
+use Rattle.staircase.proofs.Tabulate.{tabulate-length, tabulate-at, tabulate-bits}
 use Rattle.bch_remainders.proofs.Rows.{row-at}
 use Rattle.words_blocks.specs.Blocks.{PartAdded}
 use Rattle.words_blocks.proofs.Sums.{part-same, Adds, adds-part}
 
-pub columns-added : (bits table old new : List ℕ) (at from r : ℕ) → from + r ≤ length table
-    → Adds (take (from + r - from) (drop from table)) (λ w v a j. getD (take (at + r * length old - at) (drop at bits)) (j * w + a) 0) old new
-    → PartAdded table from r (λ w a j. getD bits (at + (j * w + a)) 0) old new
-columns-added bits table old new at from r inside added =
+pub columns-added : (bits positions old new : List ℕ) (at from r : ℕ) → from + r ≤ length positions
+    → Adds (take (from + r - from) (drop from positions)) (λ w v a j. getD (take (at + r * length old - at) (drop at bits)) (j * w + a) 0) old new
+    → PartAdded positions from r (λ w a j. getD bits (at + (j * w + a)) 0) old new
+columns-added bits positions old new at from r inside added =
     let w : ℕ = length old in
-    adds-part table from r inside (λ w v a j. getD (take (at + r * length old - at) (drop at bits)) (j * w + a) 0) (λ w a j. getD bits (at + (j * w + a)) 0) old new
+    adds-part positions from r inside (λ w v a j. getD (take (at + r * length old - at) (drop at bits)) (j * w + a) 0) (λ w a j. getD bits (at + (j * w + a)) 0) old new
     (λ a j h l. row-at bits at (r * w) (j * w + a) (digits-lt l h)) added
 
 module _ (spread bits : List ℕ) (n : ℕ) (at : ℕ → ℕ) (made : spread ≡ tabulate n (λ p. getD bits (at p) 0)) where
@@ -32,14 +32,14 @@ module _ (spread bits : List ℕ) (n : ℕ) (at : ℕ → ℕ) (made : spread �
   pub spread-length : length spread ≡ n
   spread-length = ap length made ∙ tabulate-length n (λ p. getD bits (at p) 0)
 
-  pub spread-added : (table old new : List ℕ) (from r : ℕ) → n ≡ r * length old → PartAdded table from r (λ w a j. getD spread (0 + (j * w + a)) 0) old new
-      → PartAdded table from r (λ w a j. getD bits (at (j * w + a)) 0) old new
-  spread-added table old new from r e added =
+  pub spread-added : (positions old new : List ℕ) (from r : ℕ) → n ≡ r * length old → PartAdded positions from r (λ w a j. getD spread (0 + (j * w + a)) 0) old new
+      → PartAdded positions from r (λ w a j. getD bits (at (j * w + a)) 0) old new
+  spread-added positions old new from r e added =
       let w : ℕ = length old in (
         added .0,
         λ a h. added .1 a h
             ∙ ap (λ (x : ℕ). getD old a 0 ⊕ x)
-            (part-same table from r (λ j. getD spread (0 + (j * w + a)) 0) (λ j. getD bits (at (j * w + a)) 0)
+            (part-same positions from r (λ j. getD spread (0 + (j * w + a)) 0) (λ j. getD bits (at (j * w + a)) 0)
             (λ j l. ap (λ (k : ℕ). getD spread k 0) (zero-add (j * w + a)) ∙ ap (λ (t : List ℕ). getD t (j * w + a) 0) made
             ∙ tabulate-at n (λ p. getD bits (at p) 0) 0 (j * w + a) (omega (arith, e, digits-lt l h)))),
       )

@@ -17,7 +17,7 @@ use Rattle.bch.specs.Code.{isCodeword}
 use Rattle.staircase.specs.Lists.{tabulate, concat}
 use Rattle.staircase.specs.Design.{Params, Interleavers}
 use Rattle.staircase.specs.Frame.{Frame, Site, groups, rowSites, columnSites, words, read, outsideAmong, outside}
-use Rattle.staircase.proofs.Tables.{tabulate-length}
+use Rattle.staircase.proofs.Tabulate.{tabulate-length}
 use Rattle.staircase.proofs.Outside.{outside-append, outside-bound, outside-next}
 use Rattle.words.specs.Words.{rowRemainders, columnRemainders, nonzeros, groupWords}
 

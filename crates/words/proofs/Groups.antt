@@ -22,7 +22,7 @@ use Rattle.staircase.specs.Frame.{groups, rowSites, columnSites, read, frameOf}
 use Rattle.staircase.specs.Rules.{entries}
 use Rattle.staircase.proofs.Bounds.{stretch-end}
 use Rattle.staircase.proofs.System.{Proper}
-use Rattle.staircase.proofs.Tables.{tabulate-same}
+use Rattle.staircase.proofs.Tabulate.{tabulate-same}
 use Rattle.design.specs.declared.Design.{Design}
 use Rattle.design.specs.Sizes.{paramsOf, orderOf, listsOf}
 use Rattle.design.proofs.Allowed.{proper-of}
@@ -35,19 +35,19 @@ use Rattle.words.proofs.Remainders.{row-is, column-is}
 
 -- ---- the blocks
 
-module _ (L size : ℕ) (info table : List ℕ) where
-  pub block-lent : BlocksLent L size info table → (b : ℕ) (x : List ℕ) → x ≡ blockBytes L (size * size) info b → sent L b ≡ true
+module _ (L size : ℕ) (info positions : List ℕ) where
+  pub block-lent : BlocksLent L size info positions → (b : ℕ) (x : List ℕ) → x ≡ blockBytes L (size * size) info b → sent L b ≡ true
       → (length x ≡ size * size) × Bits x
   block-lent R b x e h = subst⁻¹ (λ (z : List ℕ). (length z ≡ size * size) × Bits z) e (block-fits L (size * size) info b (R .blocks) h (R .bits))
 
   module _ (i : ℕ) (odd : List ℕ) (eo : odd ≡ blockBytes L (size * size) info (2 * i + 1)) where
     pub rows-of-blocks : (before : List ℕ) (has : Bool) → before ≡ blockBytes L (size * size) info (2 * i) → has ≡ sent L (2 * i)
-        → tabulate size (rowSum table size (sentBit has before) (λ k. getD odd k 0)) ≡ blockRows table size L info i
+        → tabulate size (rowSum positions size (sentBit has before) (λ k. getD odd k 0)) ≡ blockRows positions size L info i
     unfolding blockRows
     rows-of-blocks before has eb sb = rw (eo, eb, sb)
 
     pub columns-of-blocks : (even : List ℕ) (has : Bool) → even ≡ blockBytes L (size * size) info (2 * i + 2) → has ≡ sent L (2 * i + 2)
-        → tabulate size (columnSum table size (λ k. getD odd k 0) (sentBit has even)) ≡ blockColumns table size L info i
+        → tabulate size (columnSum positions size (λ k. getD odd k 0) (sentBit has even)) ≡ blockColumns positions size L info i
     unfolding blockColumns
     columns-of-blocks even has ee se = rw (eo, ee, se)
 
@@ -68,8 +68,8 @@ module _ {d : Design} {L : ℕ} {own parity info red : List ℕ} (R : Received d
       subst⁻¹ (λ (k : ℕ). i * (2 * k) + 2 * k ≤ length red) e
       (subst⁻¹ (λ (k : ℕ). i * (2 * orderOf d) + 2 * orderOf d ≤ k) (R .frame .redLength) (stretch-end i (groups L) (2 * orderOf d) h))
 
-module _ {d : Design} {L : ℕ} {own parity info red : List ℕ} (R : Received d L own parity info red) {table : List ℕ} (T : WordTable d table) where
-  pub blocks-lent : {size : ℕ} → size ≡ d .size → BlocksLent L size info table
+module _ {d : Design} {L : ℕ} {own parity info red : List ℕ} (R : Received d L own parity info red) {positions : List ℕ} (T : WordTable d positions) where
+  pub blocks-lent : {size : ℕ} → size ≡ d .size → BlocksLent L size info positions
   blocks-lent {size} e =
       record {
         few-blocks = R .few-blocks;
@@ -95,9 +95,9 @@ module _ {d : Design} {L : ℕ} {own parity info red : List ℕ} (R : Received d
     -- n and k are the number of working bytes, at the start and after X
     abbrev RowsMade : ℕ → ℕ → ℕ → ℕ → Type 0
     RowsMade size r n k =
-        (one two three : List ℕ) → one ≡ blockRows table size L info i
-        → PartAdded table (2 * d .size) r (λ w a j. getD red (i * (2 * n) + getD (entries n own) (j * w + a) 0) 0) one two
-        → PartAdded table (2 * d .size + r) r (λ w a j. getD red (i * (2 * n) + n + getD (entries k parity) (j * w + a) 0) 0) two three
+        (one two three : List ℕ) → one ≡ blockRows positions size L info i
+        → PartAdded positions (2 * d .size) r (λ w a j. getD red (i * (2 * n) + getD (entries n own) (j * w + a) 0) 0) one two
+        → PartAdded positions (2 * d .size + r) r (λ w a j. getD red (i * (2 * n) + n + getD (entries k parity) (j * w + a) 0) 0) two three
         → three ≡ rowRemainders (paramsOf d) (listsOf d own parity) L (frameOf info red) i
 
     rows-exact : RowsMade (d .size) r (orderOf d) (orderOf d)
@@ -109,10 +109,10 @@ module _ {d : Design} {L : ℕ} {own parity info red : List ℕ} (R : Received d
         let odd : Contents = λ k. getD (blockBytes L (M * M) info (2 * i + 1)) k 0 in
         let u : ℕ → ℕ → ℕ → ℕ = λ w a j. getD red (i * (2 * n) + getD (entries n own) (j * w + a) 0) 0 in
         let v : ℕ → ℕ → ℕ → ℕ = λ w a j. getD red (i * (2 * n) + n + getD (entries n parity) (j * w + a) 0) 0 in
-        added-twice table (2 * M) (2 * M + r) r r M (rowSum table M before odd) u v one two three e first second
-        ∙ tabulate-same M (λ a. rowSum table M before odd a ⊕ partSum table (2 * M) r (u M a) ⊕ partSum table (2 * M + r) r (v M a))
+        added-twice positions (2 * M) (2 * M + r) r r M (rowSum positions M before odd) u v one two three e first second
+        ∙ tabulate-same M (λ a. rowSum positions M before odd a ⊕ partSum positions (2 * M) r (u M a) ⊕ partSum positions (2 * M + r) r (v M a))
         (λ a. remainder (s .g) (s .r) (read (frameOf info red) (rowSites s l L i a)))
-        (λ a m. row-is s table T l L ok (R .lists .ownPermutes) (R .lists .parityPermutes) info red (R .frame .infoBits) (R .frame .redBits) i a m before odd
+        (λ a m. row-is s positions T l L ok (R .lists .ownPermutes) (R .lists .parityPermutes) info red (R .frame .infoBits) (R .frame .redBits) i a m before odd
         (λ k b. block-is s L info (R .frame .infoLength) k b (2 * i)) (λ k b. odd-is s L info (R .frame .infoLength) k b (2 * i + 1) (sent-odd L i h)))
 
     pub rows-made : {size q n k : ℕ} → size ≡ d .size → q ≡ d .m * d .t → n ≡ orderOf d → k ≡ orderOf d → RowsMade size q n k
@@ -122,9 +122,9 @@ module _ {d : Design} {L : ℕ} {own parity info red : List ℕ} (R : Received d
 
     abbrev ColumnsMade : ℕ → ℕ → ℕ → Type 0
     ColumnsMade size r n =
-        (one two three : List ℕ) → one ≡ blockColumns table size L info i
-        → PartAdded table (2 * d .size) r (λ w a j. getD red (i * (2 * n) + (j * w + a)) 0) one two
-        → PartAdded table (2 * d .size + r) r (λ w a j. getD red (i * (2 * n) + n + (j * w + a)) 0) two three
+        (one two three : List ℕ) → one ≡ blockColumns positions size L info i
+        → PartAdded positions (2 * d .size) r (λ w a j. getD red (i * (2 * n) + (j * w + a)) 0) one two
+        → PartAdded positions (2 * d .size + r) r (λ w a j. getD red (i * (2 * n) + n + (j * w + a)) 0) two three
         → three ≡ columnRemainders (paramsOf d) L (frameOf info red) i
 
     columns-exact : ColumnsMade (d .size) r (orderOf d)
@@ -136,10 +136,10 @@ module _ {d : Design} {L : ℕ} {own parity info red : List ℕ} (R : Received d
         let even : Contents = sentBit (sent L (2 * i + 2)) (blockBytes L (M * M) info (2 * i + 2)) in
         let u : ℕ → ℕ → ℕ → ℕ = λ w a j. getD red (i * (2 * n) + (j * w + a)) 0 in
         let v : ℕ → ℕ → ℕ → ℕ = λ w a j. getD red (i * (2 * n) + n + (j * w + a)) 0 in
-        added-twice table (2 * M) (2 * M + r) r r M (columnSum table M odd even) u v one two three e first second
-        ∙ tabulate-same M (λ a. columnSum table M odd even a ⊕ partSum table (2 * M) r (u M a) ⊕ partSum table (2 * M + r) r (v M a))
+        added-twice positions (2 * M) (2 * M + r) r r M (columnSum positions M odd even) u v one two three e first second
+        ∙ tabulate-same M (λ a. columnSum positions M odd even a ⊕ partSum positions (2 * M) r (u M a) ⊕ partSum positions (2 * M + r) r (v M a))
         (λ a. remainder (s .g) (s .r) (read (frameOf info red) (columnSites s L i a)))
-        (λ a m. column-is s table T l L ok (R .lists .ownPermutes) (R .lists .parityPermutes) info red (R .frame .infoBits) (R .frame .redBits) i a m odd even
+        (λ a m. column-is s positions T l L ok (R .lists .ownPermutes) (R .lists .parityPermutes) info red (R .frame .infoBits) (R .frame .redBits) i a m odd even
         (λ k b. odd-is s L info (R .frame .infoLength) k b (2 * i + 1) (sent-odd L i h)) (λ k b. block-is s L info (R .frame .infoLength) k b (2 * i + 2)))
 
     pub columns-made : {size q n : ℕ} → size ≡ d .size → q ≡ d .m * d .t → n ≡ orderOf d → ColumnsMade size q n

@@ -2,4 +2,4 @@ pub mod Remainders
 pub mod Columns
 pub mod Groups
 pub mod Count
-pub mod Verdict
+pub mod WordsCall

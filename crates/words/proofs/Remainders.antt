@@ -18,10 +18,10 @@ use Rattle.staircase.specs.Lists.{tabulate}
 use Rattle.staircase.specs.Design.{Params, Interleavers, wordLength, order}
 use Rattle.staircase.specs.Word.{rowWord, rowInfo, columnWord, columnInfo}
 use Rattle.staircase.specs.System.{Contents}
-use Rattle.staircase.specs.Frame.{rowSites, columnSites, read, block, frameOf}
+use Rattle.staircase.specs.Frame.{rowSites, columnSites, read, blockContents, frameOf}
 use Rattle.staircase.specs.Demand2.{Permutes}
 use Rattle.staircase.proofs.System.{Proper}
-use Rattle.staircase.proofs.Tables.{Binary, tabulate-length, tabulate-at, tabulate-bits}
+use Rattle.staircase.proofs.Tabulate.{Binary, tabulate-length, tabulate-at, tabulate-bits}
 use Rattle.staircase.proofs.Redundancy.{block-binary, read-row, read-column}
 use Rattle.words_blocks.specs.Blocks.{partSum, columnSum, rowSum, Powers}
 use Rattle.words_blocks.proofs.Sums.{part-same}
@@ -50,10 +50,10 @@ weights-behind X u from n f e = weights-tabulate (λ j. X (length u + j)) n f �
 
 -- ---- a word of a group
 
-module _ (s : Params) (table : List ℕ) (P : Powers s table) where
+module _ (s : Params) (positions : List ℕ) (P : Powers s positions) where
   -- the sum of the table's entries at the ones of the four stretches
   abbrev sumOf : (f h k p : ℕ → ℕ) → ℕ
-  sumOf f h k p = partSum table 0 (s .M) f ⊕ partSum table (s .M) (s .M) h ⊕ partSum table (2 * s .M) (s .r) k ⊕ partSum table (2 * s .M + s .r) (s .r) p
+  sumOf f h k p = partSum positions 0 (s .M) f ⊕ partSum positions (s .M) (s .M) h ⊕ partSum positions (2 * s .M) (s .r) k ⊕ partSum positions (2 * s .M + s .r) (s .r) p
 
   word-sum : (f h k p : ℕ → ℕ) → Binary f → Binary h → Binary k → Binary p
       → remainder (s .g) (s .r) (tabulate (s .M) f ++ tabulate (s .M) h ++ tabulate (s .r) k ++ tabulate (s .r) p) ≡ sumOf f h k p
@@ -64,7 +64,7 @@ module _ (s : Params) (table : List ℕ) (P : Powers s table) where
       let C : List ℕ = tabulate (s .r) k in
       let D : List ℕ = tabulate (s .r) p in
       let w : List ℕ = A ++ B ++ C ++ D in
-      let X : ℕ → ℕ = λ j. getD table j 0 in
+      let X : ℕ → ℕ = λ j. getD positions j 0 in
       let lA : length A ≡ s .M = tabulate-length (s .M) f in
       let lAB : length (A ++ B) ≡ 2 * s .M = length-append A B ∙ ap₂ _+_ lA (tabulate-length (s .M) h) ∙ omega arith in
       let lABC : length (A ++ B ++ C) ≡ 2 * s .M + s .r = length-append (A ++ B) C ∙ ap₂ _+_ lAB (tabulate-length (s .r) k) in
@@ -75,7 +75,7 @@ module _ (s : Params) (table : List ℕ) (P : Powers s table) where
       remainder-powers (s .g) (s .r) w bits
       ∙ xorSum-same (length w) (λ j. getD w j 0 * powerMod (s .g) (s .r) (length w - suc j)) (λ j. getD w j 0 * X j)
       (λ j l. ap (λ (x : ℕ). getD w j 0 * x)
-      (ap (powerMod (s .g) (s .r)) (let e : length w - suc j ≡ length table - 1 - j = omega (arith, lw, P .long) in e)
+      (ap (powerMod (s .g) (s .r)) (let e : length w - suc j ≡ length positions - 1 - j = omega (arith, lw, P .long) in e)
       ∙ sym (P .powers j (omega (arith, lw, P .long)))))
       ∙ weights-append X (A ++ B ++ C) D
       ∙ ap₂ _⊕_
@@ -93,8 +93,8 @@ module _ (s : Params) (table : List ℕ) (P : Powers s table) where
       → w ≡ tabulate (s .M) f ++ tabulate (s .M) h ++ tabulate (s .r) k ++ tabulate (s .r) p
       → ((j : ℕ) → j < s .M → b j ≡ f j) → ((j : ℕ) → j < s .M → o j ≡ h j) → sumOf b o k p ≡ remainder (s .g) (s .r) w
   word-is w b o f h k p hf hh hk hp e sb so =
-      ap₂ (λ (x y : ℕ). x ⊕ y ⊕ partSum table (2 * s .M) (s .r) k ⊕ partSum table (2 * s .M + s .r) (s .r) p)
-      (part-same table 0 (s .M) b f sb) (part-same table (s .M) (s .M) o h so)
+      ap₂ (λ (x y : ℕ). x ⊕ y ⊕ partSum positions (2 * s .M) (s .r) k ⊕ partSum positions (2 * s .M + s .r) (s .r) p)
+      (part-same positions 0 (s .M) b f sb) (part-same positions (s .M) (s .M) o h so)
       ∙ sym (ap (remainder (s .g) (s .r)) e ∙ word-sum f h k p hf hh hk hp)
 
   module _ (l : Interleavers) (L : ℕ) (ok : Proper s) (ps : Permutes (order s) (λ p. getD (l .self) p 0)) (pp : Permutes (order s) (λ p. getD (l .parity) p 0))
@@ -105,28 +105,28 @@ module _ (s : Params) (table : List ℕ) (P : Powers s table) where
     abbrev p : Contents
     p q = getD red (i * (2 * order s) + order s + q) 0
 
-    pub row-is : (b o : Contents) → SameBlock s b (block s L info (2 * i)) → SameBlock s o (block s L info (2 * i + 1))
-        → rowSum table (s .M) b o a ⊕ partSum table (2 * s .M) (s .r) (λ j. getD red (i * (2 * order s) + getD (l .self) (j * s .M + a) 0) 0)
-        ⊕ partSum table (2 * s .M + s .r) (s .r) (λ j. getD red (i * (2 * order s) + order s + getD (l .parity) (j * s .M + a) 0) 0)
+    pub row-is : (b o : Contents) → SameBlock s b (blockContents s L info (2 * i)) → SameBlock s o (blockContents s L info (2 * i + 1))
+        → rowSum positions (s .M) b o a ⊕ partSum positions (2 * s .M) (s .r) (λ j. getD red (i * (2 * order s) + getD (l .self) (j * s .M + a) 0) 0)
+        ⊕ partSum positions (2 * s .M + s .r) (s .r) (λ j. getD red (i * (2 * order s) + order s + getD (l .parity) (j * s .M + a) 0) 0)
         ≡ remainder (s .g) (s .r) (read (frameOf info red) (rowSites s l L i a))
     unfolding rowWord rowInfo rowSum
     row-is b o sb so =
         word-is (read (frameOf info red) (rowSites s l L i a)) (λ j. b (a * s .M + j)) (λ j. o (a * s .M + j))
-        (λ j. block s L info (2 * i) (a * s .M + j)) (λ j. block s L info (2 * i + 1) (a * s .M + j))
+        (λ j. blockContents s L info (2 * i) (a * s .M + j)) (λ j. blockContents s L info (2 * i + 1) (a * s .M + j))
         (λ j. y (getD (l .self) (j * s .M + a) 0)) (λ j. p (getD (l .parity) (j * s .M + a) 0))
         (λ j. block-binary s L info hi (2 * i) (a * s .M + j)) (λ j. block-binary s L info hi (2 * i + 1) (a * s .M + j))
         (λ j. hr (i * (2 * order s) + getD (l .self) (j * s .M + a) 0)) (λ j. hr (i * (2 * order s) + order s + getD (l .parity) (j * s .M + a) 0))
         (read-row s l L ok ps pp info red i a ha y p (λ k m. refl) (λ k m. refl))
         (λ j m. sb (a * s .M + j) (digits-lt ha m)) (λ j m. so (a * s .M + j) (digits-lt ha m))
 
-    pub column-is : (o e : Contents) → SameBlock s o (block s L info (2 * i + 1)) → SameBlock s e (block s L info (2 * i + 2))
-        → columnSum table (s .M) o e a ⊕ partSum table (2 * s .M) (s .r) (λ j. getD red (i * (2 * order s) + (j * s .M + a)) 0)
-        ⊕ partSum table (2 * s .M + s .r) (s .r) (λ j. getD red (i * (2 * order s) + order s + (j * s .M + a)) 0)
+    pub column-is : (o e : Contents) → SameBlock s o (blockContents s L info (2 * i + 1)) → SameBlock s e (blockContents s L info (2 * i + 2))
+        → columnSum positions (s .M) o e a ⊕ partSum positions (2 * s .M) (s .r) (λ j. getD red (i * (2 * order s) + (j * s .M + a)) 0)
+        ⊕ partSum positions (2 * s .M + s .r) (s .r) (λ j. getD red (i * (2 * order s) + order s + (j * s .M + a)) 0)
         ≡ remainder (s .g) (s .r) (read (frameOf info red) (columnSites s L i a))
     unfolding columnWord columnInfo columnSum
     column-is o e so se =
         word-is (read (frameOf info red) (columnSites s L i a)) (λ j. o (j * s .M + a)) (λ j. e (j * s .M + a))
-        (λ j. block s L info (2 * i + 1) (j * s .M + a)) (λ j. block s L info (2 * i + 2) (j * s .M + a)) (λ j. y (j * s .M + a)) (λ j. p (j * s .M + a))
+        (λ j. blockContents s L info (2 * i + 1) (j * s .M + a)) (λ j. blockContents s L info (2 * i + 2) (j * s .M + a)) (λ j. y (j * s .M + a)) (λ j. p (j * s .M + a))
         (λ j. block-binary s L info hi (2 * i + 1) (j * s .M + a)) (λ j. block-binary s L info hi (2 * i + 2) (j * s .M + a))
         (λ j. hr (i * (2 * order s) + (j * s .M + a))) (λ j. hr (i * (2 * order s) + order s + (j * s .M + a)))
         (read-column s l L ok ps pp info red i a ha y p (λ k m. refl) (λ k m. refl))

@@ -39,25 +39,25 @@ groupWords s l L i = tabulate (s .M) (rowSites s l L i) ++ tabulate (s .M) (colu
 
 -- row a of B(2i-2) and of B(2i-1)
 unfoldable pub blockRows : List ℕ → ℕ → ℕ → List ℕ → ℕ → List ℕ
-blockRows table size L info i =
+blockRows positions size L info i =
     tabulate size
-    (rowSum table size (sentBit (sent L (2 * i)) (blockBytes L (size * size) info (2 * i))) (λ k. getD (blockBytes L (size * size) info (2 * i + 1)) k 0))
+    (rowSum positions size (sentBit (sent L (2 * i)) (blockBytes L (size * size) info (2 * i))) (λ k. getD (blockBytes L (size * size) info (2 * i + 1)) k 0))
 
 -- column a of B(2i-1) and of B(2i)
 unfoldable pub blockColumns : List ℕ → ℕ → ℕ → List ℕ → ℕ → List ℕ
-blockColumns table size L info i =
+blockColumns positions size L info i =
     tabulate size
-    (columnSum table size (λ k. getD (blockBytes L (size * size) info (2 * i + 1)) k 0) (sentBit (sent L (2 * i + 2)) (blockBytes L (size * size) info (2 * i + 2))))
+    (columnSum positions size (λ k. getD (blockBytes L (size * size) info (2 * i + 1)) k 0) (sentBit (sent L (2 * i + 2)) (blockBytes L (size * size) info (2 * i + 2))))
 
 abbrev pub WordTable : Design → List ℕ → Type 0
-WordTable d table = Powers (paramsOf d) table
+WordTable d positions = Powers (paramsOf d) positions
 
-pub record BlocksLent (L size : ℕ) (info table : List ℕ) : Type 0 where
+pub record BlocksLent (L size : ℕ) (info positions : List ℕ) : Type 0 where
   pub few-blocks : L ≤ most-blocks
   pub few-columns : size ≤ 512
   pub blocks : length info ≡ L * (size * size)
   pub bits : Bits info
-  pub powers : 2 * size ≤ length table
+  pub powers : 2 * size ≤ length positions
 
 abbrev pub Sends : List ℕ → ℕ → Type 0
 Sends list n = (length list ≡ 2 * n) × ((p : ℕ) → p < n → getD (entries n list) p 0 < n)

@@ -11,12 +11,11 @@
 // working bytes: byte b × M + a is row a, column b, and stands in Y or P where the list sends it. Nothing of the frame is changed.
 ghost use mathlib.Core.Path.{_≡_};
 ghost use mathlib.Core.Bool.{cond};
-ghost use Prim.Native.Nat.{_+_, _*_, _^_, _≤_, _<_};
+ghost use Prim.Native.Nat.{_+_, _*_, _≤_, _<_};
 ghost use lib.Dec.{eqb};
 ghost use lib.ListN.{length, getD};
 ghost use Rattle.bch.specs.Polynomial.{Bits};
 ghost use Rattle.staircase.specs.Lists.{tabulate};
-ghost use Rattle.staircase.specs.Design.{most-blocks};
 ghost use Rattle.staircase.specs.Frame.{groups, outsideAmong, outside, frameOf};
 ghost use Rattle.staircase.specs.Rules.{entries};
 ghost use Rattle.staircase.specs.Calls.{countedBy, wordsCall};
@@ -52,12 +51,12 @@ fn gather(list: &[u8], bits: &[u8], at: usize, out: &mut [u8])
 
 // Adds to each of `sums` the r entries of the table from entry `from` on, at the ones of its column of r rows that stand in `bits` from byte `at`
 // on. A row has a column for each of `sums`.
-fn add_columns(sums: &mut [u32], bits: &[u8], at: usize, table: &[u32], from: usize, r: usize)
-    requires { ⌜ (at + r * length (now sums) ≤ length (now bits)) × Bits (now bits) × (from + r ≤ length (now table)) ⌝ }
-    ensures { λ u. ⌜ PartAdded (now (table .entry)) from r (λ w a j. getD (now (bits .entry)) (at + (j * w + a)) 0) (now (sums .entry)) (now (sums .exit)) ⌝ }
+fn add_columns(sums: &mut [u32], bits: &[u8], at: usize, positions: &[u32], from: usize, r: usize)
+    requires { ⌜ (at + r * length (now sums) ≤ length (now bits)) × Bits (now bits) × (from + r ≤ length (now positions)) ⌝ }
+    ensures { λ u. ⌜ PartAdded (now (positions .entry)) from r (λ w a j. getD (now (bits .entry)) (at + (j * w + a)) 0) (now (sums .entry)) (now (sums .exit)) ⌝ }
 {
     let n = r * sums.len();
-    bch_remainders::add_rows(sums, &bits[at..at + n], &table[from..from + r]);
+    bch_remainders::add_rows(sums, &bits[at..at + n], &positions[from..from + r]);
 }
 
 // The same for columns of X, which the self list makes of Y's bytes; or of Q, by the parity list from P's.
@@ -66,43 +65,43 @@ fn add_spread(
     list: &[u8],
     bits: &[u8],
     at: usize,
-    table: &[u32],
+    positions: &[u32],
     from: usize,
     r: usize,
     work: &mut [u8],
 )
     requires { ⌜ Sends (now list) (length (now work)) × (length (now work) ≡ r * length (now sums)) × (at + length (now work) ≤ length (now bits))
-        × Bits (now bits) × (from + r ≤ length (now table)) ⌝ }
-    ensures { λ u. ⌜ PartAdded (now (table .entry)) from r
+        × Bits (now bits) × (from + r ≤ length (now positions)) ⌝ }
+    ensures { λ u. ⌜ PartAdded (now (positions .entry)) from r
         (λ w a j. getD (now (bits .entry)) (at + getD (entries (length (now (work .entry))) (now (list .entry))) (j * w + a) 0) 0)
         (now (sums .entry)) (now (sums .exit)) ⌝ }
 {
     gather(list, bits, at, work);
-    add_columns(sums, work, 0, table, from, r);
+    add_columns(sums, work, 0, positions, from, r);
 }
 
 // Makes `rows` the remainders of the blocks of a group's row words.
-fn block_rows(info: &[u8], blocks: usize, i: usize, table: &[u32], rows: &mut [u32])
-    requires { ⌜ BlocksLent blocks (length (now rows)) (now info) (now table) × (i < groups blocks) ⌝ }
-    ensures { λ u. ⌜ now (rows .exit) ≡ blockRows (now (table .entry)) (length (now (rows .entry))) blocks (now (info .entry)) i ⌝ }
+fn block_rows(info: &[u8], blocks: usize, i: usize, positions: &[u32], rows: &mut [u32])
+    requires { ⌜ BlocksLent blocks (length (now rows)) (now info) (now positions) × (i < groups blocks) ⌝ }
+    ensures { λ u. ⌜ now (rows .exit) ≡ blockRows (now (positions .entry)) (length (now (rows .entry))) blocks (now (info .entry)) i ⌝ }
 {
     let area = rows.len() * rows.len();
     let before = words_blocks::block_of(info, area, blocks, 2 * i);
     let odd = words_blocks::block_of(info, area, blocks, 2 * i + 1);
     let has_before = words_blocks::is_sent(blocks, 2 * i);
-    words_blocks::row_sums(before, has_before, odd, table, rows);
+    words_blocks::row_sums(before, has_before, odd, positions, rows);
 }
 
 // Makes `columns` the remainders of the blocks of a group's column words.
-fn block_columns(info: &[u8], blocks: usize, i: usize, table: &[u32], columns: &mut [u32])
-    requires { ⌜ BlocksLent blocks (length (now columns)) (now info) (now table) × (i < groups blocks) ⌝ }
-    ensures { λ u. ⌜ now (columns .exit) ≡ blockColumns (now (table .entry)) (length (now (columns .entry))) blocks (now (info .entry)) i ⌝ }
+fn block_columns(info: &[u8], blocks: usize, i: usize, positions: &[u32], columns: &mut [u32])
+    requires { ⌜ BlocksLent blocks (length (now columns)) (now info) (now positions) × (i < groups blocks) ⌝ }
+    ensures { λ u. ⌜ now (columns .exit) ≡ blockColumns (now (positions .entry)) (length (now (columns .entry))) blocks (now (info .entry)) i ⌝ }
 {
     let area = columns.len() * columns.len();
     let odd = words_blocks::block_of(info, area, blocks, 2 * i + 1);
     let even = words_blocks::block_of(info, area, blocks, 2 * i + 2);
     let has_even = words_blocks::is_sent(blocks, 2 * i + 2);
-    words_blocks::column_sums(odd, even, has_even, table, columns);
+    words_blocks::column_sums(odd, even, has_even, positions, columns);
 }
 
 // Makes `rows` the remainders of the row words of the group that i groups precede. The working bytes are one for each entry of a list, and free
@@ -115,11 +114,11 @@ pub fn row_remainders(
     parity: &[u8],
     info: &[u8],
     red: &[u8],
-    table: &[u32],
+    positions: &[u32],
     work: &mut [u8],
     rows: &mut [u32],
 )
-    requires { ⌜ Received d blocks (now own) (now parity) (now info) (now red) × (i < groups blocks) × WordTable d (now table)
+    requires { ⌜ Received d blocks (now own) (now parity) (now info) (now red) × (i < groups blocks) × WordTable d (now positions)
         × (length (now work) ≡ orderOf d) × (length (now rows) ≡ d .size) ⌝ }
     ensures { λ u. ⌜ (now (rows .exit)
         ≡ rowRemainders (paramsOf d) (listsOf d (now (own .entry)) (now (parity .entry))) blocks (frameOf (now (info .entry)) (now (red .entry))) i)
@@ -129,9 +128,9 @@ pub fn row_remainders(
     let n = work.len();
     let y = i * (2 * n);
     let x = 2 * d.size();
-    block_rows(info, blocks, i, table, rows);
-    add_spread(rows, own, red, y, table, x, r, work);
-    add_spread(rows, parity, red, y + n, table, x + r, r, work);
+    block_rows(info, blocks, i, positions, rows);
+    add_spread(rows, own, red, y, positions, x, r, work);
+    add_spread(rows, parity, red, y + n, positions, x + r, r, work);
 }
 
 // Makes `columns` the remainders of the column words of the group that i groups precede. One step for each bit of the group's column words.
@@ -143,10 +142,10 @@ pub fn column_remainders(
     parity: &[u8],
     info: &[u8],
     red: &[u8],
-    table: &[u32],
+    positions: &[u32],
     columns: &mut [u32],
 )
-    requires { ⌜ Received d blocks (now own) (now parity) (now info) (now red) × (i < groups blocks) × WordTable d (now table)
+    requires { ⌜ Received d blocks (now own) (now parity) (now info) (now red) × (i < groups blocks) × WordTable d (now positions)
         × (length (now columns) ≡ d .size) ⌝ }
     ensures { λ u. ⌜ now (columns .exit) ≡ columnRemainders (paramsOf d) blocks (frameOf (now (info .entry)) (now (red .entry))) i ⌝ }
 {
@@ -154,9 +153,9 @@ pub fn column_remainders(
     let n = d.order();
     let y = i * (2 * n);
     let x = 2 * d.size();
-    block_columns(info, blocks, i, table, columns);
-    add_columns(columns, red, y, table, x, r);
-    add_columns(columns, red, y + n, table, x + r, r);
+    block_columns(info, blocks, i, positions, columns);
+    add_columns(columns, red, y, positions, x, r);
+    add_columns(columns, red, y + n, positions, x + r, r);
 }
 
 // 1 where x is not 0.
@@ -189,18 +188,18 @@ fn group_outside(
     parity: &[u8],
     info: &[u8],
     red: &[u8],
-    table: &[u32],
+    positions: &[u32],
     work: &mut [u8],
     sums: &mut [u32],
 ) -> u64
-    requires { ⌜ Received d blocks (now own) (now parity) (now info) (now red) × (i < groups blocks) × WordTable d (now table)
+    requires { ⌜ Received d blocks (now own) (now parity) (now info) (now red) × (i < groups blocks) × WordTable d (now positions)
         × (length (now work) ≡ orderOf d) × (length (now sums) ≡ d .size) ⌝ }
     ensures { λ a. ⌜ (a ≡ outsideAmong (paramsOf d) (frameOf (now (info .entry)) (now (red .entry)))
         (groupWords (paramsOf d) (listsOf d (now (own .entry)) (now (parity .entry))) blocks i)) × (a ≤ 1000) ⌝ }
 {
-    row_remainders(d, blocks, i, own, parity, info, red, table, work, sums);
+    row_remainders(d, blocks, i, own, parity, info, red, positions, work, sums);
     let rows = count_nonzero(sums);
-    column_remainders(d, blocks, i, own, parity, info, red, table, sums);
+    column_remainders(d, blocks, i, own, parity, info, red, positions, sums);
     rows + count_nonzero(sums)
 }
 
@@ -212,11 +211,11 @@ fn count_groups(
     parity: &[u8],
     info: &[u8],
     red: &[u8],
-    table: &[u32],
+    positions: &[u32],
     work: &mut [u8],
     sums: &mut [u32],
 ) -> u64
-    requires { ⌜ Received d blocks (now own) (now parity) (now info) (now red) × WordTable d (now table)
+    requires { ⌜ Received d blocks (now own) (now parity) (now info) (now red) × WordTable d (now positions)
         × (length (now work) ≡ orderOf d) × (length (now sums) ≡ d .size) ⌝ }
     ensures { λ a. ⌜ a
         ≡ outside (paramsOf d) (listsOf d (now (own .entry)) (now (parity .entry))) blocks (frameOf (now (info .entry)) (now (red .entry))) ⌝ }
@@ -224,7 +223,7 @@ fn count_groups(
     let count = design::group_count(blocks as u64) as usize;
     let mut total: u64 = 0;
     for i in 0..count {
-        total = total + group_outside(d, blocks, i, own, parity, info, red, table, work, sums);
+        total = total + group_outside(d, blocks, i, own, parity, info, red, positions, work, sums);
     }
     total
 }
@@ -238,10 +237,10 @@ pub fn count_outside(
     parity: &[u8],
     info: &[u8],
     red: &[u8],
-    table: &[u32],
+    positions: &[u32],
     work: &mut [u8],
 ) -> u64
-    requires { ⌜ Received d blocks (now own) (now parity) (now info) (now red) × WordTable d (now table) × (length (now work) ≡ orderOf d) ⌝ }
+    requires { ⌜ Received d blocks (now own) (now parity) (now info) (now red) × WordTable d (now positions) × (length (now work) ≡ orderOf d) ⌝ }
     ensures { λ a. ⌜ a
         ≡ outside (paramsOf d) (listsOf d (now (own .entry)) (now (parity .entry))) blocks (frameOf (now (info .entry)) (now (red .entry))) ⌝ }
 {
@@ -254,7 +253,7 @@ pub fn count_outside(
         parity,
         info,
         red,
-        table,
+        positions,
         work,
         &mut sums[0..size],
     )
@@ -305,9 +304,9 @@ fn count_received(
         ≡ outside (paramsOf d) (listsOf d (now (own .entry)) (now (parity .entry))) blocks (frameOf (now (info .entry)) (now (red .entry))) ⌝ }
 {
     let bits = d.n();
-    let mut table = [0u32; 1024];
-    words_positions::fill_table(d, &mut table[0..bits]);
-    count_outside(d, blocks, own, parity, info, red, &table[0..bits], work)
+    let mut positions = [0u32; 1024];
+    words_positions::fill_table(d, &mut positions[0..bits]);
+    count_outside(d, blocks, own, parity, info, red, &positions[0..bits], work)
 }
 
 // A refused check as the word checker's answer.

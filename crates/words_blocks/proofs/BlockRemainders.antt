@@ -21,18 +21,18 @@ use Rattle.words_blocks.specs.Blocks.{partSum, columnSum, rowSum, Powers
 abbrev pub SameBlock : Params → Contents → Contents → Type 0
 SameBlock s f g = (k : ℕ) → k < s .M * s .M → f k ≡ g k
 
-module _ (s : Params) (table : List ℕ) (P : Powers s table) where
+module _ (s : Params) (positions : List ℕ) (P : Powers s positions) where
   -- a part of the table, for positions whose powers are given by e
   pub part-powers : (from w : ℕ) (b c e : ℕ → ℕ) → from + w ≤ wordLength s → ((j : ℕ) → j < w → b j ≡ c j) → ((j : ℕ) → j < w → wordLength s - 1 - (from + j) ≡ e j)
-      → partSum table from w b ≡ xorSum w (λ j. c j * powerMod (s .g) (s .r) (e j))
+      → partSum positions from w b ≡ xorSum w (λ j. c j * powerMod (s .g) (s .r) (e j))
   unfolding partSum
   part-powers from w b c e fits same exponents =
-      xorSum-same w (λ j. b j * getD table (from + j) 0) (λ j. c j * powerMod (s .g) (s .r) (e j))
+      xorSum-same w (λ j. b j * getD positions (from + j) 0) (λ j. c j * powerMod (s .g) (s .r) (e j))
       (λ j l. ap₂ _*_ (same j l)
       (P .powers (from + j) (omega (arith, P .long)) ∙ ap (powerMod (s .g) (s .r)) (ap (λ (n : ℕ). n - 1 - (from + j)) (P .long) ∙ exponents j l)))
 
   pub columnSum-is : (o e odd even : Contents) → SameBlock s o odd → SameBlock s e even → (a : ℕ) → a < s .M
-      → columnSum table (s .M) o e a ≡ columnRemainder s odd even a
+      → columnSum positions (s .M) o e a ≡ columnRemainder s odd even a
   unfolding columnSum columnRemainder
   columnSum-is o e odd even so se a h =
       ap₂ _⊕_
@@ -40,7 +40,7 @@ module _ (s : Params) (table : List ℕ) (P : Powers s table) where
       (part-powers (s .M) (s .M) (λ j. e (j * s .M + a)) (λ j. even (j * s .M + a)) (λ j. wordLength s - 1 - (s .M + j)) (omega arith) (λ j l. se (j * s .M + a) (digits-lt l h)) (λ j l. omega arith))
 
   pub rowSum-is : (b o before odd : Contents) → SameBlock s b before → SameBlock s o odd → (a : ℕ) → a < s .M
-      → rowSum table (s .M) b o a ≡ rowRemainder s before odd a
+      → rowSum positions (s .M) b o a ≡ rowRemainder s before odd a
   unfolding rowSum rowRemainder
   rowSum-is b o before odd sb so a h =
       ap₂ _⊕_

@@ -16,7 +16,7 @@ use lib.Seq.{length-take-le, getD-take, getD-drop}
 use borrow.Author.Tests.{ltb-true, lt-ltb}
 use Rattle.bch.specs.Polynomial.{Bits}
 use Rattle.staircase.specs.Design.{Params}
-use Rattle.staircase.specs.Frame.{groups, bitAt, block}
+use Rattle.staircase.specs.Frame.{groups, bitAt, blockContents}
 use Rattle.staircase.specs.Frame.Site.{unsent, inInfo}
 use Rattle.staircase.proofs.Bounds.{stretch-end}
 use Rattle.bch_remainders.proofs.Rows.{row-bits}
@@ -69,7 +69,7 @@ module _ (s : Params) (L : ℕ) (info : List ℕ) (long : length info ≡ L * (s
   abbrev area : ℕ
   area = s .M * s .M
 
-  pub block-is : (b : ℕ) → sentBit (sent L b) (blockBytes L (s .M * s .M) info b) k ≡ block s L info b k
+  pub block-is : (b : ℕ) → sentBit (sent L b) (blockBytes L (s .M * s .M) info b) k ≡ blockContents s L info b k
   unfolding sentBit sent
   block-is zero = refl
   block-is (suc b) = go (ltb b L) refl
@@ -79,6 +79,6 @@ module _ (s : Params) (L : ℕ) (info : List ℕ) (long : length info ≡ L * (s
       go true e = let n : suc b - 1 ≡ b = omega arith in block-at L area info (suc b) long e k h ∙ ap (λ (x : ℕ). getD info (x * area + k) 0) n
       go false e = refl
 
-  pub odd-is : (b : ℕ) → sent L b ≡ true → getD (blockBytes L (s .M * s .M) info b) k 0 ≡ block s L info b k
+  pub odd-is : (b : ℕ) → sent L b ≡ true → getD (blockBytes L (s .M * s .M) info b) k 0 ≡ blockContents s L info b k
   unfolding sentBit
   odd-is b e = sym (ap (λ (z : Bool). cond z (getD (blockBytes L area info b) k 0) 0) e) ∙ block-is b

@@ -22,7 +22,7 @@ use Rattle.bch.proofs.Sum.{⊕-zero-left, ⊕-zero-right}
 use Rattle.bch.proofs.PowerSum.{xorSum-same, xorSum-zero}
 use Rattle.staircase.specs.Lists.{tabulate}
 use Rattle.staircase.specs.System.{Contents}
-use Rattle.staircase.proofs.Tables.{tabulate-length, tabulate-at, tabulate-same}
+use Rattle.staircase.proofs.Tabulate.{tabulate-length, tabulate-at, tabulate-same}
 use Rattle.bch_remainders.proofs.Rows.{row-length, row-at}
 use Rattle.words_blocks.specs.Blocks.{sentBit, partSum, bitPlace, blockSum, PartAdded}
 
@@ -56,29 +56,29 @@ module _ (sent : Bool) (block : List ℕ) where
 
 -- ---- a part of the table, from entry `from` up to entry `end`
 
-module _ (table : List ℕ) (from end w : ℕ) (is : from + w ≡ end) (inside : end ≤ length table) where
+module _ (positions : List ℕ) (from end w : ℕ) (is : from + w ≡ end) (inside : end ≤ length positions) where
   abbrev part : List ℕ
-  part = take (end - from) (drop from table)
+  part = take (end - from) (drop from positions)
 
-  pub part-length : length (take (end - from) (drop from table)) ≡ w
-  part-length = length-take-le (end - from) (drop from table) (rw length-drop (omega arith)) ∙ omega arith
+  pub part-length : length (take (end - from) (drop from positions)) ≡ w
+  part-length = length-take-le (end - from) (drop from positions) (rw length-drop (omega arith)) ∙ omega arith
 
-  pub part-at : (j : ℕ) → j < w → getD (take (end - from) (drop from table)) j 0 ≡ getD table (from + j) 0
-  part-at j l = getD-take (end - from) (drop from table) j 0 (omega arith) ∙ getD-drop from table j 0
+  pub part-at : (j : ℕ) → j < w → getD (take (end - from) (drop from positions)) j 0 ≡ getD positions (from + j) 0
+  part-at j l = getD-take (end - from) (drop from positions) j 0 (omega arith) ∙ getD-drop from positions j 0
 
   -- the bits may be laid out by the part's length
-  pub part-sum : (b : ℕ → ℕ → ℕ) → xorSum (length (take (end - from) (drop from table)))
-      (λ j. b (length (take (end - from) (drop from table))) j * getD (take (end - from) (drop from table)) j 0) ≡ partSum table from w (b w)
+  pub part-sum : (b : ℕ → ℕ → ℕ) → xorSum (length (take (end - from) (drop from positions)))
+      (λ j. b (length (take (end - from) (drop from positions))) j * getD (take (end - from) (drop from positions)) j 0) ≡ partSum positions from w (b w)
   unfolding partSum
   part-sum b =
       ap (λ (n : ℕ). xorSum n (λ j. b n j * getD part j 0)) part-length
-      ∙ xorSum-same w (λ j. b w j * getD part j 0) (λ j. b w j * getD table (from + j) 0)
+      ∙ xorSum-same w (λ j. b w j * getD part j 0) (λ j. b w j * getD positions (from + j) 0)
       (λ j l. ap (λ (x : ℕ). b w j * x) (part-at j l))
 
-pub part-same : (table : List ℕ) (from w : ℕ) (b c : ℕ → ℕ) → ((j : ℕ) → j < w → b j ≡ c j) → partSum table from w b ≡ partSum table from w c
+pub part-same : (positions : List ℕ) (from w : ℕ) (b c : ℕ → ℕ) → ((j : ℕ) → j < w → b j ≡ c j) → partSum positions from w b ≡ partSum positions from w c
 unfolding partSum
-part-same table from w b c same =
-    xorSum-same w (λ j. b j * getD table (from + j) 0) (λ j. c j * getD table (from + j) 0) (λ j l. ap (λ (x : ℕ). x * getD table (from + j) 0) (same j l))
+part-same positions from w b c same =
+    xorSum-same w (λ j. b j * getD positions (from + j) 0) (λ j. c j * getD positions (from + j) 0) (λ j l. ap (λ (x : ℕ). x * getD positions (from + j) 0) (same j l))
 
 -- ---- the sums of all words
 
@@ -93,58 +93,58 @@ Adds part b old new =
     × ((a : ℕ) → a < length old → getD new a 0 ≡ getD old a 0 ⊕ xorSum (length part) (λ j. b (length old) (length part) a j * getD part j 0))
 
 -- the bits that are meant are those of c
-pub adds-part : (table : List ℕ) (from r : ℕ) → from + r ≤ length table → (b : ℕ → ℕ → ℕ → ℕ → ℕ) (c : ℕ → ℕ → ℕ → ℕ) (old new : List ℕ)
-    → ((a j : ℕ) → a < length old → j < r → b (length old) r a j ≡ c (length old) a j) → Adds (take (from + r - from) (drop from table)) b old new
-    → PartAdded table from r c old new
-adds-part table from r inside b c old new same added =
+pub adds-part : (positions : List ℕ) (from r : ℕ) → from + r ≤ length positions → (b : ℕ → ℕ → ℕ → ℕ → ℕ) (c : ℕ → ℕ → ℕ → ℕ) (old new : List ℕ)
+    → ((a j : ℕ) → a < length old → j < r → b (length old) r a j ≡ c (length old) a j) → Adds (take (from + r - from) (drop from positions)) b old new
+    → PartAdded positions from r c old new
+adds-part positions from r inside b c old new same added =
     let w : ℕ = length old in (
       added .0,
       λ a h. added .1 a h
           ∙ ap (λ (x : ℕ). getD old a 0 ⊕ x)
-          (part-sum table from (from + r) r refl inside (λ v j. b w v a j) ∙ part-same table from r (b w r a) (c w a) (λ j l. same a j h l)),
+          (part-sum positions from (from + r) r refl inside (λ v j. b w v a j) ∙ part-same positions from r (b w r a) (c w a) (λ j l. same a j h l)),
     )
 
 -- two parts, one after the other
-pub added-twice : (table : List ℕ) (from end u v n : ℕ) (f : ℕ → ℕ) (b c : ℕ → ℕ → ℕ → ℕ) (one two three : List ℕ) → one ≡ tabulate n f
-    → PartAdded table from u b one two → PartAdded table end v c two three
-    → three ≡ tabulate n (λ a. f a ⊕ partSum table from u (b n a) ⊕ partSum table end v (c n a))
-added-twice table from end u v n f b c one two three e first second =
-    let g : ℕ → ℕ = λ a. f a ⊕ partSum table from u (b n a) ⊕ partSum table end v (c n a) in
+pub added-twice : (positions : List ℕ) (from end u v n : ℕ) (f : ℕ → ℕ) (b c : ℕ → ℕ → ℕ → ℕ) (one two three : List ℕ) → one ≡ tabulate n f
+    → PartAdded positions from u b one two → PartAdded positions end v c two three
+    → three ≡ tabulate n (λ a. f a ⊕ partSum positions from u (b n a) ⊕ partSum positions end v (c n a))
+added-twice positions from end u v n f b c one two three e first second =
+    let g : ℕ → ℕ = λ a. f a ⊕ partSum positions from u (b n a) ⊕ partSum positions end v (c n a) in
     let wide : length one ≡ n = ap length e ∙ tabulate-length n f in
     let all : length three ≡ n = second .0 ∙ first .0 ∙ wide in
     ext-getD 0 three (tabulate n g) (all ∙ sym (tabulate-length n g))
     (λ a m. let la : a < n = omega (arith, all) in
     second .1 a (omega (arith, first .0, wide))
-    ∙ ap₂ (λ (x k : ℕ). x ⊕ partSum table end v (c k a))
+    ∙ ap₂ (λ (x k : ℕ). x ⊕ partSum positions end v (c k a))
     (first .1 a (omega (arith, wide))
-    ∙ ap₂ (λ (x k : ℕ). x ⊕ partSum table from u (b k a)) (ap (λ (t : List ℕ). getD t a 0) e ∙ tabulate-at n f 0 a la) wide)
+    ∙ ap₂ (λ (x k : ℕ). x ⊕ partSum positions from u (b k a)) (ap (λ (t : List ℕ). getD t a 0) e ∙ tabulate-at n f 0 a la) wide)
     (first .0 ∙ wide)
     ∙ sym (tabulate-at n g 0 a la))
 
 -- ---- the two blocks of a group's words
 
-module _ (sent column : Bool) (block table old : List ℕ) (from : ℕ) where
+module _ (sent column : Bool) (block positions old : List ℕ) (from : ℕ) where
   abbrev bits : ℕ → ℕ → ℕ → ℕ
   bits w a j = sentBit sent block (bitPlace column w a j)
 
-  pub unsent-added : sent ≡ false → PartAdded table from (length old) (λ w a j. sentBit sent block (bitPlace column w a j)) old old
+  pub unsent-added : sent ≡ false → PartAdded positions from (length old) (λ w a j. sentBit sent block (bitPlace column w a j)) old old
   unfolding partSum
-  unsent-added e = (refl, λ a h. unsent-sum sent block (length old) (bitPlace column (length old) a) (λ j. getD table (from + j) 0) e (getD old a 0))
+  unsent-added e = (refl, λ a h. unsent-sum sent block (length old) (bitPlace column (length old) a) (λ j. getD positions (from + j) 0) e (getD old a 0))
 
-  module _ (new : List ℕ) (inside : from + length old ≤ length table) (e : sent ≡ true) where
-    pub column-added : column ≡ true → Adds (take (from + length old - from) (drop from table)) (λ w v a j. getD block (j * w + a) 0) old new
-        → PartAdded table from (length old) (λ w a j. sentBit sent block (bitPlace column w a j)) old new
+  module _ (new : List ℕ) (inside : from + length old ≤ length positions) (e : sent ≡ true) where
+    pub column-added : column ≡ true → Adds (take (from + length old - from) (drop from positions)) (λ w v a j. getD block (j * w + a) 0) old new
+        → PartAdded positions from (length old) (λ w a j. sentBit sent block (bitPlace column w a j)) old new
     unfolding bitPlace
     column-added is added =
-        adds-part table from (length old) inside (λ w v a j. getD block (j * w + a) 0) bits old new
+        adds-part positions from (length old) inside (λ w v a j. getD block (j * w + a) 0) bits old new
         (λ a j h l. sent-bit sent block e (j * length old + a)
         ∙ ap (λ (z : Bool). sentBit sent block (cond z (j * length old + a) (a * length old + j))) (sym is)) added
 
-    pub row-added : column ≡ false → Adds (take (from + length old - from) (drop from table)) (λ w v a j. getD block (a * v + j) 0) old new
-        → PartAdded table from (length old) (λ w a j. sentBit sent block (bitPlace column w a j)) old new
+    pub row-added : column ≡ false → Adds (take (from + length old - from) (drop from positions)) (λ w v a j. getD block (a * v + j) 0) old new
+        → PartAdded positions from (length old) (λ w a j. sentBit sent block (bitPlace column w a j)) old new
     unfolding bitPlace
     row-added is added =
-        adds-part table from (length old) inside (λ w v a j. getD block (a * v + j) 0) bits old new
+        adds-part positions from (length old) inside (λ w v a j. getD block (a * v + j) 0) bits old new
         (λ a j h l. sent-bit sent block e (a * length old + j)
         ∙ ap (λ (z : Bool). sentBit sent block (cond z (j * length old + a) (a * length old + j))) (sym is)) added
 
@@ -153,18 +153,18 @@ unfolding tabulate
 zeros-are zero = refl
 zeros-are (suc n) = ap (λ (t : List ℕ). 0 ∷ t) (zeros-are n)
 
-pub blocks-added : (column : Bool) (table : List ℕ) (n : ℕ) (f h : Contents) (start one two : List ℕ) → start ≡ replicate n 0
-    → PartAdded table 0 (length start) (λ w a j. f (bitPlace column w a j)) start one
-    → PartAdded table (length one) (length one) (λ w a j. h (bitPlace column w a j)) one two
-    → two ≡ tabulate n (blockSum column table n f h)
+pub blocks-added : (column : Bool) (positions : List ℕ) (n : ℕ) (f h : Contents) (start one two : List ℕ) → start ≡ replicate n 0
+    → PartAdded positions 0 (length start) (λ w a j. f (bitPlace column w a j)) start one
+    → PartAdded positions (length one) (length one) (λ w a j. h (bitPlace column w a j)) one two
+    → two ≡ tabulate n (blockSum column positions n f h)
 unfolding blockSum
-blocks-added column table n f h start one two none first second =
+blocks-added column positions n f h start one two none first second =
     let b : ℕ → ℕ → ℕ → ℕ = λ w a j. f (bitPlace column w a j) in
     let c : ℕ → ℕ → ℕ → ℕ = λ w a j. h (bitPlace column w a j) in
     let u : ℕ = length start in
     let v : ℕ = length one in
     let wide : u ≡ n = ap length none ∙ length-replicate n 0 in
-    added-twice table 0 v u v n (λ a. 0) b c start one two (none ∙ zeros-are n) first second
-    ∙ tabulate-same n (λ a. 0 ⊕ partSum table 0 u (b n a) ⊕ partSum table v v (c n a)) (λ a. partSum table 0 n (b n a) ⊕ partSum table n n (c n a))
-    (λ a l. ap₂ _⊕_ (⊕-zero-left (partSum table 0 u (b n a)) ∙ ap (λ (k : ℕ). partSum table 0 k (b n a)) wide)
-    (ap (λ (k : ℕ). partSum table k k (c n a)) (first .0 ∙ wide)))
+    added-twice positions 0 v u v n (λ a. 0) b c start one two (none ∙ zeros-are n) first second
+    ∙ tabulate-same n (λ a. 0 ⊕ partSum positions 0 u (b n a) ⊕ partSum positions v v (c n a)) (λ a. partSum positions 0 n (b n a) ⊕ partSum positions n n (c n a))
+    (λ a l. ap₂ _⊕_ (⊕-zero-left (partSum positions 0 u (b n a)) ∙ ap (λ (k : ℕ). partSum positions 0 k (b n a)) wide)
+    (ap (λ (k : ℕ). partSum positions k k (c n a)) (first .0 ∙ wide)))

@@ -7,7 +7,7 @@
 --   columnSum, rowSum          the remainder of the blocks of column word a, of row word a
 --   bitPlace, blockSum         the place of a word's bit in a block, and both sums by whether it is a column word
 --   PartAdded                  a sum for each word is added: of a part of the table, at the ones of the word's bits
---   Powers s table             the table has the powers of x that the positions of a word carry
+--   Powers s positions             the table has the powers of x that the positions of a word carry
 -- Assumes nothing.
 use mathlib.Core.Path.{_≡_}
 use mathlib.Core.Bool.{Bool, true, false, cond}
@@ -38,29 +38,29 @@ Sent sent block area = sent ≡ true → (length block ≡ area) × Bits block
 
 -- the sum of w entries of the table, from entry `from` on, at the ones of b
 unfoldable pub partSum : List ℕ → ℕ → ℕ → (ℕ → ℕ) → ℕ
-partSum table from w b = xorSum w (λ j. b j * getD table (from + j) 0)
+partSum positions from w b = xorSum w (λ j. b j * getD positions (from + j) 0)
 
 -- column a of the odd block and of the even one
 unfoldable pub columnSum : List ℕ → ℕ → Contents → Contents → ℕ → ℕ
-columnSum table size odd even a = partSum table 0 size (λ j. odd (j * size + a)) ⊕ partSum table size size (λ j. even (j * size + a))
+columnSum positions size odd even a = partSum positions 0 size (λ j. odd (j * size + a)) ⊕ partSum positions size size (λ j. even (j * size + a))
 
 -- row a of the block before and of the odd one
 unfoldable pub rowSum : List ℕ → ℕ → Contents → Contents → ℕ → ℕ
-rowSum table size before odd a = partSum table 0 size (λ j. before (a * size + j)) ⊕ partSum table size size (λ j. odd (a * size + j))
+rowSum positions size before odd a = partSum positions 0 size (λ j. before (a * size + j)) ⊕ partSum positions size size (λ j. odd (a * size + j))
 
 -- bit j of column a of a block of w columns, else of row a
 unfoldable pub bitPlace : Bool → ℕ → ℕ → ℕ → ℕ
 bitPlace column w a j = cond column (j * w + a) (a * w + j)
 
 unfoldable pub blockSum : Bool → List ℕ → ℕ → Contents → Contents → ℕ → ℕ
-blockSum column table size first second a =
-    partSum table 0 size (λ j. first (bitPlace column size a j)) ⊕ partSum table size size (λ j. second (bitPlace column size a j))
+blockSum column positions size first second a =
+    partSum positions 0 size (λ j. first (bitPlace column size a j)) ⊕ partSum positions size size (λ j. second (bitPlace column size a j))
 
 -- `new` is `old` with the r entries of the table from entry `from` on added at the ones of b w a, for each word a of w
 abbrev pub PartAdded : List ℕ → ℕ → ℕ → (ℕ → ℕ → ℕ → ℕ) → List ℕ → List ℕ → Type 0
-PartAdded table from r b old new =
-    (length new ≡ length old) × ((a : ℕ) → a < length old → getD new a 0 ≡ getD old a 0 ⊕ partSum table from r (b (length old) a))
+PartAdded positions from r b old new =
+    (length new ≡ length old) × ((a : ℕ) → a < length old → getD new a 0 ≡ getD old a 0 ⊕ partSum positions from r (b (length old) a))
 
-pub record Powers (s : Params) (table : List ℕ) : Type 0 where
-  pub long : length table ≡ wordLength s
-  pub powers : PositionPowers (s .g) (s .r) table
+pub record Powers (s : Params) (positions : List ℕ) : Type 0 where
+  pub long : length positions ≡ wordLength s
+  pub powers : PositionPowers (s .g) (s .r) positions

@@ -54,15 +54,22 @@ fn add_dots(acc: &mut [u32], block: &[u8], part: &[u32])
 
 // Adds to each of `sums` the entries of the table from entry `from` on, as many as there are sums, at the ones of its column of a block where
 // `column` is true, else of its row. A block that is not sent adds nothing.
-fn add_block(sums: &mut [u32], block: &[u8], sent: bool, column: bool, table: &[u32], from: usize)
-    requires { ⌜ Sent sent (now block) (length (now sums) * length (now sums)) × (from + length (now sums) ≤ length (now table)) ⌝ }
-    ensures { λ u. ⌜ PartAdded (now (table .entry)) from (length (now (sums .entry)))
+fn add_block(
+    sums: &mut [u32],
+    block: &[u8],
+    sent: bool,
+    column: bool,
+    positions: &[u32],
+    from: usize,
+)
+    requires { ⌜ Sent sent (now block) (length (now sums) * length (now sums)) × (from + length (now sums) ≤ length (now positions)) ⌝ }
+    ensures { λ u. ⌜ PartAdded (now (positions .entry)) from (length (now (sums .entry)))
         (λ w a j. sentBit sent (now (block .entry)) (bitPlace column w a j)) (now (sums .entry)) (now (sums .exit)) ⌝ }
 {
     if !sent {
         return;
     }
-    let part = &table[from..from + sums.len()];
+    let part = &positions[from..from + sums.len()];
     if column {
         bch_remainders::add_rows(sums, block, part);
         return;
@@ -77,35 +84,35 @@ fn block_sums(
     second: &[u8],
     has_second: bool,
     column: bool,
-    table: &[u32],
+    positions: &[u32],
     sums: &mut [u32],
 )
     requires { ⌜ Sent «has_first» (now first) (length (now sums) * length (now sums)) × Sent «has_second» (now second) (length (now sums) * length (now sums))
-        × (2 * length (now sums) ≤ length (now table)) ⌝ }
+        × (2 * length (now sums) ≤ length (now positions)) ⌝ }
     ensures { λ u. ⌜ now (sums .exit) ≡ tabulate (length (now (sums .entry)))
-        (blockSum column (now (table .entry)) (length (now (sums .entry))) (sentBit «has_first» (now (first .entry))) (sentBit «has_second» (now (second .entry)))) ⌝ }
+        (blockSum column (now (positions .entry)) (length (now (sums .entry))) (sentBit «has_first» (now (first .entry))) (sentBit «has_second» (now (second .entry)))) ⌝ }
 {
     bch_remainders::clear(sums);
-    add_block(sums, first, has_first, column, table, 0);
-    add_block(sums, second, has_second, column, table, sums.len());
+    add_block(sums, first, has_first, column, positions, 0);
+    add_block(sums, second, has_second, column, positions, sums.len());
 }
 
 // Makes `columns` the remainders of the blocks of a group's column words.
-pub fn column_sums(odd: &[u8], even: &[u8], has_even: bool, table: &[u32], columns: &mut [u32])
+pub fn column_sums(odd: &[u8], even: &[u8], has_even: bool, positions: &[u32], columns: &mut [u32])
     requires { ⌜ (length (now odd) ≡ length (now columns) * length (now columns)) × Bits (now odd)
-        × Sent «has_even» (now even) (length (now columns) * length (now columns)) × (2 * length (now columns) ≤ length (now table)) ⌝ }
+        × Sent «has_even» (now even) (length (now columns) * length (now columns)) × (2 * length (now columns) ≤ length (now positions)) ⌝ }
     ensures { λ u. ⌜ now (columns .exit) ≡ tabulate (length (now (columns .entry)))
-        (columnSum (now (table .entry)) (length (now (columns .entry))) (λ k. getD (now (odd .entry)) k 0) (sentBit «has_even» (now (even .entry)))) ⌝ }
+        (columnSum (now (positions .entry)) (length (now (columns .entry))) (λ k. getD (now (odd .entry)) k 0) (sentBit «has_even» (now (even .entry)))) ⌝ }
 {
-    block_sums(odd, true, even, has_even, true, table, columns);
+    block_sums(odd, true, even, has_even, true, positions, columns);
 }
 
 // Makes `rows` the remainders of the blocks of a group's row words.
-pub fn row_sums(before: &[u8], has_before: bool, odd: &[u8], table: &[u32], rows: &mut [u32])
+pub fn row_sums(before: &[u8], has_before: bool, odd: &[u8], positions: &[u32], rows: &mut [u32])
     requires { ⌜ (length (now odd) ≡ length (now rows) * length (now rows)) × Bits (now odd)
-        × Sent «has_before» (now before) (length (now rows) * length (now rows)) × (2 * length (now rows) ≤ length (now table)) ⌝ }
+        × Sent «has_before» (now before) (length (now rows) * length (now rows)) × (2 * length (now rows) ≤ length (now positions)) ⌝ }
     ensures { λ u. ⌜ now (rows .exit) ≡ tabulate (length (now (rows .entry)))
-        (rowSum (now (table .entry)) (length (now (rows .entry))) (sentBit «has_before» (now (before .entry))) (λ k. getD (now (odd .entry)) k 0)) ⌝ }
+        (rowSum (now (positions .entry)) (length (now (rows .entry))) (sentBit «has_before» (now (before .entry))) (λ k. getD (now (odd .entry)) k 0)) ⌝ }
 {
-    block_sums(before, has_before, odd, true, false, table, rows);
+    block_sums(before, has_before, odd, true, false, positions, rows);
 }

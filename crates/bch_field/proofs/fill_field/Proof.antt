@@ -2,7 +2,7 @@
 -- Assumes nothing.
 use native.Mathlib.Omega.{arith}
 use borrow.Author.Needs.{needs}
-use Rattle.bch_field.proofs.Tables.{sizes}
+use Rattle.bch_field.proofs.Solved.{sizes}
 use Rattle.bch_field.proofs.fill_field.Statement.{statement}
 use Rattle.bch_field.proofs.fill_field.Tie as tie
 

@@ -7,7 +7,7 @@ use borrow.Author.Needs.{needs}
 use lib.ListN.{length}
 use Rattle.bch.specs.Locator.{LogTable}
 use Rattle.bch.proofs.Powers.{powers-length}
-use Rattle.bch_field.proofs.Tables.{sizes}
+use Rattle.bch_field.proofs.Solved.{sizes}
 use Rattle.bch_field.proofs.Quarters.{two-length, three-length, quarter-length, four-filled}
 use Rattle.bch_field.proofs.fill_quarters.Statement.{statement}
 use Rattle.bch_field.proofs.fill_quarters.Tie as tie

@@ -4,7 +4,7 @@ use mathlib.Core.Path.{_≡_, refl}
 use Prim.Native.Nat.{_-_, _*_, _≤_}
 use native.Mathlib.Omega.{arith}
 use lib.ListN.{length, getD, length-set}
-use Rattle.bch_remainders.proofs.Tables.{Added, added-more}
+use Rattle.bch_remainders.proofs.Powers.{Added, added-more}
 use Rattle.bch_remainders.proofs.add_bits.Statement.{statement}
 use Rattle.bch_remainders.proofs.add_bits.Tie as tie
 

@@ -6,7 +6,7 @@ use native.Mathlib.Omega.{arith}
 use lib.Bits.{bitXor}
 use lib.ListN.{length, getD}
 use Rattle.bch.specs.Powers.{xorSum}
-use Rattle.bch_remainders.proofs.Tables.{xorSum-more}
+use Rattle.bch_remainders.proofs.Powers.{xorSum-more}
 use Rattle.bch_remainders.proofs.dot.Statement.{statement}
 use Rattle.bch_remainders.proofs.dot.Tie as tie
 

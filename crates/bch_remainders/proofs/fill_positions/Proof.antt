@@ -8,7 +8,7 @@ use lib.ListN.{length, getD, length-set}
 use Rattle.bch.specs.Powers.{powerMod}
 use Rattle.bch.proofs.PowerSum.{powerMod-below}
 use Rattle.bch.proofs.Store.{set-each}
-use Rattle.bch_remainders.proofs.Tables.{powerMod-none, powerMod-next}
+use Rattle.bch_remainders.proofs.Powers.{powerMod-none, powerMod-next}
 use Rattle.bch_remainders.proofs.fill_positions.Statement.{statement}
 use Rattle.bch_remainders.proofs.fill_positions.Tie as tie
 

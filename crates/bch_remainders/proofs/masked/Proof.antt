@@ -2,7 +2,7 @@
 -- Assumes nothing.
 use native.Mathlib.Omega.{arith}
 use borrow.Author.Needs.{needs}
-use Rattle.bch_remainders.proofs.Tables.{spread-bit}
+use Rattle.bch_remainders.proofs.Powers.{spread-bit}
 use Rattle.bch_remainders.proofs.masked.Statement.{statement}
 use Rattle.bch_remainders.proofs.masked.Tie as tie
 

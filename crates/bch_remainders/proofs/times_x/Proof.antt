@@ -4,7 +4,7 @@ use mathlib.Core.Path.{sym}
 use native.Mathlib.Omega.{arith}
 use lib.Pow.{pow-mono}
 use Rattle.bch.proofs.Modulus.{timesX-small}
-use Rattle.bch_remainders.proofs.Tables.{timesX-over}
+use Rattle.bch_remainders.proofs.Powers.{timesX-over}
 use Rattle.bch_remainders.proofs.times_x.Statement.{statement}
 use Rattle.bch_remainders.proofs.times_x.Tie as tie
 

@@ -4,7 +4,7 @@ use native.Mathlib.Omega.{arith}
 use mathlib.Core.Path.{sym, _∙_}
 use lib.ListN.{length}
 use Rattle.design.proofs.Answers.{check-passed, made-allowed}
-use Rattle.decoder.proofs.Verdict.{decode-design, decode-frame, decode-done}
+use Rattle.decoder.proofs.DecodeCall.{decode-design, decode-frame, decode-done}
 use Rattle.rules.proofs.Accepted.{received, received-work, received-rounds}
 use Rattle.words.specs.Checks.{receivedRules}
 use borrow.Author.Needs.{needs}

@@ -21,8 +21,8 @@ locate-requires c κs =
     let a = start .args in
     rw (c .before .m .ensures, c .t .ensures) (p .0 .tables, remainder-small (p .0) (p .1) (a .column) (a .a) (a .remainder) (p .3))
 
-spots-of-requires : tie.Need-spots-of-requires
-spots-of-requires c κs =
+sites-of-requires : tie.Need-sites-of-requires
+sites-of-requires c κs =
     let start = c .before .before .before .before .before .before .before .before .before .before .before in
     let p = start .pre in
     let a = start .args in
@@ -34,16 +34,16 @@ returns-2 c =
     let p = start .pre in
     let a = start .args in
     let locate = c .before .before .before .locate in
-    let spots-of = c .before .before .spots-of in
-    none-corrected (p .0) (p .1) (a .column) (a .a) (a .remainder) (p .3) (locate .result) (rw (c .before .before .before .before .t .ensures) at (locate .ensures)) (spots-of .ensures .0)
+    let sites-of = c .before .before .sites-of in
+    none-corrected (p .0) (p .1) (a .column) (a .a) (a .remainder) (p .3) (locate .result) (rw (c .before .before .before .before .t .ensures) at (locate .ensures)) (sites-of .ensures .0)
     (sym (c .before .all-sent .ensures) ∙ not-true (c .before .all-sent .result) (c .if2 .taken))
 
 flip-all-requires : tie.Need-flip-all-requires
 flip-all-requires c κs =
     let start = c .before .before .before .before .before .before .before .before .before .before .before .before .before .before .before .before in
     let p = start .pre in
-    let spots-of = c .before .before .before .before .spots-of in
-    (inside-frame (spots-of .result) (p .1) (spots-of .ensures .2), p .1 .infoBits, p .1 .redBits)
+    let sites-of = c .before .before .before .before .sites-of in
+    (inside-frame (sites-of .result) (p .1) (sites-of .ensures .2), p .1 .infoBits, p .1 .redBits)
 
 returns-3 : tie.Need-returns-3
 returns-3 c =
@@ -51,13 +51,13 @@ returns-3 c =
     let p = start .pre in
     let a = start .args in
     let locate = c .before .before .before .before .before .before .before .before .before .before .locate in
-    let spots-of = c .before .before .before .before .before .before .before .before .before .spots-of in
+    let sites-of = c .before .before .before .before .before .before .before .before .before .sites-of in
     let all-sent = c .before .before .before .before .before .before .before .before .all-sent in
-    all-corrected (p .0) (p .1) (a .column) (a .a) (a .remainder) (p .3) (locate .result) (rw (c .before .before .before .before .before .before .before .before .before .before .before .t .ensures) at (locate .ensures)) (spots-of .ensures .0)
-    (sym (all-sent .ensures) ∙ not-false (all-sent .result) (c .before .before .before .before .before .before .before .if2 .left)) (c .before .before .before .before .flip-all .ensures) (spots-of .ensures .1)
+    all-corrected (p .0) (p .1) (a .column) (a .a) (a .remainder) (p .3) (locate .result) (rw (c .before .before .before .before .before .before .before .before .before .before .before .t .ensures) at (locate .ensures)) (sites-of .ensures .0)
+    (sym (all-sent .ensures) ∙ not-false (all-sent .result) (c .before .before .before .before .before .before .before .if2 .left)) (c .before .before .before .before .flip-all .ensures) (sites-of .ensures .1)
 
 pub correct-word-spec : {M : Type 1} → statement M
 correct-word-spec =
     tie.close
-    (tie.spec returns (λ c κs. search needs) (λ c κs. search needs) locate-requires spots-of-requires (λ c κs. search needs) returns-2
+    (tie.spec returns (λ c κs. search needs) (λ c κs. search needs) locate-requires sites-of-requires (λ c κs. search needs) returns-2
     flip-all-requires (λ c. search needs) (λ c. search needs) returns-3)

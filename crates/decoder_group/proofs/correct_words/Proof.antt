@@ -9,7 +9,7 @@ use Rattle.staircase.specs.Decoder.{Progress, round}
 use Rattle.design.specs.Sizes.{paramsOf, listsOf}
 use Rattle.staircase.specs.Frame.{frameOf}
 use Rattle.decoder_group.specs.Sites.{wordSites, lineWords}
-use Rattle.decoder_group.specs.Ready.{remainderOf}
+use Rattle.decoder_group.specs.GroupReady.{remainderOf}
 use Rattle.decoder_group.proofs.Passes.{kept-fits, pass-none, pass-more, pass-few, remainder-kept, remainder-at}
 use Rattle.decoder_group.proofs.correct_words.Statement.{statement}
 use Rattle.decoder_group.proofs.correct_words.Tie as tie

@@ -6,7 +6,7 @@ use native.Mathlib.Omega.{arith}
 use lib.ListN.{length}
 use Rattle.staircase.specs.Frame.{frameOf}
 use Rattle.staircase.specs.Decoder.{flipAll}
-use Rattle.decoder_group.specs.declared.Spot.{Spot}
+use Rattle.decoder_group.specs.declared.BitSite.{BitSite}
 use Rattle.decoder_group.specs.Sites.{sitesOf, Inside}
 use borrow.Author.Needs.{needs}
 use Rattle.decoder_group.proofs.flip_at.Statement.{statement}
@@ -17,7 +17,7 @@ unfolding Inside
 slice-read-info c =
     let start = c .before .before .before .before in
     let at = c .before .before .at in
-    omega (arith, subst (λ (z : Spot). Inside z (length (start .args .info .now)) (length (start .args .red .now))) (at .given .1) (start .pre .0))
+    omega (arith, subst (λ (z : BitSite). Inside z (length (start .args .info .now)) (length (start .args .red .now))) (at .given .1) (start .pre .0))
 
 sub-info : tie.Need-sub-info
 sub-info c = le-of-suc-le-suc (c .before .before .before .before .pre .1 _)
@@ -27,14 +27,14 @@ unfolding Inside
 slice-write-info c =
     let start = c .before .before .before .before in
     let at = c .before .before .at in
-    omega (arith, subst (λ (z : Spot). Inside z (length (start .args .info .now)) (length (start .args .red .now))) (at .given .1) (start .pre .0))
+    omega (arith, subst (λ (z : BitSite). Inside z (length (start .args .info .now)) (length (start .args .red .now))) (at .given .1) (start .pre .0))
 
 slice-read-red : tie.Need-slice-read-red
 unfolding Inside
 slice-read-red c =
     let start = c .before .before .before .before in
     let at2 = c .before .before .at2 in
-    omega (arith, subst (λ (z : Spot). Inside z (length (start .args .info .now)) (length (start .args .red .now))) (at2 .given .1) (start .pre .0))
+    omega (arith, subst (λ (z : BitSite). Inside z (length (start .args .info .now)) (length (start .args .red .now))) (at2 .given .1) (start .pre .0))
 
 sub-red : tie.Need-sub-red
 sub-red c = le-of-suc-le-suc (c .before .before .before .before .pre .2 _)
@@ -44,31 +44,31 @@ unfolding Inside
 slice-write-red c =
     let start = c .before .before .before .before in
     let at2 = c .before .before .at2 in
-    omega (arith, subst (λ (z : Spot). Inside z (length (start .args .info .now)) (length (start .args .red .now))) (at2 .given .1) (start .pre .0))
+    omega (arith, subst (λ (z : BitSite). Inside z (length (start .args .info .now)) (length (start .args .red .now))) (at2 .given .1) (start .pre .0))
 
 returns : tie.Need-returns
 unfolding sitesOf flipAll
 returns c =
     let start = c .before .before in
-    ap (λ (z : Spot). flipAll (sitesOf z) (frameOf (start .args .info .now) (start .args .red .now))) (sym (c .enum-told .given .1))
+    ap (λ (z : BitSite). flipAll (sitesOf z) (frameOf (start .args .info .now) (start .args .red .now))) (sym (c .enum-told .given .1))
 
 returns-2 : tie.Need-returns-2
 unfolding sitesOf flipAll
 returns-2 c =
     let start = c .before .before in
-    ap (λ (z : Spot). flipAll (sitesOf z) (frameOf (start .args .info .now) (start .args .red .now))) (sym (c .enum-told2 .given .1))
+    ap (λ (z : BitSite). flipAll (sitesOf z) (frameOf (start .args .info .now) (start .args .red .now))) (sym (c .enum-told2 .given .1))
 
 returns-3 : tie.Need-returns-3
 unfolding sitesOf flipAll
 returns-3 c =
     let start = c .before .before .before .before in
-    ap (λ (z : Spot). flipAll (sitesOf z) (frameOf (start .args .info .now) (start .args .red .now))) (sym (c .before .before .at .given .1))
+    ap (λ (z : BitSite). flipAll (sitesOf z) (frameOf (start .args .info .now) (start .args .red .now))) (sym (c .before .before .at .given .1))
 
 returns-4 : tie.Need-returns-4
 unfolding sitesOf flipAll
 returns-4 c =
     let start = c .before .before .before .before in
-    ap (λ (z : Spot). flipAll (sitesOf z) (frameOf (start .args .info .now) (start .args .red .now))) (sym (c .before .before .at2 .given .1))
+    ap (λ (z : BitSite). flipAll (sitesOf z) (frameOf (start .args .info .now) (start .args .red .now))) (sym (c .before .before .at2 .given .1))
 
 pub flip-at-spec : {M : Type 1} → statement M
 flip-at-spec =

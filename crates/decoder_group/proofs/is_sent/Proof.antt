@@ -2,7 +2,7 @@
 -- Assumes nothing.
 use mathlib.Core.Path.{sym, ap}
 use Rattle.staircase.specs.Decoder.{allSent}
-use Rattle.decoder_group.specs.declared.Spot.{Spot}
+use Rattle.decoder_group.specs.declared.BitSite.{BitSite}
 use Rattle.decoder_group.specs.Sites.{sitesOf}
 use borrow.Author.Needs.{needs}
 use Rattle.decoder_group.proofs.is_sent.Statement.{statement}
@@ -10,19 +10,19 @@ use Rattle.decoder_group.proofs.is_sent.Tie as tie
 
 returns : tie.Need-returns
 unfolding sitesOf
-returns c = ap (λ (z : Spot). allSent (sitesOf z)) (sym (c .enum-told .given .1))
+returns c = ap (λ (z : BitSite). allSent (sitesOf z)) (sym (c .enum-told .given .1))
 
 returns-2 : tie.Need-returns-2
 unfolding sitesOf
-returns-2 c = ap (λ (z : Spot). allSent (sitesOf z)) (sym (c .enum-told2 .given .1))
+returns-2 c = ap (λ (z : BitSite). allSent (sitesOf z)) (sym (c .enum-told2 .given .1))
 
 returns-3 : tie.Need-returns-3
 unfolding sitesOf
-returns-3 c = ap (λ (z : Spot). allSent (sitesOf z)) (sym (c .enum-told3 .given .1))
+returns-3 c = ap (λ (z : BitSite). allSent (sitesOf z)) (sym (c .enum-told3 .given .1))
 
 returns-4 : tie.Need-returns-4
 unfolding sitesOf
-returns-4 c = ap (λ (z : Spot). allSent (sitesOf z)) (sym (c .enum-told4 .given .1))
+returns-4 c = ap (λ (z : BitSite). allSent (sitesOf z)) (sym (c .enum-told4 .given .1))
 
 pub is-sent-spec : {M : Type 1} → statement M
 is-sent-spec =

@@ -8,13 +8,13 @@ use Rattle.design.specs.Sizes.{paramsOf, listsOf}
 use Rattle.words.specs.Words.{nonzeros}
 use Rattle.decoder_group.specs.Sites.{lineWords}
 use Rattle.decoder_group.proofs.Passes.{kept-fits, remainder-at}
-use Rattle.decoder_rounds.proofs.Groups.{received-of, table-of, line-few}
+use Rattle.decoder_rounds.proofs.Groups.{received-of, positions-of, line-few}
 use borrow.Author.Needs.{needs}
 use Rattle.decoder_rounds.proofs.correct_lines.Statement.{statement}
 use Rattle.decoder_rounds.proofs.correct_lines.Tie as tie
 
 line-remainders-requires : tie.Need-line-remainders-requires
-line-remainders-requires c κs = let p = c .before .before .before .before .before .before .before .before .before .before .before .before .before .pre in (received-of (p .0) (p .1), p .0 .group, table-of (p .0), p .2, p .3)
+line-remainders-requires c κs = let p = c .before .before .before .before .before .before .before .before .before .before .before .before .before .pre in (received-of (p .0) (p .1), p .0 .group, positions-of (p .0), p .2, p .3)
 
 correct-words-requires : tie.Need-correct-words-requires
 correct-words-requires c κs = let p = c .before .before .before .before .before .before .before .before .before .before .before .before .before .before .before .before .before .before .before .before .before .before .before .pre in (p .0, p .1, c .before .before .before .before .before .before .before .before .before .line-remainders .ensures)

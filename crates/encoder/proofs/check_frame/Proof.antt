@@ -6,7 +6,7 @@ use Rattle.design.specs.Sizes.{paramsOf}
 use Rattle.design.proofs.Answers.{refused-then, passed-then, check-passed}
 use Rattle.rules.specs.Lengths.{lengthsOf, frameRules}
 use Rattle.encoder.specs.Checks.{encodeRules}
-use Rattle.encoder.proofs.Verdict.{frame-sized}
+use Rattle.encoder.proofs.EncodeCall.{frame-sized}
 use borrow.Author.Needs.{needs}
 use Rattle.encoder.proofs.check_frame.Statement.{statement}
 use Rattle.encoder.proofs.check_frame.Tie as tie

@@ -4,7 +4,7 @@ use borrow.Author.Needs.{needs}
 use mathlib.Core.Path.{sym, _∙_}
 use lib.ListN.{length}
 use Rattle.design.proofs.Answers.{check-passed, made-allowed}
-use Rattle.encoder.proofs.Verdict.{encodable, encode-design, encode-frame, encode-made}
+use Rattle.encoder.proofs.EncodeCall.{encodable, encode-design, encode-frame, encode-made}
 use Rattle.encoder.proofs.encode.Statement.{statement}
 use Rattle.encoder.proofs.encode.Tie as tie
 

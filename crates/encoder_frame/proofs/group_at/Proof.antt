@@ -52,7 +52,7 @@ make-group-requires c κs =
     let before = c .before .before .before .before .before .block-of in
     let has-even = c .before .is-sent2 in
     let has-before = c .before .before .is-sent in
-    lent-from (a .blocks) (a .size) (a .r) (a .info .now) (a .table .now) (a .sources .now) (a .inverse .now) (a .i) (odd .result .now) (even .result .now) (before .result .now) (has-even .result) (has-before .result) (odd .ensures) (even .ensures) (before .ensures) (has-even .ensures) (has-before .ensures) (p .0) (p .1) (a .out .now) (p .2)
+    lent-from (a .blocks) (a .size) (a .r) (a .info .now) (a .positions .now) (a .preimages .now) (a .inverse .now) (a .i) (odd .result .now) (even .result .now) (before .result .now) (has-even .result) (has-before .result) (odd .ensures) (even .ensures) (before .ensures) (has-even .ensures) (has-before .ensures) (p .0) (p .1) (a .out .now) (p .2)
 
 returns : tie.Need-returns
 returns c =
@@ -62,7 +62,7 @@ returns c =
     let before = c .before .before .before .before .before .before .before .before .block-of in
     let has-even = c .before .before .before .before .is-sent2 in
     let has-before = c .before .before .before .before .before .is-sent in
-    group-from (a .blocks) (a .size) (a .r) (a .info .now) (a .table .now) (a .sources .now) (a .inverse .now) (a .i) (odd .result .now) (even .result .now) (before .result .now) (has-even .result) (has-before .result) (odd .ensures) (even .ensures) (before .ensures) (has-even .ensures) (has-before .ensures) _ (c .before .before .make-group .ensures)
+    group-from (a .blocks) (a .size) (a .r) (a .info .now) (a .positions .now) (a .preimages .now) (a .inverse .now) (a .i) (odd .result .now) (even .result .now) (before .result .now) (has-even .result) (has-before .result) (odd .ensures) (even .ensures) (before .ensures) (has-even .ensures) (has-before .ensures) _ (c .before .before .make-group .ensures)
 
 pub group-at-spec : {M : Type 1} → statement M
 group-at-spec =

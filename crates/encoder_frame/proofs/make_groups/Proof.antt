@@ -14,12 +14,12 @@ use Rattle.encoder_frame.proofs.make_groups.Statement.{statement}
 use Rattle.encoder_frame.proofs.make_groups.Tie as tie
 
 abbrev Inv-loop : tie.InvT-loop
-Inv-loop info blocks table sources inverse size r red₀ w count i₀ red i =
+Inv-loop info blocks positions preimages inverse size r red₀ w count i₀ red i =
     (count ≡ groups blocks) × (i ≤ groups blocks) × (length red ≡ groups blocks * (2 * (size * r)))
-    × (red ≡ stretches (groupFrom table sources inverse size r blocks info) red₀ (2 * (size * r)) i)
+    × (red ≡ stretches (groupFrom positions preimages inverse size r blocks info) red₀ (2 * (size * r)) i)
 
 abbrev μ-loop : tie.MeasureT-loop
-μ-loop info blocks table sources inverse size r red₀ w count i₀ red i = groups blocks - i
+μ-loop info blocks positions preimages inverse size r red₀ w count i₀ red i = groups blocks - i
 
 mul-w : tie.Need-mul-w Inv-loop μ-loop
 mul-w c = omega (arith, c .before .before .before .before .before .pre .0 .tables .small)
@@ -33,7 +33,7 @@ group-count-requires c κs = c .before .before .before .before .before .pre .0 .
 loop-holds : tie.Need-loop-holds Inv-loop μ-loop
 loop-holds c =
     let a = c .before .before .before .before .before .before .args in
-    let f = groupFrom (a .table .now) (a .sources .now) (a .inverse .now) (a .size) (a .r) (a .blocks) (a .info .now) in (
+    let f = groupFrom (a .positions .now) (a .preimages .now) (a .inverse .now) (a .size) (a .r) (a .blocks) (a .info .now) in (
       c .group-count .ensures,
       omega arith,
       c .before .before .before .before .before .before .pre .1,
@@ -78,8 +78,8 @@ loop-again : tie.Need-loop-again Inv-loop μ-loop
 loop-again c =
     let a = c .before .before .before .before .before .before .before .before .before .before .before .before .args in
     let l = c .before .before .before .before .before .loop in
-    let f = groupFrom (a .table .now) (a .sources .now) (a .inverse .now) (a .size) (a .r) (a .blocks) (a .info .now) in
-    let wide = groupFrom-length (a .table .now) (a .sources .now) (a .inverse .now) (a .size) (a .r) (a .blocks) (a .info .now) in (
+    let f = groupFrom (a .positions .now) (a .preimages .now) (a .inverse .now) (a .size) (a .r) (a .blocks) (a .info .now) in
+    let wide = groupFrom-length (a .positions .now) (a .preimages .now) (a .inverse .now) (a .size) (a .r) (a .blocks) (a .info .now) in (
       omega arith,
       omega arith,
       omega arith,
@@ -94,7 +94,7 @@ returns c =
     let s = c .before .before .before .before .before .before .before .before in
     let a = s .args in
     let l = c .before .loop in
-    let f = groupFrom (a .table .now) (a .sources .now) (a .inverse .now) (a .size) (a .r) (a .blocks) (a .info .now) in
+    let f = groupFrom (a .positions .now) (a .preimages .now) (a .inverse .now) (a .size) (a .r) (a .blocks) (a .info .now) in
     l .inv .3 ∙ stretches-all f (a .red .now) (2 * (a .size * a .r)) (l .i) (groups (a .blocks)) (omega arith) (s .pre .1)
 
 pub make-groups-spec : {M : Type 1} → statement M

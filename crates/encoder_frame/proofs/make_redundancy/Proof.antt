@@ -13,11 +13,11 @@ use Rattle.encoder_frame.proofs.WholeFrame.{red-long, frame-ready, fram
 use Rattle.encoder_frame.proofs.make_redundancy.Statement.{statement}
 use Rattle.encoder_frame.proofs.make_redundancy.Tie as tie
 
-part-table-end : tie.Need-part-table-end
-part-table-end c = let s = c .before .before .before .before .before .before .before .before in omega (arith, bits-small (s .args .d) (s .pre .allowed))
+part-positions-end : tie.Need-part-positions-end
+part-positions-end c = let s = c .before .before .before .before .before .before .before .before in omega (arith, bits-small (s .args .d) (s .pre .allowed))
 
-fill-inverse-requires : tie.Need-fill-inverse-requires
-fill-inverse-requires c κs =
+fill-preimages-requires : tie.Need-fill-preimages-requires
+fill-preimages-requires c κs =
     let s = c .before .before .before .before .before .before .before .before .before .before .before .before in
     let order = c .before .before .before .before .before .before .before .order in (
       omega (arith, s .pre .parityLength, order .ensures .0),
@@ -33,14 +33,14 @@ part-make-groups-end c =
     part-fits (x .last .1 .0) _ _ all
 
 part-make-groups-end-2 : tie.Need-part-make-groups-end-2
-part-make-groups-end-2 c = let f = c .before .before .before .before .fill-inverse in part-fits (f .last .1 .1 .0) _ _ (f .ensures .0)
+part-make-groups-end-2 c = let f = c .before .before .before .before .fill-preimages in part-fits (f .last .1 .1 .0) _ _ (f .ensures .0)
 
 make-groups-requires : tie.Need-make-groups-requires
 make-groups-requires c κs =
     let h = c .before .before .before .before .before .before .before .before .before .before .before .before .before .before .before .before .before .before .before .pre in
     let r = c .before .before .before .before .before .before .before .before .before .before .before .before .before .r .ensures .0 in
     let x = c .before .before .before .before .before .before .before .before .before .fill-table in
-    let f = c .before .before .before .before .before .before .fill-inverse in
+    let f = c .before .before .before .before .before .before .fill-preimages in
     let all : length (x .last .1 .0) ≡ c .before .before .before .before .before .before .before .before .before .before .before .before .n .result = omega arith in
     rw (c .before .before .before .before .before .before .before .before .before .before .before .size .ensures) (
       frame-ready h r (c .before .before .before .before .before .before .before .before .before .before .before .before .before .before .order .ensures .0) (part-is (x .last .1 .0) _ _ all) (part-is (f .last .1 .1 .0) _ _ (f .ensures .0)) (all ∙ c .before .before .before .before .before .before .before .before .before .before .before .before .n .ensures .0) (f .ensures .0) (f .ensures .1),
@@ -50,7 +50,7 @@ make-groups-requires c κs =
 returns : tie.Need-returns
 returns c =
     let x = c .before .before .before .before .before .before .before .before .before .before .before .before .fill-table in
-    let f = c .before .before .before .before .before .before .before .before .before .fill-inverse in
+    let f = c .before .before .before .before .before .before .before .before .before .fill-preimages in
     let all : length (x .last .1 .0) ≡ c .before .before .before .before .before .before .before .before .before .before .before .before .before .before .before .n .result = omega arith in
     frame-made (c .before .before .before .before .before .before .before .before .before .before .before .before .before .before .before .before .before .before .before .before .before .before .pre) (c .before .before .before .before .before .before .before .before .before .before .before .before .before .before .before .before .r .ensures .0) (c .before .before .before .before .before .before .before .before .before .before .before .before .before .before .before .before .before .order .ensures .0) (part-is (x .last .1 .0) _ _ all) (part-is (f .last .1 .1 .0) _ _ (f .ensures .0))
     (all ∙ c .before .before .before .before .before .before .before .before .before .before .before .before .before .before .before .n .ensures .0) (f .ensures .0) (f .ensures .1) (x .ensures .0) (rw (c .before .before .before .before .before .before .before .before .before .before .before .before .before .before .size .ensures) at (c .before .before .make-groups .ensures))
@@ -59,6 +59,6 @@ pub make-redundancy-spec : {M : Type 1} → statement M
 make-redundancy-spec =
     tie.close
     (tie.spec (λ c κs. search needs) (λ c κs. search needs) (λ c κs. search needs) (λ c κs. search needs) (λ c. search needs) (λ c. search needs)
-    part-table-end (λ c κs. search needs) (λ c. search needs) (λ c. search needs) (λ c. search needs) fill-inverse-requires (λ c. search needs)
+    part-positions-end (λ c κs. search needs) (λ c. search needs) (λ c. search needs) (λ c. search needs) fill-preimages-requires (λ c. search needs)
     (λ c. search needs) part-make-groups-end (λ c. search needs) (λ c. search needs) part-make-groups-end-2 make-groups-requires (λ c. search needs)
     returns)

@@ -34,12 +34,12 @@ add-result : tie.Need-add-result
 add-result c =
     let s = c .before .before .before .before .before .before .before in
     let a = s .args in
-    omega (arith, s .pre .2 (getD (a .sources .now) (a .k % a .r * a .size + a .k / a .r) 0))
+    omega (arith, s .pre .2 (getD (a .preimages .now) (a .k % a .r * a .size + a .k / a .r) 0))
 
 returns : tie.Need-returns
 returns c =
     let a = c .before .before .before .before .before .before .before .args in
-    let y : ℕ = getD (a .q .now) (getD (a .sources .now) (a .k % a .r * a .size + a .k / a .r) 0) 0 in
+    let y : ℕ = getD (a .q .now) (getD (a .preimages .now) (a .k % a .r * a .size + a .k / a .r) 0) 0 in
     (ap (λ (x : ℕ). bitSum x y) (c .before .digit-of .ensures .0), omega arith)
 
 pub constant-entry-spec : {M : Type 1} → statement M

@@ -12,14 +12,14 @@ use Rattle.encoder_solution.proofs.constant_in.Statement.{statement}
 use Rattle.encoder_solution.proofs.constant_in.Tie as tie
 
 abbrev Inv-loop : tie.InvT-loop
-Inv-loop columns rows sources size r q c₀ k₀ k-end c k =
-    (k-end ≡ size * r) × (k ≤ size * r) × (length c ≡ rowBytes (size * r)) × PackedUpTo (constantBit columns rows sources size r) c k
+Inv-loop columns rows preimages size r q c₀ k₀ k-end c k =
+    (k-end ≡ size * r) × (k ≤ size * r) × (length c ≡ rowBytes (size * r)) × PackedUpTo (constantBit columns rows preimages size r) c k
 
 abbrev μ-loop : tie.MeasureT-loop
-μ-loop columns rows sources size r q c₀ k₀ k-end c k = size * r - k
+μ-loop columns rows preimages size r q c₀ k₀ k-end c k = size * r - k
 
-parity-bits-requires : tie.Need-parity-bits-requires Inv-loop μ-loop
-parity-bits-requires c κs = omega arith
+p-bits-requires : tie.Need-p-bits-requires Inv-loop μ-loop
+p-bits-requires c κs = omega arith
 
 clear-requires : tie.Need-clear-requires Inv-loop μ-loop
 clear-requires c κs = tt
@@ -35,7 +35,7 @@ loop-holds c =
       omega arith,
       omega arith,
       ap length e ∙ length-replicate _ _ ∙ s .pre .4,
-      rw e (packed-none (constantBit (a .columns .now) (a .rows .now) (a .sources .now) (a .size) (a .r)) (length (a .c .now))),
+      rw e (packed-none (constantBit (a .columns .now) (a .rows .now) (a .preimages .now) (a .size) (a .r)) (length (a .c .now))),
     )
 
 constant-entry-requires : tie.Need-constant-entry-requires Inv-loop μ-loop
@@ -43,7 +43,7 @@ constant-entry-requires c κs =
     let s = c .before .before .before .before .before .before .before .before .before .before .before .before .before .before .before .before .before in
     let a = s .args in
     let k = c .before .before .before .loop .k in
-    let q = c .before .before .before .before .before .before .before .before .before .before .parity-bits in
+    let q = c .before .before .before .before .before .before .before .before .before .before .p-bits in
     let e = stack-entry (a .size) (a .r) k (omega arith) (omega arith) in (
       omega arith,
       omega (arith, s .pre .3, c .before .before .before .before .before .before .before .before .before .q .given),
@@ -71,14 +71,14 @@ loop-again c =
     let a = s .args in
     let l = c .before .before .before .before .before .before .before .loop in
     let e = stack-entry (a .size) (a .r) (l .k) (omega arith) (omega arith) in
-    let q = c .before .before .before .before .before .before .before .before .before .before .before .before .before .before .parity-bits in
+    let q = c .before .before .before .before .before .before .before .before .before .before .before .before .before .before .p-bits in
     let v = c .before .before .before .constant-entry in
     let added = c .before .before .add-bit in (
       omega arith,
       omega arith,
       added .ensures .0 ∙ l .inv .2,
-      packed-more (constantBit (a .columns .now) (a .rows .now) (a .sources .now) (a .size) (a .r)) (l .c) (added .last .0) (l .k) (v .result)
-          (constantBit-sum (a .rows .now) (q .last .1 .1 .1 .0) (a .size) (a .r) (q .ensures) (a .columns .now) (a .sources .now) (l .k) (v .result)
+      packed-more (constantBit (a .columns .now) (a .rows .now) (a .preimages .now) (a .size) (a .r)) (l .c) (added .last .0) (l .k) (v .result)
+          (constantBit-sum (a .rows .now) (q .last .1 .1 .1 .0) (a .size) (a .r) (q .ensures) (a .columns .now) (a .preimages .now) (l .k) (v .result)
           (s .pre .9 (l .k % a .r * a .size + l .k / a .r) (omega (arith, e))) (v .ensures .0))
           (v .ensures .1) (l .inv .3) (added .ensures .1),
     )
@@ -98,5 +98,5 @@ returns c =
 pub constant-in-spec : {M : Type 1} → statement M
 constant-in-spec =
     tie.close
-    (tie.spec Inv-loop μ-loop parity-bits-requires clear-requires mul-k-end loop-holds constant-entry-requires add-bit-requires add-k loop-less
+    (tie.spec Inv-loop μ-loop p-bits-requires clear-requires mul-k-end loop-holds constant-entry-requires add-bit-requires add-k loop-less
     loop-again same-length same-length-2 returns)

@@ -5,7 +5,7 @@ use mathlib.Core.List.{[]}
 use lib.ListN.{length}
 use Rattle.design.proofs.Answers.{refused-then, passed-then, check-passed, made-allowed}
 use Rattle.rules.specs.Lengths.{lengthsOf, lengthsRule}
-use Rattle.kit.proofs.Verdict.{kit-sized, kit-refused, kit-judged}
+use Rattle.kit.proofs.KitCall.{kit-sized, kit-refused, kit-judged}
 use borrow.Author.Needs.{needs}
 use Rattle.kit.proofs.check_kit.Statement.{statement}
 use Rattle.kit.proofs.check_kit.Tie as tie

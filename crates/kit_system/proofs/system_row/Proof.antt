@@ -8,7 +8,7 @@ use Rattle.staircase.specs.Lists.{sumBits}
 use Rattle.staircase.specs.Rules.{entries}
 use Rattle.matrix.specs.Packed.{packedBit}
 use Rattle.matrix.proofs.Packed.{packedBit-zeros}
-use Rattle.kit_system.specs.Rows.{digit, rowTerm, rowEntry}
+use Rattle.kit_system.specs.Rows.{powerDigit, rowTerm, rowEntry}
 use Rattle.kit_system.proofs.Terms.{Sized, sized, sum-more}
 use Rattle.kit_system.proofs.system_row.Statement.{statement}
 use Rattle.kit_system.proofs.system_row.Tie as tie
@@ -16,7 +16,7 @@ use Rattle.kit_system.proofs.system_row.Tie as tie
 abbrev Inv-loop : tie.InvT-loop
 Inv-loop out₀ own n part size p e r b₀ out b =
     Sized size (length part) e p × (b ≤ length part) × (length out ≡ length out₀)
-    × ((k : ℕ) → packedBit out k ≡ sumBits b (rowTerm (digit part) (length part) (entries n own) size p e k))
+    × ((k : ℕ) → packedBit out k ≡ sumBits b (rowTerm (powerDigit part) (length part) (entries n own) size p e k))
 
 abbrev μ-loop : tie.MeasureT-loop
 μ-loop out₀ own n part size p e r b₀ out b = length part - b
@@ -89,7 +89,7 @@ loop-again c =
       l .inv .0,
       omega arith,
       second .0 ∙ first .0 ∙ l .inv .2,
-      λ k. sum-more (rowTerm (digit (a .part .now)) (length (a .part .now)) (entries (a .n) (a .own .now)) (a .size) (a .p) (a .e) k) (l .b) _ _ _ _ _
+      λ k. sum-more (rowTerm (powerDigit (a .part .now)) (length (a .part .now)) (entries (a .n) (a .own .now)) (a .size) (a .p) (a .e) k) (l .b) _ _ _ _ _
           (l .inv .3 k) (first .1 k) (second .1 k) (sym (rw (v, w, place))),
     )
 

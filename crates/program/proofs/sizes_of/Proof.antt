@@ -4,7 +4,7 @@ use Prim.Native.Nat.{_*_}
 use native.Mathlib.Omega.{arith}
 use Rattle.staircase.specs.Design.{most-blocks}
 use Rattle.staircase.proofs.Bounds.{small-product}
-use Rattle.program.proofs.Ready.{sizes-are}
+use Rattle.program.proofs.ProgramReady.{sizes-are}
 use borrow.Author.Needs.{needs}
 use Rattle.program.proofs.sizes_of.Statement.{statement}
 use Rattle.program.proofs.sizes_of.Tie as tie

@@ -1,7 +1,7 @@
 -- The arrays are long enough for the parts that are lent.
 -- Assumes nothing.
 use mathlib.Core.Path.{sym, _∙_}
-use Rattle.program.proofs.Ready.{few-blocks, list-room, inverse-room, info-room, red-room, ready}
+use Rattle.program.proofs.ProgramReady.{few-blocks, list-room, inverse-room, info-room, red-room, ready}
 use borrow.Author.Needs.{needs}
 use Rattle.program_frame.proofs.frame_arrays.Statement.{statement}
 use Rattle.program_frame.proofs.frame_arrays.Tie as tie

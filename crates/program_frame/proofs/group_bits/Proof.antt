@@ -1,6 +1,6 @@
 -- The array is long enough.
 -- Assumes nothing.
-use Rattle.program.proofs.Ready.{room-for}
+use Rattle.program.proofs.ProgramReady.{room-for}
 use Rattle.program_frame.proofs.group_bits.Statement.{statement}
 use Rattle.program_frame.proofs.group_bits.Tie as tie
 

@@ -1,6 +1,6 @@
 -- The array is long enough.
 -- Assumes nothing.
-use Rattle.program.proofs.Ready.{room-for}
+use Rattle.program.proofs.ProgramReady.{room-for}
 use Rattle.program_mend.proofs.entry_bytes.Statement.{statement}
 use Rattle.program_mend.proofs.entry_bytes.Tie as tie
 

@@ -1,7 +1,7 @@
 -- The arrays are long enough for the parts that are lent.
 -- Assumes nothing.
 use mathlib.Core.Path.{sym, _∙_}
-use Rattle.program.proofs.Ready.{few-blocks, order-room, list-room, inverse-room, info-room, ready}
+use Rattle.program.proofs.ProgramReady.{few-blocks, order-room, list-room, inverse-room, info-room, ready}
 use Rattle.program_mend.proofs.Mending.{red-room}
 use borrow.Author.Needs.{needs}
 use Rattle.program_mend.proofs.mend_arrays.Statement.{statement}

@@ -14,7 +14,7 @@ add-rows-requires c κs =
     let s = c .before .before .before .before .before .before in
     let a = s .args in
     let n = a .r * length (a .sums .now) in (
-      row-length (a .bits .now) (a .at) n (s .pre .0) ∙ sym (ap (λ (k : ℕ). k * length (a .sums .now)) (row-length (a .table .now) (a .from) (a .r) (s .pre .2))),
+      row-length (a .bits .now) (a .at) n (s .pre .0) ∙ sym (ap (λ (k : ℕ). k * length (a .sums .now)) (row-length (a .positions .now) (a .from) (a .r) (s .pre .2))),
       row-bits (a .bits .now) (a .at) (a .at + n - a .at) (s .pre .1),
     )
 
@@ -23,7 +23,7 @@ returns c =
     let s = c .before .before .before .before .before .before .before .before .before in
     let a = s .args in
     let added = c .before .before .add-rows in
-    columns-added (a .bits .now) (a .table .now) (a .sums .now) (added .last .0) (a .at) (a .from) (a .r) (s .pre .2) (added .ensures)
+    columns-added (a .bits .now) (a .positions .now) (a .sums .now) (added .last .0) (a .at) (a .from) (a .r) (s .pre .2) (added .ensures)
 
 pub add-columns-spec : {M : Type 1} → statement M
 add-columns-spec =

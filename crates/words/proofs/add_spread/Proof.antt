@@ -26,7 +26,7 @@ returns c =
     let g = c .before .before .before .before .before .before .before .gather in
     let added = c .before .before .add-columns in
     spread-added (g .last .1 .1 .1 .0) (a .bits .now) n (λ p. a .at + getD (entries n (a .list .now)) p 0) (g .ensures)
-    (a .table .now) (a .sums .now) (added .last .0) (a .from) (a .r) (s .pre .1) (added .ensures)
+    (a .positions .now) (a .sums .now) (added .last .0) (a .from) (a .r) (s .pre .1) (added .ensures)
 
 pub add-spread-spec : {M : Type 1} → statement M
 add-spread-spec =

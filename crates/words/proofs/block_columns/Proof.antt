@@ -24,7 +24,7 @@ column-sums-requires c κs =
     let n = length (a .columns .now) in
     let odd = c .before .before .before .block-of in
     let even = c .before .before .block-of2 in
-    let block = block-lent (a .blocks) n (a .info .now) (a .table .now) (s .pre .0) in
+    let block = block-lent (a .blocks) n (a .info .now) (a .positions .now) (s .pre .0) in
     let o = block (2 * a .i + 1) (odd .result .now) (odd .ensures) (sent-odd (a .blocks) (a .i) (s .pre .1)) in
     (o .0, o .1, λ e. block (2 * a .i + 2) (even .result .now) (even .ensures) (sym (c .before .is-sent .ensures) ∙ e), s .pre .0 .powers)
 
@@ -36,7 +36,7 @@ returns c =
     let even = c .before .before .before .before .before .block-of2 in
     let has = c .before .before .before .before .is-sent in
     c .before .before .column-sums .ensures
-    ∙ columns-of-blocks (a .blocks) (length (a .columns .now)) (a .info .now) (a .table .now) (a .i) (odd .result .now) (odd .ensures)
+    ∙ columns-of-blocks (a .blocks) (length (a .columns .now)) (a .info .now) (a .positions .now) (a .i) (odd .result .now) (odd .ensures)
     (even .result .now) (has .result) (even .ensures) (has .ensures)
 
 pub block-columns-spec : {M : Type 1} → statement M

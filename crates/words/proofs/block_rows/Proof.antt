@@ -24,7 +24,7 @@ row-sums-requires c κs =
     let n = length (a .rows .now) in
     let before = c .before .before .before .block-of in
     let odd = c .before .before .block-of2 in
-    let block = block-lent (a .blocks) n (a .info .now) (a .table .now) (s .pre .0) in
+    let block = block-lent (a .blocks) n (a .info .now) (a .positions .now) (s .pre .0) in
     let o = block (2 * a .i + 1) (odd .result .now) (odd .ensures) (sent-odd (a .blocks) (a .i) (s .pre .1)) in
     (o .0, o .1, λ e. block (2 * a .i) (before .result .now) (before .ensures) (sym (c .before .is-sent .ensures) ∙ e), s .pre .0 .powers)
 
@@ -36,7 +36,7 @@ returns c =
     let odd = c .before .before .before .before .before .block-of2 in
     let has = c .before .before .before .before .is-sent in
     c .before .before .row-sums .ensures
-    ∙ rows-of-blocks (a .blocks) (length (a .rows .now)) (a .info .now) (a .table .now) (a .i) (odd .result .now) (odd .ensures)
+    ∙ rows-of-blocks (a .blocks) (length (a .rows .now)) (a .info .now) (a .positions .now) (a .i) (odd .result .now) (odd .ensures)
     (before .result .now) (has .result) (before .ensures) (has .ensures)
 
 pub block-rows-spec : {M : Type 1} → statement M

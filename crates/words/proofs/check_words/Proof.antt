@@ -5,7 +5,7 @@ use borrow.Author.Needs.{needs}
 use mathlib.Core.Path.{sym, _∙_}
 use lib.ListN.{length}
 use Rattle.design.proofs.Answers.{check-passed, made-allowed}
-use Rattle.words.proofs.Verdict.{words-design, words-frame, words-counted}
+use Rattle.words.proofs.WordsCall.{words-design, words-frame, words-counted}
 use Rattle.rules.proofs.Accepted.{received, received-work}
 use Rattle.words.specs.Checks.{receivedRules}
 use Rattle.words.proofs.check_words.Statement.{statement}

@@ -13,12 +13,12 @@ use Rattle.words.proofs.count_groups.Statement.{statement}
 use Rattle.words.proofs.count_groups.Tie as tie
 
 abbrev Inv-loop : tie.InvT-loop
-Inv-loop d blocks own parity info red table work₀ sums₀ count total₀ i₀ work sums total i =
+Inv-loop d blocks own parity info red positions work₀ sums₀ count total₀ i₀ work sums total i =
     (count ≡ groups blocks) × (i ≤ count) × (length work ≡ length work₀) × (length sums ≡ length sums₀) × (total ≤ 1000 * i)
     × (total ≡ outsideAmong (paramsOf d) (frameOf info red) (concat i (groupWords (paramsOf d) (listsOf d own parity) blocks)))
 
 abbrev μ-loop : tie.MeasureT-loop
-μ-loop d blocks own parity info red table work₀ sums₀ count total₀ i₀ work sums total i = count - i
+μ-loop d blocks own parity info red positions work₀ sums₀ count total₀ i₀ work sums total i = count - i
 
 group-count-requires : tie.Need-group-count-requires Inv-loop μ-loop
 group-count-requires c κs = c .before .before .before .before .before .before .before .pre .0 .few-blocks

@@ -12,8 +12,8 @@ use Rattle.words_positions.proofs.Parts.{part-fits, part-is}
 use Rattle.words.proofs.count_received.Statement.{statement}
 use Rattle.words.proofs.count_received.Tie as tie
 
-part-table-end : tie.Need-part-table-end
-part-table-end c =
+part-positions-end : tie.Need-part-positions-end
+part-positions-end c =
     let s = c .before .before .before .before .before .before in
     omega (arith, bits-small (s .args .d) (s .pre .0 .allowed))
 
@@ -28,11 +28,11 @@ count-outside-requires c κs =
     let d = s .args .d in
     let x = c .before .before .before .before .fill-table in
     let all : length (c .before .before .before .before .fill-table .last .1 .0) ≡ c .before .before .before .before .before .before .n .result = omega arith in
-    let table = part-is (x .last .1 .0) _ _ all in (
+    let positions = part-is (x .last .1 .0) _ _ all in (
       s .pre .0,
       record {
-        long = ap length table ∙ all ∙ c .before .before .before .before .before .before .n .ensures .0;
-        powers = subst⁻¹ (PositionPowers (generator (d .m) (d .t)) (d .m * d .t)) table (x .ensures .0);
+        long = ap length positions ∙ all ∙ c .before .before .before .before .before .before .n .ensures .0;
+        powers = subst⁻¹ (PositionPowers (generator (d .m) (d .t)) (d .m * d .t)) positions (x .ensures .0);
       },
       s .pre .1,
     )
@@ -40,5 +40,5 @@ count-outside-requires c κs =
 pub count-received-spec : {M : Type 1} → statement M
 count-received-spec =
     tie.close
-    (tie.spec (λ c κs. search needs) (λ c. search needs) (λ c. search needs) part-table-end (λ c κs. search needs) (λ c. search needs)
+    (tie.spec (λ c κs. search needs) (λ c. search needs) (λ c. search needs) part-positions-end (λ c κs. search needs) (λ c. search needs)
     (λ c. search needs) part-count-outside-end count-outside-requires (λ c. search needs) (λ c. search needs))

@@ -7,7 +7,7 @@ use Rattle.staircase.specs.Calls.{countedBy}
 use Rattle.design.specs.Answers.{verdictOf}
 use Rattle.design.proofs.Answers.{check-passed}
 use Rattle.words.specs.Checks.{countedOf}
-use Rattle.words.proofs.Verdict.{counted-refused}
+use Rattle.words.proofs.WordsCall.{counted-refused}
 use Rattle.words.proofs.refused_count.Statement.{statement}
 use Rattle.words.proofs.refused_count.Tie as tie
 

@@ -12,7 +12,7 @@ use Rattle.words_blocks.proofs.add_block.Tie as tie
 returns : tie.Need-returns
 returns c =
     let a = c .before .before .before .before .args in
-    unsent-added (a .sent) (a .column) (a .block .now) (a .table .now) (a .sums .now) (a .from) (not-true (a .sent) (c .if1 .taken))
+    unsent-added (a .sent) (a .column) (a .block .now) (a .positions .now) (a .sums .now) (a .from) (not-true (a .sent) (c .if1 .taken))
 
 add-rows-requires : tie.Need-add-rows-requires
 add-rows-requires c κs =
@@ -20,14 +20,14 @@ add-rows-requires c κs =
     let a = s .args in
     let n = length (a .sums .now) in
     let block = s .pre .0 (not-false (a .sent) (c .before .before .before .if1 .left)) in
-    (square _ _ n n (block .0) (row-length (a .table .now) (a .from) n (s .pre .1)) refl, block .1)
+    (square _ _ n n (block .0) (row-length (a .positions .now) (a .from) n (s .pre .1)) refl, block .1)
 
 returns-2 : tie.Need-returns-2
 returns-2 c =
     let s = c .before .before .before .before .before .before .before .before .before .before in
     let a = s .args in
     let added = c .before .before .add-rows in
-    column-added (a .sent) (a .column) (a .block .now) (a .table .now) (a .sums .now) (a .from) (added .last .0) (s .pre .1)
+    column-added (a .sent) (a .column) (a .block .now) (a .positions .now) (a .sums .now) (a .from) (added .last .0) (s .pre .1)
     (not-false (a .sent) (c .before .before .before .before .before .before .if1 .left)) (c .before .before .before .before .if2 .taken) (added .ensures)
 
 add-dots-requires : tie.Need-add-dots-requires
@@ -36,14 +36,14 @@ add-dots-requires c κs =
     let a = s .args in
     let n = length (a .sums .now) in
     let block = s .pre .0 (not-false (a .sent) (c .before .before .before .if1 .left)) in
-    (square _ n _ n (block .0) refl (row-length (a .table .now) (a .from) n (s .pre .1)), block .1)
+    (square _ n _ n (block .0) refl (row-length (a .positions .now) (a .from) n (s .pre .1)), block .1)
 
 returns-3 : tie.Need-returns-3
 returns-3 c =
     let s = c .before .before .before .before .before .before .before .before .before .before in
     let a = s .args in
     let added = c .before .before .add-dots in
-    row-added (a .sent) (a .column) (a .block .now) (a .table .now) (a .sums .now) (a .from) (added .last .0) (s .pre .1)
+    row-added (a .sent) (a .column) (a .block .now) (a .positions .now) (a .sums .now) (a .from) (added .last .0) (s .pre .1)
     (not-false (a .sent) (c .before .before .before .before .before .before .if1 .left)) (c .before .before .before .before .if2 .left) (added .ensures)
 
 pub add-block-spec : {M : Type 1} → statement M

@@ -5,7 +5,7 @@ use Prim.Native.Nat.{_+_, _-_, _*_, _≤_}
 use native.Mathlib.Omega.{arith}
 use lib.ListN.{length, getD, length-set}
 use Rattle.bch.specs.Powers.{xorSum}
-use Rattle.bch_remainders.proofs.Tables.{Added, added-more}
+use Rattle.bch_remainders.proofs.Powers.{Added, added-more}
 use Rattle.bch_remainders.proofs.Rows.{row-end, row-length, row-bits}
 use Rattle.words_blocks.proofs.Sums.{row-sum}
 use Rattle.words_blocks.proofs.add_dots.Statement.{statement}

@@ -29,7 +29,7 @@ returns c =
     let cleared = c .before .before .before .before .before .before .before .before .before .before .clear in
     let one = c .before .before .before .before .before .before .add-block in
     let two = c .before .before .add-block2 in
-    blocks-added (a .column) (a .table .now) (length (a .sums .now)) (sentBit (a .has-first) (a .first .now)) (sentBit (a .has-second) (a .second .now))
+    blocks-added (a .column) (a .positions .now) (length (a .sums .now)) (sentBit (a .has-first) (a .first .now)) (sentBit (a .has-second) (a .second .now))
     (cleared .last .0) (one .last .0) (two .last .0) (cleared .ensures) (one .ensures) (two .ensures)
 
 pub block-sums-spec : {M : Type 1} → statement M

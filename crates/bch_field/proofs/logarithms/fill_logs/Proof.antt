@@ -5,7 +5,7 @@ use Prim.Native.Nat.{_-_, _^_, _≤_}
 use native.Mathlib.Omega.{arith}
 use lib.ListN.{length}
 use Rattle.bch.proofs.Powers.{powers-length}
-use Rattle.bch_field.proofs.Tables.{sizes, Logged, logged-none, logged-more, logged-all}
+use Rattle.bch_field.proofs.Solved.{sizes, Logged, logged-none, logged-more, logged-all}
 use Rattle.bch_field.proofs.logarithms.fill_logs.Statement.{statement}
 use Rattle.bch_field.proofs.logarithms.fill_logs.Tie as tie
 

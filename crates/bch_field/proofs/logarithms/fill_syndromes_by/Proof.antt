@@ -6,7 +6,7 @@ use native.Mathlib.Omega.{arith}
 use lib.ListN.{length, getD, length-set}
 use Rattle.bch.specs.Locator.{powerSyndromes}
 use Rattle.bch.proofs.Store.{set-each}
-use Rattle.bch_field.proofs.Tables.{sizes}
+use Rattle.bch_field.proofs.Solved.{sizes}
 use Rattle.bch_field.proofs.logarithms.fill_syndromes_by.Statement.{statement}
 use Rattle.bch_field.proofs.logarithms.fill_syndromes_by.Tie as tie
 

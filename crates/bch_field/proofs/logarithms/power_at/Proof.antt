@@ -3,7 +3,7 @@
 use native.Mathlib.Omega.{arith}
 use Rattle.bch.proofs.Locator.{power-below}
 use Rattle.bch.proofs.Powers.{powers-length, powers-at}
-use Rattle.bch_field.proofs.Tables.{sizes}
+use Rattle.bch_field.proofs.Solved.{sizes}
 use Rattle.bch_field.proofs.logarithms.power_at.Statement.{statement}
 use Rattle.bch_field.proofs.logarithms.power_at.Tie as tie
 

@@ -5,7 +5,7 @@ use native.Mathlib.Omega.{arith}
 use lib.Bits.{bitXor, xor-lt}
 use lib.ListN.{length}
 use Rattle.bch.proofs.Powers.{powers-length}
-use Rattle.bch_field.proofs.Tables.{sizes, solution-made}
+use Rattle.bch_field.proofs.Solved.{sizes, solution-made}
 use Rattle.bch_field.proofs.logarithms.solved_by.Statement.{statement}
 use Rattle.bch_field.proofs.logarithms.solved_by.Tie as tie
 

@@ -6,7 +6,7 @@ use native.Mathlib.Omega.{arith}
 use borrow.Author.Needs.{needs}
 use lib.ListN.{length}
 use Rattle.bch.proofs.Powers.{powers-length}
-use Rattle.bch_field.proofs.Tables.{sizes, cube-exponent}
+use Rattle.bch_field.proofs.Solved.{sizes, cube-exponent}
 use Rattle.bch_field.proofs.logarithms.syndromes_of.Statement.{statement}
 use Rattle.bch_field.proofs.logarithms.syndromes_of.Tie as tie
 

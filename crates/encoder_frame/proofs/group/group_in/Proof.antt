@@ -55,7 +55,7 @@ group-bits-requires c κs =
     let T = s .pre .0 in (
       T .packed,
       c .before .before .before .before .before .before .constant-bits .ensures .0 ∙ s .pre .4,
-      part-length (a .table .now) (2 * a .size) (2 * a .size + a .r) (a .r) (omega arith) (omega arith),
+      part-length (a .positions .now) (2 * a .size) (2 * a .size + a .r) (a .r) (omega arith) (omega arith),
       omega (arith, c .before .before .before .before .before .before .before .before .before .before .before .before .before .before .before .columns .given),
       s .pre .1 .room,
       T .some-columns,
@@ -72,7 +72,7 @@ returns c =
     let rows = c .before .before .before .before .before .before .before .before .before .before .before .before .before .before .before .before .before .row-sums in
     let constant = c .before .before .before .before .before .before .before .before .before .before .before .constant-bits in
     let made = c .before .before .before .before .group-bits in
-    group-made (a .table .now) (a .sources .now) (a .inverse .now)
+    group-made (a .positions .now) (a .preimages .now) (a .inverse .now)
     (constant .last .1 .1 .1 .1 .1 .0) (columns .last .1 .1 .1 .1 .0) (rows .last .1 .1 .1 .1 .0) (a .size) (a .r)
     (sentBit (a .has-before) (a .before .now)) (λ k. getD (a .odd .now) k 0) (sentBit (a .has-even) (a .even .now))
     (s .pre .0 .some-columns) (omega arith) (rw (s .pre .2) at (columns .ensures)) (rw (s .pre .3) at (rows .ensures)) (constant .ensures .1)

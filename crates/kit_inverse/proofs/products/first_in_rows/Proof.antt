@@ -19,31 +19,31 @@ use Rattle.kit_inverse.proofs.products.first_in_rows.Statement.{stateme
 use Rattle.kit_inverse.proofs.products.first_in_rows.Tie as tie
 
 -- entry x of row e is wrong
-abbrev wrong : (own : List ℕ) (n : ℕ) (part : List ℕ) (size : ℕ) (t places : List ℕ) → ℕ → ℕ → Bool
-wrong own n part size t places e = wrongIn (rowEntry part (entries n own) size (getD places (unstackOf size (length part) e) 0) e) t n e
+abbrev wrong : (own : List ℕ) (n : ℕ) (part : List ℕ) (size : ℕ) (t preimages : List ℕ) → ℕ → ℕ → Bool
+wrong own n part size t preimages e = wrongIn (rowEntry part (entries n own) size (getD preimages (unstackOf size (length part) e) 0) e) t n e
 
 -- the row's first wrong entry x, for the place p that it is sent from
-row-first : (own : List ℕ) (n : ℕ) (part : List ℕ) (size : ℕ) (t places : List ℕ) (e p x : ℕ) → p ≡ getD places (unstackOf size (length part) e) 0
-    → x ≡ firstWhere n (wrongIn (rowEntry part (entries n own) size p e) t n e) → x ≡ firstWhere n (wrong own n part size t places e)
-row-first own n part size t places e p x s d = d ∙ ap (λ (p : ℕ). firstWhere n (wrongIn (rowEntry part (entries n own) size p e) t n e)) s
+row-first : (own : List ℕ) (n : ℕ) (part : List ℕ) (size : ℕ) (t preimages : List ℕ) (e p x : ℕ) → p ≡ getD preimages (unstackOf size (length part) e) 0
+    → x ≡ firstWhere n (wrongIn (rowEntry part (entries n own) size p e) t n e) → x ≡ firstWhere n (wrong own n part size t preimages e)
+row-first own n part size t preimages e p x s d = d ∙ ap (λ (p : ℕ). firstWhere n (wrongIn (rowEntry part (entries n own) size p e) t n e)) s
 
 abbrev Inv-loop : tie.InvT-loop
-Inv-loop own n part size t places e₀ e = (e ≤ n) × ((i : ℕ) → i < e * n → wrong own n part size t places (i / n) (i % n) ≡ false)
+Inv-loop own n part size t preimages e₀ e = (e ≤ n) × ((i : ℕ) → i < e * n → wrong own n part size t preimages (i / n) (i % n) ≡ false)
 
 abbrev μ-loop : tie.MeasureT-loop
-μ-loop own n part size t places e₀ e = n - e
+μ-loop own n part size t preimages e₀ e = n - e
 
 loop-holds : tie.Need-loop-holds Inv-loop μ-loop
 loop-holds c = (omega arith, λ i h. absurd (omega (arith, zero-mul (c .before .before .before .before .args .n))))
 
-source-requires : tie.Need-source-requires Inv-loop μ-loop
-source-requires c κs =
+preimage-of-requires : tie.Need-preimage-of-requires Inv-loop μ-loop
+preimage-of-requires c κs =
     let l = c .before .loop in
     let a = c .before .before .before .before .before .before .args in
     let h = c .before .before .before .before .before .before .pre in
     let s = h .0 in
     let d = s .order in
-    (h .1 ∙ d, omega (arith, d, s .small), omega (arith, d), subst (λ (n : ℕ). (q : ℕ) → q < n → getD (a .places .now) q 0 < n) d (h .2))
+    (h .1 ∙ d, omega (arith, d, s .small), omega (arith, d), subst (λ (n : ℕ). (q : ℕ) → q < n → getD (a .preimages .now) q 0 < n) d (h .2))
 
 first-in-row-requires : tie.Need-first-in-row-requires Inv-loop μ-loop
 first-in-row-requires c κs = search needs
@@ -70,9 +70,9 @@ returns c =
     let a = c .before .before .before .before .before .before .before .before .before .args in
     let r = c .before .first-in-row in
     let x =
-    row-first (a .own .now) (a .n) (a .part .now) (a .size) (a .t .now) (a .places .now) (l .e) _ (r .result)
-    (c .before .before .source .ensures .0) (r .ensures) in
-    row-found (a .n) (wrong (a .own .now) (a .n) (a .part .now) (a .size) (a .t .now) (a .places .now)) (l .e) (r .result)
+    row-first (a .own .now) (a .n) (a .part .now) (a .size) (a .t .now) (a .preimages .now) (l .e) _ (r .result)
+    (c .before .before .preimage-of .ensures .0) (r .ensures) in
+    row-found (a .n) (wrong (a .own .now) (a .n) (a .part .now) (a .size) (a .t .now) (a .preimages .now)) (l .e) (r .result)
     (omega arith) (omega arith) x (l .inv .1)
 
 add-e : tie.Need-add-e Inv-loop μ-loop
@@ -87,9 +87,9 @@ loop-again c =
     let a = c .before .before .before .before .before .before .before .before .before .args in
     let r = c .before .first-in-row in
     let x =
-    row-first (a .own .now) (a .n) (a .part .now) (a .size) (a .t .now) (a .places .now) (l .e) _ (r .result)
-    (c .before .before .source .ensures .0) (r .ensures) in
-    let G = wrong (a .own .now) (a .n) (a .part .now) (a .size) (a .t .now) (a .places .now) in
+    row-first (a .own .now) (a .n) (a .part .now) (a .size) (a .t .now) (a .preimages .now) (l .e) _ (r .result)
+    (c .before .before .preimage-of .ensures .0) (r .ensures) in
+    let G = wrong (a .own .now) (a .n) (a .part .now) (a .size) (a .t .now) (a .preimages .now) in
     (omega arith, row-clean (a .n) G (l .e) (r .result) (omega arith) x (l .inv .1))
 
 mul-result-2 : tie.Need-mul-result-2 Inv-loop μ-loop
@@ -101,10 +101,10 @@ returns-2 : tie.Need-returns-2 Inv-loop μ-loop
 returns-2 c =
     let l = c .before .loop in
     let a = c .before .before .before .before .before .before .args in
-    rows-none (a .n) (wrong (a .own .now) (a .n) (a .part .now) (a .size) (a .t .now) (a .places .now)) (l .e) (omega arith) (l .inv .1)
+    rows-none (a .n) (wrong (a .own .now) (a .n) (a .part .now) (a .size) (a .t .now) (a .preimages .now)) (l .e) (omega arith) (l .inv .1)
 
 pub first-in-rows-spec : {M : Type 1} → statement M
 first-in-rows-spec =
     tie.close
-    (tie.spec Inv-loop μ-loop loop-holds source-requires first-in-row-requires mul-result add-result returns add-e loop-less loop-again mul-result-2
+    (tie.spec Inv-loop μ-loop loop-holds preimage-of-requires first-in-row-requires mul-result add-result returns add-e loop-less loop-again mul-result-2
     returns-2)

@@ -15,14 +15,14 @@ use Rattle.kit_inverse.proofs.products.first_wrong.Tie as tie
 
 part-first-in-rows-end : tie.Need-part-first-in-rows-end
 part-first-in-rows-end c =
-    let f = c .before .before .fill-inverse in
+    let f = c .before .before .fill-preimages in
     part-fits (f .last .1 .1 .0) _ _ (f .ensures .0)
 
 first-in-rows-requires : tie.Need-first-in-rows-requires
 first-in-rows-requires c κs =
     let a = c .before .before .before .before .before .before .before .before .before .args in
     let h = c .before .before .before .before .before .before .before .before .before .pre in
-    let f = c .before .before .before .fill-inverse in (
+    let f = c .before .before .before .fill-preimages in (
       h .0,
       omega (arith, c .first-in-rows-arg .given .2),
       sent-below (a .n) (entries (a .n) (a .parity .now)) (h .1 .permutes) (f .last .1 .1 .0) _ (f .ensures .1) (part-is _ _ _ (f .ensures .0)),
@@ -33,7 +33,7 @@ unfolding productWrong
 returns c =
     let a = c .before .before .before .before .before .before .before .before .before .before .args in
     let h = c .before .before .before .before .before .before .before .before .before .before .pre in
-    let f = c .before .before .before .before .fill-inverse in
+    let f = c .before .before .before .before .fill-preimages in
     c .first-in-rows .ensures
     ∙ sent-found (a .n) (entries (a .n) (a .parity .now)) (h .1 .permutes) (f .last .1 .1 .0) _ (f .ensures .1) (part-is _ _ _ (f .ensures .0))
     (a .size) (length (a .part .now)) (h .1 .order) (h .1 .positive)

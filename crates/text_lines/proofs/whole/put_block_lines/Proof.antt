@@ -4,14 +4,14 @@ use native.Mathlib.Omega.{arith}
 use mathlib.Core.Path.{_≡_}
 use Prim.Native.Nat.{_+_, _*_, _<_}
 use lib.ListN.{length, drop}
-use Rattle.text_lines.specs.Written.{nextBlock, blockLines}
+use Rattle.text_lines.specs.Written.{nextBlock, blockLinesText}
 use Rattle.text_lines.proofs.Lines.{Rest, rest-start, rest-end, block-room, block-written, lines-none, one-less}
 use Rattle.text_lines.proofs.whole.put_block_lines.Statement.{statement}
 use Rattle.text_lines.proofs.whole.put_block_lines.Tie as tie
 
 abbrev Inv-loop : tie.InvT-loop
 Inv-loop out₀ at area count info q₀ from₀ block₀ left₀ out q from block left = (block + left ≡ count + 1) ×
-    (from + left * area ≡ length info) × Rest out₀ at (blockLines area 1 count info) out q (blockLines area block left (drop from info))
+    (from + left * area ≡ length info) × Rest out₀ at (blockLinesText area 1 count info) out q (blockLinesText area block left (drop from info))
 
 abbrev μ-loop : tie.MeasureT-loop
 μ-loop out₀ at area count info q₀ from₀ block₀ left₀ out q from block left = left
@@ -19,7 +19,7 @@ abbrev μ-loop : tie.MeasureT-loop
 loop-holds : tie.Need-loop-holds Inv-loop μ-loop
 loop-holds c =
     let a = c .before .before .args in
-    (omega arith, omega (arith, c .before .before .pre .0), rest-start (a .out .now) (a .at) (blockLines (a .area) 1 (a .count) (a .info .now)))
+    (omega arith, omega (arith, c .before .before .pre .0), rest-start (a .out .now) (a .at) (blockLinesText (a .area) 1 (a .count) (a .info .now)))
 
 add-e : tie.Need-add-e Inv-loop μ-loop
 add-e c =

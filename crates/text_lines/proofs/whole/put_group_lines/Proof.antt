@@ -4,14 +4,14 @@ use native.Mathlib.Omega.{arith}
 use mathlib.Core.Path.{_≡_}
 use Prim.Native.Nat.{_+_, _*_, _<_}
 use lib.ListN.{length, drop}
-use Rattle.text_lines.specs.Written.{nextGroup, groupLines}
+use Rattle.text_lines.specs.Written.{nextGroup, groupLinesText}
 use Rattle.text_lines.proofs.Lines.{Rest, rest-start, rest-end, group-room, group-written, lines-none, one-less}
 use Rattle.text_lines.proofs.whole.put_group_lines.Statement.{statement}
 use Rattle.text_lines.proofs.whole.put_group_lines.Tie as tie
 
 abbrev Inv-loop : tie.InvT-loop
 Inv-loop out₀ at n count red q₀ from₀ group₀ left₀ out q from group left = (group + left ≡ count + 1) ×
-    (from + left * (2 * n) ≡ length red) × Rest out₀ at (groupLines n 1 count red) out q (groupLines n group left (drop from red))
+    (from + left * (2 * n) ≡ length red) × Rest out₀ at (groupLinesText n 1 count red) out q (groupLinesText n group left (drop from red))
 
 abbrev μ-loop : tie.MeasureT-loop
 μ-loop out₀ at n count red q₀ from₀ group₀ left₀ out q from group left = left
@@ -19,7 +19,7 @@ abbrev μ-loop : tie.MeasureT-loop
 loop-holds : tie.Need-loop-holds Inv-loop μ-loop
 loop-holds c =
     let a = c .before .before .args in
-    (omega arith, omega (arith, c .before .before .pre .0), rest-start (a .out .now) (a .at) (groupLines (a .n) 1 (a .count) (a .red .now)))
+    (omega arith, omega (arith, c .before .before .pre .0), rest-start (a .out .now) (a .at) (groupLinesText (a .n) 1 (a .count) (a .red .now)))
 
 add-mid : tie.Need-add-mid Inv-loop μ-loop
 add-mid c =

@@ -16,7 +16,7 @@ use Rattle.design.specs.declared.Design.{Design}
 use Rattle.design.specs.Answers.{Allowed}
 use Rattle.design.specs.Sizes.{paramsOf}
 use Rattle.rules.specs.Received.{ListsFit}
-use Rattle.decoder_locator.specs.Located.{Tables}
+use Rattle.decoder_locator.specs.Located.{LocatorTables}
 use Rattle.decoder_group.specs.Sites.{wordSites}
 
 pub record GroupReady (d : Design) (L i : ℕ) (own parity positions syndromes field : List ℕ) : Type 0 where
@@ -24,7 +24,7 @@ pub record GroupReady (d : Design) (L i : ℕ) (own parity positions syndromes f
   pub few-blocks : L ≤ most-blocks
   pub group : i < groups L
   pub lists : ListsFit d own parity
-  pub tables : Tables (d .m) (d .t) positions syndromes field
+  pub tables : LocatorTables (d .m) (d .t) positions syndromes field
   pub long : length positions ≡ wordLength (paramsOf d)
 
 abbrev pub remainderOf : Params → Frame → List Site → ℕ

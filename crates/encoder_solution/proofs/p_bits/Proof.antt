@@ -7,14 +7,14 @@ use native.Mathlib.Omega.{arith}
 use lib.ListN.{length, getD}
 use Rattle.staircase.proofs.Fill.{filled, filled-none, filled-all, filled-stretch}
 use Rattle.bch_remainders.proofs.Rows.{row-end, row-length}
-use Rattle.encoder_solution.specs.Bits.{digit}
+use Rattle.encoder_solution.specs.Bits.{remainderDigit}
 use Rattle.encoder_solution.proofs.Stack.{digit-row}
-use Rattle.encoder_solution.proofs.parity_bits.Statement.{statement}
-use Rattle.encoder_solution.proofs.parity_bits.Tie as tie
+use Rattle.encoder_solution.proofs.p_bits.Statement.{statement}
+use Rattle.encoder_solution.proofs.p_bits.Tie as tie
 
 abbrev Inv-loop : tie.InvT-loop
 Inv-loop columns size r out₀ a₀ out a =
-    (a ≤ r) × (length out ≡ r * size) × (length out₀ ≡ r * size) × (out ≡ filled (λ q. digit (getD columns (q % size) 0) r (q / size)) out₀ (a * size))
+    (a ≤ r) × (length out ≡ r * size) × (length out₀ ≡ r * size) × (out ≡ filled (λ q. remainderDigit (getD columns (q % size) 0) r (q / size)) out₀ (a * size))
 
 abbrev μ-loop : tie.MeasureT-loop
 μ-loop columns size r out₀ a₀ out a = r - a
@@ -24,7 +24,7 @@ loop-holds c =
     let s = c .before .before in
     let a = s .args in
     let long : length (a .out .now) ≡ a .r * a .size = s .pre .1 ∙ mul-comm (a .size) (a .r) in
-    let f : ℕ → ℕ = λ q. digit (getD (a .columns .now) (q % a .size) 0) (a .r) (q / a .size) in
+    let f : ℕ → ℕ = λ q. remainderDigit (getD (a .columns .now) (q % a .size) 0) (a .r) (q / a .size) in
     (omega arith, long, long, filled-none f (a .out .now) ∙ ap (filled f (a .out .now)) (sym (zero-mul (a .size))))
 
 mul-from : tie.Need-mul-from Inv-loop μ-loop
@@ -72,7 +72,7 @@ loop-again c =
     let a = c .before .before .before .before .before .before .before .before .args in
     let l = c .before .before .before .before .before .loop in
     let row = c .before .before .digits in
-    let f : ℕ → ℕ = λ q. digit (getD (a .columns .now) (q % a .size) 0) (a .r) (q / a .size) in
+    let f : ℕ → ℕ = λ q. remainderDigit (getD (a .columns .now) (q % a .size) 0) (a .r) (q / a .size) in
     let next : l .a * a .size + a .size ≡ (l .a + 1) * a .size =
     sym (add-mul (l .a) 1 (a .size) ∙ ap (λ (k : ℕ). l .a * a .size + k) (one-mul (a .size))) in (
       omega arith,
@@ -94,8 +94,8 @@ returns c =
     let e : l .a ≡ a .r = omega arith in
     l .inv .3 ∙ filled-all _ _ _ _ (ap (λ (k : ℕ). k * a .size) e ∙ mul-comm (a .r) (a .size)) (s .pre .1)
 
-pub parity-bits-spec : {M : Type 1} → statement M
-parity-bits-spec =
+pub p-bits-spec : {M : Type 1} → statement M
+p-bits-spec =
     tie.close
     (tie.spec Inv-loop μ-loop loop-holds mul-from sub-digits sub-digits-2 add-digits sub-digits-3 part-digits-start part-digits-end digits-requires
     add-a loop-less loop-again same-length returns)

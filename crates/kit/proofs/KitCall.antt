@@ -2,12 +2,12 @@
 --   kit-sized                 the slices' lengths, once rule 6 accepts
 --   kit-refused, kit-judged   the call's verdict at a design that is refused, and after one that was made
 -- Assumes nothing.
-use mathlib.Core.Path.{_≡_, refl, sym, ap, ap₂, _∙_}
+use mathlib.Core.Path.{_≡_, ap, _∙_}
 use mathlib.Core.List.{List, []}
 use Prim.Native.Nat.{ℕ}
 use lib.ListN.{length}
 use Rattle.staircase.specs.Design.{Params, params}
-use Rattle.staircase.specs.Rules.{Verdict, _then_, designRules, lengthRule, kitLengths, kitWork, interleavers, kitRules, contentRules}
+use Rattle.staircase.specs.Rules.{Verdict, _then_, designRules, lengthRule, kitLengths, kitWork, interleavers, contentRules}
 use Rattle.staircase.specs.Rules.Verdict.{accepted}
 use Rattle.staircase.specs.Calls.{kitVerdict}
 use Rattle.design.specs.declared.Refusal.{Refusal}

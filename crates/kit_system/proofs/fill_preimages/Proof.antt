@@ -9,8 +9,8 @@ use Rattle.staircase.specs.System.{preimage}
 use Rattle.staircase.proofs.Permutation.{preimage-sent, preimage-of}
 use Rattle.staircase.proofs.Fill.{Placed, placed-next}
 use Rattle.rules.proofs.Entries.{entry-at}
-use Rattle.kit_system.proofs.fill_inverse.Statement.{statement}
-use Rattle.kit_system.proofs.fill_inverse.Tie as tie
+use Rattle.kit_system.proofs.fill_preimages.Statement.{statement}
+use Rattle.kit_system.proofs.fill_preimages.Tie as tie
 
 abbrev Inv-loop : tie.InvT-loop
 Inv-loop list n out₀ p₀ out p = (p ≤ n) × (length out ≡ n) × Placed n (preimage (entries n list) n) (preimage (entries n list) n) out p
@@ -68,7 +68,7 @@ returns c =
     let n = s .args .n in
     (omega arith, λ q h. c .before .loop .inv .2 q h (omega (arith, preimage-sent (entries n (s .args .list .now)) n (s .pre .3) q h .0)))
 
-pub fill-inverse-spec : {M : Type 1} → statement M
-fill-inverse-spec =
+pub fill-preimages-spec : {M : Type 1} → statement M
+fill-preimages-spec =
     tie.close
     (tie.spec Inv-loop μ-loop loop-holds entry-requires cast-out mul-out slice-write-out add-p loop-less loop-again same-length returns)

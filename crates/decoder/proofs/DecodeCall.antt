@@ -21,7 +21,7 @@ use Rattle.design.specs.Answers.{verdictOf, designVerdict, DesignIs}
 use Rattle.design.specs.Sizes.{paramsOf, listsOf}
 use Rattle.design.proofs.Answers.{check-refused, check-passed, made-params, refused-design, made-design}
 use Rattle.words.specs.Checks.{receivedRules}
-use Rattle.words.proofs.Verdict.{received-flat}
+use Rattle.words.proofs.WordsCall.{received-flat}
 use Rattle.decoder.specs.declared.Decoding.{Decoding}
 use Rattle.decoder.specs.Answers.{correctedOf, correctedFrame, refusedFrame}
 

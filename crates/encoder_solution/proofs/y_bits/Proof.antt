@@ -12,8 +12,8 @@ use Rattle.encoder_solution.specs.Bits.{productBit}
 use Rattle.staircase.proofs.Fill.{Placed, placed-next, placed-all}
 use Rattle.encoder_solution.proofs.Packed.{row-within, inverse-row}
 use Rattle.encoder_solution.proofs.Stack.{place, stack-entry, stack-place, place-stack}
-use Rattle.encoder_solution.proofs.self_bits.Statement.{statement}
-use Rattle.encoder_solution.proofs.self_bits.Tie as tie
+use Rattle.encoder_solution.proofs.y_bits.Statement.{statement}
+use Rattle.encoder_solution.proofs.y_bits.Tie as tie
 
 abbrev Inv-loop : tie.InvT-loop
 Inv-loop inverse c size r out₀ w e₀ e-end out e =
@@ -122,8 +122,8 @@ returns c =
     let e : l .e ≡ a .size * a .r = omega arith in
     placed-all (a .size * a .r) _ _ (l .out) (l .e) (l .inv .2) (λ q h. omega (arith, place (a .size) (a .r) q (omega arith) h)) (l .inv .3)
 
-pub self-bits-spec : {M : Type 1} → statement M
-self-bits-spec =
+pub y-bits-spec : {M : Type 1} → statement M
+y-bits-spec =
     tie.close
     (tie.spec Inv-loop μ-loop loop-holds mul-from add-shared-odd sub-shared-odd part-shared-odd-start part-shared-odd-end shared-odd-requires rem-out
     mul-out div-out add-out slice-write-out add-e loop-less loop-again same-length returns)

@@ -5,8 +5,8 @@ use mathlib.Core.Path.{refl}
 use Prim.Native.Nat.{_*_}
 use Rattle.kit_system.specs.Rows.{unstackOf}
 use Rattle.kit_inverse.proofs.RowSizes.{unstacked}
-use Rattle.kit_inverse.proofs.products.source.Statement.{statement}
-use Rattle.kit_inverse.proofs.products.source.Tie as tie
+use Rattle.kit_inverse.proofs.products.preimage_of.Statement.{statement}
+use Rattle.kit_inverse.proofs.products.preimage_of.Tie as tie
 
 rem-result : tie.Need-rem-result
 rem-result c =
@@ -64,7 +64,7 @@ returns c =
     let u = unstacked (a .size) (a .r) (a .size * a .r) (a .e) refl (h .2) in
     (refl, h .3 (unstackOf (a .size) (a .r) (a .e)) (u .below))
 
-pub source-spec : {M : Type 1} → statement M
-source-spec =
+pub preimage-of-spec : {M : Type 1} → statement M
+preimage-of-spec =
     tie.close
     (tie.spec rem-result mul-result div-result add-result mul-result-2 shared-slice-read-result cast-result returns)

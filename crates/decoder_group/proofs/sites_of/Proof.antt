@@ -12,8 +12,8 @@ use Rattle.decoder_locator.specs.Located.{positionsOf}
 use Rattle.decoder_group.specs.Sites.{sitesOf, listed, Inside, Below, wordSites}
 use Rattle.decoder_group.proofs.Word.{listed-none, listed-one, listed-two, listed-three}
 use borrow.Author.Needs.{needs}
-use Rattle.decoder_group.proofs.spots_of.Statement.{statement}
-use Rattle.decoder_group.proofs.spots_of.Tie as tie
+use Rattle.decoder_group.proofs.sites_of.Statement.{statement}
+use Rattle.decoder_group.proofs.sites_of.Tie as tie
 
 site-at-requires : tie.Need-site-at-requires
 unfolding Below positionsOf
@@ -106,8 +106,8 @@ returns-4 c =
     let q = listed-three v (found3 .given .1) (site-at4 .ensures .0) (c .before .site-at5 .ensures .0) (c .site-at6 .ensures .0) in
     (q .0, q .1, (site-at4 .ensures .1, c .before .site-at5 .ensures .1, c .site-at6 .ensures .1))
 
-pub spots-of-spec : {M : Type 1} → statement M
-spots-of-spec =
+pub sites-of-spec : {M : Type 1} → statement M
+sites-of-spec =
     tie.close
     (tie.spec (λ c. search needs) (λ c. search needs) site-at-requires (λ c. search needs) site-at-requires-2 site-at-requires-3 (λ c. search needs)
     site-at-requires-4 site-at-requires-5 site-at-requires-6 returns returns-2 returns-3 returns-4)

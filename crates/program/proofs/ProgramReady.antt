@@ -26,7 +26,7 @@ use Rattle.text.specs.KitReader.{kitParams, selfOf, parityOf, inverseOf, readKi
 use Rattle.text.proofs.KitPromises.{kit-order-small, kit-read}
 use Rattle.text.specs.FrameReader.{blockRule, blockCount, frameRule, frameCount}
 use Rattle.text.proofs.FramePromises.{blocks-hold, frame-holds}
-use Rattle.program.specs.Steps.{textRule, textCount, Started, Scanned, SizesAre, RoomFor, Ready}
+use Rattle.program.specs.Steps.{textRule, textCount, Started, Scanned, SizesAre, RoomFor, ProgramReady}
 use Rattle.program.specs.declared.Sizes.{Sizes}
 use Rattle.program.proofs.Bounds.{few-rows, few-red}
 
@@ -107,7 +107,7 @@ module _ (framed : Bool) (d : Design) (L : ℕ) (kit text : List ℕ) (B : Scann
     red-room = omega (arith, z .red-is, red-short)
 
     pub ready : (due own parity inverse info red work : ℕ) → s .list ≡ own → s .list ≡ parity → s .inverse ≡ inverse → s .info ≡ info → s .red ≡ red
-        → work ≡ due → Ready framed due d L kit text own parity inverse info red work
+        → work ≡ due → ProgramReady framed due d L kit text own parity inverse info red work
     ready due own parity inverse info red work eo ep ew ei er ek =
         record {
           scanned = B;
