@@ -1,18 +1,19 @@
 /* The library beside the plain implementation, in one run: prints ratios of the library's time to the plain one's, and stops with 1 if any
    result differs. Encoding alone is the difference between two frames under one kit, divided by the groups between them, so that the kit check
    that the encoder makes drops out. A frame whose last information byte is no bit is refused beside a search of its bytes alone: the encoder asks
-   rule 10 before it multiplies. The word checker and the decoder get frames with errors, a copy each, written just before. All times are the
-   least of several turns, in which the two take turns. */
+   rule 10 before it multiplies. The inverse is made of the lists, by elimination with byte tables on the plain side, and the kit's text is written
+   into a buffer. The word checker and the decoder get frames with errors, a copy each, written just before. All times are the least of several
+   turns, in which the two take turns. */
 
 #include "../include/bauchleton.h"
-#include "plain.h"
+#include "plain_text.h"
 
 #include <stdio.h>
 #include <stdlib.h>
 #include <string.h>
 #include <time.h>
 
-enum { SHORT = 32, LONG = 32 + 512, TURNS = 3, FRAME_TURNS = 40 };
+enum { SHORT = 32, LONG = 32 + 512, TURNS = 3, KIT_TURNS = 5, FRAME_TURNS = 40 };
 
 static const double error_rate[] = { 0, 1e-3, 5e-3, 1e-2 };
 enum { RATES = sizeof error_rate / sizeof *error_rate };
@@ -37,6 +38,42 @@ static void *lend(size_t bytes)
 static double least(double a, double b)
 {
     return a < b ? a : b;
+}
+
+/* The inverse made of the lists, and the kit's text. Returns whether a result differs. */
+static int time_kit(unsigned m, unsigned t, unsigned M, const plain_sizes *s, const uint8_t *self, const uint8_t *parity, const uint8_t *inverse)
+{
+    size_t list = 2 * (size_t)s->size, bytes = ((size_t)s->size + 7) / 8, matrix = s->size * bytes, working = list * bytes + 512 * bytes;
+    uint8_t *mine = lend(matrix), *other = lend(matrix), *work = lend(working);
+    double make[2] = { 1e9, 1e9 }, text[2] = { 1e9, 1e9 };
+    uint64_t place, answer[1], length_answer[2] = { 0, 0 };
+    int differ = bauchleton_kit_text_length(m, t, M, self, list, parity, list, length_answer, 2) != 0;
+    size_t length = length_answer[1], room = 64 + s->size * ((size_t)s->size + 24); /* four numbers, five other bytes and a row of the inverse a place */
+    uint8_t *written = lend(length), *plain_written = lend(room);
+    for (unsigned turn = 0; turn < KIT_TURNS; turn++) {
+        memset(mine, 0xff, matrix);
+        memset(other, 0xff, matrix);
+        double a = now();
+        differ |= plain_make(m, t, M, self, parity, other, &place) != 0;
+        double b = now();
+        differ |= bauchleton_make_inverse(m, t, M, self, list, parity, list, mine, matrix, work, working, answer, 1) != 0 || answer[0] != 0;
+        make[0] = least(make[0], b - a);
+        make[1] = least(make[1], now() - b);
+        differ |= memcmp(mine, inverse, matrix) != 0 || memcmp(other, inverse, matrix) != 0;
+
+        memset(written, 0xff, length);
+        a = now();
+        size_t end = plain_kit_text(plain_written, m, t, M, self, parity, inverse) - plain_written;
+        b = now();
+        differ |= bauchleton_write_kit(m, t, M, self, list, parity, list, inverse, matrix, written, length, answer, 1) != 0 || answer[0] != 0;
+        text[0] = least(text[0], b - a);
+        text[1] = least(text[1], now() - b);
+        differ |= end != length || memcmp(written, plain_written, length) != 0;
+    }
+    printf("  inverse made in %.4f s, plain %.4f s, ratio %.2f; kit text of %zu bytes written in %.0f us, plain %.0f us, ratio %.2f\n", make[1],
+           make[0], make[1] / make[0], length, text[1] * 1e6, text[0] * 1e6, text[1] / text[0]);
+    free(mine), free(other), free(work), free(written), free(plain_written);
+    return differ;
 }
 
 /* Words outside and decoding of a frame of SHORT blocks, information and redundancy one after the other. Returns whether a result differs. */
@@ -137,6 +174,7 @@ int main(void)
                check[1], check[0], check[1] / check[0], ours, plain, ours / plain);
         printf("  a bad last byte refused in %.0f us, %.2f of the kit check; its bytes searched plainly in %.0f us, ratio %.2f\n", bad[1] * 1e6,
                bad[1] / check[1], bad[0] * 1e6, bad[1] / bad[0]);
+        differ |= time_kit(m, t, M, &s, self, parity, inverse);
         memcpy(info + SHORT * area, red, SHORT / 2 * group);    /* the first blocks and groups are a frame by themselves */
         differ |= time_frame(m, t, M, &s, self, parity, info);
         free(self), free(parity), free(inverse), free(work), free(info), free(red), free(other);

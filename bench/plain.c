@@ -468,6 +468,115 @@ int plain_make_inverse(unsigned m, unsigned t, unsigned M, const uint8_t *self, 
     return p == c.size;
 }
 
+/* A and V side by side while V A = 1 is made of them: a row has the words of A and then those of V. */
+typedef struct {
+    unsigned size;
+    size_t words, width;        /* of a row of A, and of both */
+    uint64_t **row;
+} side_by_side;
+
+/* Adds the words of one row to another, from word w on. */
+static void add_row(uint64_t *restrict to, const uint64_t *restrict from, size_t w, size_t width)
+{
+    for (; w < width; w++)
+        to[w] ^= from[w];
+}
+
+/* The eight columns from c on, a multiple of 8, in a row. */
+static unsigned column_byte(const uint64_t *row, unsigned c)
+{
+    return row[c / 64] >> (c % 64) & 255;
+}
+
+/* Brings the unit rows of the columns from c on to rows c and following, and returns how many of these columns have one: all, or those before the
+   first that has none. A row below is tried by its byte alone. */
+static unsigned find_pivots(const side_by_side *s, unsigned c, unsigned columns)
+{
+    size_t from = c / 64;
+    for (unsigned k = 0; k < columns; k++) {
+        uint8_t pivot[8];
+        for (unsigned q = 0; q < k; q++)
+            pivot[q] = column_byte(s->row[c + q], c);   /* a one at q, and no other among the first k */
+        unsigned i = c + k;
+        for (; i < s->size; i++) {
+            unsigned byte = column_byte(s->row[i], c);
+            for (unsigned q = 0; q < k; q++)
+                if (byte >> q & 1)
+                    byte ^= pivot[q];
+            if (byte >> k & 1)
+                break;
+        }
+        if (i == s->size)
+            return k;
+        uint64_t *found = s->row[i];
+        s->row[i] = s->row[c + k];
+        s->row[c + k] = found;
+        for (unsigned q = 0; q < k; q++)
+            if (column_byte(found, c) >> q & 1)
+                add_row(found, s->row[c + q], from, s->width);
+        for (unsigned q = 0; q < k; q++)
+            if (column_byte(s->row[c + q], c) >> k & 1)
+                add_row(s->row[c + q], found, from, s->width);
+    }
+    return columns;
+}
+
+/* Clears the columns from c on in all rows but their unit rows: sums has the 256 sums of these, each a row. */
+static void clear_columns(const side_by_side *s, unsigned c, unsigned columns, uint64_t *sums)
+{
+    size_t from = c / 64;
+    for (unsigned b = 1; b < 1u << columns; b++) {
+        const uint64_t *rest = sums + (b & (b - 1)) * s->width, *row = s->row[c + __builtin_ctz(b)];
+        for (size_t w = from; w < s->width; w++)
+            sums[b * s->width + w] = rest[w] ^ row[w];
+    }
+    for (unsigned i = 0; i < s->size; i++) {
+        unsigned byte = column_byte(s->row[i], c);      /* the columns behind the last are zero */
+        if (byte && (i < c || i >= c + columns))
+            add_row(s->row[i], sums + byte * s->width, from, s->width);
+    }
+}
+
+int plain_make(unsigned m, unsigned t, unsigned M, const uint8_t *self, const uint8_t *parity, uint8_t *inverse, uint64_t *place)
+{
+    plain_sizes sizes;
+    code c;
+    int rule = plain_design(m, t, M, &sizes, place);
+    if (!rule)
+        rule = judge_lists(sizes.size, self, parity, place);
+    if (rule)
+        return rule;
+
+    make_code(&c, m, t, M);
+    side_by_side s = { c.size, words_a_row(c.size), 2 * words_a_row(c.size), zeroed(c.size, sizeof *s.row) };
+    uint64_t *columns = system_columns(&c, self, parity), *A = transposed(columns, c.size);
+    uint64_t *both = zeroed(c.size * s.width, sizeof *both), *sums = zeroed(256 * s.width, sizeof *sums);
+    for (unsigned i = 0; i < c.size; i++) {
+        s.row[i] = both + i * s.width;
+        memcpy(s.row[i], A + i * s.words, s.words * sizeof *A);
+        turn_bit(s.row[i] + s.words, i);
+    }
+    for (unsigned done = 0; done < c.size && !rule; done += 8) {
+        unsigned count = c.size - done < 8 ? c.size - done : 8, found = find_pivots(&s, done, count);
+        if (found == count)
+            clear_columns(&s, done, count, sums);
+        else {
+            *place = done + found;
+            rule = 14;
+        }
+    }
+    size_t bytes = (c.size + 7) / 8;
+    for (unsigned i = 0; i < c.size && !rule; i++)
+        for (size_t b = 0; b < bytes; b++)
+            inverse[i * bytes + b] = s.row[i][s.words + b / 8] >> (8 * (b % 8));
+    free(s.row);
+    free(columns);
+    free(A);
+    free(both);
+    free(sums);
+    return rule;
+}
+
 uint32_t plain_random(uint64_t *state)
 {
     uint64_t x = *state;

@@ -1,4 +1,5 @@
-/* Self-test of plain.c: document 01's rows under kit K, a kit with M = 2, published generators, round trips, a brute-force decoder, refusals.
+/* Self-test of plain.c: document 01's rows under kit K, a kit with M = 2, published generators, making inverses, round trips, a brute-force decoder,
+   refusals.
    Prints a line a group, returns 1 on a failure. gcc -O3 -o plain_test plain_test.c plain.c
 
    The opponent ("ref") shares nothing with plain.c but generators, which are tested by themselves: long division of whole words, words as tables
@@ -377,6 +378,8 @@ static void test_second_kit(void)
     CHECK(plain_check_kit(4, 1, 2, self, parity, inverse, &place) == 0);
     CHECK(plain_check_kit(4, 1, 2, self, parity, wrong, &place) == 9 && place == 18);
     CHECK(plain_make_inverse(4, 1, 2, self, parity, made) && memcmp(made, inverse, 8) == 0);
+    memset(made, 0, 8);
+    CHECK(plain_make(4, 1, 2, self, parity, made, &place) == 0 && memcmp(made, inverse, 8) == 0);
 
     from_text("1010 0010 1100", info);
     from_text("11111101 10100110 01110100 01011101", red);
@@ -455,6 +458,87 @@ static kit make_kit(unsigned m, unsigned t, unsigned M, uint64_t seed, unsigned 
     }
     CHECK(!"a kit was found");
     return k;
+}
+
+/* ---- Making inverses ---- */
+
+/* Whether column j of A, one bit a byte, is a sum of the columns before it. Rows are added to lower ones until the columns before have all their ones
+   in the first rows, as many as needed; it is such a sum exactly when its ones are there too. */
+static int ref_depends(const uint8_t *A, unsigned N, unsigned j)
+{
+    uint8_t *rows = get((size_t)N * N), *row = get(N);
+    unsigned own = 0;
+    int depends = 1;
+    memcpy(rows, A, (size_t)N * N);
+    for (unsigned e = 0; e < j; e++) {
+        unsigned i = own;
+        while (i < N && !rows[i * N + e])
+            i++;
+        if (i == N)
+            continue;
+        memcpy(row, rows + i * N, N);
+        memcpy(rows + i * N, rows + own * N, N);
+        memcpy(rows + own++ * N, row, N);
+        for (i = own; i < N; i++)
+            if (rows[i * N + e])
+                for (unsigned f = 0; f < N; f++)
+                    rows[i * N + f] ^= row[f];
+    }
+    for (unsigned i = own; i < N; i++)
+        depends &= !rows[i * N + j];
+    free(rows);
+    free(row);
+    return depends;
+}
+
+static void make_once(unsigned m, unsigned t, unsigned M, const uint8_t *self, const uint8_t *parity)
+{
+    unsigned N = M * m * t, first = 0;
+    size_t length = (size_t)N * ((N + 7) / 8);
+    uint8_t *A = get((size_t)N * N), *made = get(length), *other = get(length);
+    uint64_t place = 0;
+    memset(made, 0xA5, length);
+    memset(other, 0xA5, length);
+    plain_system(m, t, M, self, parity, A);
+    while (first < N && !ref_depends(A, N, first))
+        first++;
+    int rule = plain_make(m, t, M, self, parity, made, &place);
+    CHECK(first == N ? rule == 0 : rule == 14 && place == first);
+    CHECK(plain_make_inverse(m, t, M, self, parity, other) == (first == N));
+    CHECK(memcmp(made, other, length) == 0);
+    CHECK(first < N || plain_check_kit(m, t, M, self, parity, made, &place) == 0);
+    free(A);
+    free(made);
+    free(other);
+}
+
+/* Random lists and equal ones of small designs; lists that are refused. */
+static void test_making(void)
+{
+    double start = seconds();
+    uint8_t self[160], parity[160], made[80 * 10];
+    plain_sizes s;
+    uint64_t place;
+    for (unsigned m = 4; m <= 10; m++)
+        for (unsigned t = 1; t <= 3; t++)
+            for (unsigned M = 1; plain_design(m, t, M, &s, &place) == 0 && s.size <= 80; M++) {
+                for (unsigned seed = 1; seed <= 12; seed++) {
+                    plain_random_lists(m, t, M, seed, self, parity);
+                    make_once(m, t, M, self, parity);
+                }
+                for (unsigned p = 0; p < s.size; p++) {
+                    self[2 * p] = parity[2 * p] = p;
+                    self[2 * p + 1] = parity[2 * p + 1] = 0;
+                }
+                make_once(m, t, M, self, parity);
+                CHECK(plain_make(m, t, M, self, parity, made, &place) == 14 && place == 0);
+                parity[2 * (s.size - 1)] = 1;
+                CHECK(plain_make(m, t, M, self, parity, made, &place) == 7 && place == 2 * s.size - 1);
+                self[1] = 255;
+                CHECK(plain_make(m, t, M, self, parity, made, &place) == 7 && place == 0);
+            }
+    CHECK(plain_make(4, 1, 4, self, parity, made, &place) == 2 && place == 16);
+    group_done("making inverses", start);
 }
 
 static void free_kit(kit k)
@@ -750,6 +834,9 @@ static void test_large(const plain_kit *design, unsigned L)
     made = seconds();
     CHECK(plain_check_kit(m, t, M, k.self, k.parity, k.inverse, &place) == 0);
     checked = seconds();
+    uint8_t *again = get(N * bytes);
+    CHECK(plain_make(m, t, M, k.self, k.parity, again, &place) == 0 && memcmp(again, k.inverse, N * bytes) == 0);
+    free(again);
     ref d = ref_design(m, t, M, k.self, k.parity);
     uint8_t *frame = get(info_length + (size_t)(L + 1) / 2 * 2 * N);
     random_bits(frame, info_length, &state);
@@ -773,6 +860,7 @@ int main(void)
     test_rows();
     test_second_kit();
     test_generators();
+    test_making();
     test_round_trips();
     test_brute_force();
     test_refusals();

@@ -115,6 +115,32 @@ static void test_rows(void)
                  "block bits\n1 0\n2 1\ngroup self parity\n1 0000 0101\nrounds turned outside\n2 1 1\n"));
 }
 
+/* ---- Kit text ---- */
+
+/* The text of each example's kit, made of the lists that its lines show. */
+static void test_written_kits(void)
+{
+    glob_t found;
+    CHECK(glob("examples/*/", 0, NULL, &found) == 0);
+    for (size_t i = 0; i < found.gl_pathc; i++) {
+        char *kit = load(found.gl_pathv[i], "kit.txt"), *line = strchr(strchr(strchr(kit, '\n') + 1, '\n') + 1, '\n') + 1;
+        uint8_t self[2 * 64], parity[2 * 64], inverse[64 * 8];
+        unsigned m, t, M, p, a, b;
+        uint64_t place;
+        CHECK(sscanf(kit, "m t M %u %u %u", &m, &t, &M) == 3 && m * t * M <= 64);
+        for (p = 0; p < m * t * M; p++, line = strchr(line, '\n') + 1) {
+            CHECK(sscanf(line, "%*u %u %u", &a, &b) == 2);
+            self[2 * p] = a, parity[2 * p] = b;
+            self[2 * p + 1] = parity[2 * p + 1] = 0;
+        }
+        CHECK(plain_make(m, t, M, self, parity, inverse, &place) == 0);
+        *plain_kit_text(out, m, t, M, self, parity, inverse) = 0;
+        CHECK(strcmp((const char *)out, kit) == 0);
+        free(kit);
+    }
+    globfree(&found);
+}
+
 /* ---- Rules 11 and 1 to 3 ---- */
 
 static void test_kit_texts(void)
@@ -237,6 +263,7 @@ int main(void)
 {
     test_examples();
     test_rows();
+    test_written_kits();
     test_kit_texts();
     test_block_texts();
     test_order();

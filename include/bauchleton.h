@@ -3,7 +3,7 @@
    A slice is a pointer and a length; no two slices of a call may overlap. Buffers hold one bit a byte, lists two bytes an entry, low byte first; the
    inverse has M * r rows of (M * r + 7) / 8 bytes. docs/WORKING.md says how many working bytes to lend.
 
-   A call of the first two parts answers 0, or the number of the rule of document 01's table that refuses. `answer` takes the refusal's place, 0 where
+   A call of the first two parts answers 0, or the number of the rule that refuses (docs/REFERENCE.md). `answer` takes the refusal's place, 0 where
    nothing is refused, and then what the line above the call names, 0 where it is refused. An `answer` of another length than the line's is left as it was.
    A refused call leaves what it was lent as it was, but for the working bytes. */
 
@@ -26,6 +26,12 @@ uint64_t bauchleton_design(uint64_t m, uint64_t t, uint64_t size, uint64_t *answ
 uint64_t bauchleton_check_kit(uint64_t m, uint64_t t, uint64_t size, const uint8_t *self, size_t self_length, const uint8_t *parity,
                               size_t parity_length, const uint8_t *inverse, size_t inverse_length, uint8_t *work, size_t work_length,
                               uint64_t *answer, size_t answer_length);
+
+/* Makes the inverse from the lists. What `inverse` held is not read; where the call is refused, by rule 14 too, it is as it was.
+   answer, 1 entry: place */
+uint64_t bauchleton_make_inverse(uint64_t m, uint64_t t, uint64_t size, const uint8_t *self, size_t self_length, const uint8_t *parity,
+                                 size_t parity_length, uint8_t *inverse, size_t inverse_length, uint8_t *work, size_t work_length,
+                                 uint64_t *answer, size_t answer_length);
 
 /* Writes the redundancy. Rule 10 comes before 9: information with a byte above 1 is refused before the inverse is multiplied.
    answer, 1 entry: place */
@@ -86,14 +92,26 @@ size_t bauchleton_group_line(uint8_t *out, size_t out_length, size_t at, uint64_
 size_t bauchleton_refusal_lines(uint8_t *out, size_t out_length, size_t at, uint64_t rule, uint64_t place);
 size_t bauchleton_count_lines(uint8_t *out, size_t out_length, size_t at, uint64_t rounds, uint64_t turned, uint64_t outside);
 
+/* ---- Writing kit text: libbauchleton_text.a ---- */
+
+/* The length of a kit's text, the same for every inverse. answer, 2 entries: place, length */
+uint64_t bauchleton_kit_text_length(uint64_t m, uint64_t t, uint64_t size, const uint8_t *self, size_t self_length, const uint8_t *parity,
+                                    size_t parity_length, uint64_t *answer, size_t answer_length);
+
+/* Writes a kit's text into a buffer of its length. answer, 1 entry: place */
+uint64_t bauchleton_write_kit(uint64_t m, uint64_t t, uint64_t size, const uint8_t *self, size_t self_length, const uint8_t *parity,
+                              size_t parity_length, const uint8_t *inverse, size_t inverse_length, uint8_t *text, size_t text_length,
+                              uint64_t *answer, size_t answer_length);
+
 /* ---- The programs: libbauchleton_text.a ----
-   What `frame` and `mend` print for the bytes of kit.txt and of their standard input, written to the start of `out`; answers its length. An `out` of
-   fewer than BAUCHLETON_OUTPUT bytes is left as it was, and the answer is 0. */
+   What `frame` and `mend` print for the bytes of kit.txt and of their standard input, and `makekit` for its standard input, written to the start of
+   `out`; answers its length. An `out` of fewer than BAUCHLETON_OUTPUT bytes is left as it was, and the answer is 0. */
 
 enum { BAUCHLETON_OUTPUT = 262144 };
 
 size_t bauchleton_frame(const uint8_t *kit, size_t kit_length, const uint8_t *text, size_t text_length, uint8_t *out, size_t out_length);
 size_t bauchleton_mend(const uint8_t *kit, size_t kit_length, const uint8_t *text, size_t text_length, uint8_t *out, size_t out_length);
+size_t bauchleton_makekit(const uint8_t *text, size_t text_length, uint8_t *out, size_t out_length);
 
 #ifdef __cplusplus
 }

@@ -1,7 +1,7 @@
 //! Compares the library with the reference, call by call: the number, the place, what is told, and every
 //! lent buffer (8 guard bytes on either side of it too) but the working bytes.
 //!
-//!     compare [--programs FRAME MEND] [GROUP [SEED [INDEX]]]
+//!     compare [--programs FRAME MEND MAKEKIT] [GROUP [SEED [INDEX]]]
 //!
 //! Without GROUP (or with `all`) every group runs. A failing case is printed with its group, seed and
 //! index; these three as arguments run it alone. A line for each group ends with how often each number was
@@ -20,7 +20,7 @@ use std::sync::atomic::{AtomicU64, AtomicUsize, Ordering::Relaxed};
 use std::sync::{Arc, Mutex};
 
 const GUARD: usize = 8;
-const OUT: usize = 262_144; // the least that bauchleton_frame and bauchleton_mend want to be lent
+const OUT: usize = 262_144; // the least that bauchleton_frame, bauchleton_mend and bauchleton_makekit want to be lent
 const INPUT: usize = 32_768; // rule 13
 
 // ---------------------------------------------------------------- Random numbers
@@ -89,29 +89,6 @@ fn regular(a_matrix: &Matrix) -> bool {
     true
 }
 
-/// The test's own inversion: elimination on [A | 1]. `None` where A has no inverse.
-fn invert(a_matrix: &Matrix) -> Option<Matrix> {
-    let order = a_matrix.order;
-    let width = (order + 63) / 64;
-    if !regular(a_matrix) {
-        return None;
-    }
-    let one = Matrix::identity(order);
-    let mut rows: Vec<Vec<u64>> = (0..order).map(|i| [&a_matrix.rows[i][..], &one.rows[i][..]].concat()).collect();
-    for column in 0..order {
-        let has = |row: &Vec<u64>| row[column / 64] >> (column % 64) & 1 == 1;
-        let found = (column..order).find(|&i| has(&rows[i]))?;
-        rows.swap(column, found);
-        let pivot = rows[column].clone();
-        for (i, row) in rows.iter_mut().enumerate() {
-            if i != column && has(row) {
-                row.iter_mut().zip(&pivot).skip(column / 64).for_each(|(to, from)| *to ^= from);
-            }
-        }
-    }
-    Some(Matrix { order, rows: rows.into_iter().map(|row| row[width..].to_vec()).collect() })
-}
-
 fn list_bytes(list: &[usize]) -> Vec<u8> {
     list.iter().flat_map(|&entry| (entry as u16).to_le_bytes()).collect()
 }
@@ -129,7 +106,9 @@ fn search(d: Design, seed: u64) -> Good {
     loop {
         let (own, parity) = (rng.permutation(d.order()), rng.permutation(d.order()));
         let kit_of = |inverse| Kit { m: d.m, t: d.t, size: d.size, own: list_bytes(&own), parity: list_bytes(&parity), inverse };
-        if let Some(w_matrix) = invert(&system(&Shape::new(d, 1, own.clone(), parity.clone()))) {
+        let a_matrix = system(&Shape::new(d, 1, own.clone(), parity.clone()));
+        if regular(&a_matrix) {
+            let w_matrix = inverse(&a_matrix).unwrap();
             return Good { d, kit: kit_of(w_matrix.to_bytes()), w_matrix };
         }
     }
@@ -177,7 +156,8 @@ fn designs(rows: usize) -> Vec<Design> {
 struct Context {
     seed: u64,
     kits: Mutex<HashMap<(u64, u64, u64), Arc<Good>>>,
-    programs: Option<(PathBuf, PathBuf)>,
+    /// frame, mend and makekit
+    programs: Option<[PathBuf; 3]>,
     folder: PathBuf,
     /// failures of the group so far; the first 20 are printed
     printed: AtomicU64,
@@ -209,6 +189,7 @@ struct Lent {
     info: Vec<u8>,
     red: Vec<u8>,
     kit_work: usize,
+    make_work: usize,
     word_work: usize,
     info_errors: Vec<u8>,
     red_errors: Vec<u8>,
@@ -230,6 +211,7 @@ impl Lent {
             info,
             red,
             kit_work: order * ((order + 7) / 8),
+            make_work: (2 * order + 512) * ((order + 7) / 8),
             word_work: order,
             info_errors: vec![],
             red_errors: vec![],
@@ -441,6 +423,49 @@ impl Case<'_> {
         self.show(l, 1, (l.blocks / 2).max(1), l.red.len());
     }
 
+    // The maker and the writer.
+
+    /// The inverse is the buffer for W. The answer is what the maker leaves there, by the reference.
+    fn make_inverse(&mut self, l: &Lent) -> Vec<u8> {
+        let result = make_inverse(&l.kit(), l.make_work);
+        let (number, told) = answered(&result, |_| vec![], 1);
+        let left = result.unwrap_or(l.inverse.clone());
+        let buffers = vec![l.own.clone(), l.parity.clone(), left.clone()];
+        self.call("make_inverse", &[&l.own, &l.parity, &l.inverse], l.make_work, Expected { number, told, buffers }, |b, w, a| {
+            let [own, parity, inverse] = b else { unreachable!() };
+            host::make_inverse(l.design(), own, parity, inverse, w, a)
+        });
+        left
+    }
+    /// The answer is the length, by the reference; a small one where it is refused.
+    fn kit_text_length(&mut self, l: &Lent) -> usize {
+        let result = kit_text_length(&l.kit());
+        let (number, told) = answered(&result, |&length| vec![length], 2);
+        let buffers = vec![l.own.clone(), l.parity.clone()];
+        self.call("kit_text_length", &[&l.own, &l.parity], 0, Expected { number, told, buffers }, |b, _, a| {
+            host::texts::kit_text_length(l.design(), b[0], b[1], a)
+        });
+        result.map_or(100, |length| length as usize)
+    }
+    /// Into a buffer of this length.
+    fn write_kit(&mut self, l: &Lent, text: usize) {
+        let old = self.rng.bytes(text);
+        let result = write_kit(&l.kit(), text);
+        let (number, told) = answered(&result, |_| vec![], 1);
+        let left = result.unwrap_or(old.clone());
+        let buffers = vec![l.own.clone(), l.parity.clone(), l.inverse.clone(), left];
+        self.call("write_kit", &[&l.own, &l.parity, &l.inverse, &old], 0, Expected { number, told, buffers }, |b, _, a| {
+            let [own, parity, inverse, text] = b else { unreachable!() };
+            host::texts::write_kit(l.design(), own, parity, inverse, text, a)
+        });
+    }
+    /// All three, the writer with a buffer of the text's length.
+    fn make_and_write(&mut self, l: &Lent) {
+        self.make_inverse(l);
+        let text = self.kit_text_length(l);
+        self.write_kit(l, text);
+    }
+
     // The calls on texts. Buffers are lent with random bytes in them.
 
     fn scan_kit(&mut self, text: &[u8]) {
@@ -510,27 +535,59 @@ impl Case<'_> {
     /// bauchleton_frame and bauchleton_mend, lent a buffer of this length.
     fn prints(&mut self, mend: bool, kit: &[u8], text: &[u8], out_len: usize) {
         let printed = if mend { mend_prints(kit, text) } else { frame_prints(kit, text) };
+        let name = if mend { "library mend" } else { "library frame" };
+        self.printing(name, &[kit, text], printed, out_len, |b, out| {
+            (if mend { host::texts::mend } else { host::texts::frame })(b[0], b[1], out)
+        });
+    }
+    /// bauchleton_makekit, the same.
+    fn makes(&mut self, text: &[u8], out_len: usize) {
+        self.printing("library makekit", &[text], makekit_prints(text), out_len, |b, out| host::texts::makekit(b[0], out));
+    }
+    /// What is printed, at the start of a buffer of this length; nothing where it is too short.
+    fn printing(&mut self, name: &str, inputs: &[&[u8]], printed: String, out_len: usize, run: impl FnOnce(&[&mut [u8]], &mut [u8]) -> u64) {
         let old = vec![0xA5; out_len];
         let mut after = old.clone();
         let mut number = 0;
-        if out_len == OUT {
+        if out_len >= OUT {
             after[..printed.len()].copy_from_slice(printed.as_bytes());
             number = printed.len() as u64;
         }
-        let expected = Expected { number, told: vec![], buffers: vec![kit.to_vec(), text.to_vec(), after] };
+        let buffers = inputs.iter().map(|b| b.to_vec()).chain([after]).collect();
+        let lent: Vec<&[u8]> = inputs.iter().copied().chain([&old[..]]).collect();
         *self.numbers.entry(refused(&printed)).or_default() += 1;
-        self.call(if mend { "library mend" } else { "library frame" }, &[kit, text, &old], 0, expected, |b, _, _| {
-            let [kit, text, out] = b else { unreachable!() };
-            (if mend { host::texts::mend } else { host::texts::frame })(kit, text, out)
+        self.call(name, &lent, 0, Expected { number, told: vec![], buffers }, |b, _, _| {
+            let (out, inputs) = b.split_last_mut().unwrap();
+            run(inputs, out)
         });
     }
-    /// The program itself, in its folder with kit.txt: standard output, and the folder afterwards.
+    /// `frame` or `mend` itself, in its folder with kit.txt: standard output, and the folder afterwards.
     fn runs(&mut self, mend: bool, kit: &[u8], text: &[u8]) {
-        let Some((frame_path, mend_path)) = &self.context.programs else { return };
+        let Some([frame, mender, _]) = &self.context.programs else { return };
         let folder = &self.context.folder.join(self.thread.to_string());
         std::fs::create_dir_all(folder).unwrap();
         std::fs::write(folder.join("kit.txt"), kit).unwrap();
-        let mut child = Command::new(if mend { mend_path } else { frame_path })
+        let expected = if mend { mend_prints(kit, text) } else { frame_prints(kit, text) };
+        let name = if mend { "program mend" } else { "program frame" };
+        if self.program(name, if mend { mender } else { frame }, folder, text, expected) {
+            let left: Vec<_> = std::fs::read_dir(folder).unwrap().map(|entry| entry.unwrap().file_name()).collect();
+            let untouched = left == ["kit.txt"] && std::fs::read(folder.join("kit.txt")).unwrap() == kit;
+            self.check(&format!("{name}: left {left:?}, or another kit.txt"), untouched);
+        }
+    }
+    /// `makekit` itself, in a folder without kit.txt.
+    fn runs_makekit(&mut self, text: &[u8]) {
+        let Some([_, _, makekit]) = &self.context.programs else { return };
+        let folder = &self.context.folder.join(format!("empty-{}", self.thread));
+        std::fs::create_dir_all(folder).unwrap();
+        if self.program("program makekit", makekit, folder, text, makekit_prints(text)) {
+            let left = std::fs::read_dir(folder).unwrap().count();
+            self.check("program makekit: left files", left == 0);
+        }
+    }
+    /// Does the program print what is expected, in this folder and with the text on standard input?
+    fn program(&mut self, name: &str, path: &PathBuf, folder: &PathBuf, text: &[u8], expected: String) -> bool {
+        let mut child = Command::new(path)
             .current_dir(folder)
             .stdin(Stdio::piped())
             .stdout(Stdio::piped())
@@ -540,17 +597,14 @@ impl Case<'_> {
         // The text fits into a pipe. A program that ends without reading it is no fault.
         drop(child.stdin.take().unwrap().write_all(text));
         let found = child.wait_with_output().unwrap().stdout;
-        let expected = if mend { mend_prints(kit, text) } else { frame_prints(kit, text) };
-        let name = if mend { "program mend" } else { "program frame" };
         *self.numbers.entry(refused(&expected)).or_default() += 1;
-        if found != expected.as_bytes() {
-            let found = String::from_utf8_lossy(&found).chars().take(200).collect::<String>();
-            let expected = expected.chars().take(200).collect::<String>();
-            return self.fail(format!("{name}: expected {expected:?}, found {found:?}"));
+        if found == expected.as_bytes() {
+            return true;
         }
-        let left: Vec<_> = std::fs::read_dir(folder).unwrap().map(|entry| entry.unwrap().file_name()).collect();
-        let untouched = left == ["kit.txt"] && std::fs::read(folder.join("kit.txt")).unwrap() == kit;
-        self.check(&format!("{name}: left {left:?}, or another kit.txt"), untouched);
+        let found = String::from_utf8_lossy(&found).chars().take(200).collect::<String>();
+        let expected = expected.chars().take(200).collect::<String>();
+        self.fail(format!("{name}: expected {expected:?}, found {found:?}"));
+        false
     }
 
     // Inputs.
@@ -614,8 +668,8 @@ fn main() {
     let mut words: Vec<String> = std::env::args().skip(1).collect();
     let mut programs = None;
     if let Some(at) = words.iter().position(|word| word == "--programs") {
-        let paths: Vec<PathBuf> = words.drain(at..at + 3).skip(1).map(|path| std::fs::canonicalize(path).unwrap()).collect();
-        programs = Some((paths[0].clone(), paths[1].clone()));
+        let paths: Vec<PathBuf> = words.drain(at..at + 4).skip(1).map(|path| std::fs::canonicalize(path).unwrap()).collect();
+        programs = Some(paths.try_into().unwrap());
     }
     let only = words.first().filter(|name| *name != "all");
     let seed = words.get(1).map_or(1, |word| word.parse().expect("a seed"));

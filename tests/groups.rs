@@ -10,6 +10,7 @@ pub const GROUPS: &[Group] = &[
     ("rows-of-k", || 1, rows_of_k),
     ("self", || designs(400).len(), reference_alone),
     ("nearest", || 4, nearest),
+    ("dependent", || 400, dependent),
     ("design", || 13 * 5, design_rules),
     ("kits", || 4 * designs(1000).len(), kits),
     ("inverses", || 2 * designs(400).len(), inverses),
@@ -22,19 +23,24 @@ pub const GROUPS: &[Group] = &[
     ("rounds", || 200, rounds),
     ("show", || 2 * designs(60).len(), showing),
     ("loopback", || 8 * designs(60).len(), loopbacks),
+    ("makers", || LISTS * designs(400).len(), makers),
+    ("writers", || 600, writers),
     ("answers", || 40, answers),
     ("many-blocks", || 6, many_blocks),
     ("kit-text-everywhere", || 340, kit_text_everywhere),
     ("block-text-everywhere", || 165, block_text_everywhere),
+    ("list-text-everywhere", || 110, list_text_everywhere),
     ("kit-text", || 600, kit_texts),
     ("block-text", || 600, block_texts),
     ("frame-text", || 600, frame_texts),
     ("lines", || 300, lines),
     ("frame", || 1500, |case| program(case, false, false)),
     ("mend", || 1500, |case| program(case, true, false)),
-    ("large", || 2 * large_designs().len() + 2, large),
+    ("makekits", || 1500, |case| makekit(case, false)),
+    ("large", || 2 * large_designs().len() + 4, large),
     ("program-frame", || 800, |case| program(case, false, true)),
     ("program-mend", || 800, |case| program(case, true, true)),
+    ("program-makekit", || 800, |case| makekit(case, true)),
 ];
 
 // ---------------------------------------------------------------- Published generators and document 01's rows
@@ -183,6 +189,43 @@ fn rows_of_k(case: &mut Case) {
         "m t M\n4 1 1\nplace self parity\n0 1 3\n1 0 0\n2 2 1\n3 3 2\nrow inverse\n0 1010\n1 0101\n2 1101\n3 0100\n",
         &text[..],
     );
+    // U1: K makes its own W and text; equal lists have none; an entry of five digits; what is behind the lists
+    case.same("W", Ok(kit.inverse.clone()), make_inverse(&kit, d.make_work()));
+    case.same("both lists 0 1 2 3", Err((14, 0)), make_inverse(&equal, d.make_work()));
+    let mut five = kit.clone();
+    five.own[..2].fill(255);
+    for (name, kit, length, answer) in [
+        ("K", &kit, 94, Ok(text.clone().into_bytes())),
+        ("K in 93 bytes", &kit, 93, Err((6, 7))),
+        ("five digits", &five, 98, Err((7, 0))),
+        ("five digits in 94 bytes", &five, 94, Err((6, 7))),
+        ("a spare bit", &spare, 94, Err((8, 2))),
+        ("a repeated entry", &repeated, 94, Err((7, 5))),
+        ("a wrong inverse", &last, 94, Ok(kit_text(&last).into_bytes())),
+    ] {
+        case.same(name, answer, write_kit(kit, length));
+        let lent = Lent::new(kit, 1, vec![], vec![]);
+        case.make_inverse(&lent);
+        case.kit_text_length(&lent);
+        case.write_kit(&lent, length);
+    }
+    case.same("length", Ok(94), kit_text_length(&kit));
+    case.same("length with five digits", Ok(98), kit_text_length(&five));
+    case.make_inverse(&Lent::new(&equal, 1, vec![], vec![]));
+    let same = "m t M\n4 1 1\nplace self parity\n0 0 0\n1 1 1\n2 2 2\n3 3 3\n";
+    for (lists, printed) in [
+        (&text[..54], &text[..]),
+        (&text[..53], "refused place\n11 53\n"),
+        (&text[..], "refused place\n11 54\n"),
+        (same, "refused place\n14 0\n"),
+        (&same.replace("2 2 2", "2 2 1"), "refused place\n7 6\n"),
+        ("m t M\n4 1 4\n", "refused place\n2 16\n"),
+        ("m t M\n4 1 4", "refused place\n11 11\n"),
+        ("", "refused place\n11 0\n"),
+    ] {
+        case.same(lists, printed, &makekit_prints(lists.as_bytes()));
+        case.makes(lists.as_bytes(), OUT);
+    }
     case.same("frame", groups, &frame_prints(text.as_bytes(), blocks.as_bytes()));
     case.prints(false, text.as_bytes(), blocks.as_bytes(), OUT);
     let both = format!("{blocks}{groups}");
@@ -251,6 +294,35 @@ fn nearest(case: &mut Case) {
         let rest = remainder((0..d.n()).map(|j| (word >> (d.n() - 1 - j) & 1) as u8), g);
         let mended = patterns.changes(rest).map(|changes| changes.iter().fold(word, |word, j| word ^ 1 << (d.n() - 1 - j)));
         case.same("codeword within t changes", near.copied(), mended);
+    }
+}
+
+/// Rule 14's column beside the sentence itself: all sums of earlier columns of a small matrix are made, and the first
+/// column that is one of them is looked up. An inverse is found exactly where there is none, and is one on both
+/// sides. A column is a number, bit i for row i.
+fn dependent(case: &mut Case) {
+    let order = 1 + case.index % 10;
+    let mut columns: Vec<u64> = (0..order).map(|_| case.rng.next() >> (64 - order)).collect();
+    if case.index % 4 == 0 {
+        // thin columns, some of them zero
+        columns.iter_mut().for_each(|column| *column &= case.rng.next() & case.rng.next());
+    }
+    let mut sums = vec![0];
+    let mut found = None;
+    let mut a_matrix = Matrix::zero(order);
+    for (j, &column) in columns.iter().enumerate() {
+        if found.is_none() && sums.contains(&column) {
+            found = Some(j);
+        }
+        sums.extend(sums.clone().into_iter().map(|sum| sum ^ column));
+        (0..order).filter(|i| column >> i & 1 == 1).for_each(|i| a_matrix.turn(i, j));
+    }
+    case.same("first dependent column", found, first_dependent(&a_matrix));
+    let w_matrix = inverse(&a_matrix);
+    case.same("an inverse", found.is_none(), w_matrix.is_some());
+    if let Some(w_matrix) = w_matrix {
+        case.same("A W", None, a_matrix.first_wrong(&w_matrix));
+        case.same("W A", None, w_matrix.first_wrong(&a_matrix));
     }
 }
 
@@ -371,6 +443,9 @@ fn lists(case: &mut Case) {
     let mut lent = Lent::new(&kit, blocks, info, red);
     lent.rounds = 1;
     case.all(&lent);
+    if order <= 400 {
+        case.make_and_write(&lent);
+    }
 }
 
 // ---------------------------------------------------------------- Rules 4 to 10
@@ -390,6 +465,7 @@ fn lengths(case: &mut Case) {
             4 => &mut lent.red,
             _ => {
                 lent.kit_work = other(lent.kit_work);
+                lent.make_work = other(lent.make_work);
                 lent.word_work = other(lent.word_work);
                 return;
             }
@@ -401,9 +477,11 @@ fn lengths(case: &mut Case) {
             let mut lent = right.clone();
             resize(&mut lent, which, how);
             case.all(&lent);
+            case.make_and_write(&lent);
             let mut two = lent.clone();
             resize(&mut two, (which + 1 + case.rng.below(5)) % 6, case.rng.below(4));
             case.all(&two);
+            case.make_and_write(&two);
             // a wrong length beside a wrong list entry, a wrong inverse and a byte above 1
             let mut more = lent.clone();
             for slice in [&mut more.own, &mut more.parity, &mut more.inverse, &mut more.info, &mut more.red] {
@@ -412,12 +490,14 @@ fn lengths(case: &mut Case) {
                 }
             }
             case.all(&more);
+            case.make_and_write(&more);
         }
     }
     // the other call's working length
     let mut lent = right.clone();
     std::mem::swap(&mut lent.kit_work, &mut lent.word_work);
     case.all(&lent);
+    case.make_inverse(&Lent { make_work: right.kit_work, ..right.clone() });
 }
 
 /// Bytes above 1 at the first, a middle and the last place of information and redundancy, also beside a
@@ -481,11 +561,14 @@ fn huge(case: &mut Case) {
         let mut lent = right.clone();
         set(&mut lent, which, number);
         case.all(&lent);
+        case.make_and_write(&lent);
         case.design(lent.m, lent.t, lent.size);
         set(&mut lent, case.rng.below(5), case.rng.pick(&NUMBERS));
         case.all(&lent);
+        case.make_and_write(&lent);
         lent.own.pop();
         case.all(&lent);
+        case.make_and_write(&lent);
     }
     for (kind, shown) in [(0, number), (1, number), (number, 1), (number, number), (number, 2)] {
         case.show(&right, kind, shown, right.info.len() + right.red.len());
@@ -735,6 +818,8 @@ fn answers(case: &mut Case) {
     let mut wrong = lent.clone();
     wrong.info[0] = 2;
     let own = lent.own.len();
+    let mut equal = lent.clone();
+    (equal.own, equal.parity) = (list_bytes(&(0..own / 2).collect::<Vec<_>>()), list_bytes(&(0..own / 2).collect::<Vec<_>>()));
     for extra in [-1, 1, -9, 4] {
         case.answer_extra = extra;
         for (m, t, size) in [lent.design(), (3, 1, 1), (4, 1, 4)] {
@@ -742,6 +827,9 @@ fn answers(case: &mut Case) {
         }
         case.all(&lent);
         case.all(&wrong);
+        case.make_and_write(&lent);
+        case.make_and_write(&equal);
+        case.make_and_write(&Lent { size: 0, ..lent.clone() });
         case.scan_kit(kit.as_bytes());
         case.read_kit(kit.as_bytes(), own, own, lent.inverse.len());
         case.read_kit(&kit.as_bytes()[1..], own, own, lent.inverse.len());
@@ -750,6 +838,195 @@ fn answers(case: &mut Case) {
         case.scan_frame(lent.design(), whole.as_bytes());
         case.read_frame(lent.design(), whole.as_bytes(), lent.info.len(), lent.red.len());
     }
+}
+
+// ---------------------------------------------------------------- Making and writing kits
+
+const LISTS: usize = 16;
+
+/// Lists of a kind, and the columns among which that of rule 14 is, where this is known beforehand.
+fn some_lists(rng: &mut Rng, d: &Design, kind: usize) -> (Vec<usize>, Vec<usize>, Option<Range<usize>>) {
+    let (order, side, r) = (d.order(), d.side(), d.r());
+    let (mut own, mut parity) = (rng.permutation(order), rng.permutation(order));
+    let identity: Vec<usize> = (0..order).collect();
+    match kind {
+        0 => return (identity.clone(), identity, Some(0..1)), // A is zero
+        1 => {
+            // Each column of X and Q is kept to itself and its rows are moved. Column b of Y reaches P in its columns b and
+            // turn(b), so that the columns of a cycle of these turns sum to zero, and no fewer do.
+            let (to_y, to_p) = (rng.permutation(side), rng.permutation(side));
+            let moved = |to: &[usize]| (0..order).map(|p| p / side * side + to[p % side]).collect();
+            let turn = |b: usize| to_p[to_y.iter().position(|&to| to == b).unwrap()];
+            let last_of_cycle = |b: usize| {
+                let cycle = std::iter::successors(Some(b), |&at| Some(turn(at)).filter(|&next| next != b));
+                cycle.max().unwrap()
+            };
+            let place = r * (0..side).map(last_of_cycle).min().unwrap();
+            return (moved(&to_y), moved(&to_p), Some(place..place + 1));
+        }
+        2 => {
+            // row word b has the bits of column word b: r zero columns of A
+            let b = rng.below(side);
+            for list in [&mut own, &mut parity] {
+                for e in 0..r {
+                    let at = list.iter().position(|&entry| entry == e * side + b).unwrap();
+                    list.swap(at, e * side + b);
+                }
+            }
+            return (own, parity, Some(0..b * r + 1));
+        }
+        3 => own = identity,
+        4 => parity = identity.into_iter().rev().collect(),
+        _ => {}
+    }
+    (own, parity, None)
+}
+
+/// The maker on lists of every kind, about 3 in 10 of them with an inverse, into buffers of noise; with one slice a byte
+/// short and a byte long; with a repeated and with a too large entry. A made kit passes, encodes and decodes.
+fn makers(case: &mut Case) {
+    let all = designs(400);
+    let d = all[case.index % all.len()];
+    let kind = case.index / all.len();
+    let (own, parity, known) = some_lists(&mut case.rng, &d, kind);
+    let inverse = case.rng.bytes(d.order() * d.row_bytes());
+    let kit = Kit { m: d.m, t: d.t, size: d.size, own: list_bytes(&own), parity: list_bytes(&parity), inverse };
+    let lent = Lent::new(&kit, 1, vec![], vec![]);
+    let result = make_inverse(&kit, d.make_work());
+    if let Some(columns) = known {
+        case.check("the column of rule 14", matches!(result, Err((14, at)) if columns.contains(&(at as usize))));
+    }
+    let left = case.make_inverse(&lent);
+    if result.is_ok() {
+        let kit = Kit { inverse: left.clone(), ..kit };
+        let good = Good { d, w_matrix: Matrix::from_bytes(d.order(), &left), kit };
+        case.same("the made kit", Ok(()), check_kit(&good.kit, d.kit_work()));
+        made_kit(case, &good);
+    }
+    for which in 0..4 {
+        for longer in [false, true] {
+            let mut wrong = lent.clone();
+            let slice = match which {
+                0 => &mut wrong.own,
+                1 => &mut wrong.parity,
+                2 => &mut wrong.inverse,
+                _ => {
+                    wrong.make_work = if longer { wrong.make_work + 1 } else { wrong.make_work - 1 };
+                    case.make_inverse(&wrong);
+                    continue;
+                }
+            };
+            slice.resize(if longer { slice.len() + 1 } else { slice.len() - 1 }, 0);
+            case.make_inverse(&wrong);
+        }
+    }
+    for list in 0..2 {
+        for entry in [own[0], d.order(), 65_535] {
+            let mut wrong = lent.clone();
+            let at = 2 * (1 + case.rng.below(d.order() - 1));
+            let slice = if list == 0 { &mut wrong.own } else { &mut wrong.parity };
+            slice[at..at + 2].copy_from_slice(&(entry as u16).to_le_bytes());
+            case.make_inverse(&wrong);
+        }
+    }
+}
+
+/// The library by itself, from lists to a frame and back: the maker's W passes the checker, encodes, and a copy with at most
+/// t wrong bits a word is mended.
+fn made_kit(case: &mut Case, good: &Good) {
+    let (d, blocks) = (good.d, 1 + case.rng.below(3));
+    let mut lent = case.to_encode(good, blocks);
+    lent.inverse.fill(0xAA);
+    let (mut answer, mut counts) = ([1], [1; 4]);
+    let (d3, mut work) = (lent.design(), vec![0; lent.make_work]);
+    let number = host::make_inverse(d3, &lent.own, &lent.parity, &mut lent.inverse, &mut work, &mut answer);
+    case.same("made", (0, [0]), (number, answer));
+    work.truncate(lent.kit_work);
+    let number = host::check_kit(d3, &lent.own, &lent.parity, &lent.inverse, &mut work, &mut answer);
+    case.same("passed", (0, [0]), (number, answer));
+    let number =
+        host::encode(d3, lent.blocks, &lent.own, &lent.parity, &lent.inverse, &lent.info, &mut lent.red, &mut work, &mut answer);
+    case.same("encoded", (0, [0]), (number, answer));
+    let sent = lent.clone();
+    let shape = Shape::new(d, blocks, entries(&lent.own), entries(&lent.parity));
+    for place in within(&mut case.rng, &shape, 50) {
+        let at = place.checked_sub(lent.info.len());
+        at.map_or_else(|| lent.info[place] ^= 1, |at| lent.red[at] ^= 1);
+    }
+    work.resize(lent.word_work, 0);
+    let number =
+        host::decode(d3, lent.blocks, 0, &lent.own, &lent.parity, &mut lent.info, &mut lent.red, &mut work, &mut counts);
+    case.same("decoded, none outside", (0, 0, 0), (number, counts[0], counts[3]));
+    case.check("recovered", lent.info == sent.info && lent.red == sent.red);
+}
+
+/// The writer on kits that pass and on others: wrong and zero inverses, entries of any digits up to five, spare bits. Text
+/// buffers of the right length and of others, one slice a byte short and a byte long.
+fn writers(case: &mut Case) {
+    let kit = some_kit(case);
+    let d = design(kit.m, kit.t, kit.size).unwrap();
+    let mut lent = Lent::new(&kit, 1, vec![], vec![]);
+    let last = d.order() - 1;
+    let (row, column) = (case.rng.below(d.order()), case.rng.below(d.order()));
+    match case.index % 8 {
+        0..=2 => {}
+        3 => lent.inverse[row * d.row_bytes() + column / 8] ^= 1 << (column % 8),
+        4 => lent.inverse.fill(0),
+        5 | 6 => {
+            // entries of as many digits as there are, in some places or in all
+            let odds = 1 + case.rng.below(d.order());
+            for entry in lent.own.chunks_mut(2).chain(lent.parity.chunks_mut(2)) {
+                if case.rng.below(odds) == 0 {
+                    let any: u16 = case.rng.pick(&[0, 9, 10, 99, 100, 999, 1000, 9999, 10_000, 32_768, 65_535]);
+                    entry.copy_from_slice(&any.to_le_bytes());
+                }
+            }
+        }
+        _ => {
+            let at = 2 * case.rng.below(d.order());
+            lent.parity[at..at + 2].copy_from_slice(&kit.parity[..2]);
+        }
+    }
+    let right = case.kit_text_length(&lent);
+    for text in [right, right - 1, right + 1, 0, 2 * right] {
+        case.write_kit(&lent, text);
+    }
+    if write_kit(&lent.kit(), right).is_ok() {
+        there_and_back(case, &lent, right);
+    }
+    for which in 0..3 {
+        for longer in [false, true] {
+            let mut wrong = lent.clone();
+            let slice = [&mut wrong.own, &mut wrong.parity, &mut wrong.inverse].into_iter().nth(which).unwrap();
+            slice.resize(if longer { slice.len() + 1 } else { slice.len() - 1 }, 0);
+            case.kit_text_length(&wrong);
+            case.write_kit(&wrong, right);
+            case.write_kit(&wrong, right + 1);
+        }
+    }
+    // spare bits: after a wrong length and wrong lists
+    for spare in d.order()..8 * d.row_bytes() {
+        for row in [0, last, row] {
+            let mut wrong = lent.clone();
+            wrong.inverse[row * d.row_bytes() + spare / 8] |= 1 << (spare % 8);
+            case.write_kit(&wrong, right);
+            case.write_kit(&wrong, right - 1);
+        }
+    }
+}
+
+/// The library by itself: what it writes it reads back to the same kit, and what it has read it writes as the same bytes.
+fn there_and_back(case: &mut Case, l: &Lent, length: usize) {
+    let (mut text, mut again, mut answer, mut told) = (vec![0; length], vec![1; length], [1], [1; 4]);
+    let number = host::texts::write_kit(l.design(), &l.own, &l.parity, &l.inverse, &mut text, &mut answer);
+    case.same("written", (0, [0]), (number, answer));
+    let (mut own, mut parity, mut inverse) = (vec![0xA5; l.own.len()], vec![0xA5; l.parity.len()], vec![0xA5; l.inverse.len()]);
+    let number = host::texts::read_kit(&text, &mut own, &mut parity, &mut inverse, &mut told);
+    case.same("read", (0, [0, l.m, l.t, l.size]), (number, told));
+    case.check("the same kit", own == l.own && parity == l.parity && inverse == l.inverse);
+    let number = host::texts::write_kit((told[1], told[2], told[3]), &own, &parity, &inverse, &mut again, &mut answer);
+    case.same("written again", (0, [0]), (number, answer));
+    case.check("the same bytes", text == again);
 }
 
 /// 4,096 blocks in buffers and texts, 4,097 in texts, under kits with M 1.
@@ -916,6 +1193,19 @@ fn block_text_everywhere(case: &mut Case) {
                 case.read_frame((d.m, d.t, d.size), &damaged, info.len(), red.len());
                 case.read_frame((d.m, d.t, d.size), &damaged, info.len(), red.len() + 1);
             }
+        }
+    }
+}
+
+/// List texts of K and of a kit with numbers of two digits, damaged at each place.
+fn list_text_everywhere(case: &mut Case) {
+    for kit in [kit_k(), case.context.kit(design(4, 1, 3).unwrap()).kit.clone()] {
+        let text = list_text(&kit);
+        if case.index > text.len() {
+            continue;
+        }
+        for damaged in damages(text.as_bytes(), case.index) {
+            case.makes(&damaged, OUT);
         }
     }
 }
@@ -1087,16 +1377,22 @@ fn exact(mend: bool, length: usize) -> Vec<(Design, usize)> {
     found
 }
 
-/// A kit text of 175 rows of exactly this length, about 32,768: entries get as many digits as it takes.
+/// A kit whose text, or list text, has exactly this length: entries get as many digits as it takes.
+fn exact_lists(m: u64, t: u64, size: u64, length: usize, text: fn(&Kit) -> String) -> Kit {
+    let d = design(m, t, size).unwrap();
+    let order = d.order();
+    let mut kit = Kit { m, t, size, own: vec![0; 2 * order], parity: vec![0; 2 * order], inverse: vec![0; order * d.row_bytes()] };
+    let missing = length - text(&kit).len();
+    let mut lists = vec![0; 2 * order];
+    (0..missing).for_each(|i| lists[i % (2 * order)] = [10, 100, 1000][i / (2 * order)]);
+    kit.own = list_bytes(&lists[..order]);
+    kit.parity = list_bytes(&lists[order..]);
+    kit
+}
+
+/// A kit text of 175 rows of exactly this length, about 32,768.
 fn exact_kit(length: usize) -> String {
-    let d = design(7, 1, 25).unwrap();
-    let mut kit = Kit { m: 7, t: 1, size: 25, own: vec![0; 350], parity: vec![0; 350], inverse: vec![0; 175 * d.row_bytes()] };
-    let missing = length - kit_text(&kit).len();
-    let mut lists = vec![0; 350];
-    (0..missing).for_each(|i| lists[i % 350] = [10, 100, 1000][i / 350]);
-    kit.own = list_bytes(&lists[..175]);
-    kit.parity = list_bytes(&lists[175..]);
-    kit_text(&kit)
+    kit_text(&exact_lists(7, 1, 25, length, kit_text))
 }
 
 /// The text of a frame (for `mend`) or of its blocks (for `frame`), some bits of the former turned.
@@ -1123,6 +1419,20 @@ fn some_text(case: &mut Case, mend: bool, good: &Good, blocks: usize) -> String 
         }
     }
     block_text(&d, &lent.info) + &group_text(&d, &lent.red)
+}
+
+/// Two lines of a kit text with any numbers, and some start of the rest.
+fn any_design(case: &mut Case) -> Vec<u8> {
+    let mut number = |from: &[&str]| case.rng.pick(&from.iter().map(|s| s.to_string()).collect::<Vec<_>>());
+    let any = ["0", "1", "2", "3", "4", "5", "8", "10", "11", "100", "204", "205", "410", "500", "501", "9999"];
+    let start = if case.index / 20 % 2 == 0 {
+        format!("m t M\n{} {} {}\n", number(&any), number(&any), number(&any))
+    } else {
+        let (m, t) = (number(&["4", "5", "9", "10"]), number(&["1", "2", "3"]));
+        format!("m t M\n{m} {t} {}\n", number(&["4", "11", "137", "205", "247", "410", "500"]))
+    };
+    let rest = case.rng.pick(&["", "place self parity\n", "x", "\n"]);
+    (start + &rest).into_bytes()
 }
 
 /// What a program reads: kit.txt and standard input.
@@ -1186,16 +1496,7 @@ fn program_input(case: &mut Case, mend: bool) -> (Vec<u8>, Vec<u8>) {
         }
         14 => {
             // rules 1 to 3, whatever follows
-            let mut number = |from: &[&str]| case.rng.pick(&from.iter().map(|s| s.to_string()).collect::<Vec<_>>());
-            let any = ["0", "1", "2", "3", "4", "5", "8", "10", "11", "100", "204", "205", "410", "500", "501", "9999"];
-            let start = if case.index / 20 % 2 == 0 {
-                format!("m t M\n{} {} {}\n", number(&any), number(&any), number(&any))
-            } else {
-                let (m, t) = (number(&["4", "5", "9", "10"]), number(&["1", "2", "3"]));
-                format!("m t M\n{m} {t} {}\n", number(&["4", "11", "137", "205", "247", "410", "500"]))
-            };
-            let rest = case.rng.pick(&["", "place self parity\n", "x", "\n"]);
-            ((start + &rest).into_bytes(), text)
+            (any_design(case), text)
         }
         15 => {
             // inputs of exactly, above and just below 32,768 bytes: kit, text or both
@@ -1257,6 +1558,111 @@ fn program(case: &mut Case, mend: bool, itself: bool) {
     }
 }
 
+/// What `makekit` reads.
+fn list_input(case: &mut Case) -> Vec<u8> {
+    let kind = case.index % 20;
+    let d = match case.rng.below(6) {
+        0 => design(4, 1, 1).unwrap(),
+        1 | 2 => case.rng.pick(&designs(171)),
+        3 => design(7, 1, 24).unwrap(),
+        _ => case.rng.pick(&designs(60)),
+    };
+    let kit_of = |d: &Design, own: &[usize], parity: &[usize]| -> Kit {
+        Kit { m: d.m, t: d.t, size: d.size, own: list_bytes(own), parity: list_bytes(parity), inverse: vec![] }
+    };
+    let kept = case.rng.below(LISTS);
+    let (own, parity, _) = some_lists(&mut case.rng, &d, if kind == 11 { kept % 3 } else { LISTS });
+    let mut kit = kit_of(&d, &own, &parity);
+    let text = list_text(&kit).into_bytes();
+    match kind {
+        0..=3 => text,
+        4 | 5 => list_text(&case.context.kit(d).kit).into_bytes(),
+        6 | 7 => damage(&mut case.rng, &text),
+        8 => {
+            // a whole kit text, and one cut behind its lists
+            let whole = kit_text(&case.context.kit(d).kit);
+            let cut = text.len() + case.rng.below(whole.len() - text.len() + 1);
+            whole.into_bytes()[..cut].to_vec()
+        }
+        9 | 10 => {
+            // wrong lists (7), some beside a damage (11)
+            let at = 2 * case.rng.below(d.order());
+            let entry = [0, 1, d.order(), 9999][case.rng.below(4)] as u16;
+            let list = if case.rng.below(2) == 0 { &mut kit.own } else { &mut kit.parity };
+            list[at..at + 2].copy_from_slice(&entry.to_le_bytes());
+            let text = list_text(&kit).into_bytes();
+            if case.rng.below(4) == 0 { damage(&mut case.rng, &text) } else { text }
+        }
+        11 => text, // no inverse (14)
+        12 | 13 => {
+            // a large design, with short entries that no list has: whole (13 at 1), cut or with bytes behind (11)
+            let d = case.rng.pick(&designs(4096));
+            let few: Vec<usize> = (0..d.order()).map(|place| place % 10).collect();
+            let mut text = list_text(&kit_of(&d, &few, &few)).into_bytes();
+            match case.rng.below(4) {
+                0 => text.truncate(case.rng.below(text.len().min(INPUT) + 1)),
+                1 => text.push(case.rng.pick(BYTES)),
+                _ => {}
+            }
+            text
+        }
+        14 => any_design(case),
+        15 => {
+            // a list text of about 32,768 bytes, whole (13 at 1 or 2) or with its last byte changed (11 or 13 at 2)
+            let length = INPUT - 1 + case.rng.below(3);
+            let mut text = list_text(&exact_lists(10, 1, 250, length, list_text)).into_bytes();
+            if case.rng.below(3) == 0 {
+                *text.last_mut().unwrap() = case.rng.pick(BYTES);
+            }
+            text
+        }
+        16 => {
+            // the kit text would have about 32,768 bytes: 7, or 13 at 1
+            let length = INPUT - 1 + case.rng.below(3);
+            list_text(&exact_lists(7, 1, 25, length, kit_text)).into_bytes()
+        }
+        17 => {
+            // the largest designs whose kit text is short enough, and the smallest of the others
+            let near: Vec<Design> = pairs()
+                .into_iter()
+                .flat_map(|(m, t)| (1..=largest(m, t)).map(move |size| design(m, t, size).unwrap()))
+                .filter(|d| (160..=190).contains(&d.order()))
+                .collect();
+            let d = case.rng.pick(&near);
+            let (own, parity, _) = some_lists(&mut case.rng, &d, kept);
+            list_text(&kit_of(&d, &own, &parity)).into_bytes()
+        }
+        18 => {
+            // filled up to about 32,768 bytes, and far above
+            let length = case.rng.pick(&[INPUT - 1, INPUT, INPUT + 1, 40_000]);
+            [text, vec![case.rng.pick(BYTES); length]].concat()[..length].to_vec()
+        }
+        _ => match case.rng.below(4) {
+            0 => vec![],
+            1 => some_text(case, false, &case.context.kit(d), 2).into_bytes(),
+            2 => [&text[..], &text[..]].concat(),
+            _ => {
+                let damaged = damage(&mut case.rng, &text);
+                damage(&mut case.rng, &damaged)
+            }
+        },
+    }
+}
+
+/// Through the library, or the program itself.
+fn makekit(case: &mut Case, itself: bool) {
+    let text = list_input(case);
+    if itself {
+        return case.runs_makekit(&text);
+    }
+    case.makes(&text, OUT);
+    if case.index % 50 == 0 {
+        case.makes(&text, OUT + 1);
+        case.makes(&text, OUT - 1);
+        case.makes(&text, 0);
+    }
+}
+
 // ---------------------------------------------------------------- Large kits
 
 /// Kits of 1,728 and 4,080 rows, the paper's other two designs that fit, and the largest design of each pair
@@ -1275,9 +1681,12 @@ fn large_designs() -> Vec<Design> {
 }
 
 /// The kit right and with one wrong bit, and blocks encoded; a lightly damaged frame decoded; for the first
-/// two designs a loopback, and the kit text of the first.
+/// two designs a loopback, and the kit text of the first; the kit made and written for the same two.
 fn large(case: &mut Case) {
     let all = large_designs();
+    if let Some(which @ 2..) = case.index.checked_sub(2 * all.len()) {
+        return large_maker(case, all[which - 2]);
+    }
     let d = all[case.index % all.len()];
     let good = case.context.kit(d);
     let blocks = if case.index % all.len() < 2 { 2 } else { 1 };
@@ -1321,4 +1730,21 @@ fn large(case: &mut Case) {
             }
         }
     }
+}
+
+/// A kit made, written and read back; lists that have no inverse.
+fn large_maker(case: &mut Case, d: Design) {
+    let good = case.context.kit(d);
+    let mut lent = Lent::new(&good.kit, 1, vec![], vec![]);
+    case.check_kit(&lent);
+    let length = case.kit_text_length(&lent);
+    case.write_kit(&lent, length);
+    there_and_back(case, &lent, length);
+    lent.inverse.fill(0xAA);
+    case.make_inverse(&lent);
+    let (own, parity, known) = some_lists(&mut case.rng, &d, 1);
+    (lent.own, lent.parity) = (list_bytes(&own), list_bytes(&parity));
+    let result = make_inverse(&lent.kit(), lent.make_work);
+    case.check("the column of rule 14", matches!(result, Err((14, at)) if known.unwrap().contains(&(at as usize))));
+    case.make_inverse(&lent);
 }

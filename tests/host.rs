@@ -25,6 +25,9 @@ extern "C" {
     fn bauchleton_check_kit(
         m: u64, t: u64, size: u64, o: In, ol: usize, p: In, pl: usize, v: In, vl: usize, w: Out, wl: usize, a: Told, al: usize,
     ) -> u64;
+    fn bauchleton_make_inverse(
+        m: u64, t: u64, size: u64, o: In, ol: usize, p: In, pl: usize, v: Out, vl: usize, w: Out, wl: usize, a: Told, al: usize,
+    ) -> u64;
     fn bauchleton_encode(
         m: u64, t: u64, size: u64, blocks: u64, o: In, ol: usize, p: In, pl: usize, v: In, vl: usize, i: In, il: usize,
         r: Out, rl: usize, w: Out, wl: usize, a: Told, al: usize,
@@ -59,6 +62,15 @@ pub fn check_kit(
     let ((o, ol), (p, pl), (v, vl)) = (lend!(own), lend!(parity), lend!(inverse));
     let ((w, wl), (a, al)) = (lend_mut!(work), lend_mut!(answer));
     unsafe { bauchleton_check_kit(m, t, size, o, ol, p, pl, v, vl, w, wl, a, al) }
+}
+
+#[allow(clippy::too_many_arguments)]
+pub fn make_inverse(
+    (m, t, size): (u64, u64, u64), own: &[u8], parity: &[u8], inverse: &mut [u8], work: &mut [u8], answer: &mut [u64],
+) -> u64 {
+    let ((o, ol), (p, pl)) = (lend!(own), lend!(parity));
+    let ((v, vl), (w, wl), (a, al)) = (lend_mut!(inverse), lend_mut!(work), lend_mut!(answer));
+    unsafe { bauchleton_make_inverse(m, t, size, o, ol, p, pl, v, vl, w, wl, a, al) }
 }
 
 #[allow(clippy::too_many_arguments)]
@@ -131,12 +143,19 @@ pub mod texts {
         fn bauchleton_read_frame(
             m: u64, t: u64, size: u64, text: In, tl: usize, i: Out, il: usize, r: Out, rl: usize, a: Told, al: usize,
         ) -> u64;
+        fn bauchleton_kit_text_length(
+            m: u64, t: u64, size: u64, o: In, ol: usize, p: In, pl: usize, a: Told, al: usize,
+        ) -> u64;
+        fn bauchleton_write_kit(
+            m: u64, t: u64, size: u64, o: In, ol: usize, p: In, pl: usize, v: In, vl: usize, text: Out, tl: usize, a: Told, al: usize,
+        ) -> u64;
         fn bauchleton_block_line(out: Out, outl: usize, at: usize, number: u64, b: In, bl: usize) -> u64;
         fn bauchleton_group_line(out: Out, outl: usize, at: usize, number: u64, o: In, ol: usize, p: In, pl: usize) -> u64;
         fn bauchleton_refusal_lines(out: Out, outl: usize, at: usize, rule: u64, place: u64) -> u64;
         fn bauchleton_count_lines(out: Out, outl: usize, at: usize, rounds: u64, turned: u64, outside: u64) -> u64;
         fn bauchleton_frame(k: In, kl: usize, text: In, tl: usize, out: Out, outl: usize) -> u64;
         fn bauchleton_mend(k: In, kl: usize, text: In, tl: usize, out: Out, outl: usize) -> u64;
+        fn bauchleton_makekit(text: In, tl: usize, out: Out, outl: usize) -> u64;
     }
 
     pub fn scan_kit(text: &[u8], answer: &mut [u64]) -> u64 {
@@ -172,6 +191,19 @@ pub mod texts {
         unsafe { bauchleton_read_frame(m, t, size, x, xl, i, il, r, rl, a, al) }
     }
 
+    pub fn kit_text_length((m, t, size): (u64, u64, u64), own: &[u8], parity: &[u8], answer: &mut [u64]) -> u64 {
+        let ((o, ol), (p, pl), (a, al)) = (lend!(own), lend!(parity), lend_mut!(answer));
+        unsafe { bauchleton_kit_text_length(m, t, size, o, ol, p, pl, a, al) }
+    }
+
+    pub fn write_kit(
+        (m, t, size): (u64, u64, u64), own: &[u8], parity: &[u8], inverse: &[u8], text: &mut [u8], answer: &mut [u64],
+    ) -> u64 {
+        let ((o, ol), (p, pl), (v, vl)) = (lend!(own), lend!(parity), lend!(inverse));
+        let ((x, xl), (a, al)) = (lend_mut!(text), lend_mut!(answer));
+        unsafe { bauchleton_write_kit(m, t, size, o, ol, p, pl, v, vl, x, xl, a, al) }
+    }
+
     pub fn block_line(out: &mut [u8], at: usize, number: u64, bits: &[u8]) -> u64 {
         let ((s, sl), (b, bl)) = (lend_mut!(out), lend!(bits));
         unsafe { bauchleton_block_line(s, sl, at, number, b, bl) }
@@ -200,5 +232,10 @@ pub mod texts {
     pub fn mend(kit: &[u8], text: &[u8], out: &mut [u8]) -> u64 {
         let ((k, kl), (x, xl), (s, sl)) = (lend!(kit), lend!(text), lend_mut!(out));
         unsafe { bauchleton_mend(k, kl, x, xl, s, sl) }
+    }
+
+    pub fn makekit(text: &[u8], out: &mut [u8]) -> u64 {
+        let ((x, xl), (s, sl)) = (lend!(text), lend_mut!(out));
+        unsafe { bauchleton_makekit(x, xl, s, sl) }
     }
 }

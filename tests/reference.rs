@@ -1,12 +1,14 @@
-//! Document 01 written a second time, from its text alone: small, literal and slow.
-//! It shares nothing with the library. Everything that document 01 defines is a function here:
+//! Document 01 and document 02's U1 written a second time, from their text alone: small, literal and slow.
+//! It shares nothing with the library. Everything that they define is a function here:
 //!
 //! - `design`, `powers`, `minimal`, `generator`, `remainder`: rules 1 to 3 and BCH words
 //! - `Shape`: where each bit of each word of a frame stands
 //! - `sums`, `system`, `check_kit`: A y + c, A, and the verdict on a kit
+//! - `first_dependent`, `inverse`, `make_inverse`: rule 14's column, W by elimination, and the maker
 //! - `encode`, `check_words`, `decode`, `show`, `loopback`: the calls
 //! - `read_kit`, `read_blocks`, `read_frame`: the texts and the place of rules 11 and 12
-//! - `block_line` .. `count_lines`, `frame_prints`, `mend_prints`: what is printed
+//! - `kit_text`, `kit_text_length`, `write_kit`: kit text, its length, and the writer
+//! - `block_line` .. `count_lines`, `frame_prints`, `mend_prints`, `makekit_prints`: what is printed
 //!
 //! A frame is kept as one vector: the information, then the redundancy. A sent bit is its place in it.
 
@@ -54,6 +56,10 @@ impl Design {
     /// working bytes of kit checker, encoder and loopback
     pub fn kit_work(&self) -> usize {
         self.order() * self.row_bytes()
+    }
+    /// working bytes of the maker
+    pub fn make_work(&self) -> usize {
+        (2 * self.order() + 512) * self.row_bytes()
     }
     /// working bytes of word checker and decoder
     pub fn word_work(&self) -> usize {
@@ -464,6 +470,69 @@ pub fn check_kit(kit: &Kit, work: usize) -> Answer<()> {
     Ok(())
 }
 
+/// Rule 14: "the first column of A that is a sum of earlier columns (column 0 if it is zero)", so that a zero
+/// column is such a sum anywhere. The sums of the columns so far are kept as a set of columns with
+/// different first ones, of which each sum is made in one way only: a column is such a sum exactly when
+/// nothing is left of it once, from the front on, each of its ones is taken away by the kept column that
+/// starts there.
+pub fn first_dependent(a_matrix: &Matrix) -> Option<usize> {
+    let order = a_matrix.order;
+    let mut columns = Matrix::zero(order);
+    for i in 0..order {
+        (0..order).filter(|&j| a_matrix.bit(i, j)).for_each(|j| columns.turn(j, i));
+    }
+    let mut kept: Vec<Option<Vec<u64>>> = vec![None; order];
+    for (j, mut column) in columns.rows.into_iter().enumerate() {
+        loop {
+            let Some(at) = column.iter().position(|&word| word != 0) else { return Some(j) };
+            let first = at * 64 + column[at].trailing_zeros() as usize;
+            let Some(other) = &kept[first] else {
+                kept[first] = Some(column);
+                break;
+            };
+            column.iter_mut().zip(other).for_each(|(to, from)| *to ^= from);
+        }
+    }
+    None
+}
+
+/// W by elimination on [A | 1], row by row: `None` where a column has no row left for it.
+pub fn inverse(a_matrix: &Matrix) -> Option<Matrix> {
+    let order = a_matrix.order;
+    let width = (order + 63) / 64;
+    let one = Matrix::identity(order);
+    let mut rows: Vec<Vec<u64>> = (0..order).map(|i| [&a_matrix.rows[i][..], &one.rows[i][..]].concat()).collect();
+    for column in 0..order {
+        let has = |row: &Vec<u64>| row[column / 64] >> (column % 64) & 1 == 1;
+        let found = (column..order).find(|&i| has(&rows[i]))?;
+        rows.swap(column, found);
+        let pivot = rows[column].clone();
+        for (i, row) in rows.iter_mut().enumerate() {
+            if i != column && has(row) {
+                row.iter_mut().zip(&pivot).skip(column / 64).for_each(|(to, from)| *to ^= from);
+            }
+        }
+    }
+    Some(Matrix { order, rows: rows.into_iter().map(|row| row[width..].to_vec()).collect() })
+}
+
+/// The maker: rules 1 to 3, 6, 7 and 14. The kit's inverse is the buffer for W, which is not judged. The answer is W.
+pub fn make_inverse(kit: &Kit, work: usize) -> Answer<Vec<u8>> {
+    let d = design(kit.m, kit.t, kit.size)?;
+    lengths(&[
+        (1, kit.own.len(), 2 * d.order()),
+        (2, kit.parity.len(), 2 * d.order()),
+        (3, kit.inverse.len(), d.order() * d.row_bytes()),
+        (6, work, d.make_work()),
+    ])?;
+    let (own, parity) = permutations(&d, &kit.own, &kit.parity)?;
+    let a_matrix = system(&Shape::new(d, 1, own, parity));
+    match first_dependent(&a_matrix) {
+        Some(column) => Err((14, column as u64)),
+        None => Ok(inverse(&a_matrix).expect("an inverse of a matrix without dependent columns").to_bytes()),
+    }
+}
+
 /// Rule 4 for L.
 fn block_count(blocks: u64) -> Answer<usize> {
     if blocks < 1 || blocks > 4096 {
@@ -786,8 +855,9 @@ pub fn read_kit(bytes: &[u8], own: usize, parity: usize, inverse: usize) -> Answ
     Ok((d, rest_of_kit(&mut text, &d)?))
 }
 
-fn rest_of_kit(text: &mut Text, d: &Design) -> Answer<Kit> {
-    let (mut own, mut parity, mut w_matrix) = (vec![], vec![], Matrix::zero(d.order()));
+/// Both lists, with the names before them.
+fn lists_of_kit(text: &mut Text, d: &Design) -> Answer<(Vec<u8>, Vec<u8>)> {
+    let (mut own, mut parity) = (vec![], vec![]);
     text.fixed("place self parity\n")?;
     for place in 0..d.order() {
         text.fixed(&format!("{place} "))?;
@@ -796,6 +866,12 @@ fn rest_of_kit(text: &mut Text, d: &Design) -> Answer<Kit> {
         parity.extend((text.number()? as u16).to_le_bytes());
         text.fixed("\n")?;
     }
+    Ok((own, parity))
+}
+
+fn rest_of_kit(text: &mut Text, d: &Design) -> Answer<Kit> {
+    let (own, parity) = lists_of_kit(text, d)?;
+    let mut w_matrix = Matrix::zero(d.order());
     text.fixed("row inverse\n")?;
     for row in 0..d.order() {
         text.fixed(&format!("{row} "))?;
@@ -887,20 +963,49 @@ pub fn group_text(d: &Design, red: &[u8]) -> String {
     format!("group self parity\n{}", lines.collect::<String>())
 }
 
-/// Kit text of a kit with lists and inverse of the design's lengths.
-pub fn kit_text(kit: &Kit) -> String {
-    let order = (kit.m * kit.t * kit.size) as usize;
-    let w_matrix = Matrix::from_bytes(order, &kit.inverse);
+/// The first part of a kit text: its two lines and those of the lists.
+pub fn list_text(kit: &Kit) -> String {
     let mut text = format!("m t M\n{} {} {}\nplace self parity\n", kit.m, kit.t, kit.size);
     for (place, (own, parity)) in entries(&kit.own).into_iter().zip(entries(&kit.parity)).enumerate() {
         text += &format!("{place} {own} {parity}\n");
     }
-    text += "row inverse\n";
+    text
+}
+
+/// Kit text of a kit with lists and inverse of the design's lengths. "each entry counts with all its digits, even five"
+pub fn kit_text(kit: &Kit) -> String {
+    let order = (kit.m * kit.t * kit.size) as usize;
+    let w_matrix = Matrix::from_bytes(order, &kit.inverse);
+    let mut text = list_text(kit) + "row inverse\n";
     for row in 0..order {
         let line: Vec<u8> = (0..order).map(|column| w_matrix.bit(row, column) as u8).collect();
         text += &block_line(row as u64, &line);
     }
     text
+}
+
+/// The length of a kit's text, whatever its inverse: rules 1 to 3, and 6 for both lists.
+pub fn kit_text_length(kit: &Kit) -> Answer<u64> {
+    let d = design(kit.m, kit.t, kit.size)?;
+    lengths(&[(1, kit.own.len(), 2 * d.order()), (2, kit.parity.len(), 2 * d.order())])?;
+    let zero = Kit { inverse: vec![0; d.order() * d.row_bytes()], ..kit.clone() };
+    Ok(kit_text(&zero).len() as u64)
+}
+
+/// The writer: "rules 1 to 3 and 6 to 8; rule 6 gains place 7, a text buffer whose length isn't the text's". The
+/// answer is the text.
+pub fn write_kit(kit: &Kit, text: usize) -> Answer<Vec<u8>> {
+    let d = design(kit.m, kit.t, kit.size)?;
+    lengths(&[
+        (1, kit.own.len(), 2 * d.order()),
+        (2, kit.parity.len(), 2 * d.order()),
+        (3, kit.inverse.len(), d.order() * d.row_bytes()),
+    ])?;
+    let written = kit_text(kit).into_bytes();
+    lengths(&[(7, text, written.len())])?;
+    permutations(&d, &kit.own, &kit.parity)?;
+    spare_bits(&d, &kit.inverse)?;
+    Ok(written)
 }
 
 // ---------------------------------------------------------------- Programs
@@ -932,6 +1037,25 @@ fn mend_program(kit: &[u8], text: &[u8]) -> Answer<String> {
     Ok(block_text(&d, &info) + &group_text(&d, &red) + &count_lines(counts))
 }
 
+/// `makekit`: rule 13 for the list text, 11 (two lines, then rules 1 to 3, then the rest), rule 13 for the kit text that
+/// would be printed, and then the maker's rules 7 and 14.
+fn makekit_program(list_text: &[u8]) -> Answer<String> {
+    if list_text.len() > 32768 {
+        return Err((13, 2));
+    }
+    let mut text = Text { bytes: list_text, at: 0, rule: 11 };
+    let (m, t, size) = text.two_lines()?;
+    let d = design(m, t, size)?;
+    let (own, parity) = lists_of_kit(&mut text, &d)?;
+    text.end()?;
+    let mut kit = Kit { m, t, size, own, parity, inverse: vec![0; d.order() * d.row_bytes()] };
+    if kit_text(&kit).len() > 32768 {
+        return Err((13, 1));
+    }
+    kit.inverse = make_inverse(&kit, d.make_work())?;
+    Ok(kit_text(&kit))
+}
+
 fn printed(answer: Answer<String>) -> String {
     answer.unwrap_or_else(|(rule, place)| refusal_lines(rule, place))
 }
@@ -944,4 +1068,9 @@ pub fn frame_prints(kit: &[u8], text: &[u8]) -> String {
 /// What `mend` prints for kit.txt and standard input.
 pub fn mend_prints(kit: &[u8], text: &[u8]) -> String {
     printed(mend_program(kit, text))
+}
+
+/// What `makekit` prints for standard input.
+pub fn makekit_prints(list_text: &[u8]) -> String {
+    printed(makekit_program(list_text))
 }

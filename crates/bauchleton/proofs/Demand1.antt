@@ -12,7 +12,8 @@ use Rattle.staircase.specs.Design.{params}
 use Rattle.staircase.specs.Rules.{Verdict, Part, designRules}
 use Rattle.staircase.specs.Rules.Verdict.{accepted, refused}
 use Rattle.staircase.specs.Calls.{kitVerdict, encodeCall, wordsCall, decodeCall, showVerdict, stretch, shownBy, showCall}
-use Rattle.staircase.proofs.Demand1.{design-demand1, kit-demand1, encode-demand1, words-demand1, decode-demand1, show-demand1}
+use Rattle.staircase.specs.Maker.{makeCall}
+use Rattle.staircase.proofs.Demand1.{design-demand1, kit-demand1, make-demand1, encode-demand1, words-demand1, decode-demand1, show-demand1}
 use Rattle.loopback.specs.Link.{loopbackCall}
 use Rattle.loopback.proofs.Demand1.{loopback-demand1}
 use Rattle.rules_verdict.specs.Number.{number, placeOf}
@@ -26,6 +27,11 @@ bauchleton-design-demand1 m t M = demand1-number _ _ _ _ (design-demand1 m t M)
 pub bauchleton-check-kit-demand1 : (m t M : ℕ) (self parity w : List ℕ) (work : ℕ)
     → Demand1C (1 ∷ 2 ∷ 3 ∷ 6 ∷ 7 ∷ 8 ∷ 9 ∷ []) (number (kitVerdict m t M self parity w work)) (placeOf (kitVerdict m t M self parity w work)) [] []
 bauchleton-check-kit-demand1 m t M self parity w work = demand1-number _ _ _ _ (kit-demand1 m t M self parity w work)
+
+pub bauchleton-make-inverse-demand1 : (m t M : ℕ) (self parity old : List ℕ) (work : ℕ)
+    → Demand1C (1 ∷ 2 ∷ 3 ∷ 6 ∷ 7 ∷ 14 ∷ []) (number (makeCall m t M self parity old work .verdict)) (placeOf (makeCall m t M self parity old work .verdict))
+    (old ∷ []) (makeCall m t M self parity old work .inverse ∷ [])
+bauchleton-make-inverse-demand1 m t M self parity old work = demand1-number _ _ _ _ (make-demand1 m t M self parity old work)
 
 module _ (m t M L : ℕ) (self parity w info red : List ℕ) (work : ℕ) where
   pub bauchleton-encode-demand1 :

@@ -1,12 +1,14 @@
 // Designs and kits for a host in C.
 //   bauchleton_design      rules 1 to 3, and the sizes of a design
 //   bauchleton_check_kit   the kit checker
+//   bauchleton_make_inverse   the maker of a kit's inverse
 ghost use mathlib.Core.Path.{_≡_};
 ghost use mathlib.Core.List.{[], _∷_};
 ghost use lib.ListN.{length};
 ghost use Rattle.staircase.specs.Design.{params};
 ghost use Rattle.staircase.specs.Rules.{designRules};
 ghost use Rattle.staircase.specs.Calls.{kitVerdict};
+ghost use Rattle.staircase.specs.Maker.{makeCall};
 ghost use Rattle.rules_verdict.specs.Number.{number, placeOf, told};
 ghost use Rattle.bauchleton.specs.Answers.{designAnswer};
 use crate::tells::tell_check;
@@ -51,5 +53,25 @@ pub extern "C" fn bauchleton_check_kit(
         ⌜ (a ≡ number v) × (now (answer .exit) ≡ told (placeOf v ∷ []) (now (answer .entry))) ⌝ }
 {
     let c = kit::check_kit(m, t, size, own, parity, inverse, work);
+    tell_check(c, answer)
+}
+
+// Makes the inverse of a kit from its lists. `answer` has one entry: the place.
+#[no_mangle]
+pub extern "C" fn bauchleton_make_inverse(
+    m: u64,
+    t: u64,
+    size: u64,
+    own: &[u8],
+    parity: &[u8],
+    inverse: &mut [u8],
+    work: &mut [u8],
+    answer: &mut [u64],
+) -> u64
+    ensures { λ a.
+        let c = makeCall m t size (now (own .entry)) (now (parity .entry)) (now (inverse .entry)) (length (now (work .entry))) in
+        ⌜ (a ≡ number (c .verdict)) × (now (inverse .exit) ≡ c .inverse) × (now (answer .exit) ≡ told (placeOf (c .verdict) ∷ []) (now (answer .entry))) ⌝ }
+{
+    let c = kit_maker::make_inverse(m, t, size, own, parity, inverse, work);
     tell_check(c, answer)
 }

@@ -1,5 +1,5 @@
 -- Demand 1 of the calls from C on texts: `number` and `placeOf` of a call's verdict are what it answers and tells (contracts in src/).
---   bauchleton-scan-kit-demand1 .. bauchleton-read-frame-demand1   the calls that judge or read; those that write text refuse nothing
+--   bauchleton-scan-kit-demand1 .. bauchleton-read-frame-demand1   the calls that judge, read or write a kit text; those that write lines refuse nothing
 -- Assumes nothing.
 use mathlib.Core.Path.{refl, ap}
 use mathlib.Core.List.{List, [], _∷_}
@@ -13,7 +13,8 @@ use Rattle.rules_verdict.proofs.Demand1.{demand1-number}
 use Rattle.text.specs.KitReader.{scanKit, readKitCall}
 use Rattle.text.specs.FrameReader.{blockRule, blockInfo, readBlocksCall, frameRule, frameInfo, frameRed, readFrameCall}
 use Rattle.text.proofs.Kept.{kept-old}
-use Rattle.text.proofs.Demand1.{scanKit-demand1, readKit-demand1, blocks-demand1, readBlocks-demand1, frame-demand1, readFrame-demand1}
+use Rattle.text.specs.KitWriter.{measureCall, writeCall}
+use Rattle.text.proofs.Demand1.{scanKit-demand1, readKit-demand1, textLength-demand1, writeKit-demand1, blocks-demand1, readBlocks-demand1, frame-demand1, readFrame-demand1}
 use Rattle.bauchleton_text.specs.Answers.{scanBlocksFor, readBlocksFor, scanFrameFor, readFrameFor}
 
 -- rules 1 to 3, and then others
@@ -29,6 +30,16 @@ pub bauchleton-read-kit-demand1 : (s self parity w : List ℕ)
     → Demand1C (1 ∷ 2 ∷ 3 ∷ 6 ∷ 11 ∷ []) (number (readKitCall s self parity w .verdict)) (placeOf (readKitCall s self parity w .verdict)) (self ∷ parity ∷ w ∷ [])
     (readKitCall s self parity w .self ∷ readKitCall s self parity w .parity ∷ readKitCall s self parity w .inverse ∷ [])
 bauchleton-read-kit-demand1 s self parity w = demand1-number _ _ _ _ (readKit-demand1 s self parity w)
+
+module _ (m t M : ℕ) (self parity : List ℕ) where
+  pub bauchleton-kit-text-length-demand1 :
+      Demand1C (1 ∷ 2 ∷ 3 ∷ 6 ∷ []) (number (measureCall m t M self parity .verdict)) (placeOf (measureCall m t M self parity .verdict)) [] []
+  bauchleton-kit-text-length-demand1 = demand1-number _ _ _ _ (textLength-demand1 m t M self parity)
+
+  pub bauchleton-write-kit-demand1 : (w text : List ℕ)
+      → Demand1C (1 ∷ 2 ∷ 3 ∷ 6 ∷ 7 ∷ 8 ∷ []) (number (writeCall m t M self parity w text .verdict)) (placeOf (writeCall m t M self parity w text .verdict))
+      (text ∷ []) (writeCall m t M self parity w text .text ∷ [])
+  bauchleton-write-kit-demand1 w text = demand1-number _ _ _ _ (writeKit-demand1 m t M self parity w text)
 
 module _ (m t M : ℕ) (s info red : List ℕ) where
   pub bauchleton-scan-blocks-demand1 : Demand1C (1 ∷ 2 ∷ 3 ∷ 12 ∷ []) (number (scanBlocksFor m t M s)) (placeOf (scanBlocksFor m t M s)) [] []

@@ -1,6 +1,7 @@
 -- What each call on texts answers and leaves for a host in C.
 --   kitAnswer              of a kit's reader: its place, m, t and M
 --   blocksAnswer           of a reader of blocks or of a frame: its place and the number of blocks
+--   lengthAnswer           of a text's length: its place and the length
 --   scanBlocksFor, readBlocksFor   the readers of block text for any m, t and M: rules 1 to 3 come first
 --   scanFrameFor, readFrameFor     those of frame text
 -- Assumes nothing.
@@ -10,6 +11,8 @@ use Rattle.staircase.specs.Rules.{Verdict, _then_, designRules}
 use Rattle.staircase.specs.Rules.Verdict.{accepted, refused}
 use Rattle.text.specs.Rules.{kept}
 use Rattle.text.specs.KitReader.{headNumber}
+use Rattle.text.specs.KitWriter.{Measured}
+use Rattle.rules_verdict.specs.Number.{placeOf}
 use Rattle.text.specs.FrameReader.{blockRule, blockInfo, BlocksRead, readBlocksCall, frameRule, frameInfo, frameRed, FrameRead, readFrameCall}
 
 -- "m t M" of an accepted kit text; 0 where it is refused
@@ -21,6 +24,10 @@ kitAnswer (refused n p) s = p ∷ 0 ∷ 0 ∷ 0 ∷ []
 unfoldable pub blocksAnswer : Verdict → ℕ → List ℕ
 blocksAnswer accepted L = 0 ∷ L ∷ []
 blocksAnswer (refused n p) L = p ∷ 0 ∷ []
+
+-- the length of a kit's text; 0 where the call is refused
+abbrev pub lengthAnswer : Measured → List ℕ
+lengthAnswer c = placeOf (c .verdict) ∷ c .length ∷ []
 
 -- rules 1 to 3, then 12
 unfoldable pub scanBlocksFor : ℕ → ℕ → ℕ → List ℕ → Verdict

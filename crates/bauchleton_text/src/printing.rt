@@ -8,6 +8,7 @@
 ghost use mathlib.Core.Path.{_≡_};
 ghost use Rattle.text.specs.FrameText.{bitsText, groupLineText};
 ghost use Rattle.text.specs.Programs.{refusalText, countsText, frameOutput, mendOutput};
+ghost use Rattle.text.specs.MakeKit.{makeKitOutput};
 ghost use Rattle.text_write.specs.Room.{after, puts};
 ghost use Rattle.program.specs.Output.{Output};
 
@@ -84,4 +85,12 @@ pub extern "C" fn bauchleton_mend(kit: &[u8], text: &[u8], out: &mut [u8]) -> us
     ensures { λ a. ⌜ Output (mendOutput (now (kit .entry)) (now (text .entry))) a (now (out .entry)) (now (out .exit)) ⌝ }
 {
     program_mend::mend_output(kit, text, out)
+}
+
+// What `makekit` prints for the bytes of its input, a list text, likewise.
+#[no_mangle]
+pub extern "C" fn bauchleton_makekit(text: &[u8], out: &mut [u8]) -> usize
+    ensures { λ a. ⌜ Output (makeKitOutput (now (text .entry))) a (now (out .entry)) (now (out .exit)) ⌝ }
+{
+    program_makekit::makekit_output(text, out)
 }

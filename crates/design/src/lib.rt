@@ -30,6 +30,7 @@ pub enum Refusal {
     Spare(u64),
     Inverse(u64),
     Bit(u64),
+    Singular(u64),
 }
 
 // The answer of a check.

@@ -2,10 +2,9 @@
 --   found          what `first_wrong` of `matrix` finds in the bytes that `mask_rows` leaves
 --   packed-spare   no bit of a packed row past n is 1
 --   packed-found   the row that was packed
---   sent-below     what the inverse of a list holds are places
 --   sent-found     the places of the inverse of a list
 -- Assumes nothing.
-use mathlib.Core.Path.{_≡_, sym, ap, _∙_, subst}
+use mathlib.Core.Path.{_≡_, ap, _∙_}
 use mathlib.Core.Bool.{Bool, not}
 use mathlib.Core.List.{List}
 use Prim.Native.Nat.{ℕ, _*_, _/_, _%_, _≤_, _<_}
@@ -17,13 +16,12 @@ use Rattle.staircase.specs.Lists.{sumBits, firstWhere}
 use Rattle.staircase.specs.System.{rowBytes, identity, preimage}
 use Rattle.staircase.specs.Demand2.{Permutes}
 use Rattle.staircase.proofs.Matrix.{sumBits-same}
-use Rattle.staircase.proofs.Permutation.{preimage-sent}
+use Rattle.staircase.proofs.Search.{firstWhere-same}
 use Rattle.matrix.specs.Packed.{packedBit, planeBit}
 use Rattle.matrix.proofs.Product.{sum-spare}
 use Rattle.kit_system.specs.Rows.{unstackOf}
+use Rattle.kit_system.proofs.Places.{unstacked, sent-at}
 use Rattle.kit_inverse.specs.Products.{wrongIn}
-use Rattle.kit_inverse.proofs.RowSearch.{firstWhere-same}
-use Rattle.kit_inverse.proofs.RowSizes.{unstacked}
 
 -- A is what is left in the bytes, and AP what is lent of them
 pub found : (row t : List ℕ) (n e : ℕ) → ((k : ℕ) → n ≤ k → packedBit row k ≡ 0) → (A AP : List ℕ)
@@ -52,15 +50,9 @@ module _ (n : ℕ) (f : ℕ → ℕ) (R RP : List ℕ) (bits : (k : ℕ) → pac
 -- `preimages` is the inverse of a list, and `lent` what is lent of it
 module _ (n : ℕ) (list : List ℕ) (ok : Permutes n (λ p. getD list p 0)) (preimages lent : List ℕ)
     (are : (q : ℕ) → q < n → getD preimages q 0 ≡ preimage list n q) (same : lent ≡ preimages) where
-  sent : (q : ℕ) → q < n → getD lent q 0 ≡ preimage list n q
-  sent q h = ap (λ (l : List ℕ). getD l q 0) same ∙ are q h
-
-  pub sent-below : (q : ℕ) → q < n → getD lent q 0 < n
-  sent-below q h = subst (λ (v : ℕ). v < n) (sym (sent q h)) (preimage-sent list n ok q h .0)
-
   -- W p i is a test of place i, whose row is sent from p
   pub sent-found : (size r : ℕ) → n ≡ size * r → 0 < n → (W : ℕ → ℕ → Bool)
       → firstWhere (n * n) (λ i. W (getD lent (unstackOf size r (i / n)) 0) i) ≡ firstWhere (n * n) (λ i. W (preimage list n (unstackOf size r (i / n))) i)
   sent-found size r d pos W =
       firstWhere-same (n * n) (λ i. W (getD lent (unstackOf size r (i / n)) 0) i) (λ i. W (preimage list n (unstackOf size r (i / n))) i)
-      (λ i h. ap (λ (p : ℕ). W p i) (sent (unstackOf size r (i / n)) (unstacked size r n (i / n) d (div-lt-iff-lt-mul pos .1 h) .below)))
+      (λ i h. ap (λ (p : ℕ). W p i) (sent-at n list ok preimages lent are same (unstackOf size r (i / n)) (unstacked size r n (i / n) d (div-lt-iff-lt-mul pos .1 h) .below)))

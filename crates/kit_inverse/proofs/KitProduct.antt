@@ -1,18 +1,15 @@
 -- The product that code takes is that of the kit, for an allowed design.
---   part-of    the powers of x that X and Y use are the first r of the last 2 r positions'
 --   wrong-is   a wrong entry of A W
 -- Assumes nothing.
 use mathlib.Core.Path.{_≡_, ap, ap₂, _∙_}
 use mathlib.Core.Bool.{Bool, not, cond}
 use mathlib.Core.List.{List}
-use Prim.Native.Nat.{ℕ, _-_, _*_, _/_, _%_, _<_}
+use Prim.Native.Nat.{ℕ, _*_, _/_, _%_, _<_}
 use native.Mathlib.Nat.{mod-lt, div-lt-iff-lt-mul}
 use native.Mathlib.Omega.{arith}
 use lib.Dec.{eqb}
-use lib.ListN.{length, getD, take}
-use lib.Seq.{getD-take}
+use lib.ListN.{length, getD}
 use borrow.Author.Tests.{lt-ltb}
-use Rattle.bch.specs.Powers.{powerMod, PositionPowers}
 use Rattle.staircase.specs.Lists.{sumBits}
 use Rattle.staircase.specs.Design.{Params, Interleavers, order}
 use Rattle.staircase.specs.System.{preimage, systemEntry, inverseEntry, product, identity}
@@ -24,16 +21,6 @@ use Rattle.matrix.specs.Packed.{planeBit, Planes, paddedEntry}
 use Rattle.kit_system.specs.Rows.{PartOf, unstackOf, rowEntry}
 use Rattle.kit_system.proofs.SystemRows.{rowEntry-is}
 use Rattle.kit_inverse.specs.Products.{wrongIn, productWrong}
-
-pub part-of : (s : Params) (powers part : List ℕ) → PositionPowers (s .g) (s .r) powers → length powers ≡ 2 * s .r
-    → part ≡ take (s .r) powers → length part ≡ s .r → PartOf s part
-part-of s powers part are long e l =
-    record {
-      long = l;
-      powers = λ b h.
-          ap (λ (z : List ℕ). getD z b 0) e ∙ getD-take (s .r) powers b 0 h ∙ are b (omega (arith, long, h))
-          ∙ ap (λ (z : ℕ). powerMod (s .g) (s .r) (z - 1 - b)) long;
-    }
 
 -- entry x of row e of a product, of the entries A of one factor and B of the other
 wrong-row : (f : ℕ → ℕ) (t : List ℕ) (n e x : ℕ) (A B : ℕ → ℕ) → ((k : ℕ) → k < n → f k ≡ A k) → ((k : ℕ) → k < n → planeBit t n k x ≡ B k)

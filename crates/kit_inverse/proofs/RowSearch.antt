@@ -1,23 +1,15 @@
 -- The first place of a square that passes a test, row by row, as a loop over its rows finds it. A test of row i, column j.
---   firstWhere-same                   the same test finds the same place
 --   row-found, row-clean, rows-none   the row that has it; a row without; no row
 -- Assumes nothing.
-use mathlib.Core.Path.{_≡_, refl, sym, ap, ap₂, _∙_, subst}
-use mathlib.Core.Bool.{Bool, false, cond}
-use Prim.Native.Nat.{ℕ, zero, suc, _+_, _-_, _*_, _/_, _%_, _≤_, _<_, zero-le, suc-le-suc}
+use mathlib.Core.Path.{_≡_, sym, ap, ap₂, _∙_, subst}
+use mathlib.Core.Bool.{Bool, false}
+use Prim.Native.Nat.{ℕ, suc, _+_, _-_, _*_, _/_, _%_, _≤_, _<_}
 use native.Mathlib.Nat.{suc-mul, mul-le-mul-right}
 use native.Mathlib.Decide.{decLt}
 use native.Mathlib.Omega.{arith}
 use lib.Arith.{digits-lt, digits-div, digits-mod}
 use Rattle.staircase.specs.Lists.{firstWhere}
 use Rattle.staircase.proofs.Search.{firstWhere-le, firstWhere-none, firstWhere-before, firstWhere-holds, firstWhere-is}
-
-pub firstWhere-same : (n : ℕ) (f g : ℕ → Bool) → ((k : ℕ) → k < n → f k ≡ g k) → firstWhere n f ≡ firstWhere n g
-unfolding firstWhere
-firstWhere-same zero f g h = refl
-firstWhere-same (suc n) f g h =
-    ap₂ (λ (z : Bool) (k : ℕ). cond z 0 (suc k)) (h zero (suc-le-suc zero-le))
-    (firstWhere-same n (λ k. f (suc k)) (λ k. g (suc k)) (λ k l. h (suc k) (suc-le-suc l)))
 
 module _ (n : ℕ) (G : ℕ → ℕ → Bool) where
   abbrev F : ℕ → Bool

@@ -3,26 +3,15 @@
 --   inverse-passed    it accepts
 -- Assumes nothing.
 use mathlib.Core.Path.{_≡_, sym, ap, _∙_, subst}
-use mathlib.Core.Bool.{Bool}
 use mathlib.Core.List.{List}
-use Prim.Native.Nat.{ℕ, _+_, _*_, _≤_, _<_}
+use Prim.Native.Nat.{ℕ, _*_, _≤_, _<_}
 use native.Mathlib.Nat.{zero-add}
-use lib.Dec.{ltb}
-use borrow.Author.Tests.{lt-ltb, le-ltb}
 use Rattle.staircase.specs.Lists.{firstWhere}
 use Rattle.staircase.specs.Design.{Params, Interleavers, order}
 use Rattle.staircase.specs.System.{systemEntry, inverseEntry}
-use Rattle.staircase.specs.Rules.{refuse, refuseFirst, wrongEntry, inverseRule}
+use Rattle.staircase.specs.Rules.{wrongEntry, inverseRule}
 use Rattle.staircase.specs.Rules.Verdict.{accepted, refused}
-
-module _ (rule base N : ℕ) (f : ℕ → Bool) (x : ℕ) (e : x ≡ firstWhere N f) where
-  first-refused : x < N → refused rule (base + x) ≡ refuseFirst rule base N f
-  unfolding refuseFirst
-  first-refused h = sym (ap (λ (z : ℕ). refuse (ltb z N) rule (base + z)) (sym e) ∙ ap (λ (b : Bool). refuse b rule (base + x)) (lt-ltb x N h))
-
-  first-passed : N ≤ x → accepted ≡ refuseFirst rule base N f
-  unfolding refuseFirst
-  first-passed h = sym (ap (λ (z : ℕ). refuse (ltb z N) rule (base + z)) (sym e) ∙ ap (λ (b : Bool). refuse b rule (base + x)) (le-ltb x N h))
+use Rattle.staircase.proofs.Rules.{refuseFirst-at, refuseFirst-past}
 
 -- `all` is the number of entries, x the first wrong one
 module _ (s : Params) (l : Interleavers) (w : List ℕ) (all : ℕ) (square : all ≡ order s * order s)
@@ -34,8 +23,8 @@ module _ (s : Params) (l : Interleavers) (w : List ℕ) (all : ℕ) (square : al
   unfolding inverseRule
   inverse-refused h =
       ap (refused 9) (sym (zero-add x))
-      ∙ first-refused 9 0 (n * n) (wrongEntry n (systemEntry s l) (inverseEntry w n)) x e (subst (λ (z : ℕ). x < z) square h)
+      ∙ refuseFirst-at 9 0 (n * n) (wrongEntry n (systemEntry s l) (inverseEntry w n)) x e (subst (λ (z : ℕ). x < z) square h)
 
   pub inverse-passed : all ≤ x → accepted ≡ inverseRule s l w
   unfolding inverseRule
-  inverse-passed h = first-passed 9 0 (n * n) (wrongEntry n (systemEntry s l) (inverseEntry w n)) x e (subst (λ (z : ℕ). z ≤ x) square h)
+  inverse-passed h = refuseFirst-past 9 0 (n * n) (wrongEntry n (systemEntry s l) (inverseEntry w n)) x e (subst (λ (z : ℕ). z ≤ x) square h)

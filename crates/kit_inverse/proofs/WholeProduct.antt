@@ -11,13 +11,13 @@ use Rattle.staircase.specs.Lists.{firstWhere}
 use Rattle.staircase.specs.System.{rowBytes, systemEntry, inverseEntry}
 use Rattle.staircase.specs.Rules.{entries, wrongEntry}
 use Rattle.staircase.specs.Demand2.{Permutes}
+use Rattle.staircase.proofs.Search.{firstWhere-same}
 use Rattle.design.specs.declared.Design.{Design}
 use Rattle.design.specs.Sizes.{paramsOf, orderOf, listsOf}
 use Rattle.design.proofs.Allowed.{proper-of, r-small, order-positive}
 use Rattle.matrix.specs.Packed.{Planes, paddedEntry}
 use Rattle.kit_system.specs.Rows.{PartOf}
 use Rattle.kit_inverse.specs.Products.{Side, productWrong}
-use Rattle.kit_inverse.proofs.RowSearch.{firstWhere-same}
 use Rattle.kit_inverse.specs.Fits.{KitFits}
 use Rattle.kit_inverse.proofs.KitProduct.{wrong-is}
 

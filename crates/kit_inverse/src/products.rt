@@ -44,14 +44,6 @@ fn first_in_row(
     first_in_packed(&row[0..rb], t, n, e)
 }
 
-// The place that a list sends to row e, from the places of the list's inverse.
-fn preimage_of(preimages: &[u16], size: usize, r: usize, e: usize) -> usize
-    requires { ⌜ (length (now preimages) ≡ size * r) × (size * r ≤ most-order) × (e < size * r) × ((q : ℕ) → q < size * r → getD (now preimages) q 0 < size * r) ⌝ }
-    ensures { λ a. ⌜ (a ≡ getD (now (preimages .entry)) (unstackOf size r e) 0) × (a < size * r) ⌝ }
-{
-    preimages[e % r * size + e / r] as usize
-}
-
 // The place of the first wrong entry of A W, row by row, or n²: `preimages` is the inverse of the parity list.
 fn first_in_rows(
     own: &[u8],
@@ -66,7 +58,7 @@ fn first_in_rows(
         (getD (now (preimages .entry)) (unstackOf size (length (now (part .entry))) (i / n)) 0) (i / n)) (now (t .entry)) n (i / n) (i % n)) ⌝ }
 {
     for e in 0..n {
-        let p = preimage_of(preimages, size, part.len(), e);
+        let p = kit_system::preimage_of(preimages, size, part.len(), e);
         let x = first_in_row(own, n, part, size, t, p, e);
         if x < n {
             return e * n + x;

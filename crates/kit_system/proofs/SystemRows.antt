@@ -1,4 +1,5 @@
 -- The packed rows are those of the system A.
+--   part-of          the powers of x that X and Y use are the first r of the last 2 r positions'
 --   rowEntry-spare   bits past the order are 0
 --   rowEntry-is      an entry of a row, for the place that the parity list sends to it
 -- Assumes nothing.
@@ -9,8 +10,10 @@ use Prim.Native.Nat.{ℕ, _+_, _-_, _*_, _/_, _%_, _^_, _≤_, _<_}
 use native.Mathlib.Nat.{mod-lt}
 use native.Mathlib.Omega.{arith}
 use lib.Dec.{eqb}
-use lib.ListN.{length, getD}
+use lib.ListN.{length, getD, take}
+use lib.Seq.{getD-take}
 use borrow.Author.Tests.{ne-eqb}
+use Rattle.bch.specs.Powers.{powerMod, PositionPowers}
 use Rattle.staircase.specs.Lists.{bitSum, sumBits}
 use Rattle.staircase.specs.Design.{Params, Interleavers, order}
 use Rattle.staircase.specs.System.{stack, unstack, preimage, systemEntry}
@@ -21,6 +24,18 @@ use Rattle.staircase.proofs.Entries.{coefficient, system-row}
 use Rattle.kit_system.proofs.Terms.{stackOf-below, run-end}
 use Rattle.staircase.proofs.Bounds.{place-below}
 use Rattle.kit_system.specs.Rows.{PartOf, stackOf, powerDigit, rowTerm, rowEntry}
+
+-- ---- the powers
+
+pub part-of : (s : Params) (powers part : List ℕ) → PositionPowers (s .g) (s .r) powers → length powers ≡ 2 * s .r
+    → part ≡ take (s .r) powers → length part ≡ s .r → PartOf s part
+part-of s powers part are long e l =
+    record {
+      long = l;
+      powers = λ b h.
+          ap (λ (z : List ℕ). getD z b 0) e ∙ getD-take (s .r) powers b 0 h ∙ are b (omega (arith, long, h))
+          ∙ ap (λ (z : ℕ). powerMod (s .g) (s .r) (z - 1 - b)) long;
+    }
 
 -- ---- past the order
 

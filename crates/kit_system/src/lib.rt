@@ -1,5 +1,6 @@
 // Rows of the system A, packed, one at a time. A row has at most 2 r ones.
 //   fill_preimages   the inverse of a permutation
+//   preimage_of    the place that a list sends to a row
 //   system_row     one packed row of A
 //
 // A bit of Y is a bit of one column word and, through the self list, of one row word. What it adds to the r parity bits of either word is the power
@@ -13,7 +14,7 @@ ghost use Rattle.staircase.specs.System.{preimage};
 ghost use Rattle.staircase.specs.Rules.{entries};
 ghost use Rattle.staircase.specs.Demand2.{Permutes};
 ghost use Rattle.matrix.specs.Packed.{packedBit};
-ghost use Rattle.kit_system.specs.Rows.{stackOf, powerDigit, rowEntry};
+ghost use Rattle.kit_system.specs.Rows.{stackOf, unstackOf, powerDigit, rowEntry};
 
 // Fills `out` with the inverse of a list of n entries that is a permutation: entry q is the place that the list sends to q.
 pub fn fill_preimages(list: &[u8], n: usize, out: &mut [u16])
@@ -25,6 +26,14 @@ pub fn fill_preimages(list: &[u8], n: usize, out: &mut [u16])
         let e = rules::entry(list, p);
         out[e] = p as u16;
     }
+}
+
+// The place that a list sends to row e, from the places of the list's inverse.
+pub fn preimage_of(preimages: &[u16], size: usize, r: usize, e: usize) -> usize
+    requires { ⌜ (length (now preimages) ≡ size * r) × (size * r ≤ most-order) × (e < size * r) × ((q : ℕ) → q < size * r → getD (now preimages) q 0 < size * r) ⌝ }
+    ensures { λ a. ⌜ (a ≡ getD (now (preimages .entry)) (unstackOf size r e) 0) × (a < size * r) ⌝ }
+{
+    preimages[e % r * size + e / r] as usize
 }
 
 // Digit a of power b, the highest first: what bit b of X or Y adds to bit a of the parity.

@@ -1,6 +1,6 @@
 -- Texts at the start of a lent buffer.
 --   printed-text, printed-as            a text that has room
---   printed-refusal, printed-refused    the lines of a refusal
+--   printed-refusal .. refused-prints   the lines of a refusal
 --   output-printed, output-none         what a program prints, where the buffer is long enough and where it is not
 -- Assumes nothing.
 use mathlib.Core.Path.{_≡_, refl, sym, _∙_}
@@ -10,8 +10,10 @@ use native.Mathlib.Omega.{arith}
 use lib.ListN.{length}
 use lib.Seq.{sets, length-sets, length-take-le}
 use borrow.Author.Tests.{lt-leb, le-leb}
+use Rattle.design.specs.declared.Check.{Check}
+use Rattle.design.specs.declared.Check.the-variants as check
 use Rattle.design.specs.declared.Refusal.{Refusal}
-use Rattle.design.specs.Answers.{refusalVerdict}
+use Rattle.design.specs.Answers.{refusalVerdict, verdictOf}
 use Rattle.rules_verdict.specs.declared.Judged.{Judged}
 use Rattle.rules_verdict.specs.Number.{judgedOf}
 use Rattle.rules_verdict.proofs.Refused.{refusal-judged}
@@ -43,6 +45,12 @@ pub printed-refused : (r : Refusal) (j : Judged) (t o new : List ℕ) (n : ℕ) 
     → Printed (printed (refusalVerdict r) t) n o new
 unfolding printed
 printed-refused r j t o new n e p = rw (refusal-judged r j e) p
+
+-- the same for the answer of a check
+pub refused-prints : (c : Check) (r : Refusal) (j : Judged) → c ≡ check.Refused r → j ≡ judgedOf (refusalVerdict r) → (t o new : List ℕ) (n : ℕ)
+    → Printed (refusalText (j .rule) (j .place)) n o new → Printed (printed (verdictOf c) t) n o new
+unfolding verdictOf
+refused-prints c r j f e t o new n p = rw f (printed-refused r j t o new n e p)
 
 pub output-printed : (t : List ℕ) (n : ℕ) (old new : List ℕ) → most-output ≤ length old → Printed t n old new → Output t n old new
 unfolding outputIn outputLength

@@ -1,6 +1,6 @@
-// What the two programs share. What each prints is defined in Programs of the crate `text`, for every kit.txt and every standard input; the
-// crates `program_frame` and `program_mend` make it, and the programs themselves only read their inputs and write it.
-//   MOST_OUTPUT                            the bytes that an output may have
+// What the programs share. What each prints is defined in Programs and MakeKit of the crate `text`, for every kit.txt and every standard input; the
+// crates `program_frame`, `program_mend` and `program_makekit` make it, and the programs themselves only read their inputs and write it.
+//   MOST_INPUT, MOST_OUTPUT                the bytes that an input and an output may have
 //   begin(kit, text, framed)               rule 13 for both inputs, then the kit, then the text: the design and the number of blocks, or a refusal
 //   sizes_of(d, blocks)                    the lengths that readers and calls are lent
 //   list_bytes, matrix_bytes, text_bits    arrays of fixed lengths, for so many bytes
@@ -23,7 +23,7 @@ use text_frame::Blocks;
 use text_kit::KitScan;
 
 // Rule 13: "above 32,768 bytes".
-const MOST_INPUT: usize = 32768;
+pub const MOST_INPUT: usize = 32768;
 
 // No output of a program is longer.
 pub const MOST_OUTPUT: usize = 262144;

@@ -1,6 +1,6 @@
 -- What `frame` prints.
 --   frame-stopped                          the refusal of a rule before the call
---   group-bits .. refused-prints           the groups or the refusal that are printed
+--   group-bits .. passed-groups            the groups that are printed
 --   groups-fit                             they have room behind a text that was scanned
 --   frame-printed                          what the encoder's answer prints is what `frame` prints
 -- Assumes nothing.
@@ -19,21 +19,17 @@ use Rattle.staircase.specs.Calls.{Encoded, encodeVerdict, encodedBy, encodeCall
 use Rattle.design.specs.declared.Design.{Design}
 use Rattle.design.specs.declared.Check.{Check}
 use Rattle.design.specs.declared.Check.the-variants as check
-use Rattle.design.specs.declared.Refusal.{Refusal}
-use Rattle.design.specs.Answers.{refusalVerdict, verdictOf}
+use Rattle.design.specs.Answers.{verdictOf}
 use Rattle.design.specs.Sizes.{orderOf}
-use Rattle.rules_verdict.specs.declared.Judged.{Judged}
-use Rattle.rules_verdict.specs.Number.{judgedOf}
 use Rattle.text.specs.FrameText.{groupText}
 use Rattle.text.specs.Programs.{refusalText, printed, frameCall, frameOutput}
 use Rattle.text_lines.proofs.Lines.{group-text-length}
 use Rattle.text.specs.KitReader.{headNumber, readKitCall}
 use Rattle.text.specs.FrameReader.{blockRule, blockInfo, readBlocksCall}
 use Rattle.text.proofs.FramePromises.{blocks-left}
-use Rattle.program.specs.Output.{Printed, most-output}
+use Rattle.program.specs.Output.{most-output}
 use Rattle.program.specs.Steps.{textRule, startRule, Started, Scanned, FrameReady, GroupsFit}
 use Rattle.text.proofs.Programs.{stopped, called}
-use Rattle.program.proofs.Printing.{printed-refused}
 use Rattle.program.proofs.Starting.{behind-kit}
 use Rattle.program.proofs.ProgramReady.{order-is, kit-left, blocks-scanned, few-blocks, red-short}
 
@@ -60,12 +56,6 @@ module _ (d : Design) (L : ℕ) (red : List ℕ) (F : GroupsFit d L (length red)
   pub passed-groups : (c : Check) → c ≡ check.Passed → printed (verdictOf c) (groupText (orderOf d) (groups L) red) ≡ groupText n G red
   unfolding verdictOf printed
   passed-groups c f = rw (f, g, e)
-
--- the lines of the encoder's refusal
-pub refused-prints : (c : Check) (r : Refusal) (j : Judged) → c ≡ check.Refused r → j ≡ judgedOf (refusalVerdict r) → (t o new : List ℕ) (n : ℕ)
-    → Printed (refusalText (j .rule) (j .place)) n o new → Printed (printed (verdictOf c) t) n o new
-unfolding verdictOf
-refused-prints c r j f e t o new n p = rw f (printed-refused r j t o new n e p)
 
 pub groups-fit : (d : Design) (L : ℕ) (kit text : List ℕ) (own parity inverse info red work : ℕ) → FrameReady d L kit text own parity inverse info red work
     → (q : ℕ) → q ≡ red → GroupsFit d L q

@@ -3,10 +3,12 @@
 --   then-assoc, then-where        of three; a rest that counts only where what comes before it accepts
 --   frame-rules-of                rules 4 to 6, by the number of blocks where it is allowed
 --   kit-lengths-rule              rule 6 of the kit checker, and then others
+--   make-lengths-rule             rule 6 of the maker of a kit's inverse, and then others
 --   encode-rules, received-rules  rules 4 to 6 of calls with a kit, and of those with its lists alone, and then others
 --   lists-alone, kit-alone, frame-alone   rule 6 for some of the slices
 --   content-rules, kit-rules      rules 7 to 10 of calls with a kit, and of the kit checker
 --   received-bytes                rules 7 and 10 of calls with its lists alone
+--   lists-and-spare               rules 7 and 8 of calls without a frame
 -- Assumes nothing.
 use mathlib.Core.Path.{_≡_, refl, sym, ap, ap₂, _∙_}
 use mathlib.Core.List.{List, []}
@@ -17,11 +19,12 @@ use Rattle.staircase.specs.Lists.{firstWhere}
 use Rattle.staircase.specs.System.{rowBytes}
 use Rattle.staircase.specs.Rules.{Verdict, _then_, countRule, roundsRule, lengthRule, infoLength, redLength, listLengths, kitLengths, frameLengths, kitWork, wordWork, refuseFirst, listRule, spareRow, spareRule, inverseRule, kitRules, bitRule, frameBits, contentRules}
 use Rattle.staircase.specs.Rules.Verdict.{accepted, refused}
+use Rattle.staircase.specs.Maker.{makeWork}
 use Rattle.staircase.proofs.Rules.{count-limits, length-accepted, refuseFirst-accepted}
 use Rattle.rules.specs.declared.lengths.Lengths.{Lengths}
 use Rattle.rules.specs.Bytes.{byteRules}
 use Rattle.rules.proofs.Spare.{empty-spare}
-use Rattle.rules.specs.Lengths.{lengthsOf, lengthsRule, kitDue, listsDue, frameDue, frameRules}
+use Rattle.rules.specs.Lengths.{lengthsOf, lengthsRule, kitDue, makeDue, listsDue, frameDue, frameRules}
 
 pub both-then : {x y z u v : Verdict} → z ≡ (x then y) → x ≡ u → y ≡ v → z ≡ (u then v)
 both-then h e f = h ∙ ap₂ (λ (p q : Verdict). p then q) e f
@@ -61,6 +64,12 @@ module _ (s : Params) (self parity : List ℕ) (work : ℕ) (v : Verdict) where
   kit-lengths-rule w =
       grouped (lengthRule 1 (length self) (2 * order s)) (lengthRule 2 (length parity) (2 * order s)) (lengthRule 3 (length w) (order s * rowBytes (order s)))
       accepted accepted (lengthRule 6 work (kitWork s)) v
+
+  pub make-lengths-rule : (w : List ℕ) → (lengthsRule (lengthsOf self parity w [] [] work) (makeDue s) then v) ≡ (kitLengths s self parity w then lengthRule 6 work (makeWork s) then v)
+  unfolding lengthsRule makeDue kitLengths listLengths
+  make-lengths-rule w =
+      grouped (lengthRule 1 (length self) (2 * order s)) (lengthRule 2 (length parity) (2 * order s)) (lengthRule 3 (length w) (order s * rowBytes (order s)))
+      accepted accepted (lengthRule 6 work (makeWork s)) v
 
   module _ (L k : ℕ) (info red : List ℕ) where
     counted : (u w : Verdict) → (u then v) ≡ w → ((countRule L then roundsRule k then u) then v) ≡ (countRule L then roundsRule k then w)
@@ -144,3 +153,9 @@ module _ (s : Params) (l : Interleavers) where
   received-bytes info red =
       ap (λ (z : Verdict). listRule s l then z then frameBits info red)
       (refuseFirst-accepted 8 0 (order s) (spareRow [] (order s)) (λ k h. empty-spare [] (order s) k refl))
+
+  pub lists-and-spare : (w : List ℕ) → byteRules s l w [] [] ≡ (listRule s l then spareRule s w)
+  unfolding byteRules
+  lists-and-spare w =
+      ap (λ (z : Verdict). listRule s l then spareRule s w then z) (information-alone [] ∙ no-bits 0)
+      ∙ ap (λ (z : Verdict). listRule s l then z) (then-none (spareRule s w))

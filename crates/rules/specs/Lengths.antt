@@ -1,7 +1,7 @@
 -- Rules 4 to 6, over the lengths of a call's slices.
 --   lengthsOf                   the lengths of a call's slices
 --   lengthsRule have due        rule 6
---   kitDue, listsDue, frameDue  what is due
+--   kitDue, makeDue, listsDue, frameDue  what is due
 --   frameRules                  rules 4 to 6
 -- Assumes nothing.
 use mathlib.Core.List.{List}
@@ -10,6 +10,7 @@ use lib.ListN.{length}
 use Rattle.staircase.specs.Design.{Params, order}
 use Rattle.staircase.specs.System.{rowBytes}
 use Rattle.staircase.specs.Rules.{Verdict, _then_, countRule, roundsRule, lengthRule, infoLength, redLength, kitWork, wordWork}
+use Rattle.staircase.specs.Maker.{makeWork}
 use Rattle.rules.specs.declared.lengths.Lengths.{Lengths}
 
 -- the lengths of a call's slices; a call without a slice has an empty one
@@ -37,6 +38,16 @@ kitDue s = record {
   info = 0;
   red = 0;
   work = kitWork s;
+}
+
+unfoldable pub makeDue : Params → Lengths
+makeDue s = record {
+  own = 2 * order s;
+  parity = 2 * order s;
+  inverse = order s * rowBytes (order s);
+  info = 0;
+  red = 0;
+  work = makeWork s;
 }
 
 unfoldable pub listsDue : Params → Lengths

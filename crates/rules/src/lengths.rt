@@ -2,7 +2,7 @@
 //   Lengths                             of the six slices that rule 6 counts
 //   check_length(place, have, due)      rule 6 for one slice
 //   check_lengths(have, due)            for all six
-//   kit_due, lists_due, frame_due       the lengths that are due of a kit, of its lists, of a frame
+//   kit_due, make_due, lists_due, frame_due   the lengths that are due of a kit, of one that is made, of its lists, of a frame
 //   check_list_lengths, check_kit_lengths, check_frame_lengths   rule 6 for some of the slices
 //   check_frame                         rules 4 to 6
 //
@@ -13,7 +13,7 @@ ghost use Rattle.staircase.specs.Design.{most-blocks};
 ghost use Rattle.staircase.specs.Rules.{_then_, lengthRule, listLengths, kitLengths, frameLengths};
 ghost use Rattle.design.specs.Sizes.{paramsOf};
 ghost use Rattle.design.specs.Answers.{verdictOf};
-ghost use Rattle.rules.specs.Lengths.{lengthsRule, kitDue, listsDue, frameDue, frameRules};
+ghost use Rattle.rules.specs.Lengths.{lengthsRule, kitDue, makeDue, listsDue, frameDue, frameRules};
 use design::Check;
 use design::Design;
 use design::Refusal;
@@ -30,6 +30,9 @@ pub const INFORMATION: u64 = 4;
 pub const REDUNDANCY: u64 = 5;
 
 pub const WORKING: u64 = 6;
+
+// Document 02: "rule 6 gains place 7, a text buffer whose length isn't the text's"
+pub const TEXT: u64 = 7;
 
 // Lengths of the slices of a call, in bytes.
 pub struct Lengths {
@@ -90,6 +93,24 @@ pub fn kit_due(d: Design) -> Lengths
         info: 0,
         red: 0,
         work: packed,
+    }
+}
+
+// Of the lists and the inverse of a kit, and of the working bytes of the maker of the inverse.
+pub fn make_due(d: Design) -> Lengths
+    ensures { λ a. ⌜ a ≡ makeDue (paramsOf d) ⌝ }
+{
+    let n = d.order();
+    let width = d.row_bytes();
+    let packed = n * width;
+    let work = (2 * n + 512) * width;
+    Lengths {
+        own: 2 * n,
+        parity: 2 * n,
+        inverse: packed,
+        info: 0,
+        red: 0,
+        work: work,
     }
 }
 

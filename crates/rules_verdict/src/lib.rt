@@ -31,6 +31,7 @@ pub fn of_refusal(r: Refusal) -> Judged
         Refusal::Spare(p) => Judged { rule: 8, place: p },
         Refusal::Inverse(p) => Judged { rule: 9, place: p },
         Refusal::Bit(p) => Judged { rule: 10, place: p },
+        Refusal::Singular(p) => Judged { rule: 14, place: p },
     }
 }
 

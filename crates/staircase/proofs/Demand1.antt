@@ -5,7 +5,7 @@
 --   design-demand1, kit-demand1, encode-demand1, words-demand1, decode-demand1, show-demand1   the calls
 --   encodedBy-untouched, correctedBy-untouched    what a refused call leaves
 -- Assumes nothing.
-use mathlib.Core.Path.{_≡_, refl, sym, ap, subst, _∙_}
+use mathlib.Core.Path.{_≡_, refl, sym, ap, subst, _∙_, subst⁻¹}
 use mathlib.Core.Bool.{Bool, true, false, not, _||_}
 use mathlib.Core.Logic.{_≢_}
 use mathlib.Core.List.{List, [], _∷_, _++_}
@@ -24,6 +24,8 @@ use Rattle.staircase.specs.Rules.{Verdict, _then_, refuse, refuseFirst, 
 use Rattle.staircase.specs.Rules.Verdict.{accepted, refused}
 use Rattle.staircase.specs.Rules.Part.{block, group}
 use Rattle.staircase.specs.Calls.{kitVerdict, encodeVerdict, encodedBy, encodeCall, wordsVerdict, countedBy, wordsCall, correctedBy, decodeVerdict, decodeCall, showVerdict, shownBy, showCall}
+use Rattle.staircase.specs.Square.{dependent, inverseMatrix, packedMatrix}
+use Rattle.staircase.specs.Maker.{makeWork, singularRule, makeVerdict, madeBy, makeCall}
 use Rattle.staircase.specs.Demand1.{Table, among, ByTable, worked, refusedBy, Demand1}
 use Rattle.staircase.specs.Demand1 as table
 use Rattle.staircase.proofs.Bounds.{small-product}
@@ -95,7 +97,7 @@ module _ (rules : List ℕ) where
   rounds-byTable h k = byTable-refuse (ltb most-rounds k) 5 k h (λ e. table.rounds refl (ltb-true most-rounds k e))
 
   module _ (has6 : among 6 rules ≡ true) where
-    pub length-byTable : (p a b : ℕ) → 1 ≤ p → p ≤ 6 → ByTable rules (lengthRule p a b)
+    pub length-byTable : (p a b : ℕ) → 1 ≤ p → p ≤ 7 → ByTable rules (lengthRule p a b)
     length-byTable p a b low high = byTable-refuse (not (eqb a b)) 6 p has6 (λ e. table.length refl low high)
 
     pub lists-fit-byTable : (s : Params) (self parity : List ℕ) → ByTable rules (listLengths s self parity)
@@ -235,6 +237,44 @@ kit-demand1 m t M self parity w work =
           (λ e. byTable-then kitNumbers v6 v9 (length-byTable kitNumbers refl 6 work (kitWork s) (omega arith) (omega arith))
           (λ f. kit-byTable kitNumbers s (design-limits m t M d .order-high) refl refl refl (interleavers s self parity) w)));
       untouched = λ h. refl;
+    }
+
+-- document 02: the maker has 1 to 3, 6, 7 and 14
+abbrev makerNumbers : List ℕ
+makerNumbers = 1 ∷ 2 ∷ 3 ∷ 6 ∷ 7 ∷ 14 ∷ []
+
+madeBy-untouched : (v : Verdict) (old new : List ℕ) → madeBy v old new .verdict ≢ accepted → madeBy v old new .inverse ∷ [] ≡ old ∷ []
+madeBy-untouched accepted old new h = absurd (h refl)
+madeBy-untouched (refused n p) old new h = refl
+
+madeBy-verdict : (v : Verdict) (old new : List ℕ) → madeBy v old new .verdict ≡ v
+madeBy-verdict accepted old new = refl
+madeBy-verdict (refused n p) old new = refl
+
+make-byTable : (m t M : ℕ) (self parity old : List ℕ) (work : ℕ) → ByTable makerNumbers (makeVerdict m t M self parity old work)
+unfolding makeVerdict singularRule
+make-byTable m t M self parity old work =
+    let s : Params = params m t M in
+    let l : Interleavers = interleavers s self parity in
+    let v14 : Verdict = refuseFirst 14 0 (order s) (dependent (order s) (systemEntry s l)) in
+    let v6 : Verdict = lengthRule 6 work (makeWork s) in
+    byTable-then makerNumbers (designRules m t M) (kitLengths s self parity old then v6 then listRule s l then v14) (design-byTable makerNumbers refl refl refl m t M)
+    (λ d. byTable-then makerNumbers (kitLengths s self parity old) (v6 then listRule s l then v14) (kit-fits-byTable makerNumbers refl s self parity old)
+    (λ e. byTable-then makerNumbers v6 (listRule s l then v14) (length-byTable makerNumbers refl 6 work (makeWork s) (omega arith) (omega arith))
+    (λ f. byTable-then makerNumbers (listRule s l) v14 (lists-byTable makerNumbers s (design-limits m t M d .order-high) refl l)
+    (λ g. byTable-first makerNumbers 14 0 (order s) (dependent (order s) (systemEntry s l)) refl
+    (λ i k. table.singular refl (omega (arith, k, design-limits m t M d .order-high)))))))
+
+pub make-demand1 : (m t M : ℕ) (self parity old : List ℕ) (work : ℕ)
+    → Demand1 (1 ∷ 2 ∷ 3 ∷ 6 ∷ 7 ∷ 14 ∷ []) (makeCall m t M self parity old work .verdict) (old ∷ []) (makeCall m t M self parity old work .inverse ∷ [])
+unfolding makeCall
+make-demand1 m t M self parity old work =
+    let s : Params = params m t M in
+    let v : Verdict = makeVerdict m t M self parity old work in
+    let new : List ℕ = packedMatrix (order s) (inverseMatrix (order s) (systemEntry s (interleavers s self parity))) in
+    record {
+      byTable = subst⁻¹ (ByTable makerNumbers) (madeBy-verdict v old new) (make-byTable m t M self parity old work);
+      untouched = madeBy-untouched v old new;
     }
 
 -- "the encoder 1 to 4 and 6 to 10"

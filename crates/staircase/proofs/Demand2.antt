@@ -14,7 +14,8 @@ use Rattle.staircase.specs.Rules.Verdict.{accepted}
 use Rattle.staircase.specs.Calls.{kitVerdict}
 use Rattle.staircase.specs.Demand2.{KitPasses, FitsOrder}
 use Rattle.staircase.proofs.System.{Proper, order-positive, systemEntry-lt}
-use Rattle.staircase.proofs.Square.{Inverts, other-order}
+use Rattle.staircase.specs.Square.{Inverts}
+use Rattle.staircase.proofs.Square.{other-order}
 use Rattle.staircase.proofs.BchCode.{proper-of}
 use Rattle.staircase.proofs.Rules.{then-first, then-rest, then-accepted, refuseFirst-false, refuseFirst-accepted, length-accepted, design-limits, lengths-accepted, lists-permute, permute-entries, spare-zero, zero-spare, product-identity, identity-product}
 

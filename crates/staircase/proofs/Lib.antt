@@ -7,6 +7,10 @@ pub mod Stretches
 pub mod Fill
 pub mod Matrix
 pub mod Square
+pub mod Columns
+pub mod Elimination
+pub mod Steps
+pub mod Packed
 pub mod Parity
 pub mod System
 pub mod Solvable
@@ -28,6 +32,7 @@ pub mod OrderMoved
 pub mod Decoded
 pub mod BchCode
 pub mod Demand2
+pub mod Maker
 pub mod Demand3
 pub mod Encoded
 pub mod Demand1

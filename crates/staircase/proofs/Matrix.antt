@@ -15,9 +15,10 @@ use lib.Dec.{eqb}
 use borrow.Author.Tests.{eq-eqb, ne-eqb}
 use Rattle.bch.proofs.Sum.{bit-ind}
 use Rattle.staircase.specs.Lists.{bitSum, sumBits}
+use Rattle.staircase.specs.Square.{BitMatrix}
 use Rattle.staircase.specs.System.{Contents, zeros, unit, apply, product, identity}
 
-bitSum-comm : (a b : ℕ) → bitSum a b ≡ bitSum b a
+pub bitSum-comm : (a b : ℕ) → bitSum a b ≡ bitSum b a
 bitSum-comm a b = omega arith
 
 pub bitSum-assoc : (a b c : ℕ) → bitSum (bitSum a b) c ≡ bitSum a (bitSum b c)
@@ -41,10 +42,10 @@ bitSum-self a = omega arith
 pub bitSum-equal : (a b : ℕ) → a < 2 → b < 2 → bitSum a b ≡ 0 → a ≡ b
 bitSum-equal a b h k e = omega arith
 
-bit-mul-lt : (a b : ℕ) → a < 2 → b < 2 → a * b < 2
+pub bit-mul-lt : (a b : ℕ) → a < 2 → b < 2 → a * b < 2
 bit-mul-lt a b h k = bit-ind (λ (z : ℕ). z * b < 2) (omega arith) (omega arith) a h
 
-mul-bitSum : (a b c : ℕ) → a < 2 → a * bitSum b c ≡ bitSum (a * b) (a * c)
+pub mul-bitSum : (a b c : ℕ) → a < 2 → a * bitSum b c ≡ bitSum (a * b) (a * c)
 mul-bitSum a b c h = bit-ind (λ (z : ℕ). z * bitSum b c ≡ bitSum (z * b) (z * c)) (omega arith) (omega arith) a h
 
 -- ---- sums
@@ -82,12 +83,12 @@ sumBits-one (suc n) f (suc j) l b h =
     (sumBits-one n (λ k. f (suc k)) j (le-of-suc-le-suc l) b (λ k m d. h (suc k) (suc-le-suc m) (λ e. d (omega arith))))
     ∙ zero-bitSum (f (suc j)) b
 
-sumBits-mul : (n : ℕ) (a : ℕ) (f : ℕ → ℕ) → a < 2 → a * sumBits n f ≡ sumBits n (λ k. a * f k)
+pub sumBits-mul : (n : ℕ) (a : ℕ) (f : ℕ → ℕ) → a < 2 → a * sumBits n f ≡ sumBits n (λ k. a * f k)
 unfolding sumBits
 sumBits-mul zero a f h = mul-zero a
 sumBits-mul (suc n) a f h = mul-bitSum a (f zero) (sumBits n (λ k. f (suc k))) h ∙ ap (bitSum (a * f zero)) (sumBits-mul n a (λ k. f (suc k)) h)
 
-sumBits-swap : (n m : ℕ) (f : ℕ → ℕ → ℕ) → sumBits n (λ i. sumBits m (f i)) ≡ sumBits m (λ j. sumBits n (λ i. f i j))
+pub sumBits-swap : (n m : ℕ) (f : ℕ → ℕ → ℕ) → sumBits n (λ i. sumBits m (f i)) ≡ sumBits m (λ j. sumBits n (λ i. f i j))
 unfolding sumBits
 sumBits-swap zero m f = sym (sumBits-zero m (λ j. 0) (λ k l. refl))
 sumBits-swap (suc n) m f =
@@ -95,9 +96,6 @@ sumBits-swap (suc n) m f =
     ∙ sym (sumBits-sum m (f zero) (λ j. sumBits n (λ i. f (suc i) j)))
 
 -- ---- matrices of bits, n × n, at a vector of bits
-
-abbrev pub BitMatrix : (ℕ → ℕ → ℕ) → Type 0
-BitMatrix a = (i j : ℕ) → a i j < 2
 
 pub apply-product : (n : ℕ) (a b : ℕ → ℕ → ℕ) (v : Contents) → BitMatrix a → BitMatrix b → ((k : ℕ) → v k < 2)
     → (i : ℕ) → apply n a (apply n b v) i ≡ apply n (product n a b) v i

@@ -2,6 +2,7 @@
 --   then-first, then-rest, then-accepted            one rule after another
 --   refuse-false, refuse-accepted                   a rule by its test
 --   refuseFirst-false, refuseFirst-accepted, refuseFirst-refused   a rule by its first place
+--   refuseFirst-at, refuseFirst-past                where that place was found, and where none was
 --   outOfRange-false, inRange                       a range
 --   design-limits                                   rules 1 to 3
 --   number-in, count-limits                         rule 4
@@ -73,6 +74,15 @@ pub refuseFirst-refused : (rule base n : ℕ) (f : ℕ → Bool) (i : ℕ) → i
     → refused rule (base + i) ≡ refuseFirst rule base n f
 unfolding refuseFirst
 refuseFirst-refused rule base n f i l h e = rw (firstWhere-is n f i l e h, lt-ltb i n l)
+
+module _ (rule base n : ℕ) (f : ℕ → Bool) (x : ℕ) (e : x ≡ firstWhere n f) where
+  pub refuseFirst-at : x < n → refused rule (base + x) ≡ refuseFirst rule base n f
+  unfolding refuseFirst
+  refuseFirst-at h = sym (ap (λ (z : ℕ). refuse (ltb z n) rule (base + z)) (sym e) ∙ ap (λ (b : Bool). refuse b rule (base + x)) (lt-ltb x n h))
+
+  pub refuseFirst-past : n ≤ x → accepted ≡ refuseFirst rule base n f
+  unfolding refuseFirst
+  refuseFirst-past h = sym (ap (λ (z : ℕ). refuse (ltb z n) rule (base + z)) (sym e) ∙ ap (λ (b : Bool). refuse b rule (base + x)) (le-ltb x n h))
 
 -- ---- a range
 

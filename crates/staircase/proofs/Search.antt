@@ -5,9 +5,10 @@
 --   firstWhere-none     n where no place passes
 --   firstWhere-holds, firstWhere-before   what is found passes, and nothing before it does
 --   firstWhere-is       a place that passes, with none before it, is what is found
+--   firstWhere-same     the same test finds the same place
 --   firstWhere-last     whether one passes, of one place more
 -- Assumes nothing.
-use mathlib.Core.Path.{_≡_, refl, sym, ap, _∙_, subst}
+use mathlib.Core.Path.{_≡_, refl, sym, ap, ap₂, _∙_, subst}
 use mathlib.Core.Bool.{Bool, true, false, _||_, cond, true≢false}
 use mathlib.Core.Logic.{_⊎_, inl, inr}
 use Prim.Native.Nat.{ℕ, zero, suc, _≤_, _<_, zero-le, suc-le-suc}
@@ -88,6 +89,13 @@ firstWhere-is n f k l h none = le-antisymm (u .0) (at-least (decLt (firstWhere n
     at-least : Dec (firstWhere n f < k) → k ≤ firstWhere n f
     at-least (yes m) = absurd (true≢false (sym (u .1) ∙ none (firstWhere n f) m))
     at-least (no m) = omega arith
+
+pub firstWhere-same : (n : ℕ) (f g : ℕ → Bool) → ((k : ℕ) → k < n → f k ≡ g k) → firstWhere n f ≡ firstWhere n g
+unfolding firstWhere
+firstWhere-same zero f g h = refl
+firstWhere-same (suc n) f g h =
+    ap₂ (λ (z : Bool) (k : ℕ). cond z 0 (suc k)) (h zero (suc-le-suc zero-le))
+    (firstWhere-same n (λ k. f (suc k)) (λ k. g (suc k)) (λ k l. h (suc k) (suc-le-suc l)))
 
 -- of one place more, one passes exactly when one did or the new one does
 pub firstWhere-last : (n : ℕ) (f : ℕ → Bool) → ltb (firstWhere (suc n) f) (suc n) ≡ (ltb (firstWhere n f) n || f n)

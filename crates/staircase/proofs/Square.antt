@@ -1,15 +1,16 @@
 -- Square matrices of bits: one product is the identity exactly when the other is. A vector of n bits is a number below 2^n. If A W is the identity,
 -- W takes no two vectors to one, and so, by counting, some vector to each column of the identity, which is then a column of A.
---   digit, number, digit-number, number-digits   vectors of bits as numbers
+--   digit-number, number-digits   vectors of bits as numbers
 --   onto            a map of vectors that never takes a value twice takes every value
 --   apply-unit      a matrix at a column of the identity
---   Inverts, inverts-at   A W is the identity; A (W v) is v
+--   inverts-at      where A W is the identity, A (W v) is v
 --   other-order     A W = 1 gives W A = 1
 --   either-order    the same both ways
+--   same-inverse    a matrix has at most one inverse
 -- Assumes nothing.
 use mathlib.Core.Path.{_≡_, refl, sym, ap, ap₂, _∙_, subst}
 use mathlib.Core.Bool.{Bool, true, false, cond}
-use mathlib.Core.Logic.{_≢_, _↔_}
+use mathlib.Core.Logic.{_≢_}
 use Prim.Native.Nat.{ℕ, zero, suc, _+_, _*_, _/_, _%_, _^_, _<_, zero-le, suc-le-suc}
 use native.Mathlib.Nat.{mod-lt, zero-lt-suc, le-of-suc-le-suc, not-suc-le-zero, mul-zero, mul-one, div-one}
 use native.Mathlib.Omega.{arith}
@@ -18,18 +19,11 @@ use lib.Dec.{eqb}
 use borrow.Author.Tests.{eq-eqb, ne-eqb}
 use Rattle.bch.proofs.Pigeonhole.{pigeonhole}
 use Rattle.staircase.specs.System.{Contents, product, identity, apply}
-use Rattle.staircase.proofs.Matrix.{sumBits-lt, sumBits-same, sumBits-one, BitMatrix, apply-product, apply-identity}
+use Rattle.staircase.specs.Square.{BitMatrix, Inverts, EitherOrder, digit, number}
+use Rattle.staircase.proofs.Matrix.{sumBits-lt, sumBits-same, sumBits-one, apply-product, apply-identity}
 use Rattle.staircase.proofs.Tabulate.{Binary}
 
 -- ---- vectors of bits as numbers
-
--- bit k of a number, and the number of n bits, the first the lowest
-abbrev pub digit : ℕ → ℕ → ℕ
-digit x k = x / 2 ^ k % 2
-
-unfoldable pub number : ℕ → Contents → ℕ
-number zero v = 0
-number (suc n) v = v zero + 2 * number n (λ k. v (suc k))
 
 pub digit-bit : (x k : ℕ) → digit x k < 2
 digit-bit x k = mod-lt (x / 2 ^ k) (zero-lt-suc 1)
@@ -131,9 +125,6 @@ apply-unit n a ha v j l h i =
 
 -- ---- either order
 
-abbrev pub Inverts : ℕ → (ℕ → ℕ → ℕ) → (ℕ → ℕ → ℕ) → Type 0
-Inverts n a w = (i j : ℕ) → i < n → j < n → product n a w i j ≡ identity i j
-
 -- A (W v) = v
 pub inverts-at : (n : ℕ) (a w : ℕ → ℕ → ℕ) → BitMatrix a → BitMatrix w → Inverts n a w → (v : Contents) → Binary v → (i : ℕ) → i < n → apply n a (apply n w v) i ≡ v i
 inverts-at n a w ha hw e v hv i l = apply-product n a w v ha hw hv i ∙ apply-identity n (product n a w) v hv i l (λ j m. e i j l m)
@@ -150,5 +141,13 @@ other-order n a w ha hw e i j hi hj =
     apply-same n w (λ k. a k j) u column i ∙ t .2 i hi
 
 -- "for square matrices over bits A W is the identity exactly when W A is"
-pub either-order : (n : ℕ) (a w : ℕ → ℕ → ℕ) → BitMatrix a → BitMatrix w → Inverts n a w ↔ Inverts n w a
+pub either-order : EitherOrder
 either-order n a w ha hw = (other-order n a w ha hw, other-order n w a hw ha)
+
+-- W = W (A W') = W'
+pub same-inverse : (n : ℕ) (a w w₂ : ℕ → ℕ → ℕ) → BitMatrix a → BitMatrix w → BitMatrix w₂ → Inverts n a w → Inverts n a w₂
+    → (i j : ℕ) → i < n → j < n → w i j ≡ w₂ i j
+unfolding product
+same-inverse n a w w₂ ha hw hw₂ e e₂ i j hi hj =
+    sym (apply-unit n w hw (apply n a (λ k. w₂ k j)) j hj (λ k l. e₂ k j l hj) i)
+    ∙ inverts-at n w a hw ha (other-order n a w ha hw e) (λ k. w₂ k j) (λ k. hw₂ k j) i hi

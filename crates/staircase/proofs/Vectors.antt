@@ -52,6 +52,7 @@ rowsK =
       plainSystem = refl;
       plainRefused = refl;
       inverseRefused = refl;
+      bitsFirst = refl;
       corrected = refl;
       correctedInOne = refl;
       needsB0 = refl;

@@ -1,6 +1,6 @@
 -- Demand 1: "A kit, a frame or a received copy, with any content and any lengths, is either worked or refused by document 01's table; a refused one
 -- leaves all that was lent unchanged but for working bytes."
---   Table n p      a number of document 01's table, and a place that it can have
+--   Table n p      a number of document 01's table or of document 02, and a place that it can have
 --   among          one of some numbers
 --   ByTable        a verdict that accepts, or that refuses by one of a call's rules
 --   Demand1        the claim about a call: its rules, its verdict, the buffers that it was lent to write on, and what it leaves there
@@ -28,8 +28,8 @@ pub data Table (n p : ℕ) : Type 0 where
   count : n ≡ 4 → Table n p
   -- "above 64"
   rounds : n ≡ 5 → most-rounds < p → Table n p
-  -- "1 self, 2 parity, 3 inverse, 4 information, 5 redundancy, 6 working"
-  length : n ≡ 6 → 1 ≤ p → p ≤ 6 → Table n p
+  -- "1 self, 2 parity, 3 inverse, 4 information, 5 redundancy, 6 working"; document 02: "rule 6 gains place 7, a text buffer"
+  length : n ≡ 6 → 1 ≤ p → p ≤ 7 → Table n p
   -- "the entry's position in its list; for parity plus M × r"
   entry : n ≡ 7 → p < 2 * most-order → Table n p
   -- "row"
@@ -41,6 +41,8 @@ pub data Table (n p : ℕ) : Type 0 where
   blockText : n ≡ 12 → Table n p
   -- "1 kit, 2 blocks"
   input : n ≡ 13 → 1 ≤ p → p ≤ 2 → Table n p
+  -- document 02: "14 singular .. the first column of A that is a sum of earlier columns"
+  singular : n ≡ 14 → p < most-order → Table n p
 
 abbrev pub among : ℕ → List ℕ → Bool
 among n [] = false

@@ -3,10 +3,12 @@ pub mod Design
 pub mod Word
 pub mod Frame
 pub mod System
+pub mod Square
 pub mod Solvable
 pub mod Decoder
 pub mod Rules
 pub mod Calls
+pub mod Maker
 pub mod Demand1
 pub mod OrderMoved
 pub mod Demand2

@@ -94,6 +94,9 @@ pub record RowsK : Type 0 where
   pub plainRefused : kitK plain plain inverseK ≡ refused 9 0
   -- "last row of W 0101: refused 9 at 7"
   pub inverseRefused : kitK selfK parityK (5 ∷ 10 ∷ 11 ∷ 10 ∷ []) ≡ refused 9 7
+  -- document 02, "Rule 10 now comes before rule 9": blocks 0, 2 under the same W
+  pub bitsFirst : encodeCall 4 1 1 2 selfK parityK (5 ∷ 10 ∷ 11 ∷ 10 ∷ []) (0 ∷ 2 ∷ []) (replicate (redLength paramsK 2) 255) (kitWork paramsK)
+      ≡ record { verdict = refused 10 1; red = replicate (redLength paramsK 2) 255 }
   -- "blocks 0, 1 with group 0001 0111: mended, result 2, 1, 0"
   pub corrected : decodedK 2 0 (0 ∷ 1 ∷ []) (0 ∷ 0 ∷ 0 ∷ 1 ∷ 0 ∷ 1 ∷ 1 ∷ 1 ∷ [])
       ≡ record {

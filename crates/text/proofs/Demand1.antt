@@ -1,10 +1,11 @@
 -- Demand 1 of the calls on texts and of the programs.
 --   scanKit-demand1, readKit-demand1               kit text: the scan, and the reader
+--   writeKit-demand1, textLength-demand1           the writer, and the length of its text
 --   blocks-demand1, readBlocks-demand1             block text
 --   frame-demand1, readFrame-demand1               frame text
 --   frame-output-demand1, mend-output-demand1      the rules of the two programs, by which they print what they print
 -- Assumes nothing.
-use mathlib.Core.Path.{_≡_, refl, ap}
+use mathlib.Core.Path.{_≡_, refl, ap, subst⁻¹}
 use mathlib.Core.Bool.{true}
 use mathlib.Core.List.{List, [], _∷_}
 use Prim.Native.Nat.{ℕ, _*_}
@@ -15,12 +16,16 @@ use Rattle.text_formats.specs.Format as format
 use Rattle.text_formats.specs.Format.{Scan}
 use Rattle.text_formats.specs.Items.{Walk, stuck, past, walk}
 use Rattle.staircase.specs.Frame.{groups}
-use Rattle.staircase.specs.Rules.{Verdict, _then_, refuse, designRules, lengthRule, kitLengths}
+use Rattle.staircase.specs.Design.{Params, Interleavers, params}
+use Rattle.staircase.specs.Rules.{Verdict, _then_, refuse, designRules, lengthRule, listLengths, kitLengths, interleavers, listRule, spareRule}
+use Rattle.staircase.specs.Rules.Verdict.{accepted, refused}
+use Rattle.staircase.proofs.Rules.{design-limits}
 use Rattle.staircase.specs.Demand1 as table
 use Rattle.staircase.specs.Demand1.{Table, among, ByTable, worked, refusedBy, Demand1}
-use Rattle.staircase.proofs.Demand1.{byTable-then, byTable-refuse, byTable-more, design-byTable, length-byTable, kit-fits-byTable, encode-demand1, decode-demand1}
+use Rattle.staircase.proofs.Demand1.{byTable-then, byTable-refuse, byTable-more, design-byTable, length-byTable, lists-fit-byTable, kit-fits-byTable, lists-byTable, spare-byTable, encode-demand1, decode-demand1}
 use Rattle.text.specs.Rules.{walkRule, scanRule}
-use Rattle.text.specs.KitText.{headItems}
+use Rattle.text.specs.KitText.{headItems, kitBytes}
+use Rattle.text.specs.KitWriter.{writeVerdict, writeCall, textLength, measureVerdict, measuredBy, measureCall}
 use Rattle.text.specs.KitReader.{headNumber, kitParams, headRule, bodyScan, bodyRule, scanKit, selfOf, parityOf, inverseOf, readVerdict, readKitCall}
 use Rattle.text.specs.FrameReader.{blockScan, blockRule, blockCount, blockInfo, readBlocksCall, frameScan, frameRule, frameCount, frameInfo, frameRed, readFrameCall}
 use Rattle.text.specs.Programs.{most-input, inputRule, frameCall, mendCall}
@@ -99,6 +104,46 @@ readKit-demand1 s self parity w =
           (λ d. byTable-then readerNumbers lengths (bodyRule s) (kit-fits-byTable readerNumbers refl (kitParams s) self parity w)
           (λ f. body-byTable readerNumbers refl s)));
       untouched = λ h i. kept-old v (selfOf s) self h i ∷ kept-old v (parityOf s) parity h i ∷ kept-old v (inverseOf s) w h i ∷ [];
+    }
+
+-- ---- the writer of kit text: "rules 1 to 3 and 6 to 8"
+
+abbrev writerNumbers : List ℕ
+writerNumbers = 1 ∷ 2 ∷ 3 ∷ 6 ∷ 7 ∷ 8 ∷ []
+
+pub writeKit-demand1 : (m t M : ℕ) (self parity w text : List ℕ)
+    → Demand1 (1 ∷ 2 ∷ 3 ∷ 6 ∷ 7 ∷ 8 ∷ []) (writeCall m t M self parity w text .verdict) (text ∷ []) (writeCall m t M self parity w text .text ∷ [])
+unfolding writeCall writeVerdict
+writeKit-demand1 m t M self parity w text =
+    let s : Params = params m t M in
+    let l : Interleavers = interleavers s self parity in
+    let v7 : Verdict = lengthRule 7 (length text) (length (kitBytes m t M self parity w)) in
+    let v : Verdict = designRules m t M then kitLengths s self parity w then v7 then listRule s l then spareRule s w in
+    record {
+      byTable =
+          byTable-then writerNumbers (designRules m t M) (kitLengths s self parity w then v7 then listRule s l then spareRule s w) (design-byTable writerNumbers refl refl refl m t M)
+          (λ d. byTable-then writerNumbers (kitLengths s self parity w) (v7 then listRule s l then spareRule s w) (kit-fits-byTable writerNumbers refl s self parity w)
+          (λ e. byTable-then writerNumbers v7 (listRule s l then spareRule s w)
+          (length-byTable writerNumbers refl 7 (length text) (length (kitBytes m t M self parity w)) (omega arith) (omega arith))
+          (λ f. byTable-then writerNumbers (listRule s l) (spareRule s w) (lists-byTable writerNumbers s (design-limits m t M d .order-high) refl l)
+          (λ g. spare-byTable writerNumbers s (design-limits m t M d .order-high) refl w))));
+      untouched = λ h i. kept-old v (kitBytes m t M self parity w) text h i ∷ [];
+    }
+
+measuredBy-verdict : (v : Verdict) (n : ℕ) → measuredBy v n .verdict ≡ v
+measuredBy-verdict accepted n = refl
+measuredBy-verdict (refused k p) n = refl
+
+pub textLength-demand1 : (m t M : ℕ) (self parity : List ℕ) → Demand1 (1 ∷ 2 ∷ 3 ∷ 6 ∷ []) (measureCall m t M self parity .verdict) [] []
+unfolding measureCall measureVerdict
+textLength-demand1 m t M self parity =
+    let s : Params = params m t M in
+    let rules : List ℕ = 1 ∷ 2 ∷ 3 ∷ 6 ∷ [] in
+    record {
+      byTable =
+          subst⁻¹ (ByTable rules) (measuredBy-verdict (designRules m t M then listLengths s self parity) (textLength m t M self parity))
+          (byTable-then rules (designRules m t M) (listLengths s self parity) (design-byTable rules refl refl refl m t M) (λ d. lists-fit-byTable rules refl s self parity));
+      untouched = λ h. refl;
     }
 
 -- ---- block text and frame text

@@ -2,6 +2,7 @@
 --   values-small, rows-bits       the values are numbers below 10,000, and bits
 --   pairs-joined, rows-joined     the values of the lists' lines by pairs, those of the rows' lines by rows
 --   entry-of                      an entry of a packed list is the value
+--   entry-bit                     an entry of packed rows is a bit
 --   inverse-of, entry-wide        a bit of the packed rows is the value; a spare one too
 -- Assumes nothing.
 use Prim.Native.Nat.{ℕ, zero, suc, _+_, _*_, _/_, _%_, _^_, _<_}
@@ -145,6 +146,10 @@ rows-at n (suc k) vs (suc i) b h l =
     ∙ getD-append-add g (packRows n k (drop n vs)) (i * rowBytes n + b) 0
     ∙ rows-at n k (drop n vs) i b (le-of-suc-le-suc h) l
     ∙ ap (λ (x : List ℕ). getD (pack (rowBytes n) (take n x)) b 0) (drop-drop (i * n) n vs ∙ ap (λ (j : ℕ). drop j vs) z)
+
+pub entry-bit : (w : List ℕ) (n i j : ℕ) → inverseEntry w n i j < 2
+unfolding inverseEntry
+entry-bit w n i j = omega arith
 
 -- every bit of a packed row, also a spare one
 pub entry-wide : (n : ℕ) (vs : List ℕ) → AllBits vs → (i j : ℕ) → i < n → j < 8 * rowBytes n

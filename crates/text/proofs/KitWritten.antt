@@ -38,7 +38,7 @@ use Rattle.text.proofs.KitCounting.{pairs-count, self-shown, parity-sho
 use Rattle.text.proofs.KitTexts.{clear-kit, head-found, kit-rest}
 use Rattle.text.proofs.KitJudged.{small, Found, shown, order-found, body-found}
 use Rattle.text.proofs.KitTold.{Told, kit-told}
-use Rattle.text.proofs.KitValues.{packs-at, rows-bits, pack-at, rows-at, entry-wide, inverse-of}
+use Rattle.text.proofs.KitValues.{packs-at, rows-bits, pack-at, rows-at, entry-bit, entry-wide, inverse-of}
 use Rattle.text.proofs.KitPromises.{kit-accepted, kit-read, kit-renders}
 
 -- ---- the values of a kit
@@ -199,10 +199,6 @@ rows-back n vs w pos a bytes long same spare =
 readKit-same : (r : KitRead) {self parity w : List ℕ} → r .verdict ≡ accepted → r .self ≡ self → r .parity ≡ parity → r .inverse ≡ w
     → r ≡ record { verdict = accepted; self = self; parity = parity; inverse = w }
 readKit-same r a b c e = λ i. record { verdict = a i; self = b i; parity = c i; inverse = e i }
-
-entry-bit : (w : List ℕ) (n i j : ℕ) → inverseEntry w n i j < 2
-unfolding inverseEntry
-entry-bit w n i j = omega arith
 
 module _ (m t M : ℕ) (self parity w : List ℕ) (d : designRules m t M ≡ accepted)
     (fits : FitsOrder (order (params m t M)) self parity w)

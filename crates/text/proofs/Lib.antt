@@ -9,6 +9,7 @@ pub mod KitTold
 pub mod KitLines
 pub mod KitPromises
 pub mod KitWritten
+pub mod KitSpelled
 pub mod KitExamples
 pub mod GroupLine
 pub mod FrameLengths
@@ -17,6 +18,7 @@ pub mod FrameParts
 pub mod FramePromises
 pub mod FrameExamples
 pub mod Programs
+pub mod MakeKitLaws
 pub mod FrameThenMend
 pub mod MendPrints
 pub mod ProgramExamples

@@ -1,7 +1,7 @@
 -- What a program prints, by the first rule that refuses.
 --   long-kit, long-text, short-inputs   rule 13
 --   Admitted, judged-accepted           what the rules of a program ask for, where they accept
---   then-refused, then-on               one rule after another
+--   then-assoc, then-refused, then-on   one rule after another
 --   stopped, called                     what is printed where a rule before the call refuses, and where none does
 -- Assumes nothing.
 use mathlib.Core.Path.{_≡_, refl, ap, _∙_}
@@ -64,7 +64,7 @@ judged-accepted kit text rule call e =
       call-ok = then-rest rule call g;
     }
 
-then-assoc : (u v w : Verdict) → (u then v then w) ≡ ((u then v) then w)
+pub then-assoc : (u v w : Verdict) → (u then v then w) ≡ ((u then v) then w)
 then-assoc accepted v w = refl
 then-assoc (refused n p) v w = refl
 

@@ -2,9 +2,11 @@ pub mod Rules
 pub mod KitText
 pub mod KitReader
 pub mod KitWriter
+pub mod KitSpelled
 pub mod FrameText
 pub mod FrameReader
 pub mod Programs
+pub mod MakeKit
 pub mod FrameThenMend
 pub mod MendPrints
 pub mod TextsK

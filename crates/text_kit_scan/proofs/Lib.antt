@@ -1,3 +1,4 @@
 pub mod TwoLines
 pub mod ListLines
+pub mod PartLaws
 pub mod RestLaws

@@ -1,14 +1,12 @@
 -- The rest of a kit text, as the code has it.
---   tail-names .. tail-whole     `rows_and_end`
 --   rest-names .. rest-whole     `judge_rest`
 -- Assumes nothing.
-use Prim.Native.Nat.{ℕ, _≤_, _<_}
+use Prim.Native.Nat.{ℕ}
 use mathlib.Core.Path.{_≡_, sym, ap, _∙_}
-use mathlib.Core.List.{List, _++_, append-nil}
-use lib.ListN.{length}
+use mathlib.Core.List.{List, _++_}
 use Rattle.text_formats.specs.Format as format
 use Rattle.text_formats.specs.Format.{Format, end}
-use Rattle.text_formats.specs.Items.{lits, seq, Walk, past, walk, values, Passes, scanAt, bitsLines}
+use Rattle.text_formats.specs.Items.{lits, seq, walk, values, scanAt, bitsLines}
 use Rattle.text_formats.proofs.Spelling.{prefix}
 use Rattle.text_formats.proofs.Parts.{seq-append}
 use Rattle.text_items.specs.declared.Step.{Step}
@@ -16,48 +14,11 @@ use Rattle.text_items.specs.declared.Step.the-variants.{Next, Refused}
 use Rattle.text_items.specs.Answers.{stepOf, stepWalk}
 use Rattle.text.specs.Rules.{scanRule, valuesOf}
 use Rattle.text_items.proofs.Lines.{answer-past}
-use Rattle.text_items.proofs.Scans.{scan-end, scan-more, scan-stops, scan-goes, lits-stop, lits-go}
-use Rattle.text.specs.KitText.{listNames, rowNames, pairLines, kitBody, tailItems, restFormat}
-use Rattle.text_kit_scan.specs.Answers.{tailFormat, restRule, restVerdict, RestParts, TailIs}
+use Rattle.text_items.proofs.Scans.{scan-stops, scan-goes, lits-stop, lits-go}
+use Rattle.text.specs.KitText.{listNames, pairLines, kitBody, tailItems, restFormat}
+use Rattle.text_kit_scan.specs.Answers.{tailFormat, restRule, restVerdict, RestParts, PartIs, TailIs}
 use Rattle.text_kit_scan.specs.declared.Rest.the-variants.{Whole, NotWhole}
-
-past-passes : (w : Walk) (ws : List ℕ) (q : ℕ) → w ≡ past ws q → Passes w
-past-passes w ws q e = rw e tt
-
--- ---- the rows and the end
-
-module _ (n : ℕ) (s : List ℕ) (at : ℕ) (x : Step) (ex : stepWalk x ≡ walk (lits rowNames) s at) where
-  pub tail-names : (q : ℕ) → x ≡ Refused q → TailIs x n s at
-  unfolding TailIs
-  tail-names q f = rw f (lits-stop rowNames (seq (bitsLines n 0 n) (end 0)) s at x ex q f)
-
-  module _ (j : ℕ) (fx : x ≡ Next j) (y : Step) (ey : y ≡ stepOf (walk (bitsLines n 0 n) s j)) where
-    from-names : scanAt (tailFormat n) s at ≡ scanAt (seq (bitsLines n 0 n) (end 0)) s j
-    from-names = lits-go rowNames (seq (bitsLines n 0 n) (end 0)) s at x ex j fx
-
-    pub tail-rows : (q : ℕ) → y ≡ Refused q → TailIs y n s at
-    unfolding TailIs
-    tail-rows q f = rw f (from-names ∙ scan-stops (bitsLines n 0 n) (end 0) s j y ey q f)
-
-    module _ (e : ℕ) (fy : y ≡ Next e) where
-      abbrev Bits : List ℕ
-      Bits = values (walk (bitsLines n 0 n) s j)
-
-      from-rows : scanAt (tailFormat n) s at ≡ prefix Bits (scanAt (end 0) s e)
-      from-rows = from-names ∙ scan-goes (bitsLines n 0 n) (end 0) s j y ey e fy
-
-      pub tail-more : e < length s → TailIs (Refused e) n s at
-      unfolding TailIs
-      tail-more l = from-rows ∙ ap (prefix Bits) (scan-more 0 s e l)
-
-      pub tail-whole : length s ≤ e → TailIs (Next j) n s at
-      unfolding TailIs
-      tail-whole l = (
-        past-passes _ _ e (answer-past (walk (bitsLines n 0 n) s j) y e ey fy),
-        from-rows ∙ ap (prefix Bits) (scan-end 0 s e l) ∙ ap (format.read 0) (append-nil Bits),
-      )
-
--- ---- the lists and what follows them
+use Rattle.text_kit_scan.proofs.PartLaws.{past-passes}
 
 body-split : (n : ℕ) → restFormat n ≡ seq (lits listNames) (seq (pairLines 0 n) (tailFormat n))
 unfolding kitBody
@@ -91,13 +52,13 @@ module _ (n : ℕ) (s : List ℕ) (at : ℕ) (x : Step) (ex : stepWalk x ≡ wal
       from-tail = from-lists ∙ scan-goes (pairLines 0 n) (tailFormat n) s i y ey e fy
 
       pub rest-tail : (q : ℕ) → z ≡ Refused q → (restVerdict (NotWhole q) ≡ restRule n s at) × RestParts (NotWhole q) n s at
-      unfolding TailIs
+      unfolding PartIs
       rest-tail q f =
           let g : scanAt (tailFormat n) s e ≡ format.refused q = rw f at ez in
           rest-not q (from-tail ∙ ap (prefix Pairs) g)
 
       pub rest-whole : (j : ℕ) → z ≡ Next j → (restVerdict (Whole i j) ≡ restRule n s at) × RestParts (Whole i j) n s at
-      unfolding restVerdict restRule RestParts TailIs scanRule valuesOf
+      unfolding restVerdict restRule RestParts PartIs scanRule valuesOf
       rest-whole j f =
           let g : TailIs (Next j) n s e = rw f at ez in
           let w : scanAt (restFormat n) s at ≡ format.read 0 (Pairs ++ values (walk (bitsLines n 0 n) s j)) = from-tail ∙ ap (prefix Pairs) (g .1) in

@@ -4,13 +4,15 @@
 --   frontVerdict, FrontIs       the verdict of the two lines' answer; its design and position are those of the text
 --   restRule, restVerdict       rule 11 for the rest from a position on; the verdict of an answer for it
 --   RestParts                   the lines at the positions that an answer gives are right, and have the values of the rest
---   TailIs                      what an answer says of what follows the lists' lines
+--   PartIs                      what an answer says of a line of names, of lines, and of the end of the text
+--   TailIs                      the same for what follows the lists' lines
+--   ListsAre                    the same for the lists of a text that ends behind them
 -- Assumes nothing.
 use Prim.Native.Nat.{ℕ}
 use mathlib.Core.Path.{_≡_}
 use mathlib.Core.List.{List, [], _∷_, _++_}
 use Rattle.text_formats.specs.Format as format
-use Rattle.text_formats.specs.Format.{Format, end, read}
+use Rattle.text_formats.specs.Format.{Item, Format, end, read}
 use Rattle.text_formats.specs.Items.{Walk, stuck, past, walk, values, Passes, seq, scanAt, bitsLines}
 use Rattle.text_items.specs.declared.Step.{Step}
 use Rattle.text_items.specs.declared.Step.the-variants.{Next, Refused}
@@ -20,6 +22,7 @@ use Rattle.staircase.specs.Rules.Verdict.{accepted, refused}
 use Rattle.design.specs.Answers.{refusalVerdict, Allowed}
 use Rattle.text.specs.KitText.{tailItems, headItems, pairLines, restFormat}
 use Rattle.text.specs.KitReader.{headNumber, headRule}
+use Rattle.text.specs.MakeKit.{listsFormat}
 use Rattle.text_kit_scan.specs.declared.Head.{Head}
 use Rattle.text_kit_scan.specs.declared.Head.the-variants.{Lines, NoLines}
 use Rattle.text_kit_scan.specs.declared.Line.{Line}
@@ -75,7 +78,15 @@ RestParts (Whole i j) n s at =
     × (valuesOf (scanAt (restFormat n) s at) ≡ values (walk (pairLines 0 n) s i) ++ values (walk (bitsLines n 0 n) s j))
 RestParts (NotWhole p) n s at = Unit
 
--- The rows' lines at j are right, and their values are those of what follows the lists' lines; or the place where that goes wrong.
-unfoldable pub TailIs : Step → ℕ → List ℕ → ℕ → Type 0
-TailIs (Next j) n s at = Passes (walk (bitsLines n 0 n) s j) × (scanAt (tailFormat n) s at ≡ read 0 (values (walk (bitsLines n 0 n) s j)))
-TailIs (Refused p) n s at = scanAt (tailFormat n) s at ≡ format.refused p
+-- The lines at j are right, and their values are those of the whole, which has the format F; or the place where that goes wrong.
+unfoldable pub PartIs : Format → List Item → Step → List ℕ → ℕ → Type 0
+PartIs F lines (Next j) s at = Passes (walk lines s j) × (scanAt F s at ≡ read 0 (values (walk lines s j)))
+PartIs F lines (Refused p) s at = scanAt F s at ≡ format.refused p
+
+-- the rows' lines
+abbrev pub TailIs : Step → ℕ → List ℕ → ℕ → Type 0
+TailIs x n s at = PartIs (tailFormat n) (bitsLines n 0 n) x s at
+
+-- the lists' lines, of a text that ends behind them
+abbrev pub ListsAre : Step → ℕ → List ℕ → ℕ → Type 0
+ListsAre x n s at = PartIs (listsFormat n) (pairLines 0 n) x s at

@@ -1,6 +1,7 @@
 // Judging a kit text: nothing is written. The crate `text_kit` has document 01's reader over it.
 //   read_front(text)          the two lines (rule 11), and then rules 1 to 3 for their numbers
 //   judge_rest(text, at, n)   the rest (rule 11), for n = M × r, to the end of the text
+//   judge_lists(text, at, n)  the rest of a text that ends behind the lists (rule 11), for n = M × r
 //   pair_line(text, at, p)    the line of a place of the lists, with its two entries
 //
 // Each function reads at a position of the whole text and answers the position after what it read, or the place where that goes wrong. An answer is
@@ -11,7 +12,7 @@ ghost use Rattle.staircase.specs.Design.{most-order};
 ghost use Rattle.text_formats.specs.Items.{walk, bitsLines};
 ghost use Rattle.text_items.specs.Answers.{stepOf};
 ghost use Rattle.text.specs.KitText.{twoNumbers, headItems, pairLine, pairLines};
-ghost use Rattle.text_kit_scan.specs.Answers.{headWalk, lineWalk, frontRule, frontVerdict, FrontIs, restRule, restVerdict, RestParts, TailIs};
+ghost use Rattle.text_kit_scan.specs.Answers.{headWalk, lineWalk, frontRule, frontVerdict, FrontIs, restRule, restVerdict, RestParts, TailIs, ListsAre};
 use design::Design;
 use design::Designed;
 use design::Refusal;
@@ -205,4 +206,23 @@ pub fn judge_rest(s: &[u8], at: usize, n: usize) -> Rest
             }
         }
     }
+}
+
+// The rest of a text that ends behind the lists, for n = M × r, to the end of the text. Answers the position of the lists' lines.
+pub fn judge_lists(s: &[u8], at: usize, n: usize) -> Step
+    requires { ⌜ n ≤ most-order ⌝ }
+    ensures { λ r. ⌜ ListsAre r n (now (s .entry)) at ⌝ }
+{
+    let names = text_items::literal(s, at, b"place self parity\n");
+    let Step::Next(i) = names else {
+        return names;
+    };
+    let lists = pairs(s, i, n);
+    let Step::Next(end) = lists else {
+        return lists;
+    };
+    if end < s.len() {
+        return Step::Refused(end);
+    }
+    Step::Next(i)
 }

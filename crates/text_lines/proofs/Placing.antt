@@ -1,6 +1,7 @@
 -- Lines put together from their parts, and their lengths.
 --   bits-length .. counts-length   the length of each line
 --   put-snoc                       bytes and the byte behind them
+--   put-part, last-part            a part and what follows; the last part
 --   block-put .. counts-put        the parts of each line, one put behind another, are the line
 -- Assumes nothing.
 use Prim.Native.Nat.{ℕ, _+_}
@@ -57,7 +58,7 @@ put-snoc o xs b at n {o₁} {o₂} {i} {r} e p q =
     (omega (arith, p .0, q .0), put-then o xs (b ∷ []) at (p′, p .1) q .1)
 
 -- A part, and what follows.
-put-part : (o xs : List ℕ) (b at n : ℕ) (ys : List ℕ) {o₁ o₂ : List ℕ} {i r : ℕ} → length xs ≡ n
+pub put-part : (o xs : List ℕ) (b at n : ℕ) (ys : List ℕ) {o₁ o₂ : List ℕ} {i r : ℕ} → length xs ≡ n
     → (i ≡ at + (n + 1)) × (o₁ ≡ sets o at (xs ++ (b ∷ []))) → (r ≡ i + length ys) × (o₂ ≡ sets o₁ i ys)
     → (r ≡ at + length (xs ++ (b ∷ ys))) × (o₂ ≡ sets o at (xs ++ (b ∷ ys)))
 put-part o xs b at n ys {o₁} {o₂} {i} {r} e p q =
@@ -65,7 +66,7 @@ put-part o xs b at n ys {o₁} {o₂} {i} {r} e p q =
     rw (← append-snoc xs b ys) (put-then o (xs ++ (b ∷ [])) ys at (p′, p .1) q)
 
 -- A part with nothing behind it.
-last-part : (xs : List ℕ) (b i n : ℕ) {r : ℕ} → length xs ≡ n → r ≡ i + (n + 1) → r ≡ i + length (xs ++ (b ∷ []))
+pub last-part : (xs : List ℕ) (b i n : ℕ) {r : ℕ} → length xs ≡ n → r ≡ i + (n + 1) → r ≡ i + length (xs ++ (b ∷ []))
 last-part xs b i n e p = omega (arith, p, e, snoc-length xs b)
 
 pub block-put : (o : List ℕ) (at p : ℕ) (vs : List ℕ) {o₁ o₂ : List ℕ} {i r : ℕ}

@@ -3,6 +3,8 @@
 //   digits          how many digits a number has
 //   put_number      the digits of any number of 64 bits, where twenty bytes follow
 //   put_bytes       bytes as they are
+//   put_byte        one byte
+//   put_field       a number and the byte behind it
 //   put_block       the line of a block: its number and bits
 //   put_group       the line of a group: its number, Y and P
 //   put_refusal     `refused place` and the two numbers
@@ -38,7 +40,7 @@ pub fn digits(v: u64) -> usize
 }
 
 // Writes one byte, for which there is room, and answers the position after it.
-fn put_byte(out: &mut [u8], at: usize, b: u8) -> usize
+pub fn put_byte(out: &mut [u8], at: usize, b: u8) -> usize
     requires { ⌜ at + 1 ≤ length (now out) ⌝ }
     ensures { λ r. ⌜ r ≡ at + 1 ⌝ }
     ensures { λ _. ⌜ now (out .exit) ≡ sets (now (out .entry)) at (b ∷ []) ⌝ }
@@ -96,7 +98,7 @@ fn put_bits(out: &mut [u8], at: usize, bits: &[u8]) -> usize
 }
 
 // A number and the byte behind it.
-fn put_field(out: &mut [u8], at: usize, v: u64, end: u8) -> usize
+pub fn put_field(out: &mut [u8], at: usize, v: u64, end: u8) -> usize
     requires { ⌜ at + (length (dec v) + 1) ≤ length (now out) ⌝ }
     ensures { λ r. ⌜ r ≡ at + (length (dec v) + 1) ⌝ }
     ensures { λ _. ⌜ now (out .exit) ≡ sets (now (out .entry)) at (dec v ++ (end ∷ [])) ⌝ }

@@ -9,7 +9,7 @@ use lib.Seq.{take-append-le}
 use Rattle.design.specs.Sizes.{paramsOf}
 use Rattle.words_positions.proofs.Parts.{part-within}
 use Rattle.design.proofs.Allowed.{r-small}
-use Rattle.kit_inverse.proofs.KitProduct.{part-of}
+use Rattle.kit_system.proofs.SystemRows.{part-of}
 use Rattle.kit_inverse.proofs.check_inverse.Statement.{statement}
 use Rattle.kit_inverse.proofs.check_inverse.Tie as tie
 

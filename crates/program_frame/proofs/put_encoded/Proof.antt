@@ -1,7 +1,7 @@
 -- The groups have room, and so has a refusal.
 -- Assumes nothing.
-use Rattle.program.proofs.Printing.{printed-text}
-use Rattle.program_frame.proofs.Framing.{group-bits, few-groups, groups-room, passed-groups, refused-prints}
+use Rattle.program.proofs.Printing.{printed-text, refused-prints}
+use Rattle.program_frame.proofs.Framing.{group-bits, few-groups, groups-room, passed-groups}
 use borrow.Author.Needs.{needs}
 use Rattle.program_frame.proofs.put_encoded.Statement.{statement}
 use Rattle.program_frame.proofs.put_encoded.Tie as tie

@@ -7,9 +7,10 @@ use Prim.Native.Nat.{_/_, _%_}
 use lib.ListN.{length}
 use Rattle.staircase.specs.Rules.{entries}
 use Rattle.kit_system.specs.Rows.{rowEntry}
+use Rattle.kit_system.proofs.Places.{sent-below}
 use Rattle.words_positions.proofs.Parts.{part-fits, part-is}
 use Rattle.kit_inverse.specs.Products.{wrongIn, productWrong}
-use Rattle.kit_inverse.proofs.Found.{sent-below, sent-found}
+use Rattle.kit_inverse.proofs.Found.{sent-found}
 use Rattle.kit_inverse.proofs.products.first_wrong.Statement.{statement}
 use Rattle.kit_inverse.proofs.products.first_wrong.Tie as tie
 

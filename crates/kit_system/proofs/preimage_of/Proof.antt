@@ -3,10 +3,10 @@
 use native.Mathlib.Omega.{arith}
 use mathlib.Core.Path.{refl}
 use Prim.Native.Nat.{_*_}
 use Rattle.kit_system.specs.Rows.{unstackOf}
-use Rattle.kit_inverse.proofs.RowSizes.{unstacked}
-use Rattle.kit_inverse.proofs.products.preimage_of.Statement.{statement}
-use Rattle.kit_inverse.proofs.products.preimage_of.Tie as tie
+use Rattle.kit_system.proofs.Places.{unstacked}
+use Rattle.kit_system.proofs.preimage_of.Statement.{statement}
+use Rattle.kit_system.proofs.preimage_of.Tie as tie
 
 rem-result : tie.Need-rem-result
 rem-result c =

@@ -1,0 +1,14 @@
+pub mod ClearedEntries
+pub mod ClearedSteps
+pub mod Clearing
+pub mod Doubling
+pub mod Exchange
+pub mod Inversion
+pub mod PartBack
+pub mod Pivoting
+pub mod RightHalves
+pub mod RowBits
+pub mod RowEntries
+pub mod RowLoop
+pub mod StepLaws
+pub mod UnitRow
