@@ -1,7 +1,8 @@
-// Writing texts for a host in C, and what the two programs print.
+// Writing texts for a host in C, and what the programs print.
 //   bauchleton_block_line, bauchleton_group_line       the line of a block, of a group
 //   bauchleton_refusal_lines, bauchleton_count_lines   the two lines of a refusal, of the decoder's counts
 //   bauchleton_frame, bauchleton_mend                  what `frame` and `mend` print
+//   bauchleton_makekit                                 what `makekit` prints
 //
 // A line is written from the position `at` on, where it has room, and the position after it is answered; where it has none, nothing is written and
 // the answer is `at`.

@@ -1,4 +1,4 @@
-// What the two programs read and write: kit.txt, standard input, standard output.
+// What the programs read and write: kit.txt, standard input, standard output.
 //   input_bytes, output_bytes   arrays for an input and for what is printed
 //   read_kit                    kit.txt in the folder in which the program runs
 //   read_text                   standard input
