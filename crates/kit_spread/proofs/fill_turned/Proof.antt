@@ -30,32 +30,8 @@ turned-to-requires c κs =
     let h = c .before .before .before .before .pre in
     (h .0, omega (arith, h .1), omega (arith, c .before .loop .inv .0))
 
-cast-list : tie.Need-cast-list Inv-loop μ-loop
-cast-list c = omega arith
-
-mul-list : tie.Need-mul-list Inv-loop μ-loop
-mul-list c = omega arith
-
-slice-write-list : tie.Need-slice-write-list Inv-loop μ-loop
-slice-write-list c = omega arith
-
-cast-list-2 : tie.Need-cast-list-2 Inv-loop μ-loop
-cast-list-2 c = omega arith
-
-mul-list-2 : tie.Need-mul-list-2 Inv-loop μ-loop
-mul-list-2 c = omega arith
-
-add-list : tie.Need-add-list Inv-loop μ-loop
-add-list c = omega arith
-
 slice-write-list-2 : tie.Need-slice-write-list-2 Inv-loop μ-loop
 slice-write-list-2 c = simp length-set (omega arith)
-
-add-p : tie.Need-add-p Inv-loop μ-loop
-add-p c = omega arith
-
-loop-less : tie.Need-loop-less Inv-loop μ-loop
-loop-less c = omega arith
 
 loop-again : tie.Need-loop-again Inv-loop μ-loop
 loop-again c =
@@ -85,5 +61,5 @@ returns c =
 pub fill-turned-spec : {M : Type 1} → statement M
 fill-turned-spec =
     tie.close
-    (tie.spec Inv-loop μ-loop (λ c κs. search needs) loop-holds turned-to-requires cast-list mul-list slice-write-list cast-list-2 mul-list-2 add-list
-    slice-write-list-2 add-p loop-less loop-again same-length returns)
+    (tie.spec Inv-loop μ-loop (λ c κs. search needs) loop-holds turned-to-requires (λ c. omega arith) (λ c. omega arith) (λ c. omega arith) (λ c. omega arith)
+    (λ c. omega arith) (λ c. omega arith) slice-write-list-2 (λ c. omega arith) (λ c. omega arith) loop-again same-length returns)
