@@ -33,6 +33,12 @@ uint64_t bauchleton_make_inverse(uint64_t m, uint64_t t, uint64_t size, const ui
                                  size_t parity_length, uint8_t *inverse, size_t inverse_length, uint8_t *work, size_t work_length,
                                  uint64_t *answer, size_t answer_length);
 
+/* Fills both lists with the spread lists of a design. Rule 15 comes before 6. What the lists held is not read; where the call is refused, they are as
+   they were. While rows and columns use one code, no such lists have an inverse.
+   answer, 1 entry: place */
+uint64_t bauchleton_spread_lists(uint64_t m, uint64_t t, uint64_t size, uint8_t *self, size_t self_length, uint8_t *parity, size_t parity_length,
+                                 uint64_t *answer, size_t answer_length);
+
 /* Writes the redundancy. Rule 10 comes before 9: information with a byte above 1 is refused before the inverse is multiplied.
    answer, 1 entry: place */
 uint64_t bauchleton_encode(uint64_t m, uint64_t t, uint64_t size, uint64_t blocks, const uint8_t *self, size_t self_length,

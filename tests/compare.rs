@@ -437,6 +437,17 @@ impl Case<'_> {
         });
         left
     }
+    /// Into lists of these lengths.
+    fn spread_lists(&mut self, (m, t, size): (u64, u64, u64), own: usize, parity: usize) {
+        let (own, parity) = (self.rng.bytes(own), self.rng.bytes(parity));
+        let result = spread_lists(m, t, size, own.len(), parity.len());
+        let (number, told) = answered(&result, |_| vec![], 1);
+        let left = result.unwrap_or((own.clone(), parity.clone()));
+        self.call("spread_lists", &[&own, &parity], 0, Expected { number, told, buffers: vec![left.0, left.1] }, |b, _, a| {
+            let [own, parity] = b else { unreachable!() };
+            host::spread_lists((m, t, size), own, parity, a)
+        });
+    }
     /// The answer is the length, by the reference; a small one where it is refused.
     fn kit_text_length(&mut self, l: &Lent) -> usize {
         let result = kit_text_length(&l.kit());

@@ -2,6 +2,7 @@
 //! index; what is random in a case comes from the seed, the group's name and the index alone.
 
 use super::*;
+use std::collections::HashSet;
 
 pub type Group = (&'static str, fn() -> usize, fn(&mut Case));
 
@@ -24,6 +25,8 @@ pub const GROUPS: &[Group] = &[
     ("show", || 2 * designs(60).len(), showing),
     ("loopback", || 8 * designs(60).len(), loopbacks),
     ("makers", || LISTS * designs(400).len(), makers),
+    ("spread", || 13 * 5, spread),
+    ("meetings", || 2 * designs(4096).len(), meetings),
     ("writers", || 600, writers),
     ("answers", || 40, answers),
     ("many-blocks", || 6, many_blocks),
@@ -208,6 +211,15 @@ fn rows_of_k(case: &mut Case) {
         case.make_inverse(&lent);
         case.kit_text_length(&lent);
         case.write_kit(&lent, length);
+    }
+    // U3: the first entries at m 6, t 1, M 12; M 11 and K's own M are narrow, also where a list is short
+    let (own, parity) = spread_lists(6, 1, 12, 144, 144).unwrap();
+    case.same("spread self list", vec![0, 1, 2, 3, 4, 5, 6, 7, 8, 9, 10, 11, 13, 14], entries(&own[..28]));
+    case.same("spread parity list", vec![6, 7, 8, 9, 10, 11, 0, 1, 2, 3, 4, 5, 19, 20], entries(&parity[..28]));
+    case.same("M 11", Err((15, 11)), spread_lists(6, 1, 11, 132, 131));
+    case.same("K's design", Err((15, 1)), spread_lists(4, 1, 1, 8, 8));
+    for (m, size, own, parity) in [(6, 12, 144, 144), (6, 11, 132, 131), (4, 1, 8, 8), (6, 12, 144, 143)] {
+        case.spread_lists((m, 1, size), own, parity);
     }
     case.same("length", Ok(94), kit_text_length(&kit));
     case.same("length with five digits", Ok(98), kit_text_length(&five));
@@ -958,6 +970,61 @@ fn made_kit(case: &mut Case, good: &Good) {
         host::decode(d3, lent.blocks, 0, &lent.own, &lent.parity, &mut lent.info, &mut lent.red, &mut work, &mut counts);
     case.same("decoded, none outside", (0, 0, 0), (number, counts[0], counts[3]));
     case.check("recovered", lent.info == sent.info && lent.red == sent.red);
+}
+
+/// Spread lists for every M from 0 to 502, m 0 to 12 and t 0 to 4, with lists of the right length; with one or both of
+/// another length, and with an `answer` of another length, at the first wide and the last narrow M and at every 50th.
+fn spread(case: &mut Case) {
+    let (m, t) = (case.index as u64 / 5, case.index as u64 % 5);
+    for size in 0..=502 {
+        let right = (2 * m * t * size) as usize;
+        case.spread_lists((m, t, size), right, right);
+        if size % 50 == 0 || size == 2 * m * t || size + 1 == 2 * m * t {
+            for (own, parity) in [(right + 1, right), (right, right + 2), (right + 1, right + 1), (right / 2, right), (right, 0), (0, 0)] {
+                case.spread_lists((m, t, size), own, parity);
+            }
+            for extra in [-1, 1] {
+                case.answer_extra = extra;
+                case.spread_lists((m, t, size), right, right);
+                case.answer_extra = 0;
+            }
+        }
+    }
+    for number in NUMBERS {
+        for design3 in [(number, t, m), (m, number, 12), (m, t, number)] {
+            case.spread_lists(design3, 144, 144);
+        }
+    }
+}
+
+/// Do redundancy bits of a row word meet in a column word? Every row word of a frame beside every column word of it:
+/// with spread lists none meet exactly where 2r is at most M. Half of the cases have any allowed M. The maker finds no
+/// inverse of them.
+fn meetings(case: &mut Case) {
+    let all = designs(4096);
+    let mut d = all[case.index / 2];
+    if case.index % 2 == 1 {
+        d.size = 1 + case.rng.below(largest(d.m, d.t) as usize) as u64;
+    }
+    let blocks = 1 + case.rng.below(4);
+    let shape = Shape::new(d, blocks, turned(&d, 0), turned(&d, d.r()));
+    let words: Vec<_> = (1..=groups(blocks)).flat_map(|i| (0..d.side()).map(move |a| (i, a))).collect();
+    let columns: Vec<HashSet<usize>> = words.iter().map(|&(i, a)| shape.column_word(i, a).into_iter().flatten().collect()).collect();
+    let mut most = 0;
+    for &(i, a) in &words {
+        let row = shape.row_word(i, a);
+        let shared = |column: &HashSet<usize>| row[2 * d.side()..].iter().flatten().filter(|bit| column.contains(bit)).count();
+        most = most.max(columns.iter().map(shared).max().unwrap());
+    }
+    let wide = 2 * d.r() <= d.side();
+    case.same("redundancy bits of a row word in one column word", wide, most == 1);
+    case.spread_lists((d.m, d.t, d.size), 2 * d.order(), 2 * d.order());
+    if d.order() <= 1000 {
+        let (own, parity) = (list_bytes(&shape.own), list_bytes(&shape.parity));
+        let kit = Kit { m: d.m, t: d.t, size: d.size, own, parity, inverse: case.rng.bytes(d.order() * d.row_bytes()) };
+        case.check("no inverse", matches!(make_inverse(&kit, d.make_work()), Err((14, _))));
+        case.make_inverse(&Lent::new(&kit, 1, vec![], vec![]));
+    }
 }
 
 /// The writer on kits that pass and on others: wrong and zero inverses, entries of any digits up to five, spare bits. Text

@@ -28,6 +28,7 @@ extern "C" {
     fn bauchleton_make_inverse(
         m: u64, t: u64, size: u64, o: In, ol: usize, p: In, pl: usize, v: Out, vl: usize, w: Out, wl: usize, a: Told, al: usize,
     ) -> u64;
+    fn bauchleton_spread_lists(m: u64, t: u64, size: u64, o: Out, ol: usize, p: Out, pl: usize, a: Told, al: usize) -> u64;
     fn bauchleton_encode(
         m: u64, t: u64, size: u64, blocks: u64, o: In, ol: usize, p: In, pl: usize, v: In, vl: usize, i: In, il: usize,
         r: Out, rl: usize, w: Out, wl: usize, a: Told, al: usize,
@@ -71,6 +72,11 @@ pub fn make_inverse(
     let ((o, ol), (p, pl)) = (lend!(own), lend!(parity));
     let ((v, vl), (w, wl), (a, al)) = (lend_mut!(inverse), lend_mut!(work), lend_mut!(answer));
     unsafe { bauchleton_make_inverse(m, t, size, o, ol, p, pl, v, vl, w, wl, a, al) }
+}
+
+pub fn spread_lists((m, t, size): (u64, u64, u64), own: &mut [u8], parity: &mut [u8], answer: &mut [u64]) -> u64 {
+    let ((o, ol), (p, pl), (a, al)) = (lend_mut!(own), lend_mut!(parity), lend_mut!(answer));
+    unsafe { bauchleton_spread_lists(m, t, size, o, ol, p, pl, a, al) }
 }
 
 #[allow(clippy::too_many_arguments)]

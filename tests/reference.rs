@@ -1,10 +1,11 @@
-//! Document 01 and document 02's U1 written a second time, from their text alone: small, literal and slow.
+//! Document 01 and document 02's U1 and U3 written a second time, from their text alone: small, literal and slow.
 //! It shares nothing with the library. Everything that they define is a function here:
 //!
 //! - `design`, `powers`, `minimal`, `generator`, `remainder`: rules 1 to 3 and BCH words
 //! - `Shape`: where each bit of each word of a frame stands
 //! - `sums`, `system`, `check_kit`: A y + c, A, and the verdict on a kit
 //! - `first_dependent`, `inverse`, `make_inverse`: rule 14's column, W by elimination, and the maker
+//! - `turned`, `spread_lists`: spread lists
 //! - `encode`, `check_words`, `decode`, `show`, `loopback`: the calls
 //! - `read_kit`, `read_blocks`, `read_frame`: the texts and the place of rules 11 and 12
 //! - `kit_text`, `kit_text_length`, `write_kit`: kit text, its length, and the writer
@@ -531,6 +532,35 @@ pub fn make_inverse(kit: &Kit, work: usize) -> Answer<Vec<u8>> {
         Some(column) => Err((14, column as u64)),
         None => Ok(inverse(&a_matrix).expect("an inverse of a matrix without dependent columns").to_bytes()),
     }
+}
+
+/// A list that turns column j of an M × r matrix down by `by` + j rows modulo M. A turn by one row takes the lowest
+/// bit of a column to its top and each other one row down; after so many of them the bits are looked for.
+pub fn turned(d: &Design, by: usize) -> Vec<usize> {
+    let mut list = vec![0; d.order()];
+    for j in 0..d.r() {
+        let mut column: Vec<usize> = (0..d.side()).collect();
+        for _ in 0..by + j {
+            let lowest = column.pop().unwrap();
+            column.insert(0, lowest);
+        }
+        for (row, &bit) in column.iter().enumerate() {
+            list[j * d.side() + bit] = j * d.side() + row;
+        }
+    }
+    list
+}
+
+/// "Column j of X is turned down by j rows modulo M, column j of Q by r + j": both lists as bytes, for buffers of these
+/// lengths. Rules 1 to 3, "15 narrow, after 3, when 2r exceeds M; the place is M", and 6.
+pub fn spread_lists(m: u64, t: u64, size: u64, own: usize, parity: usize) -> Answer<(Vec<u8>, Vec<u8>)> {
+    let d = design(m, t, size)?;
+    if 2 * d.r() > d.side() {
+        return Err((15, size));
+    }
+    lengths(&[(1, own, 2 * d.order()), (2, parity, 2 * d.order())])?;
+    let bytes = |list: Vec<usize>| list.iter().flat_map(|entry| [(entry % 256) as u8, (entry / 256) as u8]).collect();
+    Ok((bytes(turned(&d, 0)), bytes(turned(&d, d.r()))))
 }
 
 /// Rule 4 for L.

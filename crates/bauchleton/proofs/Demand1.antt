@@ -13,7 +13,8 @@ use Rattle.staircase.specs.Rules.{Verdict, Part, designRules}
 use Rattle.staircase.specs.Rules.Verdict.{accepted, refused}
 use Rattle.staircase.specs.Calls.{kitVerdict, encodeCall, wordsCall, decodeCall, showVerdict, stretch, shownBy, showCall}
 use Rattle.staircase.specs.Maker.{makeCall}
-use Rattle.staircase.proofs.Demand1.{design-demand1, kit-demand1, make-demand1, encode-demand1, words-demand1, decode-demand1, show-demand1}
+use Rattle.staircase.specs.Spread.{spreadCall}
+use Rattle.staircase.proofs.Demand1.{design-demand1, kit-demand1, make-demand1, spread-demand1, encode-demand1, words-demand1, decode-demand1, show-demand1}
 use Rattle.loopback.specs.Link.{loopbackCall}
 use Rattle.loopback.proofs.Demand1.{loopback-demand1}
 use Rattle.rules_verdict.specs.Number.{number, placeOf}
@@ -32,6 +33,11 @@ pub bauchleton-make-inverse-demand1 : (m t M : ℕ) (self parity old : List ℕ)
     → Demand1C (1 ∷ 2 ∷ 3 ∷ 6 ∷ 7 ∷ 14 ∷ []) (number (makeCall m t M self parity old work .verdict)) (placeOf (makeCall m t M self parity old work .verdict))
     (old ∷ []) (makeCall m t M self parity old work .inverse ∷ [])
 bauchleton-make-inverse-demand1 m t M self parity old work = demand1-number _ _ _ _ (make-demand1 m t M self parity old work)
+
+pub bauchleton-spread-lists-demand1 : (m t M : ℕ) (self parity : List ℕ)
+    → Demand1C (1 ∷ 2 ∷ 3 ∷ 6 ∷ 15 ∷ []) (number (spreadCall m t M self parity .verdict)) (placeOf (spreadCall m t M self parity .verdict))
+    (self ∷ parity ∷ []) (spreadCall m t M self parity .self ∷ spreadCall m t M self parity .parity ∷ [])
+bauchleton-spread-lists-demand1 m t M self parity = demand1-number _ _ _ _ (spread-demand1 m t M self parity)
 
 module _ (m t M L : ℕ) (self parity w info red : List ℕ) (work : ℕ) where
   pub bauchleton-encode-demand1 :

@@ -2,6 +2,7 @@
 //   bauchleton_design      rules 1 to 3, and the sizes of a design
 //   bauchleton_check_kit   the kit checker
 //   bauchleton_make_inverse   the maker of a kit's inverse
+//   bauchleton_spread_lists   spread lists
 ghost use mathlib.Core.Path.{_≡_};
 ghost use mathlib.Core.List.{[], _∷_};
 ghost use lib.ListN.{length};
@@ -9,6 +10,7 @@ ghost use Rattle.staircase.specs.Design.{params};
 ghost use Rattle.staircase.specs.Rules.{designRules};
 ghost use Rattle.staircase.specs.Calls.{kitVerdict};
 ghost use Rattle.staircase.specs.Maker.{makeCall};
+ghost use Rattle.staircase.specs.Spread.{spreadCall};
 ghost use Rattle.rules_verdict.specs.Number.{number, placeOf, told};
 ghost use Rattle.bauchleton.specs.Answers.{designAnswer};
 use crate::tells::tell_check;
@@ -73,5 +75,24 @@ pub extern "C" fn bauchleton_make_inverse(
         ⌜ (a ≡ number (c .verdict)) × (now (inverse .exit) ≡ c .inverse) × (now (answer .exit) ≡ told (placeOf (c .verdict) ∷ []) (now (answer .entry))) ⌝ }
 {
     let c = kit_maker::make_inverse(m, t, size, own, parity, inverse, work);
+    tell_check(c, answer)
+}
+
+// Fills both lists with the spread lists of a design. `answer` has one entry: the place.
+#[no_mangle]
+pub extern "C" fn bauchleton_spread_lists(
+    m: u64,
+    t: u64,
+    size: u64,
+    own: &mut [u8],
+    parity: &mut [u8],
+    answer: &mut [u64],
+) -> u64
+    ensures { λ a.
+        let c = spreadCall m t size (now (own .entry)) (now (parity .entry)) in
+        ⌜ (a ≡ number (c .verdict)) × (now (own .exit) ≡ c .self) × (now (parity .exit) ≡ c .parity)
+        × (now (answer .exit) ≡ told (placeOf (c .verdict) ∷ []) (now (answer .entry))) ⌝ }
+{
+    let c = kit_spread::spread_lists(m, t, size, own, parity);
     tell_check(c, answer)
 }

@@ -1,5 +1,5 @@
 // The calls for a host in C. A slice is a pointer and a length there, and no two slices of a call may overlap.
-//   kits     bauchleton_design, bauchleton_check_kit, bauchleton_make_inverse
+//   kits     bauchleton_design, bauchleton_check_kit, bauchleton_make_inverse, bauchleton_spread_lists
 //   calls    bauchleton_encode, bauchleton_check_words, bauchleton_decode, bauchleton_loopback, bauchleton_show
 //   tells    what an answer tells a host
 //
@@ -18,3 +18,4 @@ pub use calls::bauchleton_show;
 pub use kits::bauchleton_check_kit;
 pub use kits::bauchleton_design;
 pub use kits::bauchleton_make_inverse;
+pub use kits::bauchleton_spread_lists;

@@ -31,6 +31,7 @@ pub enum Refusal {
     Inverse(u64),
     Bit(u64),
     Singular(u64),
+    Narrow(u64),
 }
 
 // The answer of a check.

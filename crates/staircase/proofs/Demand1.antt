@@ -2,7 +2,7 @@
 --   byTable-then, byTable-refuse, byTable-first   one rule after another; a rule of a test; a rule of a search
 --   design-byTable, lists-byTable, ..             the rules
 --   byTable-more, byTable-front                   a call that has more rules
---   design-demand1, kit-demand1, encode-demand1, words-demand1, decode-demand1, show-demand1   the calls
+--   design-demand1, kit-demand1, make-demand1, spread-demand1, encode-demand1, words-demand1, decode-demand1, show-demand1   the calls
 --   encodedBy-untouched, correctedBy-untouched    what a refused call leaves
 -- Assumes nothing.
 use mathlib.Core.Path.{_≡_, refl, sym, ap, subst, _∙_, subst⁻¹}
@@ -26,12 +26,14 @@ use Rattle.staircase.specs.Rules.Part.{block, group}
 use Rattle.staircase.specs.Calls.{kitVerdict, encodeVerdict, encodedBy, encodeCall, wordsVerdict, countedBy, wordsCall, correctedBy, decodeVerdict, decodeCall, showVerdict, shownBy, showCall}
 use Rattle.staircase.specs.Square.{dependent, inverseMatrix, packedMatrix}
 use Rattle.staircase.specs.Maker.{makeWork, singularRule, makeVerdict, madeBy, makeCall}
+use Rattle.staircase.specs.Spread.{narrowRule, spreadVerdict, spreadBy, spreadCall}
 use Rattle.staircase.specs.Demand1.{Table, among, ByTable, worked, refusedBy, Demand1}
 use Rattle.staircase.specs.Demand1 as table
 use Rattle.staircase.proofs.Bounds.{small-product}
 use Rattle.staircase.proofs.Rules.{then-first, outOfRange-false, refuse-false, design-limits}
 use Rattle.staircase.proofs.Decoded.{correctedBy-verdict}
 use Rattle.staircase.proofs.Encoded.{encodedBy-verdict}
+use Rattle.staircase.proofs.SpreadCall.{spreadBy-verdict}
 
 module _ (rules : List ℕ) where
   pub byTable-then : (u v : Verdict) → ByTable rules u → (u ≡ accepted → ByTable rules v) → ByTable rules (u then v)
@@ -275,6 +277,36 @@ make-demand1 m t M self parity old work =
     record {
       byTable = subst⁻¹ (ByTable makerNumbers) (madeBy-verdict v old new) (make-byTable m t M self parity old work);
       untouched = madeBy-untouched v old new;
+    }
+
+-- document 02: spread lists have 1 to 3, 15 and 6
+abbrev spreadNumbers : List ℕ
+spreadNumbers = 1 ∷ 2 ∷ 3 ∷ 6 ∷ 15 ∷ []
+
+spread-byTable : (m t M : ℕ) (self parity : List ℕ) → ByTable spreadNumbers (spreadVerdict m t M self parity)
+unfolding spreadVerdict narrowRule
+spread-byTable m t M self parity =
+    let s : Params = params m t M in
+    let v15 : Verdict = refuse (ltb M (2 * (m * t))) 15 M in
+    byTable-then spreadNumbers (designRules m t M) (v15 then listLengths s self parity) (design-byTable spreadNumbers refl refl refl m t M)
+    (λ d. byTable-then spreadNumbers v15 (listLengths s self parity)
+    (byTable-refuse spreadNumbers (ltb M (2 * (m * t))) 15 M refl (λ e. table.narrow refl (design-limits m t M d .M-high)))
+    (λ e. lists-fit-byTable spreadNumbers refl s self parity))
+
+spreadBy-untouched : (v : Verdict) (s : Params) (self parity : List ℕ) → spreadBy v s self parity .verdict ≢ accepted
+    → spreadBy v s self parity .self ∷ spreadBy v s self parity .parity ∷ [] ≡ self ∷ parity ∷ []
+spreadBy-untouched accepted s self parity h = absurd (h refl)
+spreadBy-untouched (refused n p) s self parity h = refl
+
+pub spread-demand1 : (m t M : ℕ) (self parity : List ℕ)
+    → Demand1 (1 ∷ 2 ∷ 3 ∷ 6 ∷ 15 ∷ []) (spreadCall m t M self parity .verdict) (self ∷ parity ∷ [])
+    (spreadCall m t M self parity .self ∷ spreadCall m t M self parity .parity ∷ [])
+unfolding spreadCall
+spread-demand1 m t M self parity =
+    let v : Verdict = spreadVerdict m t M self parity in
+    record {
+      byTable = subst⁻¹ (ByTable spreadNumbers) (spreadBy-verdict v (params m t M) self parity) (spread-byTable m t M self parity);
+      untouched = spreadBy-untouched v (params m t M) self parity;
     }
 
 -- "the encoder 1 to 4 and 6 to 10"

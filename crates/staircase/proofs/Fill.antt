@@ -7,7 +7,7 @@
 --   filled-next                   the entry that comes next is the old one
 --   filled-stretch                a step that fills the next stretch
 --   stretches                     the first i stretches of one width by the rule, the rest as it was
---   stretches-none, stretches-more, stretches-all   the loop's start, its step, its end
+--   stretches-none, stretches-more, stretches-sets, stretches-all   the loop's start, its step by a part or by stores, its end
 --   Placed                        the entries that come before e in some order are by the rule
 --   placed-next, placed-all       a step that stores the entry that comes next, and the end
 --   each-more, each-part          what holds of each entry filled holds after one more, and after a part that was lent
@@ -121,6 +121,13 @@ module _ (f : ℕ → List ℕ) (l : List ℕ) (w : ℕ) where
   stretches-more wide xs ys i e d =
       rw (e, d, add-sub-cancel-left (i * w) w, add-one i, concat-last i f, suc-mul i w)
       (front-part (concat i f) l (i * w) (f i) (concat-length i w f wide) w)
+
+  -- stretch i was written by stores
+  pub stretches-sets : ((k : ℕ) → length (f k) ≡ w) → (i : ℕ) → i * w + w ≤ length l → sets (stretches f l w i) (i * w) (f i) ≡ stretches f l w (i + 1)
+  unfolding stretches
+  stretches-sets wide i h =
+      rw (add-one i, concat-last i f, suc-mul i w)
+      (front-sets (concat i f) l (i * w) (f i) (concat-length i w f wide) (omega (arith, wide i)) ∙ ap (λ (k : ℕ). concat i f ++ f i ++ drop (i * w + k) l) (wide i))
 
 -- ---- in any order: entry q is the one that comes at turn `turn q`
 

@@ -33,6 +33,9 @@ pub mod Decoded
 pub mod BchCode
 pub mod Demand2
 pub mod Maker
+pub mod Spread
+pub mod Singular
+pub mod SpreadCall
 pub mod Demand3
 pub mod Encoded
 pub mod Demand1

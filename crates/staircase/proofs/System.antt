@@ -117,11 +117,11 @@ module _ (s : Params) (l : Interleavers) (ok : Proper s) where
       ap₂ bitSum (columnParity-sum o e y o₂ e₂ y₂ h2 h3 h4 h6 h7 h8 q) (rowParity-sum f o y f₂ o₂ y₂ h1 h2 h4 h5 h6 h8 p)
       ∙ bitSum-swap (columnParity s o e y q) (columnParity s o₂ e₂ y₂ q) (rowParity s l f o y p) (rowParity s l f₂ o₂ y₂ p)
 
-  zeros-binary : Binary zeros
+  pub zeros-binary : Binary zeros
   zeros-binary k = omega arith
 
   -- the sum for the blocks and Y is the one for Y alone plus the one for the blocks alone
-  residual-split : (f o e y : Contents) → Binary f → Binary o → Binary e → Binary y → (k : ℕ)
+  pub residual-split : (f o e y : Contents) → Binary f → Binary o → Binary e → Binary y → (k : ℕ)
       → residual s l f o e y k ≡ bitSum (residual s l zeros zeros zeros y k) (constantEntry s l f o e k)
   unfolding constantEntry
   residual-split f o e y hf ho he hy k =

@@ -1,7 +1,8 @@
--- The vectors of specs/RowsK.antt and specs/SecondKit.antt, by computation. Two kinds of steps would be long, and go by laws: the product of the
--- second kit, whose A is read from its rows, and the search for two errors, which ends at the codeword that is named here.
+-- The vectors of specs/RowsK.antt, specs/SecondKit.antt and specs/RowsSpread.antt, by computation. Two kinds of steps would be long, and go by laws:
+-- the product of the second kit, whose A is read from its rows, and the search for two errors, which ends at the codeword that is named here.
 --   rowsK       document 01's rows under kit K, and more of its refusals, of the word checker and of showing
 --   secondKit   the second kit
+--   rowsSpread  rows of the call for spread lists
 -- Assumes nothing.
 use mathlib.Core.Path.{_≡_, refl, sym, ap, ap₂, _∙_}
 use mathlib.Core.Bool.{true, not, cond}
@@ -24,8 +25,10 @@ use Rattle.staircase.specs.Decoder.{choices, flipBits, firstCorrecting, 
 use Rattle.staircase.specs.Rules.{Verdict, refuseFirst, sizeRule, longRule, largeRule, designRules, countRule, roundsRule, listLengths, kitLengths, redLength, frameLengths, kitWork, wordWork, entries, interleavers, badEntry, listRule, spareRow, spareRule, wrongEntry, inverseRule, kitRules, contentRules, bitRule, frameBits}
 use Rattle.staircase.specs.Rules.Verdict.{accepted}
 use Rattle.staircase.specs.Calls.{kitVerdict, encodeVerdict, encodedBy, encodeCall, wordsVerdict, wordsCall, decodeVerdict, decodeCall, showVerdict, showCall}
+use Rattle.staircase.specs.Spread.{turnedTo, listBytes, narrowRule, spreadVerdict, spreadCall}
 use Rattle.staircase.specs.RowsK.{RowsK}
 use Rattle.staircase.specs.SecondKit.{paramsS, selfS, parityS, inverseS, systemS, infoS, redS, paramsT, listsT, receivedT, correctionT, correction0T, correction1T, SecondKit}
+use Rattle.staircase.specs.RowsSpread.{RowsSpread}
 use Rattle.staircase.proofs.Search.{firstWhere-before}
 use Rattle.staircase.proofs.Tabulate.{tabulate-at}
 use Rattle.staircase.proofs.Matrix.{sumBits-same}
@@ -186,3 +189,9 @@ secondKit =
       twoErrors = two-errors;
       needsB0 = needs-B0;
     }
+
+-- ---- spread lists
+
+pub rowsSpread : RowsSpread
+unfolding concat sizeRule longRule largeRule designRules listLengths turnedTo listBytes narrowRule spreadVerdict spreadCall
+rowsSpread = record { accepts = refl; self = refl; parity = refl; narrow = refl; narrowK = refl; short = refl }

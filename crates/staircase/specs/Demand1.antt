@@ -13,7 +13,7 @@ use mathlib.Core.Logic.{_≢_}
 use mathlib.Core.List.{List, [], _∷_}
 use Prim.Native.Nat.{ℕ, _*_, _≤_, _<_}
 use lib.Dec.{eqb}
-use Rattle.staircase.specs.Design.{most-order, most-rounds}
+use Rattle.staircase.specs.Design.{most-M, most-order, most-rounds}
 use Rattle.staircase.specs.Rules.{Verdict}
 use Rattle.staircase.specs.Rules.Verdict.{accepted, refused}
 
@@ -43,6 +43,8 @@ pub data Table (n p : ℕ) : Type 0 where
   input : n ≡ 13 → 1 ≤ p → p ≤ 2 → Table n p
   -- document 02: "14 singular .. the first column of A that is a sum of earlier columns"
   singular : n ≡ 14 → p < most-order → Table n p
+  -- document 02: "15 narrow .. the place is M"
+  narrow : n ≡ 15 → p ≤ most-M → Table n p
 
 abbrev pub among : ℕ → List ℕ → Bool
 among n [] = false

@@ -1,0 +1,79 @@
+// Spread lists: the two lists for low error floors.
+//   spread_lists(m, t, size, own, parity)   rules 1 to 3, 15 and 6, and both lists
+//
+// Column j of X is turned down by j rows, column j of Q by r + j, modulo M, so that two redundancy bits of one row word never meet in one column word
+// (`spread-apart` of the crate `staircase`). While rows and columns use one code, no kit has such lists: `kit_maker::make_inverse` refuses them by
+// rule 14 (`spread-singular` there). All rules are judged before the first byte is written, so a refused call leaves both lists as they were.
+ghost use mathlib.Core.Path.{_≡_};
+ghost use Prim.Native.Nat.{_*_, _<_};
+ghost use lib.ListN.{length};
+ghost use Rattle.staircase.specs.Rules.{_then_, listLengths};
+ghost use Rattle.staircase.specs.Spread.{turnedTo, listBytes, narrowRule, spreadCall};
+ghost use Rattle.design.specs.Answers.{verdictOf, Allowed};
+ghost use Rattle.design.specs.Sizes.{paramsOf, orderOf};
+use design::Check;
+use design::Design;
+use design::Designed;
+use design::Refusal;
+
+// Rule 15. Constant work.
+fn check_narrow(d: Design) -> Check
+    ensures { λ a. ⌜ verdictOf a ≡ narrowRule (paramsOf d) ⌝ }
+{
+    let size = d.size();
+    if size < 2 * d.r() {
+        return Check::Refused(Refusal::Narrow(size as u64));
+    }
+    Check::Passed
+}
+
+// Rules 15 and 6. Constant work.
+fn check_lists(d: Design, own: &[u8], parity: &[u8]) -> Check
+    ensures { λ a. ⌜ verdictOf a ≡ (narrowRule (paramsOf d) then listLengths (paramsOf d) (now (own .entry)) (now (parity .entry))) ⌝ }
+{
+    let narrow = check_narrow(d);
+    rules::first(narrow, rules::check_list_lengths(d, own, parity))
+}
+
+// The place to which place p goes, where column j is turned down by `by` + j rows.
+fn turned_to(d: Design, by: usize, p: usize) -> usize
+    requires { ⌜ Allowed d × (by < 65536) × (p < orderOf d) ⌝ }
+    ensures { λ e. ⌜ (e ≡ turnedTo (paramsOf d) by p) × (e < orderOf d) ⌝ }
+{
+    let size = d.size();
+    let row = p % size;
+    p - row + (row + by + p / size) % size
+}
+
+// Fills a list with the places to which its columns are turned: "two bytes an entry, low byte first".
+fn fill_turned(d: Design, by: usize, list: &mut [u8])
+    requires { ⌜ Allowed d × (by < 65536) × (length (now list) ≡ 2 * orderOf d) ⌝ }
+    ensures { λ _. ⌜ now (list .exit) ≡ listBytes (orderOf d) (turnedTo (paramsOf d) by) ⌝ }
+{
+    let n = d.order();
+    for p in 0..n {
+        let e = turned_to(d, by, p);
+        list[2 * p] = (e % 256) as u8;
+        list[2 * p + 1] = (e / 256 % 256) as u8;
+    }
+}
+
+// Fills both lists with the spread lists of a design: rules 1 to 3, 15 and 6 (places 1 and 2), with the number and place of the first that refuses. A
+// list has two bytes an entry, M × r entries; what it held is not read, and a refusal leaves both as they were. A few steps for each entry.
+pub fn spread_lists(m: u64, t: u64, size: u64, own: &mut [u8], parity: &mut [u8]) -> Check
+    ensures { λ a. ⌜ (verdictOf a ≡ (spreadCall m t size (now (own .entry)) (now (parity .entry))) .verdict)
+        × (now (own .exit) ≡ (spreadCall m t size (now (own .entry)) (now (parity .entry))) .self)
+        × (now (parity .exit) ≡ (spreadCall m t size (now (own .entry)) (now (parity .entry))) .parity) ⌝ }
+{
+    let designed = Design::new(m, t, size);
+    let Designed::Made(d) = designed else {
+        return design::design_check(designed);
+    };
+    let lists = check_lists(d, own, parity);
+    let Check::Passed = lists else {
+        return lists;
+    };
+    fill_turned(d, 0, own);
+    fill_turned(d, d.r(), parity);
+    Check::Passed
+}
