@@ -1,19 +1,23 @@
-/* The library beside the plain implementation, in one run: prints ratios of the library's time to the plain one's, and stops with 1 if any
-   result differs. Encoding alone is the difference between two frames under one kit, divided by the groups between them, so that the kit check
-   that the encoder makes drops out. A frame whose last information byte is no bit is refused beside a search of its bytes alone: the encoder asks
-   rule 10 before it multiplies. The inverse is made of the lists, by elimination with byte tables on the plain side, and the kit's text is written
-   into a buffer. The word checker and the decoder get frames with errors, a copy each, written just before. All times are the least of several
-   turns, in which the two take turns. */
+/* The library beside two implementations in C, in one run: prints its times, theirs and the ratios of the library's to theirs, and stops with 1 if any
+   result differs. The plain one is plain.c; the strong one, of the kit check and of decoding, is strong.c. Encoding alone is the difference between
+   two frames under one kit, divided by the groups between them, so that the kit check that the encoder makes drops out. A frame whose last
+   information byte is no bit is refused beside a search of its bytes alone: the encoder asks rule 10 before it multiplies. The inverse is made of the
+   lists, by elimination with byte tables on the plain side, and the kit's text is written into a buffer. The word checker and the decoder get frames
+   with errors, a copy each, written just before. All times are the least of several turns, in which the contenders take turns. */
 
 #include "../include/bauchleton.h"
 #include "plain_text.h"
+#include "strong.h"
 
 #include <stdio.h>
 #include <stdlib.h>
 #include <string.h>
 #include <time.h>
 
-enum { SHORT = 32, LONG = 32 + 512, TURNS = 3, KIT_TURNS = 5, FRAME_TURNS = 40 };
+enum { SHORT = 32, LONG = 32 + 512, TURNS = 3, KIT_TURNS = 5 };
+
+static const struct { unsigned blocks, turns; } frames[] = { { 1, 200 }, { 32, 40 }, { 1024, 3 } };
+enum { FRAMES = sizeof frames / sizeof *frames };
 
 static const double error_rate[] = { 0, 1e-3, 5e-3, 1e-2 };
 enum { RATES = sizeof error_rate / sizeof *error_rate };
@@ -38,6 +42,20 @@ static void *lend(size_t bytes)
 static double least(double a, double b)
 {
     return a < b ? a : b;
+}
+
+/* The processor's name as the system has it. */
+static void print_processor(void)
+{
+    char line[256];
+    FILE *info = fopen("/proc/cpuinfo", "r");
+    while (info && fgets(line, sizeof line, info))
+        if (strncmp(line, "model name", 10) == 0 && strchr(line, ':')) {
+            printf("processor%s", strchr(line, ':'));
+            break;
+        }
+    if (info)
+        fclose(info);
 }
 
 /* The inverse made of the lists, and the kit's text. Returns whether a result differs. */
@@ -76,54 +94,75 @@ static int time_kit(unsigned m, unsigned t, unsigned M, const plain_sizes *s, co
     return differ;
 }
 
-/* Words outside and decoding of a frame of SHORT blocks, information and redundancy one after the other. Returns whether a result differs. */
-static int time_frame(unsigned m, unsigned t, unsigned M, const plain_sizes *s, const uint8_t *self, const uint8_t *parity, const uint8_t *frame)
+/* Words outside and decoding of a frame of L blocks, information and redundancy one after the other. Returns whether a result differs. */
+static int time_frame(unsigned m, unsigned t, unsigned M, unsigned L, unsigned turns, const plain_sizes *s, const uint8_t *self, const uint8_t *parity,
+                      const uint8_t *frame)
 {
-    size_t list = 2 * (size_t)s->size, info = SHORT * (size_t)M * M, red = SHORT * (size_t)s->size;
+    size_t list = 2 * (size_t)s->size, info = (size_t)L * M * M, red = (L + 1) / 2 * list;
     uint8_t *received = lend(info + red), *mine = lend(info + red), *other = lend(info + red), *work = lend(s->size);
     plain_frame lent = { self, parity, other, other + info, list, list, info, red };
-    double words[2] = { 1e9, 1e9 }, decode[RATES][2];
+    int (*const decoder[2])(unsigned, unsigned, unsigned, unsigned, unsigned, const plain_frame *, uint64_t *, uint64_t *) = { plain_decode, strong_decode };
+    double words[2] = { 1e9, 1e9 }, decode[RATES][3];           /* plain, ours; plain, strong, ours */
     uint64_t counts[RATES][3], place, outside, words_answer[2], decode_answer[4], state = 88172645463325252u;
     int differ = 0;
     for (unsigned e = 0; e < RATES; e++) {
-        decode[e][0] = decode[e][1] = 1e9;
+        decode[e][0] = decode[e][1] = decode[e][2] = 1e9;
         for (size_t k = 0; k < info + red; k++)
             received[k] = frame[k] ^ (plain_random(&state) < error_rate[e] * 4294967296.0);
-        for (unsigned turn = 0; turn < FRAME_TURNS; turn++) {
-            memcpy(other, received, info + red);
-            double a = now();
-            differ |= plain_words(m, t, M, SHORT, &lent, &outside, &place) != 0;
-            double b = now();
-            differ |= plain_decode(m, t, M, SHORT, 0, &lent, counts[e], &place) != 0;
-            double c = now();
-            words[0] = least(words[0], b - a);
-            decode[e][0] = least(decode[e][0], c - b);
-
+        for (unsigned turn = 0; turn < turns; turn++) {
             memcpy(mine, received, info + red);
-            a = now();
-            differ |= bauchleton_check_words(m, t, M, SHORT, self, list, parity, list, mine, info, mine + info, red, work, s->size,
-                                             words_answer, 2) != 0;
-            b = now();
-            differ |= bauchleton_decode(m, t, M, SHORT, 0, self, list, parity, list, mine, info, mine + info, red, work, s->size,
-                                        decode_answer, 4) != 0;
-            c = now();
+            double a = now();
+            differ |= bauchleton_check_words(m, t, M, L, self, list, parity, list, mine, info, mine + info, red, work, s->size, words_answer, 2) != 0;
+            double b = now();
+            differ |= bauchleton_decode(m, t, M, L, 0, self, list, parity, list, mine, info, mine + info, red, work, s->size, decode_answer, 4) != 0;
+            double c = now();
             words[1] = least(words[1], b - a);
-            decode[e][1] = least(decode[e][1], c - b);
-            differ |= words_answer[0] != 0 || words_answer[1] != outside || decode_answer[0] != 0
-                      || memcmp(decode_answer + 1, counts[e], sizeof counts[e]) != 0 || memcmp(mine, other, info + red) != 0;
+            decode[e][2] = least(decode[e][2], c - b);
+            for (unsigned i = 0; i < 2; i++) {
+                memcpy(other, received, info + red);
+                a = now();
+                differ |= plain_words(m, t, M, L, &lent, &outside, &place) != 0;
+                b = now();
+                differ |= decoder[i](m, t, M, L, 0, &lent, counts[e], &place) != 0;
+                c = now();
+                words[0] = least(words[0], b - a);
+                decode[e][i] = least(decode[e][i], c - b);
+                differ |= words_answer[0] != 0 || words_answer[1] != outside || decode_answer[0] != 0
+                          || memcmp(decode_answer + 1, counts[e], sizeof counts[e]) != 0 || memcmp(mine, other, info + red) != 0;
+            }
         }
     }
-    printf("  words outside %.0f us, plain %.0f us, ratio %.2f\n", words[1] * 1e6, words[0] * 1e6, words[1] / words[0]);
+    printf("  blocks %u: words outside %.0f us, plain %.0f us, ratio %.2f\n", L, words[1] * 1e6, words[0] * 1e6, words[1] / words[0]);
     for (unsigned e = 0; e < RATES; e++)
-        printf("  decoding at %g (%u rounds, %u turned, %u outside) %.0f us, plain %.0f us, ratio %.2f\n", error_rate[e], (unsigned)counts[e][0],
-               (unsigned)counts[e][1], (unsigned)counts[e][2], decode[e][1] * 1e6, decode[e][0] * 1e6, decode[e][1] / decode[e][0]);
+        printf("    decoding at %g (%u rounds, %u turned, %u outside) %.0f us, plain %.0f us, ratio %.2f, strong %.0f us, ratio %.2f\n", error_rate[e],
+               (unsigned)counts[e][0], (unsigned)counts[e][1], (unsigned)counts[e][2], decode[e][2] * 1e6, decode[e][0] * 1e6,
+               decode[e][2] / decode[e][0], decode[e][1] * 1e6, decode[e][2] / decode[e][1]);
     free(received), free(mine), free(other), free(work);
+    return differ;
+}
+
+/* Frames of the numbers of blocks above under one kit. Returns whether a result differs. */
+static int time_frames(unsigned m, unsigned t, unsigned M, const plain_sizes *s, const uint8_t *self, const uint8_t *parity, const uint8_t *inverse)
+{
+    uint64_t state = 88172645463325252u;
+    int differ = 0;
+    for (unsigned i = 0; i < FRAMES; i++) {
+        unsigned L = frames[i].blocks;
+        size_t info = (size_t)L * M * M;
+        uint8_t *frame = lend(info + (L + 1) / 2 * 2 * (size_t)s->size);
+        for (size_t k = 0; k < info; k++)
+            frame[k] = plain_random(&state) & 1;
+        plain_encode(m, t, M, L, self, parity, inverse, frame, frame + info);
+        differ |= time_frame(m, t, M, L, frames[i].turns, s, self, parity, frame);
+        free(frame);
+    }
     return differ;
 }
 
 int main(void)
 {
     int differ = 0;
+    print_processor();
     for (unsigned i = 0; i < PLAIN_KITS; i++) {
         unsigned m = plain_kits[i].m, t = plain_kits[i].t, M = plain_kits[i].M;
         plain_sizes s;
@@ -139,14 +178,19 @@ int main(void)
         for (size_t k = 0; k < LONG * area; k++)
             info[k] = plain_random(&state) & 1;
 
-        double check[2] = {1e9, 1e9}, encode[2][2] = {{1e9, 1e9}, {1e9, 1e9}}, bad[2] = {1e9, 1e9};
+        double check[3] = {1e9, 1e9, 1e9}, encode[2][2] = {{1e9, 1e9}, {1e9, 1e9}}, bad[2] = {1e9, 1e9};
         for (unsigned turn = 0; turn < TURNS; turn++) {
-            double a = now();
+            double a = now(), b;
             differ |= plain_check_kit(m, t, M, self, parity, inverse, &place) != 0;
-            double b = now();
-            differ |= bauchleton_check_kit(m, t, M, self, lists, parity, lists, inverse, matrix, work, matrix, answer, 1) != 0 || answer[0] != 0;
-            check[0] = least(check[0], b - a);
-            check[1] = least(check[1], now() - b);
+            check[0] = least(check[0], now() - a);
+            for (unsigned again = 0; again < KIT_TURNS; again++) {
+                a = now();
+                differ |= bauchleton_check_kit(m, t, M, self, lists, parity, lists, inverse, matrix, work, matrix, answer, 1) != 0 || answer[0] != 0;
+                b = now();
+                differ |= strong_check_kit(m, t, M, self, parity, inverse, &place) != 0;
+                check[1] = least(check[1], b - a);
+                check[2] = least(check[2], now() - b);
+            }
             for (unsigned l = 0; l < 2; l++) {
                 unsigned L = l ? LONG : SHORT;
                 a = now();
@@ -170,13 +214,14 @@ int main(void)
             info[SHORT * area - 1] = last;
         }
         double plain = (encode[0][1] - encode[0][0]) / 16, ours = (encode[1][1] - encode[1][0]) / 16;
-        printf("m %u t %u M %u, %u rows: kit check %.4f s, plain %.4f s, ratio %.2f; 32 blocks %.5f s, plain %.5f s, ratio %.2f\n", m, t, M, s.size,
-               check[1], check[0], check[1] / check[0], ours, plain, ours / plain);
+        printf("m %u t %u M %u, %u rows: kit check %.1f us, plain %.1f us, ratio %.3f, strong %.1f us, ratio %.2f\n", m, t, M, s.size, check[1] * 1e6,
+               check[0] * 1e6, check[1] / check[0], check[2] * 1e6, check[1] / check[2]);
+        printf("  32 blocks encoded, kit check apart, in %.1f us, plain %.1f us, ratio %.2f; by a call with its kit check in %.1f us, ratio to that %.1f\n",
+               ours * 1e6, plain * 1e6, ours / plain, encode[1][0] * 1e6, encode[1][0] / ours);
         printf("  a bad last byte refused in %.0f us, %.2f of the kit check; its bytes searched plainly in %.0f us, ratio %.2f\n", bad[1] * 1e6,
                bad[1] / check[1], bad[0] * 1e6, bad[1] / bad[0]);
         differ |= time_kit(m, t, M, &s, self, parity, inverse);
-        memcpy(info + SHORT * area, red, SHORT / 2 * group);    /* the first blocks and groups are a frame by themselves */
-        differ |= time_frame(m, t, M, &s, self, parity, info);
+        differ |= time_frames(m, t, M, &s, self, parity, inverse);
         free(self), free(parity), free(inverse), free(work), free(info), free(red), free(other);
     }
     if (differ)

@@ -2,6 +2,7 @@
 --   exchange d mask x           the bits of x under the mask and those d places higher change places
 --   exchange-bit                what stands at bit k then
 --   transposed, transposed-bit  the three exchanges: bit (s, r) is what bit (r, s) was
+--   agree         two tables that are equal agree below their length
 --   Loaded, loaded-none, loaded-more, loaded-all   a block of which r rows are there
 -- Assumes nothing.
 use mathlib.Core.Path.{_≡_, refl, sym, ap, ap₂, _∙_}
@@ -99,7 +100,7 @@ unfoldable pub transposed : ℕ → ℕ
 transposed x = exchange 28 mask₄ (exchange 14 mask₂ (exchange 7 mask₁ x))
 
 -- two tables that are equal agree below their length
-agree : (n : ℕ) (f g : ℕ → ℕ) → tabulate n f ≡ tabulate n g → (k : ℕ) → k < n → f k ≡ g k
+pub agree : (n : ℕ) (f g : ℕ → ℕ) → tabulate n f ≡ tabulate n g → (k : ℕ) → k < n → f k ≡ g k
 agree n f g e k h = sym (tabulate-at n f 0 k h) ∙ ap (λ (l : List ℕ). getD l k 0) e ∙ tabulate-at n g 0 k h
 
 -- 0 where the mask and what is d places higher are apart, and bit k comes from within the number

@@ -1,5 +1,7 @@
 pub mod Bits
 pub mod Block
 pub mod Filled
+pub mod Ones
 pub mod Packed
 pub mod Product
+pub mod Wrong

@@ -11,6 +11,9 @@
 // of the rows 8 b to 8 b + 7 in it. So byte b of the packed row masks plane b, in all columns at once and along bytes that lie side by side, and
 // a byte that is 0 masks to nothing and is passed over: a row costs n for each of its bytes that are not 0.
 //
+// The entries of a row are judged in one pass without a jump, which the compiler makes of steps of 16 bytes: the ones of every byte are counted by
+// additions of neighbouring bits, and the counts' low bits gathered. Only a row that has a wrong entry is searched for its place.
+//
 // The module `planes` brings a packed matrix into planes.
 //
 // n is the order, 1 to 4,096, and a packed row has rowBytes n bytes. Every function leaves the lengths of what it is lent as they are.
@@ -22,7 +25,7 @@ ghost use mathlib.Core.Bool.{cond, not};
 ghost use Prim.Native.Nat.{ℕ, _*_, _/_, _%_, _≤_, _<_};
 ghost use lib.Bits.{bitAnd, bitXor};
 ghost use lib.Count.{ones};
-ghost use lib.Dec.{eqb};
+ghost use lib.Dec.{eqb, ltb};
 ghost use lib.ListN.{length, getD, replicate};
 ghost use Rattle.staircase.specs.Lists.{bitSum, sumBits, firstWhere};
 ghost use Rattle.staircase.specs.Design.{most-order};
@@ -99,9 +102,51 @@ fn identity_entry(i: usize, j: usize) -> u32
     0
 }
 
-// The first column whose byte's parity is not entry (e, x) of the identity; the number of bytes where there is none. Reads acc alone, up to that
-// column.
-pub fn first_wrong(acc: &[u8], e: usize) -> usize
+// The ones of a byte, counted by additions of neighbouring bits: each two bits become their sum, then each four, then all eight (H. Warren, "Hacker's
+// Delight", section 5-1). A fixed number of steps.
+fn ones_of(v: u8) -> u8
+    ensures { λ c. ⌜ c ≡ ones v ⌝ }
+{
+    let pairs = v - ((v >> 1) & 0x55);
+    let fours = (pairs & 0x33) + ((pairs >> 2) & 0x33);
+    (fours + (fours >> 4)) % 16
+}
+
+// Whether some byte has an odd number of ones. One pass without a jump, over all of them.
+fn some_odd(bytes: &[u8]) -> bool
+    ensures { λ o. ⌜
+        o ≡ ltb (firstWhere (length (now (bytes .entry))) (λ x. eqb (ones (getD (now (bytes .entry)) x 0) % 2) 1)) (length (now (bytes .entry)))
+        ⌝ }
+{
+    let mut all: u8 = 0;
+    for x in 0..bytes.len() {
+        all = all | ones_of(bytes[x]);
+    }
+    all % 2 == 1
+}
+
+// Whether some column's byte has a parity that is not entry (e, x) of the identity. Reads each byte once at most.
+fn some_wrong(acc: &[u8], e: usize) -> bool
+    ensures { λ o. ⌜
+        o ≡ ltb (firstWhere (length (now (acc .entry))) (λ x. not (eqb (ones (getD (now (acc .entry)) x 0) % 2) (identity e x))))
+        (length (now (acc .entry)))
+        ⌝ }
+{
+    let n = acc.len();
+    if n <= e {
+        return some_odd(acc);
+    }
+    if ones_of(acc[e]) % 2 == 0 {
+        return true;
+    }
+    if some_odd(&acc[0..e]) {
+        return true;
+    }
+    some_odd(&acc[e + 1..n])
+}
+
+// What `first_wrong` finds, by a search from column to column up to it.
+fn search_wrong(acc: &[u8], e: usize) -> usize
     ensures { λ a. ⌜
         a ≡ firstWhere (length (now (acc .entry))) (λ x. not (eqb (ones (getD (now (acc .entry)) x 0) % 2) (identity e x)))
         ⌝ }
@@ -111,6 +156,19 @@ pub fn first_wrong(acc: &[u8], e: usize) -> usize
         if odd != identity_entry(e, x) {
             return x;
         }
+    }
+    acc.len()
+}
+
+// The first column whose byte's parity is not entry (e, x) of the identity; the number of bytes where there is none. Reads acc alone, once where
+// nothing is wrong.
+pub fn first_wrong(acc: &[u8], e: usize) -> usize
+    ensures { λ a. ⌜
+        a ≡ firstWhere (length (now (acc .entry))) (λ x. not (eqb (ones (getD (now (acc .entry)) x 0) % 2) (identity e x)))
+        ⌝ }
+{
+    if some_wrong(acc, e) {
+        return search_wrong(acc, e);
     }
     acc.len()
 }
