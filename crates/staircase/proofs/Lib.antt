@@ -36,4 +36,5 @@ pub mod Maker
 pub mod Demand3
 pub mod Encoded
 pub mod Demand1
+pub mod Load
 pub mod Vectors
