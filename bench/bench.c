@@ -3,7 +3,8 @@
    two frames under one kit, divided by the groups between them, so that the kit check that the encoder makes drops out. A frame whose last
    information byte is no bit is refused beside a search of its bytes alone: the encoder asks rule 10 before it multiplies. The inverse is made of the
    lists, by elimination with byte tables on the plain side, and the kit's text is written into a buffer. The word checker and the decoder get frames
-   with errors, a copy each, written just before. All times are the least of several turns, in which the contenders take turns. */
+   with errors, a copy each, written just before. Information and errors are the test load's, from the seeds and limits below, so that every bench has
+   the same frames. All times are the least of several turns, in which the contenders take turns. */
 
 #include "../include/bauchleton.h"
 #include "plain_text.h"
@@ -19,8 +20,9 @@ enum { SHORT = 32, LONG = 32 + 512, TURNS = 3, KIT_TURNS = 5 };
 static const struct { unsigned blocks, turns; } frames[] = { { 1, 200 }, { 32, 40 }, { 1024, 3 } };
 enum { FRAMES = sizeof frames / sizeof *frames };
 
-static const double error_rate[] = { 0, 1e-3, 5e-3, 1e-2 };
-enum { RATES = sizeof error_rate / sizeof *error_rate };
+enum { SEED = 1, ERROR_SEED = 2 };
+static const uint64_t error_limit[] = { 0, 66, 328, 655 };     /* of 65,536: about 0, 1e-3, 5e-3, 1e-2 */
+enum { RATES = sizeof error_limit / sizeof *error_limit };
 
 static double now(void)
 {
@@ -94,6 +96,38 @@ static int time_kit(unsigned m, unsigned t, unsigned M, const plain_sizes *s, co
     return differ;
 }
 
+/* The test load of a frame of SHORT blocks: filled, and turned by draws. Returns whether a result differs. */
+static int time_load(unsigned m, unsigned t, unsigned M, const plain_sizes *s)
+{
+    size_t info = SHORT * (size_t)M * M, red = SHORT * (size_t)s->size;
+    uint8_t *mine = lend(info + red), *other = lend(info + red);
+    double fill[2] = { 1e9, 1e9 }, errors[2] = { 1e9, 1e9 };
+    uint64_t answer[2];
+    int differ = 0;
+    for (unsigned turn = 0; turn < KIT_TURNS; turn++) {
+        memset(mine, 0, info + red);
+        memset(other, 0, info + red);
+        double a = now();
+        uint32_t last = plain_load_fill(SEED, other, info);
+        double b = now();
+        differ |= bauchleton_load_fill(m, t, M, SHORT, SEED, mine, info, answer, 2) != 0 || answer[1] != last;
+        fill[0] = least(fill[0], b - a);
+        fill[1] = least(fill[1], now() - b);
+
+        a = now();
+        last = plain_load_errors(ERROR_SEED, error_limit[RATES - 1], other, info + red);
+        b = now();
+        differ |= bauchleton_load_errors(m, t, M, SHORT, ERROR_SEED, error_limit[RATES - 1], mine, info, mine + info, red, answer, 2) != 0 || answer[1] != last;
+        errors[0] = least(errors[0], b - a);
+        errors[1] = least(errors[1], now() - b);
+        differ |= memcmp(mine, other, info + red) != 0;
+    }
+    printf("  load filled in %.0f us, plain %.0f us, ratio %.2f; turned by draws in %.0f us, plain %.0f us, ratio %.2f\n", fill[1] * 1e6, fill[0] * 1e6,
+           fill[1] / fill[0], errors[1] * 1e6, errors[0] * 1e6, errors[1] / errors[0]);
+    free(mine), free(other);
+    return differ;
+}
+
 /* Words outside and decoding of a frame of L blocks, information and redundancy one after the other. Returns whether a result differs. */
 static int time_frame(unsigned m, unsigned t, unsigned M, unsigned L, unsigned turns, const plain_sizes *s, const uint8_t *self, const uint8_t *parity,
                       const uint8_t *frame)
@@ -103,12 +137,12 @@ static int time_frame(unsigned m, unsigned t, unsigned M, unsigned L, unsigned t
     plain_frame lent = { self, parity, other, other + info, list, list, info, red };
     int (*const decoder[2])(unsigned, unsigned, unsigned, unsigned, unsigned, const plain_frame *, uint64_t *, uint64_t *) = { plain_decode, strong_decode };
     double words[2] = { 1e9, 1e9 }, decode[RATES][3];           /* plain, ours; plain, strong, ours */
-    uint64_t counts[RATES][3], place, outside, words_answer[2], decode_answer[4], state = 88172645463325252u;
+    uint64_t counts[RATES][3], place, outside, words_answer[2], decode_answer[4], load_answer[2];
     int differ = 0;
     for (unsigned e = 0; e < RATES; e++) {
         decode[e][0] = decode[e][1] = decode[e][2] = 1e9;
-        for (size_t k = 0; k < info + red; k++)
-            received[k] = frame[k] ^ (plain_random(&state) < error_rate[e] * 4294967296.0);
+        memcpy(received, frame, info + red);
+        differ |= bauchleton_load_errors(m, t, M, L, ERROR_SEED, error_limit[e], received, info, received + info, red, load_answer, 2) != 0;
         for (unsigned turn = 0; turn < turns; turn++) {
             memcpy(mine, received, info + red);
             double a = now();
@@ -134,7 +168,7 @@ static int time_frame(unsigned m, unsigned t, unsigned M, unsigned L, unsigned t
     }
     printf("  blocks %u: words outside %.0f us, plain %.0f us, ratio %.2f\n", L, words[1] * 1e6, words[0] * 1e6, words[1] / words[0]);
     for (unsigned e = 0; e < RATES; e++)
-        printf("    decoding at %g (%u rounds, %u turned, %u outside) %.0f us, plain %.0f us, ratio %.2f, strong %.0f us, ratio %.2f\n", error_rate[e],
+        printf("    decoding at %.1g (%u rounds, %u turned, %u outside) %.0f us, plain %.0f us, ratio %.2f, strong %.0f us, ratio %.2f\n", error_limit[e] / 65536.0,
                (unsigned)counts[e][0], (unsigned)counts[e][1], (unsigned)counts[e][2], decode[e][2] * 1e6, decode[e][0] * 1e6,
                decode[e][2] / decode[e][0], decode[e][1] * 1e6, decode[e][2] / decode[e][1]);
     free(received), free(mine), free(other), free(work);
@@ -144,14 +178,13 @@ static int time_frame(unsigned m, unsigned t, unsigned M, unsigned L, unsigned t
 /* Frames of the numbers of blocks above under one kit. Returns whether a result differs. */
 static int time_frames(unsigned m, unsigned t, unsigned M, const plain_sizes *s, const uint8_t *self, const uint8_t *parity, const uint8_t *inverse)
 {
-    uint64_t state = 88172645463325252u;
+    uint64_t load_answer[2];
     int differ = 0;
     for (unsigned i = 0; i < FRAMES; i++) {
         unsigned L = frames[i].blocks;
         size_t info = (size_t)L * M * M;
         uint8_t *frame = lend(info + (L + 1) / 2 * 2 * (size_t)s->size);
-        for (size_t k = 0; k < info; k++)
-            frame[k] = plain_random(&state) & 1;
+        differ |= bauchleton_load_fill(m, t, M, L, SEED, frame, info, load_answer, 2) != 0;
         plain_encode(m, t, M, L, self, parity, inverse, frame, frame + info);
         differ |= time_frame(m, t, M, L, frames[i].turns, s, self, parity, frame);
         free(frame);
@@ -166,7 +199,7 @@ int main(void)
     for (unsigned i = 0; i < PLAIN_KITS; i++) {
         unsigned m = plain_kits[i].m, t = plain_kits[i].t, M = plain_kits[i].M;
         plain_sizes s;
-        uint64_t place, answer[1], state = 88172645463325252u;
+        uint64_t place, answer[1], load_answer[2];
         if (plain_design(m, t, M, &s, &place))
             return 1;
         size_t lists = 2 * (size_t)s.size, matrix = s.size * (((size_t)s.size + 7) / 8), area = (size_t)M * M, group = 2 * (size_t)s.size;
@@ -175,8 +208,7 @@ int main(void)
         plain_random_lists(m, t, M, plain_kits[i].seed, self, parity);
         if (!plain_make_inverse(m, t, M, self, parity, inverse))
             return 1;
-        for (size_t k = 0; k < LONG * area; k++)
-            info[k] = plain_random(&state) & 1;
+        differ |= bauchleton_load_fill(m, t, M, LONG, SEED, info, LONG * area, load_answer, 2) != 0;
 
         double check[3] = {1e9, 1e9, 1e9}, encode[2][2] = {{1e9, 1e9}, {1e9, 1e9}}, bad[2] = {1e9, 1e9};
         for (unsigned turn = 0; turn < TURNS; turn++) {
@@ -222,6 +254,7 @@ int main(void)
                bad[1] / check[1], bad[0] * 1e6, bad[1] / bad[0]);
         differ |= time_kit(m, t, M, &s, self, parity, inverse);
         differ |= time_frames(m, t, M, &s, self, parity, inverse);
+        differ |= time_load(m, t, M, &s);
         free(self), free(parity), free(inverse), free(work), free(info), free(red), free(other);
     }
     if (differ)

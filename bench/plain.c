@@ -577,6 +577,28 @@ int plain_make(unsigned m, unsigned t, unsigned M, const uint8_t *self, const ui
     return rule;
 }
 
+uint32_t plain_load_fill(uint32_t seed, uint8_t *bits, size_t count)
+{
+    for (size_t i = 0; i < count; i++) {
+        seed = seed * 1664525u + 1013904223u;
+        bits[i] = seed >> 31;
+    }
+    return seed;
+}
+
+uint32_t plain_load_errors(uint32_t seed, uint64_t limit, uint8_t *bits, size_t count)
+{
+    for (size_t i = 0; i < count; i++) {
+        unsigned drawn = 0;
+        for (unsigned step = 0; step < 16; step++) {
+            seed = seed * 1664525u + 1013904223u;
+            drawn = 2 * drawn + (seed >> 31);
+        }
+        bits[i] ^= drawn < limit;
+    }
+    return seed;
+}
+
 uint32_t plain_random(uint64_t *state)
 {
     uint64_t x = *state;

@@ -61,6 +61,11 @@ int plain_make_inverse(unsigned m, unsigned t, unsigned M, const uint8_t *self, 
    at a time are cleared in every row by one of 256 sums of their unit rows, about 3 (M r)^3 / 1024 steps. */
 int plain_make(unsigned m, unsigned t, unsigned M, const uint8_t *self, const uint8_t *parity, uint8_t *inverse, uint64_t *place);
 
+/* The test load of document 02. Both start from a seed and return the last state: a step a bit, the highest bit of each state; a draw of 16 steps a
+   bit, which turns it where the drawn number is below the limit. A frame's redundancy goes on from the state after its information. */
+uint32_t plain_load_fill(uint32_t seed, uint8_t *bits, size_t count);
+uint32_t plain_load_errors(uint32_t seed, uint64_t limit, uint8_t *bits, size_t count);
+
 /* Steps a xorshift state (not 0) and returns 32 bits. */
 uint32_t plain_random(uint64_t *state);
 

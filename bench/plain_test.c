@@ -1,4 +1,4 @@
-/* Self-test of plain.c: document 01's rows under kit K, a kit with M = 2, published generators, making inverses, round trips, a brute-force decoder,
+/* Self-test of plain.c: document 01's rows under kit K, the test load, a kit with M = 2, published generators, making inverses, round trips, a brute-force decoder,
    refusals.
    Prints a line a group, returns 1 on a failure. gcc -O3 -o plain_test plain_test.c plain.c
 
@@ -855,9 +855,24 @@ static void test_large(const plain_kit *design, unsigned L)
     free_kit(k);
 }
 
+/* From seed 0: four states, whose highest bits are 0 0 1 1; the ten draws of a frame of two blocks under K, of which four are below 13,822 and three below
+   13,821; and turning twice gives the bits back. */
+static void test_load(void)
+{
+    double start = seconds();
+    uint8_t bits[] = { 7, 7, 7, 7 }, frame[] = { 0, 1, 0, 0, 0, 1, 0, 1, 1, 0 }, sent[sizeof frame];
+    memcpy(sent, frame, sizeof frame);
+    CHECK(plain_load_fill(0, bits, 4) == 0xAAF95334u && memcmp(bits, "\0\0\1\1", 4) == 0);
+    CHECK(plain_load_errors(0, 13822, frame, 10) == 451923744u && memcmp(frame, "\1\1\0\0\1\1\0\1\0\1", 10) == 0);
+    CHECK(plain_load_errors(0, 13822, frame, 10) == 451923744u && memcmp(frame, sent, 10) == 0);
+    CHECK(plain_load_errors(0, 13821, frame, 10) == 451923744u && memcmp(frame, "\0\1\0\0\1\1\0\1\0\1", 10) == 0);
+    group_done("test load", start);
+}
+
 int main(void)
 {
     test_rows();
+    test_load();
     test_second_kit();
     test_generators();
     test_making();

@@ -19,7 +19,7 @@
 
 enum { TURNS = 100, ROOM = 2 * PLAIN_INPUT, MAX_SIZE = 181 };   /* an inverse of 182 rows has more bits than a program reads bytes */
 
-static const double error_rate = 1e-3;
+enum { SEED = 1, ERROR_SEED = 2, ERROR_LIMIT = 66 };      /* about one bit in 1,000 is turned */
 
 static uint8_t self[2 * MAX_SIZE], parity[2 * MAX_SIZE], inverse[MAX_SIZE * ((MAX_SIZE + 7) / 8)];
 static uint8_t info[ROOM], red[ROOM], kit_text[ROOM], text[ROOM], outputs[2][PLAIN_OUTPUT];
@@ -112,15 +112,15 @@ static unsigned most_blocks(unsigned M, unsigned size, int with_groups)
     return L;
 }
 
-/* Turns bits at random; returns their number. */
-static unsigned add_errors(uint8_t *bits, size_t count, uint64_t *state)
+/* Turns bits by the test load from `seed` on, which becomes its last state; returns their number. */
+static unsigned add_errors(uint8_t *bits, size_t count, uint32_t *seed)
 {
     unsigned errors = 0;
-    for (size_t i = 0; i < count; i++)
-        if (plain_random(state) < error_rate * 4294967296.0) {
-            bits[i] ^= 1;
-            errors++;
-        }
+    for (size_t i = 0; i < count; i++) {
+        uint8_t sent = bits[i];
+        *seed = plain_load_errors(*seed, ERROR_LIMIT, bits + i, 1);
+        errors += bits[i] != sent;
+    }
     return errors;
 }
 
@@ -166,7 +166,7 @@ int main(int count, char **argument)
 {
     char *path[5];
     plain_sizes s;
-    uint64_t state = 88172645463325252u;
+    uint32_t seed = ERROR_SEED;
     if (count == 1)
         return 0;
     if (count != 5) {
@@ -180,8 +180,7 @@ int main(int count, char **argument)
 
     plain_kit k = make_kit(&s);
     printf("m %u t %u M %u, %u rows, kit text of %zu bytes:\n", k.m, k.t, k.M, s.size, kit_length);
-    for (size_t i = 0; i < ROOM; i++)
-        info[i] = plain_random(&state) & 1;
+    plain_load_fill(SEED, info, ROOM);
 
     unsigned L = most_blocks(k.M, s.size, 0);
     make_text(k.M, s.size, L, 0);
@@ -190,7 +189,8 @@ int main(int count, char **argument)
 
     L = most_blocks(k.M, s.size, 1);
     plain_encode(k.m, k.t, k.M, L, self, parity, inverse, info, red);
-    unsigned errors = add_errors(info, (size_t)L * k.M * k.M, &state) + add_errors(red, (L + 1) / 2 * 2 * (size_t)s.size, &state);
+    unsigned errors = add_errors(info, (size_t)L * k.M * k.M, &seed);
+    errors += add_errors(red, (L + 1) / 2 * 2 * (size_t)s.size, &seed);
     make_text(k.M, s.size, L, 1);
     printf("  program mend, %u blocks with %u errors: ", L, errors);
     differ |= compare(path[3], path[4], path[0]);

@@ -70,6 +70,22 @@ uint64_t bauchleton_show(uint64_t m, uint64_t t, uint64_t size, uint64_t blocks,
                          size_t info_length, const uint8_t *red, size_t red_length, uint8_t *out, size_t out_length, uint64_t *answer,
                          size_t answer_length);
 
+/* ---- A test load that anyone can repeat: libbauchleton.a ----
+   A state s becomes s * 1664525 + 1013904223 modulo 2^32, and the new state's highest bit is the output. */
+
+/* Fills the information, a step a bit. answer, 2 entries: place, last state */
+uint64_t bauchleton_load_fill(uint64_t m, uint64_t t, uint64_t size, uint64_t blocks, uint32_t seed, uint8_t *info, size_t info_length,
+                              uint64_t *answer, size_t answer_length);
+
+/* Draws a number of 16 steps for each bit, information before redundancy, and turns the bit where the number is below `limit`, a rate of limit / 65536.
+   A second call with the same seed and limit gives the frame back. answer, 2 entries: place, last state */
+uint64_t bauchleton_load_errors(uint64_t m, uint64_t t, uint64_t size, uint64_t blocks, uint32_t seed, uint64_t limit, uint8_t *info,
+                                size_t info_length, uint8_t *red, size_t red_length, uint64_t *answer, size_t answer_length);
+
+/* Turns `length` bits from bit `place` on, counted through information and redundancy, as far as there are any. answer, 1 entry: place of a refusal */
+uint64_t bauchleton_load_run(uint64_t m, uint64_t t, uint64_t size, uint64_t blocks, uint64_t place, uint64_t length, uint8_t *info,
+                             size_t info_length, uint8_t *red, size_t red_length, uint64_t *answer, size_t answer_length);
+
 /* ---- Reading texts: libbauchleton_text.a ---- */
 
 /* answer, 4 entries: place, m, t, M */

@@ -25,7 +25,7 @@ const INPUT: usize = 32_768; // rule 13
 
 // ---------------------------------------------------------------- Random numbers
 
-/// xorshift64*
+/// xorshift64*, by which cases are chosen; what a frame holds is the library's load
 #[derive(Clone)]
 struct Rng(u64);
 
@@ -412,7 +412,51 @@ impl Case<'_> {
             host::show(l.design(), l.blocks, kind, number, info, red, out, a)
         });
     }
-    /// The five calls that are lent lists, and showing the first block and the last group.
+    /// The answer is what is left in the information, by the reference, and the last state.
+    fn load_fill(&mut self, l: &Lent, seed: u32) -> (Vec<u8>, u32) {
+        let result = load_fill(l.design(), l.blocks, seed, l.info.len());
+        let (number, told) = answered(&result, |(_, state)| vec![*state as u64], 2);
+        let (info, state) = result.unwrap_or((l.info.clone(), 0));
+        self.call("load_fill", &[&l.info], 0, Expected { number, told, buffers: vec![info.clone()] }, |b, _, a| {
+            host::load_fill(l.design(), l.blocks, seed, b[0], a)
+        });
+        (info, state)
+    }
+    /// The answer is what is left in both buffers, by the reference, and the last state.
+    fn load_errors(&mut self, l: &Lent, seed: u32, limit: u64) -> (Vec<u8>, Vec<u8>, u32) {
+        let result = load_errors(l.design(), l.blocks, seed, limit, &l.info, &l.red);
+        let (number, told) = answered(&result, |(_, _, state)| vec![*state as u64], 2);
+        let (info, red, state) = result.unwrap_or((l.info.clone(), l.red.clone(), 0));
+        let expected = Expected { number, told, buffers: vec![info.clone(), red.clone()] };
+        self.call("load_errors", &[&l.info, &l.red], 0, expected, |b, _, a| {
+            let [info, red] = b else { unreachable!() };
+            host::load_errors(l.design(), l.blocks, seed, limit, info, red, a)
+        });
+        (info, red, state)
+    }
+    /// The answer is what is left in both buffers, by the reference.
+    fn load_run(&mut self, l: &Lent, place: u64, length: u64) -> (Vec<u8>, Vec<u8>) {
+        let result = load_run(l.design(), l.blocks, place, length, &l.info, &l.red);
+        let (number, told) = answered(&result, |_| vec![], 1);
+        let (info, red) = result.unwrap_or((l.info.clone(), l.red.clone()));
+        let expected = Expected { number, told, buffers: vec![info.clone(), red.clone()] };
+        self.call("load_run", &[&l.info, &l.red], 0, expected, |b, _, a| {
+            let [info, red] = b else { unreachable!() };
+            host::load_run(l.design(), l.blocks, place, length, info, red, a)
+        });
+        (info, red)
+    }
+    /// The three calls of the test load, from a random seed.
+    fn loads(&mut self, l: &Lent) {
+        let seed = self.rng.next() as u32;
+        self.load_fill(l, seed);
+        let limit = self.rng.pick(&[0, 655, 32_768, 65_535, 65_536, u64::MAX]);
+        self.load_errors(l, seed, limit);
+        let place = self.rng.below(l.info.len() + l.red.len() + 2) as u64;
+        let length = self.rng.pick(&[1, 7, 1 << 20, u64::MAX]);
+        self.load_run(l, place, length);
+    }
+    /// The five calls that are lent lists, showing the first block and the last group, and the test load.
     fn all(&mut self, l: &Lent) {
         self.check_kit(l);
         self.encode(l);
@@ -421,6 +465,7 @@ impl Case<'_> {
         self.loopback(l);
         self.show(l, 0, 1, l.info.len());
         self.show(l, 1, (l.blocks / 2).max(1), l.red.len());
+        self.loads(l);
     }
 
     // The maker and the writer.
@@ -620,18 +665,31 @@ impl Case<'_> {
 
     // Inputs.
 
-    /// A frame under a kit that passes: random information, its redundancy.
+    /// The information of a frame, by the library's load from a random seed.
+    fn information(&mut self, d: &Design, blocks: usize) -> Vec<u8> {
+        let mut info = vec![0; info_len(d, blocks)];
+        let refused = host::load_fill((d.m, d.t, d.size), blocks as u64, self.rng.next() as u32, &mut info, &mut [0; 2]);
+        assert_eq!(refused, 0, "information of {d:?}, {blocks} blocks");
+        info
+    }
+    /// A frame under a kit that passes: information, its redundancy.
     fn frame(&mut self, good: &Good, blocks: usize) -> Lent {
-        let info = self.rng.bits(info_len(&good.d, blocks));
+        let info = self.information(&good.d, blocks);
         let shape = Shape::new(good.d, blocks, entries(&good.kit.own), entries(&good.kit.parity));
         let red = redundancy(&shape, &good.w_matrix, &info);
         Lent::new(&good.kit, blocks, info, red)
     }
     /// The same with old redundancy of random bytes, for the encoder.
     fn to_encode(&mut self, good: &Good, blocks: usize) -> Lent {
-        let info = self.rng.bits(info_len(&good.d, blocks));
+        let info = self.information(&good.d, blocks);
         let red = self.rng.bytes(red_len(&good.d, blocks));
         Lent::new(&good.kit, blocks, info, red)
+    }
+    /// Turns bits of the lent frame, one in `odds`, by the library's load from a random seed.
+    fn turn_bits(&mut self, l: &mut Lent, odds: u64) {
+        let (d, seed, limit) = (l.design(), self.rng.next() as u32, 65_536 / odds);
+        let refused = host::load_errors(d, l.blocks, seed, limit, &mut l.info, &mut l.red, &mut [0; 2]);
+        assert_eq!(refused, 0, "errors in a frame of {d:?}, {} blocks", l.blocks);
     }
     /// A small kit that passes.
     fn small(&mut self) -> Arc<Good> {

@@ -24,6 +24,8 @@ pub const GROUPS: &[Group] = &[
     ("rounds", || 200, rounds),
     ("show", || 2 * designs(60).len(), showing),
     ("loopback", || 8 * designs(60).len(), loopbacks),
+    ("load-rows", || 1, load_rows),
+    ("load", || 4 * designs(400).len(), loads),
     ("makers", || LISTS * designs(400).len(), makers),
     ("spread", || 13 * 5, spread),
     ("meetings", || 2 * designs(4096).len(), meetings),
@@ -669,11 +671,15 @@ fn received_frames(case: &mut Case) {
         2 => places = within(rng, &shape, 3),
         3 => places = within(rng, &shape, 10 * d.side()),
         4 => places = within(rng, &shape, 10 + count.min(2000)),
-        5 => places = (0..count).filter(|_| rng.below(100) == 0).collect(),
-        6 => places = (0..count).filter(|_| rng.below(20) == 0).collect(),
+        5 | 6 => {
+            let (info, red) = frame.split_at_mut(sent.info.len());
+            let limit = if kind == 5 { 655 } else { 3277 };
+            host::load_errors(sent.design(), sent.blocks, rng.next() as u32, limit, info, red, &mut [0; 2]);
+        }
         7 => {
-            let from = rng.below(count);
-            places = (from..count.min(from + 1 + rng.below(3 * d.n()))).collect();
+            let (info, red) = frame.split_at_mut(sent.info.len());
+            let (place, length) = (rng.below(count) as u64, 1 + rng.below(3 * d.n()) as u64);
+            host::load_run(sent.design(), sent.blocks, place, length, info, red, &mut [0; 1]);
         }
         8 => frame = vec![1; count],
         9 => frame = rng.bits(count),
@@ -738,10 +744,8 @@ fn rounds(case: &mut Case) {
     let good = case.small();
     let blocks = 1 + case.rng.below(9);
     let mut lent = case.frame(&good, blocks);
-    let odds = 4 + case.rng.below(60);
-    for bit in lent.info.iter_mut().chain(lent.red.iter_mut()) {
-        *bit ^= (case.rng.below(odds) == 0) as u8;
-    }
+    let odds = 4 + case.rng.below(60) as u64;
+    case.turn_bits(&mut lent, odds);
     for rounds in [0, 1, 2, 3, 4, 5, 6, 7, 8, 63, 64, 65, 66, u64::MAX] {
         lent.rounds = rounds;
         case.decode(&lent);
@@ -817,6 +821,108 @@ fn loopbacks(case: &mut Case) {
     case.loopback(&wrong);
     wrong.rounds = 3;
     case.loopback(&wrong);
+}
+
+// ---------------------------------------------------------------- The test load
+
+/// The first states from seed 0, document 02's rule worked out by hand; rows of the definitions under K; and README's comparison of two benches.
+fn load_rows(case: &mut Case) {
+    let mut generator = Generator(0);
+    for (state, output) in [(0x3C6E_F35F, 0), (0x4750_2932, 0), (0xD1CC_F6E9, 1), (0xAAF9_5334, 1)] {
+        case.same("an output from seed 0", output, generator.step());
+        case.same("a state from seed 0", state, generator.0);
+    }
+    case.same("the first draw from seed 0", 13_821, Generator(0).draw());
+    let kit = kit_k();
+    let four = Lent::new(&kit, 4, vec![255; 4], vec![0; 16]);
+    case.same("four blocks under K", (bits_of("0011"), 0xAAF9_5334), case.load_fill(&four, 0));
+    let two = Lent::new(&kit, 2, bits_of("01"), bits_of("0001 0110"));
+    for (limit, info, red) in [(13_822, "11", "0011 0101"), (13_821, "01", "0011 0101"), (0, "01", "0001 0110"), (65_536, "10", "1110 1001")] {
+        case.same("errors from seed 0", (bits_of(info), bits_of(red), 451_923_744), case.load_errors(&two, 0, limit));
+    }
+    for (place, length, info, red) in [
+        (1, 3, "00", "1101 0110"),
+        (8, u64::MAX, "01", "0001 0101"),
+        (10, 5, "01", "0001 0110"),
+        (u64::MAX, u64::MAX, "01", "0001 0110"),
+        (0, u64::MAX, "10", "1110 1001"),
+    ] {
+        case.same("a run", (bits_of(info), bits_of(red)), case.load_run(&two, place, length));
+    }
+    // README, "The same frames on two benches"
+    let text = include_bytes!("../examples/five/kit.txt");
+    let d = design_of_kit(text).unwrap();
+    let list = 2 * d.order();
+    let (_, kit) = read_kit(text, list, list, d.order() * d.row_bytes()).unwrap();
+    let blocks = 31;
+    let mut lent = Lent::new(&kit, blocks, vec![0; info_len(&d, blocks)], vec![0; red_len(&d, blocks)]);
+    let (info, state) = case.load_fill(&lent, 1);
+    case.same("the state after the information", 0x2830_2492, state);
+    lent.info = info;
+    case.encode(&lent);
+    lent.red = encode(&kit, blocks as u64, &lent.info, lent.red.len(), lent.kit_work).unwrap();
+    let sent = [&lent.info[..], &lent.red[..]].concat();
+    let (info, red, state) = case.load_errors(&lent, 2, 655);
+    case.same("the state after the errors", 0x6596_B1B2, state);
+    (lent.info, lent.red) = (info, red);
+    let (info, red, _) = case.load_errors(&lent, 2, 655);
+    case.check("turned a second time", [info, red].concat() == sent);
+    let wrong = sent.iter().zip(lent.info.iter().chain(&lent.red)).filter(|(a, b)| a != b).count();
+    case.same("wrong bits", 34, wrong);
+    case.same("words outside before", Ok(58), check_words(&lent.received(), lent.word_work));
+    case.same("what the decoder counts", Ok((2, 34, 0)), decode(&lent.received(), 0, lent.word_work).map(|(_, _, counts)| counts));
+    let (info, red) = case.decode(&lent);
+    case.check("the frame is restored", [info, red].concat() == sent);
+}
+
+/// Every mode under many designs: seeds and limits at their edges, each turned back by a second call; runs in either buffer, across the border of the two, at the end, past it,
+/// of no length and of the greatest; then refusals one after the other.
+fn loads(case: &mut Case) {
+    let all = designs(400);
+    let good = case.context.kit(all[case.index % all.len()]);
+    let blocks = 1 + case.rng.below(5);
+    let lent = case.frame(&good, blocks);
+    let (border, count) = (lent.info.len() as u64, (lent.info.len() + lent.red.len()) as u64);
+    let random = case.rng.next() as u32;
+    for seed in [0, 1, u32::MAX, 1 << 31, random] {
+        let (info, _) = case.load_fill(&lent, seed);
+        case.check("bits", info.iter().all(|&bit| bit < 2));
+        let limit = case.rng.pick(&[0, 1, 66, 655, 32_768, 65_535, 65_536, 65_537, 1 << 32, 1 << 63, u64::MAX]);
+        let (info, red, state) = case.load_errors(&lent, seed, limit);
+        let turned = Lent { info, red, ..lent.clone() };
+        if limit >= 65_536 {
+            case.check("every bit turned", lent.info.iter().zip(&turned.info).all(|(a, b)| a ^ b == 1));
+        }
+        case.same("turned back", (lent.info.clone(), lent.red.clone(), state), case.load_errors(&turned, seed, limit));
+    }
+    for place in [0, 1, border - 1, border, border + 1, count - 1, count, count + 1, 1 << 32, 1 << 63, u64::MAX - 1, u64::MAX] {
+        for length in [0, 1, 2, border, count, 1 << 32, 1 << 63, u64::MAX - 1, u64::MAX] {
+            let (info, red) = case.load_run(&lent, place, length);
+            let turned = lent.info.iter().chain(&lent.red).zip(info.iter().chain(&red)).filter(|(a, b)| a != b).count() as u64;
+            case.same("bits that a run turns", length.min(count.saturating_sub(place)), turned);
+        }
+    }
+    // each rule alone, and each beside all that come after it
+    let mut wrong = lent.clone();
+    let byte = case.rng.pick(&[2, 255, 128, 3]);
+    for rule in [10, 6, 6, 4, 1, 1, 1] {
+        let mut alone = lent.clone();
+        for l in [&mut wrong, &mut alone] {
+            match rule {
+                10 if case.index % 2 == 0 => *l.red.last_mut().unwrap() = byte,
+                10 => l.info[0] = byte,
+                6 if case.index % 3 == 0 => l.red.push(0),
+                6 => drop(l.info.pop()),
+                4 => l.blocks = [0, 4097, u64::MAX][case.index % 3],
+                _ => (l.m, l.t, l.size) = [(3, 1, 1), (4, 0, 1), (4, 1, 501), (4, 1, 4), (10, 2, 205)][case.rng.below(5)],
+            }
+        }
+        for l in [&wrong, &alone] {
+            case.load_fill(l, random);
+            case.load_errors(l, random, 65_536);
+            case.load_run(l, 0, u64::MAX);
+        }
+    }
 }
 
 /// Answers of other lengths are left as they are; everything else is as always.
@@ -1106,7 +1212,7 @@ fn many_blocks(case: &mut Case) {
     };
     let d = design(kit.m, kit.t, kit.size).unwrap();
     let blocks = 4096 - case.index % 2;
-    let info = case.rng.bits(info_len(&d, blocks));
+    let info = case.information(&d, blocks);
     let red = encode(&kit, blocks as u64, &info, red_len(&d, blocks), d.kit_work()).unwrap();
     let mut lent = Lent::new(&kit, blocks, info, red);
     case.all(&lent);
@@ -1114,9 +1220,7 @@ fn many_blocks(case: &mut Case) {
         case.show(&lent, 0, number, 1);
         case.show(&lent, 1, number, 2 * d.order());
     }
-    for bit in lent.info.iter_mut().chain(lent.red.iter_mut()) {
-        *bit ^= (case.rng.below(30) == 0) as u8;
-    }
+    case.turn_bits(&mut lent, 30);
     case.check_words(&lent);
     case.decode(&lent);
     for count in [4096, 4097, 4098, 5000] {

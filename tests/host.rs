@@ -49,6 +49,13 @@ extern "C" {
         m: u64, t: u64, size: u64, blocks: u64, kind: u64, number: u64, i: In, il: usize, r: In, rl: usize,
         out: Out, outl: usize, a: Told, al: usize,
     ) -> u64;
+    fn bauchleton_load_fill(m: u64, t: u64, size: u64, blocks: u64, seed: u32, i: Out, il: usize, a: Told, al: usize) -> u64;
+    fn bauchleton_load_errors(
+        m: u64, t: u64, size: u64, blocks: u64, seed: u32, limit: u64, i: Out, il: usize, r: Out, rl: usize, a: Told, al: usize,
+    ) -> u64;
+    fn bauchleton_load_run(
+        m: u64, t: u64, size: u64, blocks: u64, place: u64, length: u64, i: Out, il: usize, r: Out, rl: usize, a: Told, al: usize,
+    ) -> u64;
 }
 
 pub fn design(m: u64, t: u64, size: u64, answer: &mut [u64]) -> u64 {
@@ -131,6 +138,25 @@ pub fn show(
 ) -> u64 {
     let ((i, il), (r, rl), (s, sl), (a, al)) = (lend!(info), lend!(red), lend_mut!(out), lend_mut!(answer));
     unsafe { bauchleton_show(m, t, size, blocks, kind, number, i, il, r, rl, s, sl, a, al) }
+}
+
+pub fn load_fill((m, t, size): (u64, u64, u64), blocks: u64, seed: u32, info: &mut [u8], answer: &mut [u64]) -> u64 {
+    let ((i, il), (a, al)) = (lend_mut!(info), lend_mut!(answer));
+    unsafe { bauchleton_load_fill(m, t, size, blocks, seed, i, il, a, al) }
+}
+
+pub fn load_errors(
+    (m, t, size): (u64, u64, u64), blocks: u64, seed: u32, limit: u64, info: &mut [u8], red: &mut [u8], answer: &mut [u64],
+) -> u64 {
+    let ((i, il), (r, rl), (a, al)) = (lend_mut!(info), lend_mut!(red), lend_mut!(answer));
+    unsafe { bauchleton_load_errors(m, t, size, blocks, seed, limit, i, il, r, rl, a, al) }
+}
+
+pub fn load_run(
+    (m, t, size): (u64, u64, u64), blocks: u64, place: u64, length: u64, info: &mut [u8], red: &mut [u8], answer: &mut [u64],
+) -> u64 {
+    let ((i, il), (r, rl), (a, al)) = (lend_mut!(info), lend_mut!(red), lend_mut!(answer));
+    unsafe { bauchleton_load_run(m, t, size, blocks, place, length, i, il, r, rl, a, al) }
 }
 
 // ---------------------------------------------------------------- The calls on texts

@@ -1,4 +1,4 @@
-//! Document 01 and document 02's U1 and U3 written a second time, from their text alone: small, literal and slow.
+//! Document 01 and document 02's U1, U3 and U5 written a second time, from their text alone: small, literal and slow.
 //! It shares nothing with the library. Everything that they define is a function here:
 //!
 //! - `design`, `powers`, `minimal`, `generator`, `remainder`: rules 1 to 3 and BCH words
@@ -7,6 +7,7 @@
 //! - `first_dependent`, `inverse`, `make_inverse`: rule 14's column, W by elimination, and the maker
 //! - `turned`, `spread_lists`: spread lists
 //! - `encode`, `check_words`, `decode`, `show`, `loopback`: the calls
+//! - `Generator`, `load_fill`, `load_errors`, `load_run`: the test load
 //! - `read_kit`, `read_blocks`, `read_frame`: the texts and the place of rules 11 and 12
 //! - `kit_text`, `kit_text_length`, `write_kit`: kit text, its length, and the writer
 //! - `block_line` .. `count_lines`, `frame_prints`, `mend_prints`, `makekit_prints`: what is printed
@@ -776,6 +777,74 @@ pub fn show<'a>(design3: (u64, u64, u64), blocks: u64, kind: u64, number: u64, i
     lengths(&[(4, info.len(), info_len(&d, blocks)), (5, red.len(), red_len(&d, blocks))])?;
     let (buffer, stretch) = if kind == 0 { (info, d.side() * d.side()) } else { (red, 2 * d.order()) };
     Ok(&buffer[(number as usize - 1) * stretch..number as usize * stretch])
+}
+
+// ---------------------------------------------------------------- The test load
+
+/// "a 32-bit state s"
+pub struct Generator(pub u32);
+
+impl Generator {
+    /// "s becomes s × 1664525 + 1013904223 modulo 2^32, and the new state's highest bit is the output"
+    pub fn step(&mut self) -> u8 {
+        self.0 = ((self.0 as u64 * 1664525 + 1013904223) % (1 << 32)) as u32;
+        (self.0 >> 31) as u8
+    }
+    /// "one draw of 16 steps per bit, first output highest"
+    pub fn draw(&mut self) -> u64 {
+        let outputs: Vec<u64> = (0..16).map(|_| self.step() as u64).collect();
+        outputs.iter().enumerate().map(|(i, bit)| bit << (15 - i)).sum()
+    }
+}
+
+/// "It fills information, a step a bit": rules 1 to 4 and 6. The answer is the information and the last state.
+pub fn load_fill(design3: (u64, u64, u64), blocks: u64, seed: u32, info: usize) -> Answer<(Vec<u8>, u32)> {
+    let d = design(design3.0, design3.1, design3.2)?;
+    let blocks = block_count(blocks)?;
+    lengths(&[(4, info, info_len(&d, blocks))])?;
+    let mut generator = Generator(seed);
+    let bits = (0..info).map(|_| generator.step()).collect();
+    Ok((bits, generator.0))
+}
+
+/// Rules 1 to 4, 6 and 10, "over the whole frame". The answer is the frame: "information before redundancy".
+fn load_frame(design3: (u64, u64, u64), blocks: u64, info: &[u8], red: &[u8]) -> Answer<Vec<u8>> {
+    let d = design(design3.0, design3.1, design3.2)?;
+    let blocks = block_count(blocks)?;
+    lengths(&[(4, info.len(), info_len(&d, blocks)), (5, red.len(), red_len(&d, blocks))])?;
+    let frame = [info, red].concat();
+    bits(frame.iter().copied())?;
+    Ok(frame)
+}
+
+/// "the bit turns when the drawn number is below a given limit". The answer is information, redundancy and the last state.
+pub fn load_errors(
+    design3: (u64, u64, u64), blocks: u64, seed: u32, limit: u64, info: &[u8], red: &[u8],
+) -> Answer<(Vec<u8>, Vec<u8>, u32)> {
+    let mut frame = load_frame(design3, blocks, info, red)?;
+    let mut generator = Generator(seed);
+    for bit in &mut frame {
+        if generator.draw() < limit {
+            *bit = 1 - *bit;
+        }
+    }
+    let red = frame.split_off(info.len());
+    Ok((frame, red, generator.0))
+}
+
+/// "A third mode turns a run of given length from a given place, cut at the frame's end; a place past the end turns none."
+pub fn load_run(
+    design3: (u64, u64, u64), blocks: u64, place: u64, length: u64, info: &[u8], red: &[u8],
+) -> Answer<(Vec<u8>, Vec<u8>)> {
+    let mut frame = load_frame(design3, blocks, info, red)?;
+    let end = place as u128 + length as u128;
+    for (k, bit) in frame.iter_mut().enumerate() {
+        if place as u128 <= k as u128 && (k as u128) < end {
+            *bit = 1 - *bit;
+        }
+    }
+    let red = frame.split_off(info.len());
+    Ok((frame, red))
 }
 
 // ---------------------------------------------------------------- Texts

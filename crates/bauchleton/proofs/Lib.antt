@@ -1,2 +1,4 @@
 pub mod Answers
 pub mod Demand1
+pub mod LoadTold
+pub mod LoadDemand1

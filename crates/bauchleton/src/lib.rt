@@ -1,6 +1,7 @@
 // The calls for a host in C. A slice is a pointer and a length there, and no two slices of a call may overlap.
 //   kits     bauchleton_design, bauchleton_check_kit, bauchleton_make_inverse, bauchleton_spread_lists
 //   calls    bauchleton_encode, bauchleton_check_words, bauchleton_decode, bauchleton_loopback, bauchleton_show
+//   loads    bauchleton_load_fill, bauchleton_load_errors, bauchleton_load_run
 //   tells    what an answer tells a host
 //
 // Each call answers 0, or the number of the rule of document 01's table that refuses. It is lent a slice `answer` of a fixed length, which is left as
@@ -8,6 +9,7 @@
 // refused.
 mod calls;
 mod kits;
+mod loads;
 mod tells;
 
 pub use calls::bauchleton_check_words;
@@ -19,3 +21,6 @@ pub use kits::bauchleton_check_kit;
 pub use kits::bauchleton_design;
 pub use kits::bauchleton_make_inverse;
 pub use kits::bauchleton_spread_lists;
+pub use loads::bauchleton_load_errors;
+pub use loads::bauchleton_load_fill;
+pub use loads::bauchleton_load_run;

@@ -5,6 +5,7 @@
 --   filled                        the first i entries by the rule, the rest as it was
 --   filled-none, filled-more, filled-all, filled-length   the loop's start, its step, its end
 --   filled-next                   the entry that comes next is the old one
+--   tabulate-append               a table in two parts
 --   filled-stretch                a step that fills the next stretch
 --   stretches                     the first i stretches of one width by the rule, the rest as it was
 --   stretches-none, stretches-more, stretches-sets, stretches-all   the loop's start, its step by a part or by stores, its end
@@ -83,7 +84,7 @@ filled-next f l i =
     ap (λ (z : ℕ). getD (tabulate i f ++ drop i l) z 0) e ∙ getD-append-add (tabulate i f) (drop i l) 0 0 ∙ getD-drop i l 0 0
     ∙ ap (λ (z : ℕ). getD l z 0) (let q : i + 0 ≡ i = omega arith in q)
 
-tabulate-append : (m n : ℕ) (f : ℕ → ℕ) → tabulate (m + n) f ≡ tabulate m f ++ tabulate n (λ k. f (m + k))
+pub tabulate-append : (m n : ℕ) (f : ℕ → ℕ) → tabulate (m + n) f ≡ tabulate m f ++ tabulate n (λ k. f (m + k))
 unfolding tabulate
 tabulate-append zero n f = ap (λ (k : ℕ). tabulate k f) (zero-add n) ∙ tabulate-same n f (λ k. f (zero + k)) (λ k l. ap f (sym (zero-add k)))
 tabulate-append (suc m) n f =

@@ -39,4 +39,5 @@ pub mod SpreadCall
 pub mod Demand3
 pub mod Encoded
 pub mod Demand1
+pub mod Load
 pub mod Vectors

@@ -7,4 +7,5 @@
 //   Sites, Positions, Apart, Redundancy, Reach             the words of a frame, and its redundancy
 //   Rounds, Outside, Rules                                 rounds, counts and the table's rules
 //   BchCode, Demand2, Demand3                              the code of a design, and demands 2 and 3 over the calls
+//   Load                                                   the test load
 //   Vectors                                                document 01's rows under kit K, and a second kit
