@@ -32,6 +32,7 @@ pub fn of_refusal(r: Refusal) -> Judged
         Refusal::Inverse(p) => Judged { rule: 9, place: p },
         Refusal::Bit(p) => Judged { rule: 10, place: p },
         Refusal::Singular(p) => Judged { rule: 14, place: p },
+        Refusal::Batch(p) => Judged { rule: 17, place: p },
     }
 }
 

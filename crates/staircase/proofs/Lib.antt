@@ -35,5 +35,6 @@ pub mod Demand2
 pub mod Maker
 pub mod Demand3
 pub mod Encoded
+pub mod Batch
 pub mod Demand1
 pub mod Vectors

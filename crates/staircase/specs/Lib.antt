@@ -9,9 +9,11 @@ pub mod Decoder
 pub mod Rules
 pub mod Calls
 pub mod Maker
+pub mod Batch
 pub mod Demand1
 pub mod OrderMoved
 pub mod Demand2
 pub mod Demand3
+pub mod BatchFrames
 pub mod RowsK
 pub mod SecondKit
