@@ -1,10 +1,11 @@
 /* The library beside two implementations in C, in one run: prints its times, theirs and the ratios of the library's to theirs, and stops with 1 if any
    result differs. The plain one is plain.c; the strong one, of the kit check and of decoding, is strong.c. Encoding alone is the difference between
    two frames under one kit, divided by the groups between them, so that the kit check that the encoder makes drops out. A frame whose last
-   information byte is no bit is refused beside a search of its bytes alone: the encoder asks rule 10 before it multiplies. The inverse is made of the
-   lists, by elimination with byte tables on the plain side, and the kit's text is written into a buffer. The word checker and the decoder get frames
-   with errors, a copy each, written just before. Information and errors are the test load's, from the seeds and limits below, so that every bench has
-   the same frames. All times are the least of several turns, in which the contenders take turns. */
+   information byte is no bit is refused beside a search of its bytes alone: the encoder asks rule 10 before it multiplies. Frames of two blocks are
+   encoded in one call beside as many calls. The inverse is made of the lists, by elimination with byte tables on the plain side, and the kit's text is
+   written into a buffer. The word checker and the decoder get frames with errors, a copy each, written just before. Information and errors are the
+   test load's, from the seeds and limits below, so that every bench has the same frames. All times are the least of several turns, in which the
+   contenders take turns. */
 
 #include "../include/bauchleton.h"
 #include "plain_text.h"
@@ -15,7 +16,7 @@
 #include <string.h>
 #include <time.h>
 
-enum { SHORT = 32, LONG = 32 + 512, TURNS = 3, KIT_TURNS = 5 };
+enum { SHORT = 32, LONG = 32 + 512, TURNS = 3, KIT_TURNS = 5, BATCH = 256 };
 
 static const struct { unsigned blocks, turns; } frames[] = { { 1, 200 }, { 32, 40 }, { 1024, 3 } };
 enum { FRAMES = sizeof frames / sizeof *frames };
@@ -93,6 +94,32 @@ static int time_kit(unsigned m, unsigned t, unsigned M, const plain_sizes *s, co
     printf("  inverse made in %.4f s, plain %.4f s, ratio %.2f; kit text of %zu bytes written in %.0f us, plain %.0f us, ratio %.2f\n", make[1],
            make[0], make[1] / make[0], length, text[1] * 1e6, text[0] * 1e6, text[1] / text[0]);
     free(mine), free(other), free(work), free(written), free(plain_written);
+    return differ;
+}
+
+/* BATCH frames of two blocks in one call, and each in a call of its own. Returns whether a result differs. */
+static int time_batch(unsigned m, unsigned t, unsigned M, const plain_sizes *s, const uint8_t *self, const uint8_t *parity, const uint8_t *inverse,
+                      const uint8_t *info)
+{
+    size_t list = 2 * (size_t)s->size, matrix = s->size * (((size_t)s->size + 7) / 8), frame = 2 * (size_t)M * M, group = list;
+    uint8_t *mine = lend(BATCH * group), *other = lend(BATCH * group), *work = lend(matrix);
+    uint64_t answer[1];
+    double batch = 1e9, single = 1e9;
+    int differ = 0;
+    for (unsigned turn = 0; turn < TURNS; turn++) {
+        double a = now();
+        for (size_t f = 0; f < BATCH; f++)
+            differ |= bauchleton_encode(m, t, M, 2, self, list, parity, list, inverse, matrix, info + f * frame, frame, other + f * group, group, work,
+                                        matrix, answer, 1) != 0 || answer[0] != 0;
+        double b = now();
+        differ |= bauchleton_encode_batch(m, t, M, 2, BATCH, self, list, parity, list, inverse, matrix, info, BATCH * frame, mine, BATCH * group,
+                                          work, matrix, answer, 1) != 0 || answer[0] != 0;
+        single = least(single, b - a);
+        batch = least(batch, now() - b);
+        differ |= memcmp(mine, other, BATCH * group) != 0;
+    }
+    printf("  %u frames of 2 blocks in one call %.4f s, in %u calls %.4f s, ratio %.3f\n", BATCH, batch, BATCH, single, batch / single);
+    free(mine), free(other), free(work);
     return differ;
 }
 
@@ -252,6 +279,8 @@ int main(void)
                ours * 1e6, plain * 1e6, ours / plain, encode[1][0] * 1e6, encode[1][0] / ours);
         printf("  a bad last byte refused in %.0f us, %.2f of the kit check; its bytes searched plainly in %.0f us, ratio %.2f\n", bad[1] * 1e6,
                bad[1] / check[1], bad[0] * 1e6, bad[1] / bad[0]);
+        if (i == 0)
+            differ |= time_batch(m, t, M, &s, self, parity, inverse, info);     /* LONG blocks are more than BATCH frames of two */
         differ |= time_kit(m, t, M, &s, self, parity, inverse);
         differ |= time_frames(m, t, M, &s, self, parity, inverse);
         differ |= time_load(m, t, M, &s);

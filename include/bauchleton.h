@@ -46,6 +46,14 @@ uint64_t bauchleton_encode(uint64_t m, uint64_t t, uint64_t size, uint64_t block
                            size_t info_length, uint8_t *red, size_t red_length, uint8_t *work, size_t work_length, uint64_t *answer,
                            size_t answer_length);
 
+/* Writes the redundancy of `frames` frames of `blocks` blocks each, 1 to 256 of them, under one kit, which is judged once. `info` and `red` hold the
+   frames one after the other; each frame's redundancy is what bauchleton_encode makes of it alone. Rule 17 comes after 4.
+   answer, 1 entry: place */
+uint64_t bauchleton_encode_batch(uint64_t m, uint64_t t, uint64_t size, uint64_t blocks, uint64_t frames, const uint8_t *self,
+                                 size_t self_length, const uint8_t *parity, size_t parity_length, const uint8_t *inverse,
+                                 size_t inverse_length, const uint8_t *info, size_t info_length, uint8_t *red, size_t red_length,
+                                 uint8_t *work, size_t work_length, uint64_t *answer, size_t answer_length);
+
 /* answer, 2 entries: place, words outside the code */
 uint64_t bauchleton_check_words(uint64_t m, uint64_t t, uint64_t size, uint64_t blocks, const uint8_t *self, size_t self_length,
                                 const uint8_t *parity, size_t parity_length, const uint8_t *info, size_t info_length, const uint8_t *red,

@@ -182,6 +182,7 @@ struct Lent {
     t: u64,
     size: u64,
     blocks: u64,
+    frames: u64,
     rounds: u64,
     own: Vec<u8>,
     parity: Vec<u8>,
@@ -204,6 +205,7 @@ impl Lent {
             t: kit.t,
             size: kit.size,
             blocks: blocks as u64,
+            frames: 1,
             rounds: 0,
             own: kit.own.clone(),
             parity: kit.parity.clone(),
@@ -361,6 +363,19 @@ impl Case<'_> {
             let [own, parity, inverse, info, red] = b else { unreachable!() };
             host::encode(l.design(), l.blocks, own, parity, inverse, info, red, w, a)
         });
+    }
+    /// The answer is the joined redundancy, by the reference.
+    fn encode_batch(&mut self, l: &Lent) -> Vec<u8> {
+        let result = encode_batch(&l.kit(), l.blocks, l.frames, &l.info, l.red.len(), l.kit_work);
+        let (number, told) = answered(&result, |_| vec![], 1);
+        let left = result.unwrap_or(l.red.clone());
+        let buffers = vec![l.own.clone(), l.parity.clone(), l.inverse.clone(), l.info.clone(), left.clone()];
+        let lent: [&[u8]; 5] = [&l.own, &l.parity, &l.inverse, &l.info, &l.red];
+        self.call("encode_batch", &lent, l.kit_work, Expected { number, told, buffers }, |b, w, a| {
+            let [own, parity, inverse, info, red] = b else { unreachable!() };
+            host::encode_batch(l.design(), l.blocks, l.frames, own, parity, inverse, info, red, w, a)
+        });
+        left
     }
     fn check_words(&mut self, l: &Lent) {
         let (number, told) = answered(&check_words(&l.received(), l.word_work), |&outside| vec![outside], 2);

@@ -20,6 +20,7 @@ pub const GROUPS: &[Group] = &[
     ("lengths", || designs(60).len(), lengths),
     ("bits", || 2 * designs(60).len(), bits_above_one),
     ("huge", || 3 * NUMBERS.len(), huge),
+    ("batches", || FRAMES.len() * designs(60).len(), batches),
     ("received", || 14 * designs(4096).len(), received_frames),
     ("rounds", || 200, rounds),
     ("show", || 2 * designs(60).len(), showing),
@@ -139,6 +140,20 @@ fn rows_of_k(case: &mut Case) {
         let lent = Lent::new(&kit, info.len(), info, red);
         case.same("words outside", Ok(0), check_words(&lent.received(), 4));
         case.all(&lent);
+    }
+    // U9: the frames 1, 0 and 0, 1 in one call; a byte of 7 in the last; no frames, 257, no blocks beside none
+    for (blocks, frames, info, answer) in [
+        (2, 2, vec![1, 0, 0, 1], Ok(bits_of("0000 1010 0001 0110"))),
+        (2, 2, vec![1, 0, 0, 7], Err((10, 3))),
+        (2, 2, vec![1, 0, 0], Err((6, 4))),
+        (2, 0, vec![1], Err((17, 0))),
+        (2, 257, vec![1], Err((17, 257))),
+        (0, 0, vec![1], Err((4, 0))),
+    ] {
+        let mut lent = Lent::new(&kit, blocks, info, vec![255; 16]);
+        lent.frames = frames;
+        case.same("frames under one kit", answer, encode_batch(&kit, lent.blocks, frames, &lent.info, 16, d.kit_work()));
+        case.encode_batch(&lent);
     }
     let identity = list_bytes(&[0, 1, 2, 3]);
     let equal = Kit { own: identity.clone(), parity: identity, ..kit.clone() };
@@ -597,6 +612,71 @@ fn huge(case: &mut Case) {
         case.read_blocks(d, text.as_bytes(), right.info.len());
         case.scan_frame(d, whole.as_bytes());
         case.read_frame(d, whole.as_bytes(), right.info.len(), right.red.len());
+    }
+}
+
+// ---------------------------------------------------------------- Several frames under one kit
+
+/// Numbers of frames: rule 17 refuses the first, and those from the sixth on.
+const FRAMES: [u64; 8] = [0, 1, 2, 3, 256, 257, 1 << 32, u64::MAX];
+
+/// Frames of one length in one call, over old redundancy of 255s, and each of them by the single call. Then the same with each
+/// slice a byte short and a byte long, with a byte of 7 in the last frame, under wrong kits, with 0 and with 4,097
+/// blocks, and two of these at once.
+fn batches(case: &mut Case) {
+    let all = designs(60);
+    let good = case.context.kit(all[case.index % all.len()]);
+    let frames = FRAMES[case.index / all.len()];
+    let blocks = 1 + case.rng.below(if frames == 256 { 2 } else { 4 });
+    // a number that is refused is lent the buffers of 257 frames, or of one
+    let joined = if frames == 257 { 257 } else if frames == 0 || frames > 257 { 1 } else { frames as usize };
+    let mut lent = case.to_encode(&good, blocks);
+    lent.frames = frames;
+    let (info, red) = (lent.info.len(), lent.red.len());
+    lent.info = case.rng.bits(joined * info);
+    lent.red = vec![255; joined * red];
+    let left = case.encode_batch(&lent);
+    if (1..=256).contains(&frames) {
+        for f in 0..joined {
+            let alone = Lent { info: lent.info[f * info..][..info].to_vec(), red: vec![255; red], ..lent.clone() };
+            let mut made = alone.red.clone();
+            let (mut work, mut answer) = (vec![0; lent.kit_work], [9]);
+            let number =
+                host::encode(lent.design(), lent.blocks, &lent.own, &lent.parity, &lent.inverse, &alone.info, &mut made, &mut work, &mut answer);
+            case.same("a frame alone", (0, [0], &left[f * red..][..red]), (number, answer, &made[..]));
+        }
+    } else {
+        case.check("refused by 17, untouched", left == lent.red);
+    }
+    let wrong = |lent: &mut Lent, which: usize| match which {
+        0 => drop(lent.info.pop()),
+        1 => lent.info.push(0),
+        2 => drop(lent.red.pop()),
+        3 => lent.red.push(0),
+        4 => lent.kit_work -= 1,
+        5 => lent.kit_work += 1,
+        6 => drop(lent.own.pop()),
+        7 => lent.parity.push(0),
+        8 => drop(lent.inverse.pop()),
+        9 => lent.blocks = 0,
+        10 => lent.blocks = 4097,
+        11 => lent.frames = lent.frames.wrapping_add(1),
+        12 => lent.frames = lent.frames.wrapping_sub(1),
+        13 => lent.own[1] = 255,
+        14 => *lent.inverse.last_mut().unwrap() ^= 128,
+        15 => lent.inverse[0] ^= 1,
+        16 => lent.m = 3,
+        _ => lent.info.last_mut().into_iter().for_each(|byte| *byte = 7),
+    };
+    for which in 0..18 {
+        if frames == 256 && which % 3 != case.index % 3 {
+            continue;
+        }
+        let mut one = lent.clone();
+        wrong(&mut one, which);
+        case.encode_batch(&one);
+        wrong(&mut one, case.rng.below(18));
+        case.encode_batch(&one);
     }
 }
 
@@ -1869,6 +1949,10 @@ fn large(case: &mut Case) {
             wrong.turn(case.rng.below(d.order()), case.rng.below(d.order()));
             case.check_kit(&Lent { inverse: wrong.to_bytes(), ..lent.clone() });
             case.encode(&lent);
+            if case.index == 0 {
+                let (info, red) = (case.rng.bits(11 * lent.info.len()), vec![255; 11 * lent.red.len()]);
+                case.encode_batch(&Lent { frames: 11, info, red, ..lent });
+            }
         }
         1 => {
             let mut lent = case.frame(&good, blocks);

@@ -33,6 +33,10 @@ extern "C" {
         m: u64, t: u64, size: u64, blocks: u64, o: In, ol: usize, p: In, pl: usize, v: In, vl: usize, i: In, il: usize,
         r: Out, rl: usize, w: Out, wl: usize, a: Told, al: usize,
     ) -> u64;
+    fn bauchleton_encode_batch(
+        m: u64, t: u64, size: u64, blocks: u64, frames: u64, o: In, ol: usize, p: In, pl: usize, v: In, vl: usize, i: In, il: usize,
+        r: Out, rl: usize, w: Out, wl: usize, a: Told, al: usize,
+    ) -> u64;
     fn bauchleton_check_words(
         m: u64, t: u64, size: u64, blocks: u64, o: In, ol: usize, p: In, pl: usize, i: In, il: usize, r: In, rl: usize,
         w: Out, wl: usize, a: Told, al: usize,
@@ -94,6 +98,16 @@ pub fn encode(
     let ((o, ol), (p, pl), (v, vl), (i, il)) = (lend!(own), lend!(parity), lend!(inverse), lend!(info));
     let ((r, rl), (w, wl), (a, al)) = (lend_mut!(red), lend_mut!(work), lend_mut!(answer));
     unsafe { bauchleton_encode(m, t, size, blocks, o, ol, p, pl, v, vl, i, il, r, rl, w, wl, a, al) }
+}
+
+#[allow(clippy::too_many_arguments)]
+pub fn encode_batch(
+    (m, t, size): (u64, u64, u64), blocks: u64, frames: u64, own: &[u8], parity: &[u8], inverse: &[u8], info: &[u8],
+    red: &mut [u8], work: &mut [u8], answer: &mut [u64],
+) -> u64 {
+    let ((o, ol), (p, pl), (v, vl), (i, il)) = (lend!(own), lend!(parity), lend!(inverse), lend!(info));
+    let ((r, rl), (w, wl), (a, al)) = (lend_mut!(red), lend_mut!(work), lend_mut!(answer));
+    unsafe { bauchleton_encode_batch(m, t, size, blocks, frames, o, ol, p, pl, v, vl, i, il, r, rl, w, wl, a, al) }
 }
 
 #[allow(clippy::too_many_arguments)]

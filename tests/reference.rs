@@ -1,4 +1,4 @@
-//! Document 01 and document 02's U1, U3 and U5 written a second time, from their text alone: small, literal and slow.
+//! Document 01 and document 02's U1, U3, U5 and U9 written a second time, from their text alone: small, literal and slow.
 //! It shares nothing with the library. Everything that they define is a function here:
 //!
 //! - `design`, `powers`, `minimal`, `generator`, `remainder`: rules 1 to 3 and BCH words
@@ -6,7 +6,7 @@
 //! - `sums`, `system`, `check_kit`: A y + c, A, and the verdict on a kit
 //! - `first_dependent`, `inverse`, `make_inverse`: rule 14's column, W by elimination, and the maker
 //! - `turned`, `spread_lists`: spread lists
-//! - `encode`, `check_words`, `decode`, `show`, `loopback`: the calls
+//! - `encode`, `encode_batch`, `check_words`, `decode`, `show`, `loopback`: the calls
 //! - `Generator`, `load_fill`, `load_errors`, `load_run`: the test load
 //! - `read_kit`, `read_blocks`, `read_frame`: the texts and the place of rules 11 and 12
 //! - `kit_text`, `kit_text_length`, `write_kit`: kit text, its length, and the writer
@@ -590,6 +590,32 @@ pub fn encode(kit: &Kit, blocks: u64, info: &[u8], red: usize, work: usize) -> A
     let shape = Shape::new(d, blocks, own, parity);
     let w_matrix = inverse_of(&shape, &kit.inverse)?;
     Ok(redundancy(&shape, &w_matrix, info))
+}
+
+/// Several frames of one length: "check the kit a single time for all". Rules 1 to 4, "17 batch, after 4, when the
+/// number of frames is 0 or above 256; the place is that number", 6 over "the joined buffers", 7, 8, 10 with a
+/// place "over the joined information", and 9. "Either every frame is encoded as it would be alone, or none is
+/// touched": the answer is the joined redundancy.
+pub fn encode_batch(kit: &Kit, blocks: u64, frames: u64, info: &[u8], red: usize, work: usize) -> Answer<Vec<u8>> {
+    let d = design(kit.m, kit.t, kit.size)?;
+    let blocks = block_count(blocks)?;
+    if frames == 0 || frames > 256 {
+        return Err((17, frames));
+    }
+    lengths(&[
+        (1, kit.own.len(), 2 * d.order()),
+        (2, kit.parity.len(), 2 * d.order()),
+        (3, kit.inverse.len(), d.order() * d.row_bytes()),
+        (4, info.len(), frames as usize * info_len(&d, blocks)),
+        (5, red, frames as usize * red_len(&d, blocks)),
+        (6, work, d.kit_work()),
+    ])?;
+    let (own, parity) = permutations(&d, &kit.own, &kit.parity)?;
+    spare_bits(&d, &kit.inverse)?;
+    bits(info.iter().copied())?;
+    let shape = Shape::new(d, blocks, own, parity);
+    let w_matrix = inverse_of(&shape, &kit.inverse)?;
+    Ok(info.chunks(info_len(&d, blocks)).flat_map(|frame| redundancy(&shape, &w_matrix, frame)).collect())
 }
 
 /// The redundancy of a frame: in each group y = W c ("c for zero Y"), then P from the column words.

@@ -14,7 +14,8 @@ use Rattle.staircase.specs.Rules.Verdict.{accepted, refused}
 use Rattle.staircase.specs.Calls.{kitVerdict, encodeCall, wordsCall, decodeCall, showVerdict, stretch, shownBy, showCall}
 use Rattle.staircase.specs.Maker.{makeCall}
 use Rattle.staircase.specs.Spread.{spreadCall}
-use Rattle.staircase.proofs.Demand1.{design-demand1, kit-demand1, make-demand1, spread-demand1, encode-demand1, words-demand1, decode-demand1, show-demand1}
+use Rattle.staircase.specs.Batch.{batchCall}
+use Rattle.staircase.proofs.Demand1.{design-demand1, kit-demand1, make-demand1, spread-demand1, encode-demand1, batch-demand1, words-demand1, decode-demand1, show-demand1}
 use Rattle.loopback.specs.Link.{loopbackCall}
 use Rattle.loopback.proofs.Demand1.{loopback-demand1}
 use Rattle.rules_verdict.specs.Number.{number, placeOf}
@@ -44,6 +45,11 @@ module _ (m t M L : ℕ) (self parity w info red : List ℕ) (work : ℕ) where
       Demand1C (1 ∷ 2 ∷ 3 ∷ 4 ∷ 6 ∷ 7 ∷ 8 ∷ 9 ∷ 10 ∷ []) (number (encodeCall m t M L self parity w info red work .verdict))
       (placeOf (encodeCall m t M L self parity w info red work .verdict)) (red ∷ []) (encodeCall m t M L self parity w info red work .red ∷ [])
   bauchleton-encode-demand1 = demand1-number _ _ _ _ (encode-demand1 m t M L self parity w info red work)
+
+  pub bauchleton-encode-batch-demand1 : (n : ℕ)
+      → Demand1C (1 ∷ 2 ∷ 3 ∷ 4 ∷ 6 ∷ 7 ∷ 8 ∷ 9 ∷ 10 ∷ 17 ∷ []) (number (batchCall m t M L n self parity w info red work .verdict))
+      (placeOf (batchCall m t M L n self parity w info red work .verdict)) (red ∷ []) (batchCall m t M L n self parity w info red work .red ∷ [])
+  bauchleton-encode-batch-demand1 n = demand1-number _ _ _ _ (batch-demand1 m t M L n self parity w info red work)
 
   pub bauchleton-check-words-demand1 :
       Demand1C (1 ∷ 2 ∷ 3 ∷ 4 ∷ 6 ∷ 7 ∷ 10 ∷ []) (number (wordsCall m t M L self parity info red work .verdict))

@@ -1,5 +1,6 @@
 // Frames for a host in C.
 //   bauchleton_encode        the encoder
+//   bauchleton_encode_batch  the encoder of several frames
 //   bauchleton_check_words   the word checker
 //   bauchleton_decode        the decoder
 //   bauchleton_loopback      the bench's self test
@@ -9,6 +10,7 @@ ghost use mathlib.Core.List.{[], _∷_};
 ghost use lib.ListN.{length};
 ghost use Rattle.staircase.specs.Frame.{frameOf};
 ghost use Rattle.staircase.specs.Calls.{encodeCall, wordsCall, decodeCall, showCall};
+ghost use Rattle.staircase.specs.Batch.{batchCall};
 ghost use Rattle.loopback.specs.Link.{loopbackCall};
 ghost use Rattle.show.specs.Answers.{partOf};
 ghost use Rattle.rules_verdict.specs.Number.{number, placeOf, told};
@@ -16,6 +18,7 @@ ghost use Rattle.bauchleton.specs.Answers.{wordsAnswer, correctedAnswer,
 use crate::tells::tell_check;
 use crate::tells::tell_decoding;
 use crate::tells::tell_words;
+use encoder_batch::encode_batch;
 use rules_verdict::of_check;
 use rules_verdict::tell_two;
 use show::Part;
@@ -63,6 +66,43 @@ pub extern "C" fn bauchleton_encode(
         ⌜ (a ≡ number (e .verdict)) × (now (red .exit) ≡ e .red) × (now (answer .exit) ≡ told (placeOf (e .verdict) ∷ []) (now (answer .entry))) ⌝ }
 {
     let c = encoder::encode(m, t, size, blocks, own, parity, inverse, info, red, work);
+    tell_check(c, answer)
+}
+
+// Makes the redundancy of `frames` frames of `blocks` blocks each, joined. `answer` has one entry: the place.
+#[no_mangle]
+pub extern "C" fn bauchleton_encode_batch(
+    m: u64,
+    t: u64,
+    size: u64,
+    blocks: u64,
+    frames: u64,
+    own: &[u8],
+    parity: &[u8],
+    inverse: &[u8],
+    info: &[u8],
+    red: &mut [u8],
+    work: &mut [u8],
+    answer: &mut [u64],
+) -> u64
+    ensures { λ a.
+        let e = batchCall m t size blocks frames (now (own .entry)) (now (parity .entry)) (now (inverse .entry)) (now (info .entry))
+        (now (red .entry)) (length (now (work .entry))) in
+        ⌜ (a ≡ number (e .verdict)) × (now (red .exit) ≡ e .red) × (now (answer .exit) ≡ told (placeOf (e .verdict) ∷ []) (now (answer .entry))) ⌝ }
+{
+    let c = encode_batch(
+        m,
+        t,
+        size,
+        blocks,
+        frames,
+        own,
+        parity,
+        inverse,
+        info,
+        red,
+        work,
+    );
     tell_check(c, answer)
 }
 

@@ -1,6 +1,6 @@
 // The calls for a host in C. A slice is a pointer and a length there, and no two slices of a call may overlap.
 //   kits     bauchleton_design, bauchleton_check_kit, bauchleton_make_inverse, bauchleton_spread_lists
-//   calls    bauchleton_encode, bauchleton_check_words, bauchleton_decode, bauchleton_loopback, bauchleton_show
+//   calls    bauchleton_encode, bauchleton_encode_batch, bauchleton_check_words, bauchleton_decode, bauchleton_loopback, bauchleton_show
 //   loads    bauchleton_load_fill, bauchleton_load_errors, bauchleton_load_run
 //   tells    what an answer tells a host
 //
@@ -15,6 +15,7 @@ mod tells;
 pub use calls::bauchleton_check_words;
 pub use calls::bauchleton_decode;
 pub use calls::bauchleton_encode;
+pub use calls::bauchleton_encode_batch;
 pub use calls::bauchleton_loopback;
 pub use calls::bauchleton_show;
 pub use kits::bauchleton_check_kit;

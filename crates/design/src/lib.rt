@@ -3,8 +3,10 @@
 //   m, t, size                                  the three numbers of a design
 //   r, n, k, order, area, row_bytes             its sizes
 //   check_count(blocks), check_rounds(rounds)   rules 4 and 5
+//   check_batch(frames)                         rule 17
 //   design_check(a)                             the answer of `Design::new` as a check's
 //   MOST_BLOCKS, group_count                    the most blocks of a frame; the groups of a frame
+//   MOST_FRAMES                                 the most frames of a batch
 //
 // An answer is an enum. `refusalVerdict`, `verdictOf` and `designVerdict` of specs/ give the table's number and place of each case, and each
 // contract says that the answer is the verdict of the rule in the crate `staircase`, for every argument that the `requires` line lets in.
@@ -16,6 +18,7 @@ ghost use Prim.Native.Nat.{_+_, _*_, _/_, _≤_, _<_};
 ghost use Rattle.staircase.specs.Design.{most-blocks};
 ghost use Rattle.staircase.specs.Frame.{groups};
 ghost use Rattle.staircase.specs.Rules.{outOfRange, designRules, countRule, roundsRule};
+ghost use Rattle.staircase.specs.Batch.{batchRule};
 ghost use Rattle.design.specs.Answers.{verdictOf, designVerdict, DesignIs, DesignAllowed};
 
 // A refusal: a rule of the table, by its name there, with the place.
@@ -32,6 +35,7 @@ pub enum Refusal {
     Bit(u64),
     Singular(u64),
     Narrow(u64),
+    Batch(u64),
 }
 
 // The answer of a check.
@@ -58,6 +62,9 @@ pub const MOST_BLOCKS: u64 = 4096;
 
 // Rule 5: "above 64".
 const MOST_ROUNDS: u64 = 64;
+
+// Rule 17: "0 or above 256".
+pub const MOST_FRAMES: u64 = 256;
 
 // `x` is not from `low` to `high`.
 fn out_of_range(low: u64, high: u64, x: u64) -> bool
@@ -191,6 +198,16 @@ pub fn check_rounds(rounds: u64) -> Check
 {
     if MOST_ROUNDS < rounds {
         return Check::Refused(Refusal::Rounds(rounds));
+    }
+    Check::Passed
+}
+
+// Rule 17 for a number of frames. Constant work.
+pub fn check_batch(frames: u64) -> Check
+    ensures { λ a. ⌜ verdictOf a ≡ batchRule frames ⌝ }
+{
+    if out_of_range(1, MOST_FRAMES, frames) {
+        return Check::Refused(Refusal::Batch(frames));
     }
     Check::Passed
 }

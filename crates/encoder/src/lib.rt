@@ -1,47 +1,13 @@
 // The encoder: rules 1 to 4, 6 to 8, 10 and 9 of document 01's table, then the redundancy of the frame, group by group.
 //   encode   makes the redundancy of a frame
 //
-// All rules are judged before the first byte is written, and rule 10 before the product that rule 9 makes. The crate `encoder_frame` makes the redundancy.
+// A frame is encoded as a batch of one, which no rule but those of a single frame refuses (`batch-single` of the crate `staircase`). All rules are judged
+// before the first byte is written, and rule 10 before the product that rule 9 makes. The crate `encoder_frame` makes the redundancy.
 ghost use mathlib.Core.Path.{_≡_};
 ghost use lib.ListN.{length};
 ghost use Rattle.staircase.specs.Calls.{encodeCall};
-ghost use Rattle.design.specs.Sizes.{paramsOf};
-ghost use Rattle.design.specs.Answers.{verdictOf, Allowed};
-ghost use Rattle.encoder.specs.Checks.{encodeRules};
+ghost use Rattle.design.specs.Answers.{verdictOf};
 use design::Check;
-use design::Design;
-use design::Designed;
-use rules::Lengths;
-
-// Rules 4 and 6 to 10, for an allowed design.
-fn check_frame(
-    d: Design,
-    blocks: u64,
-    own: &[u8],
-    parity: &[u8],
-    inverse: &[u8],
-    info: &[u8],
-    red: &[u8],
-    work: &mut [u8],
-) -> Check
-    requires { ⌜ Allowed d ⌝ }
-    ensures { λ a. ⌜ verdictOf a ≡ encodeRules (paramsOf d) blocks (now (own .entry)) (now (parity .entry)) (now (inverse .entry)) (now (info .entry))
-        (now (red .entry)) (length (now (work .entry))) ⌝ }
-{
-    let have = Lengths {
-        own: own.len(),
-        parity: parity.len(),
-        inverse: inverse.len(),
-        info: info.len(),
-        red: red.len(),
-        work: work.len(),
-    };
-    let lengths = rules::check_frame(d, blocks, 0, have, rules::kit_due(d));
-    let Check::Passed = lengths else {
-        return lengths;
-    };
-    kit::check_content(d, own, parity, inverse, info, work)
-}
 
 // Makes the redundancy of a frame of `blocks` blocks from its information, one bit a byte, under the kit: rules 1 to 4 and 6 to 10, with the table's
 // number and place of the first that refuses. What the redundancy held is never read, and a refused call leaves it as it was. The working bytes
@@ -63,14 +29,5 @@ pub fn encode(
         × (now (red .exit) ≡ (encodeCall m t size blocks (now (own .entry)) (now (parity .entry)) (now (inverse .entry)) (now (info .entry))
         (now (red .entry)) (length (now (work .entry)))) .red) ⌝ }
 {
-    let designed = Design::new(m, t, size);
-    let Designed::Made(d) = designed else {
-        return design::design_check(designed);
-    };
-    let frame = check_frame(d, blocks, own, parity, inverse, info, &red[..], work);
-    let Check::Passed = frame else {
-        return frame;
-    };
-    encoder_frame::make_redundancy(d, blocks as usize, parity, inverse, info, red);
-    frame
+    encoder_batch::encode_batch(m, t, size, blocks, 1, own, parity, inverse, info, red, work)
 }

@@ -1,6 +1,7 @@
 -- What rules 4 to 7 and 10 say once they accept.
 --   lengths-equal      each slice has the length that is due
 --   frame-accepted     rules 4 and 5, and the same
+--   batch-accepted     rules 4 and 17, and the same
 --   frame-small        the lengths of a frame are small
 --   received           what the rules leave of a received frame
 -- Assumes nothing.
@@ -14,13 +15,15 @@ use Rattle.staircase.specs.Design.{Params, most-blocks, most-rounds}
 use Rattle.staircase.specs.Frame.{groups}
 use Rattle.staircase.specs.Rules.{Verdict, _then_, countRule, roundsRule, lengthRule, infoLength, redLength, listRule, spareRule, frameBits, interleavers, wordWork}
 use Rattle.staircase.specs.Rules.Verdict.{accepted}
+use Rattle.staircase.specs.Batch.{most-frames, batchRule}
 use Rattle.staircase.proofs.Bounds.{small-product}
 use Rattle.staircase.proofs.Rules.{then-first, then-rest, refuse-false, count-limits, length-equal, lists-permute, frame-bits}
+use Rattle.staircase.proofs.Batch.{batch-limits}
 use Rattle.design.specs.declared.Design.{Design}
 use Rattle.design.specs.Answers.{Allowed}
 use Rattle.design.specs.Sizes.{paramsOf, orderOf}
 use Rattle.rules.specs.declared.lengths.Lengths.{Lengths}
-use Rattle.rules.specs.Lengths.{lengthsOf, lengthsRule, listsDue, frameDue, frameRules}
+use Rattle.rules.specs.Lengths.{lengthsOf, lengthsRule, listsDue, frameDue, batchDue, frameRules, batchRules}
 use Rattle.rules.specs.Bytes.{byteRules}
 use Rattle.rules.specs.Received.{Received}
 
@@ -58,6 +61,17 @@ frame-accepted s L k have due e =
       n .1,
       ltb-false most-rounds k (refuse-false (ltb most-rounds k) 5 k (then-first (roundsRule k) v f)),
       lengths-equal have (frameDue s L due) (then-rest (roundsRule k) v f),
+    )
+
+pub batch-accepted : (s : Params) (L n : ℕ) (have due : Lengths) → batchRules s L n have due ≡ accepted
+    → (L ≤ most-blocks) × (n ≤ most-frames) × Equal have (batchDue s L n due)
+unfolding batchRules
+batch-accepted s L n have due e =
+    let v : Verdict = lengthsRule have (batchDue s L n due) in
+    let f : (batchRule n then v) ≡ accepted = then-rest (countRule L) (batchRule n then v) e in (
+      count-limits L (then-first (countRule L) (batchRule n then v) e) .1,
+      batch-limits n (then-first (batchRule n) v f) .1,
+      lengths-equal have (batchDue s L n due) (then-rest (batchRule n) v f),
     )
 
 pub frame-small : (d : Design) (L info red : ℕ) → Allowed d → L ≤ most-blocks → info ≡ infoLength (paramsOf d) L → red ≡ redLength (paramsOf d) L → info + red < 2 ^ 63

@@ -4,7 +4,8 @@
 --   frame-rules-of                rules 4 to 6, by the number of blocks where it is allowed
 --   kit-lengths-rule              rule 6 of the kit checker, and then others
 --   make-lengths-rule             rule 6 of the maker of a kit's inverse, and then others
---   encode-rules, received-rules  rules 4 to 6 of calls with a kit, and of those with its lists alone, and then others
+--   received-rules                rules 4 to 6 of calls with a kit's lists alone, and then others
+--   batch-rules-of, batch-rules   rules 4, 17 and 6, by numbers where they are allowed; of calls with a kit, and then others
 --   lists-alone, kit-alone, frame-alone   rule 6 for some of the slices
 --   content-rules, kit-rules      rules 7 to 10 of calls with a kit, and of the kit checker
 --   received-bytes                rules 7 and 10 of calls with its lists alone
@@ -20,11 +21,13 @@ use Rattle.staircase.specs.System.{rowBytes}
 use Rattle.staircase.specs.Rules.{Verdict, _then_, countRule, roundsRule, lengthRule, infoLength, redLength, listLengths, kitLengths, frameLengths, kitWork, wordWork, refuseFirst, listRule, spareRow, spareRule, inverseRule, kitRules, bitRule, frameBits, contentRules}
 use Rattle.staircase.specs.Rules.Verdict.{accepted, refused}
 use Rattle.staircase.specs.Maker.{makeWork}
+use Rattle.staircase.specs.Batch.{most-frames, batchRule, batchLengths}
 use Rattle.staircase.proofs.Rules.{count-limits, length-accepted, refuseFirst-accepted}
+use Rattle.staircase.proofs.Batch.{batch-limits}
 use Rattle.rules.specs.declared.lengths.Lengths.{Lengths}
 use Rattle.rules.specs.Bytes.{byteRules}
 use Rattle.rules.proofs.Spare.{empty-spare}
-use Rattle.rules.specs.Lengths.{lengthsOf, lengthsRule, kitDue, makeDue, listsDue, frameDue, frameRules}
+use Rattle.rules.specs.Lengths.{lengthsOf, lengthsRule, kitDue, makeDue, listsDue, frameDue, batchDue, frameRules, batchRules}
 
 pub both-then : {x y z u v : Verdict} → z ≡ (x then y) → x ≡ u → y ≡ v → z ≡ (u then v)
 both-then h e f = h ∙ ap₂ (λ (p q : Verdict). p then q) e f
@@ -49,6 +52,15 @@ module _ (s : Params) (L k : ℕ) (have due : Lengths) where
       then-where (countRule L) (roundsRule k then lengthsRule have (frameDue s few due)) (roundsRule k then lengthsRule have (frameDue s L due))
       (λ e. ap (λ (n : ℕ). roundsRule k then lengthsRule have (frameDue s n due)) (same (count-limits L e .1)))
 
+module _ (s : Params) (L n : ℕ) (have due : Lengths) where
+  pub batch-rules-of : (few some : ℕ) → (L ≤ most-blocks → few ≡ L) → (n ≤ most-frames → some ≡ n)
+      → (countRule L then batchRule n then lengthsRule have (batchDue s few some due)) ≡ batchRules s L n have due
+  unfolding batchRules
+  batch-rules-of few some blocks frames =
+      then-where (countRule L) (batchRule n then lengthsRule have (batchDue s few some due)) (batchRule n then lengthsRule have (batchDue s L n due))
+      (λ e. then-where (batchRule n) (lengthsRule have (batchDue s few some due)) (lengthsRule have (batchDue s L n due))
+      (λ f. ap₂ (λ (x y : ℕ). lengthsRule have (batchDue s x y due)) (blocks (count-limits L e .1)) (frames (batch-limits n f .1))))
+
 -- a to f flat and then v, and as kit, frame and working bytes and then v
 grouped : (a b c d e f v : Verdict) → ((a then b then c then d then e then f) then v) ≡ (((a then b) then c) then (d then e) then f then v)
 grouped accepted accepted accepted accepted accepted f v = refl
@@ -72,27 +84,28 @@ module _ (s : Params) (self parity : List ℕ) (work : ℕ) (v : Verdict) where
       accepted accepted (lengthRule 6 work (makeWork s)) v
 
   module _ (L k : ℕ) (info red : List ℕ) where
-    counted : (u w : Verdict) → (u then v) ≡ w → ((countRule L then roundsRule k then u) then v) ≡ (countRule L then roundsRule k then w)
-    counted u w e =
-        then-assoc (countRule L) (roundsRule k then u) v
-        ∙ ap (λ (z : Verdict). countRule L then z) (then-assoc (roundsRule k) u v ∙ ap (λ (z : Verdict). roundsRule k then z) e)
-
-    pub encode-rules : (w : List ℕ) → (frameRules s L k (lengthsOf self parity w info red work) (kitDue s) then v)
-        ≡ (countRule L then roundsRule k then kitLengths s self parity w then frameLengths s L info red then lengthRule 6 work (kitWork s) then v)
-    unfolding frameRules frameDue lengthsRule kitDue kitLengths listLengths frameLengths
-    encode-rules w =
-        counted _ _
-        (grouped (lengthRule 1 (length self) (2 * order s)) (lengthRule 2 (length parity) (2 * order s)) (lengthRule 3 (length w) (order s * rowBytes (order s)))
-        (lengthRule 4 (length info) (infoLength s L)) (lengthRule 5 (length red) (redLength s L)) (lengthRule 6 work (kitWork s)) v)
+    -- behind the number of blocks and another
+    counted : (x u w : Verdict) → (u then v) ≡ w → ((countRule L then x then u) then v) ≡ (countRule L then x then w)
+    counted x u w e =
+        then-assoc (countRule L) (x then u) v
+        ∙ ap (λ (z : Verdict). countRule L then z) (then-assoc x u v ∙ ap (λ (z : Verdict). x then z) e)
 
     pub received-rules : (frameRules s L k (lengthsOf self parity [] info red work) (listsDue s) then v)
         ≡ (countRule L then roundsRule k then listLengths s self parity then frameLengths s L info red then lengthRule 6 work (wordWork s) then v)
     unfolding frameRules frameDue lengthsRule listsDue listLengths frameLengths
     received-rules =
-        counted _ _
+        counted (roundsRule k) _ _
         (grouped (lengthRule 1 (length self) (2 * order s)) (lengthRule 2 (length parity) (2 * order s)) accepted
         (lengthRule 4 (length info) (infoLength s L)) (lengthRule 5 (length red) (redLength s L)) (lengthRule 6 work (wordWork s)) v
         ∙ ap (λ (z : Verdict). z then frameLengths s L info red then lengthRule 6 work (wordWork s) then v) (then-none (listLengths s self parity)))
+
+    pub batch-rules : (n : ℕ) (w : List ℕ) → (batchRules s L n (lengthsOf self parity w info red work) (kitDue s) then v)
+        ≡ (countRule L then batchRule n then kitLengths s self parity w then batchLengths s L n info red then lengthRule 6 work (kitWork s) then v)
+    unfolding batchRules batchDue lengthsRule kitDue kitLengths listLengths batchLengths
+    batch-rules n w =
+        counted (batchRule n) _ _
+        (grouped (lengthRule 1 (length self) (2 * order s)) (lengthRule 2 (length parity) (2 * order s)) (lengthRule 3 (length w) (order s * rowBytes (order s)))
+        (lengthRule 4 (length info) (n * infoLength s L)) (lengthRule 5 (length red) (n * redLength s L)) (lengthRule 6 work (kitWork s)) v)
 
 -- ---- rule 6 for some of the slices: the others have the length that is due
 

@@ -1,8 +1,9 @@
 -- Rules 4 to 6, over the lengths of a call's slices.
 --   lengthsOf                   the lengths of a call's slices
 --   lengthsRule have due        rule 6
---   kitDue, makeDue, listsDue, frameDue  what is due
+--   kitDue, makeDue, listsDue, frameDue, batchDue  what is due
 --   frameRules                  rules 4 to 6
+--   batchRules                  rules 4, 17 and 6
 -- Assumes nothing.
 use mathlib.Core.List.{List}
 use Prim.Native.Nat.{ℕ, _*_}
@@ -11,6 +12,7 @@ use Rattle.staircase.specs.Design.{Params, order}
 use Rattle.staircase.specs.System.{rowBytes}
 use Rattle.staircase.specs.Rules.{Verdict, _then_, countRule, roundsRule, lengthRule, infoLength, redLength, kitWork, wordWork}
 use Rattle.staircase.specs.Maker.{makeWork}
+use Rattle.staircase.specs.Batch.{batchRule}
 use Rattle.rules.specs.declared.lengths.Lengths.{Lengths}
 
 -- the lengths of a call's slices; a call without a slice has an empty one
@@ -65,3 +67,17 @@ frameDue s L due = record {
 
 unfoldable pub frameRules : Params → ℕ → ℕ → Lengths → Lengths → Verdict
 frameRules s L k have due = countRule L then roundsRule k then lengthsRule have (frameDue s L due)
+
+-- of n frames of L blocks, joined
+unfoldable pub batchDue : Params → ℕ → ℕ → Lengths → Lengths
+batchDue s L n due = record {
+  own = due .own;
+  parity = due .parity;
+  inverse = due .inverse;
+  info = n * infoLength s L;
+  red = n * redLength s L;
+  work = due .work;
+}
+
+unfoldable pub batchRules : Params → ℕ → ℕ → Lengths → Lengths → Verdict
+batchRules s L n have due = countRule L then batchRule n then lengthsRule have (batchDue s L n due)

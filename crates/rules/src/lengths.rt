@@ -1,19 +1,21 @@
-// Rules 4 to 6 of document 01's table: numbers and lengths, which are judged without a byte being read.
+// Rules 4 to 6 of document 01's table, and rule 17 of document 02: numbers and lengths, which are judged without a byte being read.
 //   Lengths                             of the six slices that rule 6 counts
 //   check_length(place, have, due)      rule 6 for one slice
 //   check_lengths(have, due)            for all six
-//   kit_due, make_due, lists_due, frame_due   the lengths that are due of a kit, of one that is made, of its lists, of a frame
+//   kit_due, make_due, lists_due, frame_due, batch_due   the lengths that are due of a kit, of one that is made, of its lists, of a frame, of several
 //   check_list_lengths, check_kit_lengths, check_frame_lengths   rule 6 for some of the slices
 //   check_frame                         rules 4 to 6
+//   check_batch                         rules 4, 17 and 6
 //
 // A call that lacks a slice has 0 for it, and 0 is due. Each rule is judged at once, and `first` picks the first refusal.
 ghost use mathlib.Core.Path.{_≡_};
 ghost use Prim.Native.Nat.{_≤_};
 ghost use Rattle.staircase.specs.Design.{most-blocks};
 ghost use Rattle.staircase.specs.Rules.{_then_, lengthRule, listLengths, kitLengths, frameLengths};
+ghost use Rattle.staircase.specs.Batch.{most-frames};
 ghost use Rattle.design.specs.Sizes.{paramsOf};
 ghost use Rattle.design.specs.Answers.{verdictOf};
-ghost use Rattle.rules.specs.Lengths.{lengthsRule, kitDue, makeDue, listsDue, frameDue, frameRules};
+ghost use Rattle.rules.specs.Lengths.{lengthsRule, kitDue, makeDue, listsDue, frameDue, batchDue, frameRules, batchRules};
 use design::Check;
 use design::Design;
 use design::Refusal;
@@ -146,6 +148,23 @@ pub fn frame_due(d: Design, blocks: u64, due: Lengths) -> Lengths
     }
 }
 
+// Of the joined information and the joined redundancy of `frames` frames of `blocks` blocks, beside what else is due.
+pub fn batch_due(d: Design, blocks: u64, frames: u64, due: Lengths) -> Lengths
+    requires { ⌜ (blocks ≤ most-blocks) × (frames ≤ most-frames) ⌝ }
+    ensures { λ a. ⌜ a ≡ batchDue (paramsOf d) blocks frames due ⌝ }
+{
+    let info = (frames as usize) * ((blocks as usize) * d.area());
+    let red = (frames as usize) * ((design::group_count(blocks) as usize) * (2 * d.order()));
+    Lengths {
+        own: due.own,
+        parity: due.parity,
+        inverse: due.inverse,
+        info: info,
+        red: red,
+        work: due.work,
+    }
+}
+
 // Rule 6 for the two lists alone: what else is due is taken as it is due.
 pub fn check_list_lengths(d: Design, own: &[u8], parity: &[u8]) -> Check
     ensures { λ a. ⌜ verdictOf a ≡ listLengths (paramsOf d) (now (own .entry)) (now (parity .entry)) ⌝ }
@@ -214,4 +233,26 @@ pub fn check_frame(d: Design, blocks: u64, rounds: u64, have: Lengths, due: Leng
     let limit = design::check_rounds(rounds);
     let lengths = check_lengths(have, frame_due(d, blocks_allowed(blocks), due));
     first(count, first(limit, lengths))
+}
+
+// A number of frames that rule 17 accepts, and 0 for one that it refuses.
+fn frames_allowed(frames: u64) -> u64
+    ensures { λ a. ⌜ (a ≤ most-frames) × (frames ≤ most-frames → a ≡ frames) ⌝ }
+{
+    if design::MOST_FRAMES < frames {
+        return 0;
+    }
+    frames
+}
+
+// Rules 4, 17 and 6, for frames of a design: the number of blocks, the number of frames, and the lengths, with `due` for those that are not the frames'.
+// Constant work.
+pub fn check_batch(d: Design, blocks: u64, frames: u64, have: Lengths, due: Lengths) -> Check
+    ensures { λ a. ⌜ verdictOf a ≡ batchRules (paramsOf d) blocks frames have due ⌝ }
+{
+    let count = design::check_count(blocks);
+    let batch = design::check_batch(frames);
+    let due = batch_due(d, blocks_allowed(blocks), frames_allowed(frames), due);
+    let lengths = check_lengths(have, due);
+    first(count, first(batch, lengths))
 }

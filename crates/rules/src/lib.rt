@@ -1,6 +1,7 @@
 // The rules of document 01's table after the design's and before rule 9: numbers and lengths, then what the bytes of the lent slices hold. Every call
 // judges by `check_frame` and `check_bytes`, or by parts of them.
 //   check_frame, check_lengths, ..        rules 4 to 6 (module lengths)
+//   check_batch                           rules 4, 17 and 6 (there)
 //   check_bytes                           rules 7, 8 and 10
 //   entry(list, p)                        entry p of a list
 //   check_lists(own, parity, n, marks)    rule 7
@@ -25,6 +26,8 @@ pub use lengths::REDUNDANCY;
 pub use lengths::SELF;
 pub use lengths::TEXT;
 pub use lengths::WORKING;
+pub use lengths::batch_due;
+pub use lengths::check_batch;
 pub use lengths::check_frame;
 pub use lengths::check_frame_lengths;
 pub use lengths::check_kit_lengths;

@@ -33,6 +33,7 @@ pub fn of_refusal(r: Refusal) -> Judged
         Refusal::Bit(p) => Judged { rule: 10, place: p },
         Refusal::Singular(p) => Judged { rule: 14, place: p },
         Refusal::Narrow(p) => Judged { rule: 15, place: p },
+        Refusal::Batch(p) => Judged { rule: 17, place: p },
     }
 }
 

@@ -2,14 +2,15 @@
 --   byTable-then, byTable-refuse, byTable-first   one rule after another; a rule of a test; a rule of a search
 --   design-byTable, lists-byTable, ..             the rules
 --   byTable-more, byTable-front                   a call that has more rules
---   design-demand1, kit-demand1, make-demand1, spread-demand1, encode-demand1, words-demand1, decode-demand1, show-demand1   the calls
+--   design-demand1, kit-demand1, make-demand1, spread-demand1, encode-demand1, batch-demand1, words-demand1, decode-demand1, show-demand1   the calls
 --   encodedBy-untouched, correctedBy-untouched    what a refused call leaves
 -- Assumes nothing.
 use mathlib.Core.Path.{_≡_, refl, sym, ap, subst, _∙_, subst⁻¹}
-use mathlib.Core.Bool.{Bool, true, false, not, _||_}
+use mathlib.Core.Bool.{Bool, true, false, not, _||_, true≢false}
 use mathlib.Core.Logic.{_≢_}
 use mathlib.Core.List.{List, [], _∷_, _++_}
 use Prim.Native.Nat.{ℕ, _+_, _-_, _*_, _^_, _≤_, _<_}
+use native.Mathlib.Decide.{decLt}
 use native.Mathlib.Omega.{arith}
 use borrow.Author.Tests.{ltb-true}
 use lib.Dec.{ltb, eqb}
@@ -27,10 +28,11 @@ use Rattle.staircase.specs.Calls.{kitVerdict, encodeVerdict, encodedBy, 
 use Rattle.staircase.specs.Square.{dependent, inverseMatrix, packedMatrix}
 use Rattle.staircase.specs.Maker.{makeWork, singularRule, makeVerdict, madeBy, makeCall}
 use Rattle.staircase.specs.Spread.{narrowRule, spreadVerdict, spreadBy, spreadCall}
+use Rattle.staircase.specs.Batch.{most-frames, batchRule, batchLengths, batchVerdict, batchRedundancy, batchCall}
 use Rattle.staircase.specs.Demand1.{Table, among, ByTable, worked, refusedBy, Demand1}
 use Rattle.staircase.specs.Demand1 as table
 use Rattle.staircase.proofs.Bounds.{small-product}
-use Rattle.staircase.proofs.Rules.{then-first, outOfRange-false, refuse-false, design-limits}
+use Rattle.staircase.proofs.Rules.{then-first, outOfRange-false, inRange, refuse-false, design-limits}
 use Rattle.staircase.proofs.Decoded.{correctedBy-verdict}
 use Rattle.staircase.proofs.Encoded.{encodedBy-verdict}
 use Rattle.staircase.proofs.SpreadCall.{spreadBy-verdict}
@@ -313,22 +315,31 @@ spread-demand1 m t M self parity =
 abbrev encoderNumbers : List ℕ
 encoderNumbers = 1 ∷ 2 ∷ 3 ∷ 4 ∷ 6 ∷ 7 ∷ 8 ∷ 9 ∷ 10 ∷ []
 
-encode-byTable : (m t M L : ℕ) (self parity w info red : List ℕ) (work : ℕ) → ByTable encoderNumbers (encodeVerdict m t M L self parity w info red work)
-unfolding encodeVerdict
-encode-byTable m t M L self parity w info red work =
+-- rules 6 to 10 of a call with a kit, by those on its frames
+framed-byTable : (rules : List ℕ) → among 6 rules ≡ true → among 7 rules ≡ true → among 8 rules ≡ true → among 9 rules ≡ true → among 10 rules ≡ true
+    → (m t M : ℕ) → designRules m t M ≡ accepted → (self parity w info : List ℕ) (work : ℕ) (frame : Verdict) → ByTable rules frame
+    → ByTable rules
+    (kitLengths (params m t M) self parity w then frame then lengthRule 6 work (kitWork (params m t M))
+    then contentRules (params m t M) (interleavers (params m t M) self parity) w info)
+framed-byTable rules h6 h7 h8 h9 h10 m t M d self parity w info work frame fits =
     let s : Params = params m t M in
     let l : Interleavers = interleavers s self parity in
     let v9 : Verdict = contentRules s l w info in
     let v6 : Verdict = lengthRule 6 work (kitWork s) in
+    byTable-then rules (kitLengths s self parity w) (frame then v6 then v9) (kit-fits-byTable rules h6 s self parity w)
+    (λ e. byTable-then rules frame (v6 then v9) fits
+    (λ f. byTable-then rules v6 v9 (length-byTable rules h6 6 work (kitWork s) (omega arith) (omega arith))
+    (λ g. content-byTable rules h10 h7 h8 h9 s (design-limits m t M d .order-high) l w info)))
+
+encode-byTable : (m t M L : ℕ) (self parity w info red : List ℕ) (work : ℕ) → ByTable encoderNumbers (encodeVerdict m t M L self parity w info red work)
+unfolding encodeVerdict
+encode-byTable m t M L self parity w info red work =
+    let s : Params = params m t M in
     let frame : Verdict = frameLengths s L info red in
-    let kit : Verdict = kitLengths s self parity w in
-    byTable-then encoderNumbers (designRules m t M) (countRule L then kit then frame then v6 then v9)
-    (design-byTable encoderNumbers refl refl refl m t M)
-    (λ d. byTable-then encoderNumbers (countRule L) (kit then frame then v6 then v9) (count-byTable encoderNumbers refl L)
-    (λ c. byTable-then encoderNumbers kit (frame then v6 then v9) (kit-fits-byTable encoderNumbers refl s self parity w)
-    (λ e. byTable-then encoderNumbers frame (v6 then v9) (frame-fits-byTable encoderNumbers refl s L info red)
-    (λ f. byTable-then encoderNumbers v6 v9 (length-byTable encoderNumbers refl 6 work (kitWork s) (omega arith) (omega arith))
-    (λ g. content-byTable encoderNumbers refl refl refl refl s (design-limits m t M d .order-high) l w info)))))
+    let rest : Verdict = kitLengths s self parity w then frame then lengthRule 6 work (kitWork s) then contentRules s (interleavers s self parity) w info in
+    byTable-then encoderNumbers (designRules m t M) (countRule L then rest) (design-byTable encoderNumbers refl refl refl m t M)
+    (λ d. byTable-then encoderNumbers (countRule L) rest (count-byTable encoderNumbers refl L)
+    (λ c. framed-byTable encoderNumbers refl refl refl refl refl m t M d self parity w info work frame (frame-fits-byTable encoderNumbers refl s L info red)))
 
 pub encode-demand1 : (m t M L : ℕ) (self parity w info red : List ℕ) (work : ℕ)
     → Demand1 (1 ∷ 2 ∷ 3 ∷ 4 ∷ 6 ∷ 7 ∷ 8 ∷ 9 ∷ 10 ∷ []) (encodeCall m t M L self parity w info red work .verdict)
@@ -340,6 +351,45 @@ encode-demand1 m t M L self parity w info red work =
     let new : List ℕ = redundancy s (interleavers s self parity) w L info in
     record {
       byTable = subst (ByTable encoderNumbers) (sym (encodedBy-verdict v red new)) (encode-byTable m t M L self parity w info red work);
+      untouched = encodedBy-untouched v red new;
+    }
+
+-- document 02: the batch has the encoder's and 17
+abbrev batchNumbers : List ℕ
+batchNumbers = 1 ∷ 2 ∷ 3 ∷ 4 ∷ 6 ∷ 7 ∷ 8 ∷ 9 ∷ 10 ∷ 17 ∷ []
+
+batch-byTable : (m t M L n : ℕ) (self parity w info red : List ℕ) (work : ℕ) → ByTable batchNumbers (batchVerdict m t M L n self parity w info red work)
+unfolding batchVerdict batchRule batchLengths
+batch-byTable m t M L n self parity w info red work =
+    let s : Params = params m t M in
+    let v17 : Verdict = refuse (outOfRange 1 most-frames n) 17 n in
+    let v4 : Verdict = lengthRule 4 (length info) (n * infoLength s L) in
+    let v5 : Verdict = lengthRule 5 (length red) (n * redLength s L) in
+    let rest : Verdict = kitLengths s self parity w then (v4 then v5) then lengthRule 6 work (kitWork s) then contentRules s (interleavers s self parity) w info in
+    byTable-then batchNumbers (designRules m t M) (countRule L then v17 then rest) (design-byTable batchNumbers refl refl refl m t M)
+    (λ d. byTable-then batchNumbers (countRule L) (v17 then rest) (count-byTable batchNumbers refl L)
+    (λ c. byTable-then batchNumbers v17 rest (byTable-refuse batchNumbers (outOfRange 1 most-frames n) 17 n refl (λ e. table.batch refl (outside e)))
+    (λ b. framed-byTable batchNumbers refl refl refl refl refl m t M d self parity w info work (v4 then v5)
+    (byTable-then batchNumbers v4 v5 (length-byTable batchNumbers refl 4 (length info) (n * infoLength s L) (omega arith) (omega arith))
+    (λ f. length-byTable batchNumbers refl 5 (length red) (n * redLength s L) (omega arith) (omega arith))))))
+  where
+    outside : outOfRange 1 most-frames n ≡ true → 0 < n → most-frames < n
+    outside e pos = go (decLt most-frames n)
+      where
+        go : Dec (most-frames < n) → most-frames < n
+        go (yes h) = h
+        go (no h) = absurd (true≢false (sym e ∙ inRange 1 most-frames n pos (omega arith)))
+
+pub batch-demand1 : (m t M L n : ℕ) (self parity w info red : List ℕ) (work : ℕ)
+    → Demand1 (1 ∷ 2 ∷ 3 ∷ 4 ∷ 6 ∷ 7 ∷ 8 ∷ 9 ∷ 10 ∷ 17 ∷ []) (batchCall m t M L n self parity w info red work .verdict)
+    (red ∷ []) (batchCall m t M L n self parity w info red work .red ∷ [])
+unfolding batchCall
+batch-demand1 m t M L n self parity w info red work =
+    let s : Params = params m t M in
+    let v : Verdict = batchVerdict m t M L n self parity w info red work in
+    let new : List ℕ = batchRedundancy s (interleavers s self parity) w L n info in
+    record {
+      byTable = subst⁻¹ (ByTable batchNumbers) (encodedBy-verdict v red new) (batch-byTable m t M L n self parity w info red work);
       untouched = encodedBy-untouched v red new;
     }
 

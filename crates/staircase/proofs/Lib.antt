@@ -38,6 +38,7 @@ pub mod Singular
 pub mod SpreadCall
 pub mod Demand3
 pub mod Encoded
+pub mod Batch
 pub mod Demand1
 pub mod Load
 pub mod Vectors

@@ -26,6 +26,7 @@ use Rattle.staircase.specs.Rules.{Verdict, refuseFirst, sizeRule, longRu
 use Rattle.staircase.specs.Rules.Verdict.{accepted}
 use Rattle.staircase.specs.Calls.{kitVerdict, encodeVerdict, encodedBy, encodeCall, wordsVerdict, wordsCall, decodeVerdict, decodeCall, showVerdict, showCall}
 use Rattle.staircase.specs.Spread.{turnedTo, listBytes, narrowRule, spreadVerdict, spreadCall}
+use Rattle.staircase.specs.Batch.{batchRule, batchLengths, batchVerdict, batchRedundancy, batchCall}
 use Rattle.staircase.specs.RowsK.{RowsK}
 use Rattle.staircase.specs.SecondKit.{paramsS, selfS, parityS, inverseS, systemS, infoS, redS, paramsT, listsT, receivedT, correctionT, correction0T, correction1T, SecondKit}
 use Rattle.staircase.specs.RowsSpread.{RowsSpread}
@@ -38,7 +39,7 @@ use Rattle.staircase.proofs.Correction.{nearest-errors}
 use Rattle.staircase.proofs.BchCode.{apart-of}
 
 pub rowsK : RowsK
-unfolding _⊕_ _⊗_ timesX iterate polyAtDigits polyAt horner remainder bitsOf fieldPoly valueAt leastFrom minimalPoly generator isCodeword parity sumBits tabulate concat firstWhere rowInfo rowWord columnInfo columnWord preimage columnParity rowParity residual systemEntry constantEntry inverseEntry product selfEntry groupBits rowSites columnSites words outsideAmong outside groupRedundancy redundancy choices flipBits firstCorrecting errorPositions correction flipAll correctWord correctWords round runRounds decoded refuseFirst sizeRule longRule largeRule designRules countRule roundsRule listLengths kitLengths frameLengths kitWork wordWork entries badEntry listRule spareRow spareRule wrongEntry inverseRule kitRules contentRules bitRule frameBits kitVerdict encodeVerdict encodeCall wordsVerdict wordsCall decodeVerdict decodeCall showVerdict showCall
+unfolding _⊕_ _⊗_ timesX iterate polyAtDigits polyAt horner remainder bitsOf fieldPoly valueAt leastFrom minimalPoly generator isCodeword parity sumBits tabulate concat firstWhere rowInfo rowWord columnInfo columnWord preimage columnParity rowParity residual systemEntry constantEntry inverseEntry product selfEntry groupBits rowSites columnSites words outsideAmong outside groupRedundancy redundancy choices flipBits firstCorrecting errorPositions correction flipAll correctWord correctWords round runRounds decoded refuseFirst sizeRule longRule largeRule designRules countRule roundsRule listLengths kitLengths frameLengths kitWork wordWork entries badEntry listRule spareRow spareRule wrongEntry inverseRule kitRules contentRules bitRule frameBits kitVerdict encodeVerdict encodeCall wordsVerdict wordsCall decodeVerdict decodeCall showVerdict showCall batchRule batchLengths batchVerdict batchRedundancy batchCall
 rowsK =
     record {
       x9 = refl;
@@ -52,6 +53,12 @@ rowsK =
       blocks01 = refl;
       blocks11 = refl;
       blocks0100 = refl;
+      frames2 = refl;
+      framesBit = refl;
+      framesCount = refl;
+      noFrames = refl;
+      mostFrames = refl;
+      manyFrames = refl;
       plainSystem = refl;
       plainRefused = refl;
       inverseRefused = refl;

@@ -16,6 +16,7 @@ use lib.Dec.{eqb}
 use Rattle.staircase.specs.Design.{most-M, most-order, most-rounds}
 use Rattle.staircase.specs.Rules.{Verdict}
 use Rattle.staircase.specs.Rules.Verdict.{accepted, refused}
+use Rattle.staircase.specs.Batch.{most-frames}
 
 -- "Returned", "Place". A place that is a number of blocks, of a byte or of a length may be any number.
 pub data Table (n p : ℕ) : Type 0 where
@@ -45,6 +46,8 @@ pub data Table (n p : ℕ) : Type 0 where
   singular : n ≡ 14 → p < most-order → Table n p
   -- document 02: "15 narrow .. the place is M"
   narrow : n ≡ 15 → p ≤ most-M → Table n p
+  -- document 02: "17 batch .. when the number of frames is 0 or above 256; the place is that number"
+  batch : n ≡ 17 → (0 < p → most-frames < p) → Table n p
 
 abbrev pub among : ℕ → List ℕ → Bool
 among n [] = false

@@ -10,11 +10,13 @@ pub mod Rules
 pub mod Calls
 pub mod Maker
 pub mod Spread
+pub mod Batch
 pub mod Load
 pub mod Demand1
 pub mod OrderMoved
 pub mod Demand2
 pub mod Demand3
+pub mod BatchFrames
 pub mod RowsK
 pub mod LoadRows
 pub mod SecondKit

@@ -7,13 +7,14 @@
 --   matrix n a                 the rows of an n × n matrix
 --   kitK                       the kit checker's verdict on the slices of a kit of this design
 --   encodedK, decodedK         the encoder's call and the decoder's call under K
+--   batchK                     the encoder's call on several frames
 --   refusedK                   what a refused call of the decoder leaves
 --   countedK, shownK           the word checker's call, and showing a part of the frame of blocks 0, 1
 --   RowsK                      the rows; `rowsK` in proofs/Vectors.antt shows them
 -- Assumes nothing.
 use mathlib.Core.Path.{_≡_}
 use mathlib.Core.List.{List, [], _∷_}
-use Prim.Native.Nat.{ℕ}
+use Prim.Native.Nat.{ℕ, _*_}
 use lib.ListN.{replicate}
 use Rattle.bch.specs.Code.{generator, parity}
 use Rattle.staircase.specs.Lists.{tabulate}
@@ -23,6 +24,7 @@ use Rattle.staircase.specs.Rules.{Verdict, Part, designRules, redLength,
 use Rattle.staircase.specs.Rules.Verdict.{accepted, refused}
 use Rattle.staircase.specs.Rules.Part.{block, group}
 use Rattle.staircase.specs.Calls.{kitVerdict, Encoded, encodeCall, Counted, wordsCall, Corrected, decodeCall, Shown, showCall}
+use Rattle.staircase.specs.Batch.{batchRule, batchCall}
 
 abbrev pub paramsK : Params
 paramsK = params 4 1 1
@@ -50,6 +52,10 @@ kitK self parity w = kitVerdict 4 1 1 self parity w (kitWork paramsK)
 -- L blocks; the redundancy buffer holds bytes 255 before the call
 abbrev pub encodedK : ℕ → List ℕ → Encoded
 encodedK L info = encodeCall 4 1 1 L selfK parityK inverseK info (replicate (redLength paramsK L) 255) (kitWork paramsK)
+
+-- n frames of L blocks; the redundancy buffer holds bytes 255 before the call
+abbrev pub batchK : ℕ → ℕ → List ℕ → Encoded
+batchK L n info = batchCall 4 1 1 L n selfK parityK inverseK info (replicate (n * redLength paramsK L) 255) (kitWork paramsK)
 
 -- L blocks and a number of rounds
 abbrev pub decodedK : ℕ → ℕ → List ℕ → List ℕ → Corrected
@@ -89,6 +95,15 @@ pub record RowsK : Type 0 where
   -- "the four blocks above": 0, 1, 0, 0 give the groups 0001 0110 and 0001 0011
   pub blocks0100 : encodedK 4 (0 ∷ 1 ∷ 0 ∷ 0 ∷ [])
       ≡ record { verdict = accepted; red = 0 ∷ 0 ∷ 0 ∷ 1 ∷ 0 ∷ 1 ∷ 1 ∷ 0 ∷ 0 ∷ 0 ∷ 0 ∷ 1 ∷ 0 ∷ 0 ∷ 1 ∷ 1 ∷ [] }
+  -- document 02, "up to 256 frames of one length": the frames 1, 0 and 0, 1 in one call
+  pub frames2 : batchK 2 2 (1 ∷ 0 ∷ 0 ∷ 1 ∷ []) ≡ record { verdict = accepted; red = 0 ∷ 0 ∷ 0 ∷ 0 ∷ 1 ∷ 0 ∷ 1 ∷ 0 ∷ 0 ∷ 0 ∷ 0 ∷ 1 ∷ 0 ∷ 1 ∷ 1 ∷ 0 ∷ [] }
+  -- "rule 10's place is counted over the joined information"
+  pub framesBit : batchK 2 2 (1 ∷ 0 ∷ 0 ∷ 2 ∷ []) ≡ record { verdict = refused 10 3; red = replicate 16 255 }
+  -- "17 batch, after 4, when the number of frames is 0 or above 256", and before 6: information of a wrong length beside it
+  pub framesCount : batchK 0 0 (1 ∷ []) ≡ record { verdict = refused 4 0; red = [] }
+  pub noFrames : batchK 2 0 (1 ∷ []) ≡ record { verdict = refused 17 0; red = [] }
+  pub mostFrames : batchRule 256 ≡ accepted
+  pub manyFrames : batchRule 257 ≡ refused 17 257
   -- "both lists 0 1 2 3: A is all zero, refused 9 at 0"
   pub plainSystem : matrix 4 (systemEntry paramsK (interleavers paramsK plain plain)) ≡ matrix 4 (λ i j. 0)
   pub plainRefused : kitK plain plain inverseK ≡ refused 9 0

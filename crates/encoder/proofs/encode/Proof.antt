@@ -1,44 +1,21 @@
--- The call ends at a refused design, at a refused frame, or with the redundancy made.
+-- A frame is a batch of one.
 -- Assumes nothing.
 use borrow.Author.Needs.{needs}
-use mathlib.Core.Path.{sym, _∙_}
+use mathlib.Core.Path.{ap, _∙_}
 use lib.ListN.{length}
-use Rattle.design.proofs.Answers.{check-passed, made-allowed}
-use Rattle.encoder.proofs.EncodeCall.{encodable, encode-design, encode-frame, encode-made}
+use Rattle.staircase.specs.Calls.{Encoded}
+use Rattle.staircase.proofs.Batch.{batch-single}
 use Rattle.encoder.proofs.encode.Statement.{statement}
 use Rattle.encoder.proofs.encode.Tie as tie
 
 returns : tie.Need-returns
 returns c =
-    let a = c .before .before .before .before .before .before .before .before .before .before .args in
-    let w = c .before .before .before .new .ensures in
-    encode-design (a .m) (a .t) (a .size) (a .blocks) (a .own .now) (a .parity .now) (a .inverse .now) (a .info .now) (a .red .now) (length (a .work .now)) (c .before .before .before .new .result) (w .0) (c .design-check .result) _ (c .before .enum-told .given .1) (c .design-check .ensures)
-
-check-frame-requires : tie.Need-check-frame-requires
-check-frame-requires c κs =
-    made-allowed (c .before .before .before .designed .given .1) (c .before .before .before .before .before .new .ensures .2)
-
-returns-2 : tie.Need-returns-2
-returns-2 c =
-    let a = c .before .before .before .before .before .before .before .before .before .before .before .before .before .before .before .before .before .args in
-    let w = c .before .before .before .before .before .before .before .before .before .before .new .ensures in
-    encode-frame (a .m) (a .t) (a .size) (a .blocks) (a .own .now) (a .parity .now) (a .inverse .now) (a .info .now) (a .red .now) (length (a .work .now)) (c .before .before .before .before .before .before .before .before .before .before .new .result) (w .0) (w .1) _ (c .before .before .before .before .before .before .before .before .designed .given .1) (c .before .before .before .before .check-frame .result) (c .before .before .before .before .check-frame .ensures) _ (c .enum-told3 .given .1)
-
-make-redundancy-requires : tie.Need-make-redundancy-requires
-make-redundancy-requires c κs =
-    let a = c .before .before .before .before .before .before .before .before .before .before .before .before .before .before .before .before .before .before .args in
-    let w = c .before .before .before .before .before .before .before .before .before .before .before .new .ensures in
-    let d = c .before .before .before .before .before .before .before .before .before .designed .given .1 in
-    encodable _ (a .blocks) (a .own .now) (a .parity .now) (a .inverse .now) (a .info .now) (a .red .now) (length (a .work .now)) (made-allowed d (w .2)) (sym (c .before .before .before .before .before .check-frame .ensures) ∙ check-passed (c .before .enum-told2 .given .1))
-
-returns-3 : tie.Need-returns-3
-returns-3 c =
-    let a = c .before .before .before .before .before .before .before .before .before .before .before .before .before .before .before .before .before .before .before .before .before .args in
-    let w = c .before .before .before .before .before .before .before .before .before .before .before .before .before .before .new .ensures in
-    encode-made (a .m) (a .t) (a .size) (a .blocks) (a .own .now) (a .parity .now) (a .inverse .now) (a .info .now) (a .red .now) (length (a .work .now)) (c .before .before .before .before .before .before .before .before .before .before .before .before .before .before .new .result) (w .0) (w .1) _ (c .before .before .before .before .before .before .before .before .before .before .before .before .designed .given .1) (c .before .before .before .before .before .before .before .before .check-frame .result) (c .before .before .before .before .before .before .before .before .check-frame .ensures) _ (c .before .before .before .before .enum-told2 .given .1) (c .before .before .make-redundancy .ensures (a .own .now))
+    let a = c .before .before .before .before .before .before .before .before .before .before .before .before .before .args in
+    let made = c .before .before .before .before .encode-batch .ensures in
+    let one = batch-single (a .m) (a .t) (a .size) (a .blocks) (a .own .now) (a .parity .now) (a .inverse .now) (a .info .now) (a .red .now) (length (a .work .now)) in
+    (made .0 ∙ ap (λ (x : Encoded). x .verdict) one, made .1 ∙ ap (λ (x : Encoded). x .red) one)
 
 pub encode-spec : {M : Type 1} → statement M
 encode-spec =
     tie.close
-    (tie.spec (λ c κs. search needs) (λ c. search needs) (λ c. search needs) (λ c κs. search needs) returns check-frame-requires (λ c. search needs)
-    (λ c. search needs) (λ c. search needs) (λ c. search needs) returns-2 make-redundancy-requires (λ c. search needs) (λ c. search needs) returns-3)
+    (tie.spec (λ c κs. search needs) (λ c. search needs) (λ c. search needs) returns)

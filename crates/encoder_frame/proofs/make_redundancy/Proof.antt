@@ -1,4 +1,4 @@
--- The table and the places of the parity list are as the groups ask, and the groups are the redundancy.
+-- The table and the places of the parity list are as the frames ask, and the frames are the redundancy.
 -- Assumes nothing.
 use native.Mathlib.Omega.{arith}
 use borrow.Author.Needs.{needs}
@@ -9,7 +9,7 @@ use Rattle.staircase.specs.Rules.{entries}
 use Rattle.staircase.specs.Demand2.{Permutes}
 use Rattle.words_positions.proofs.Parts.{part-fits, part-is}
 use Rattle.design.proofs.Allowed.{bits-small}
-use Rattle.encoder_frame.proofs.WholeFrame.{red-long, frame-ready, frame-made}
+use Rattle.encoder_frame.proofs.WholeFrame.{red-long, frames-ready, frames-made}
 use Rattle.encoder_frame.proofs.make_redundancy.Statement.{statement}
 use Rattle.encoder_frame.proofs.make_redundancy.Tie as tie
 
@@ -26,24 +26,24 @@ fill-preimages-requires c κs =
       subst⁻¹ (λ (k : ℕ). Permutes k (λ p. getD (entries k (s .args .parity .now)) p 0)) (order .ensures .0) (s .pre .parityPermutes),
     )
 
-part-make-groups-end : tie.Need-part-make-groups-end
-part-make-groups-end c =
+part-make-frames-end : tie.Need-part-make-frames-end
+part-make-frames-end c =
     let x = c .before .before .before .before .before .fill-table in
     let all : length (x .last .1 .0) ≡ c .before .before .before .before .before .before .before .before .n .result = omega arith in
     part-fits (x .last .1 .0) _ _ all
 
-part-make-groups-end-2 : tie.Need-part-make-groups-end-2
-part-make-groups-end-2 c = let f = c .before .before .before .before .fill-preimages in part-fits (f .last .1 .1 .0) _ _ (f .ensures .0)
+part-make-frames-end-2 : tie.Need-part-make-frames-end-2
+part-make-frames-end-2 c = let f = c .before .before .before .before .fill-preimages in part-fits (f .last .1 .1 .0) _ _ (f .ensures .0)
 
-make-groups-requires : tie.Need-make-groups-requires
-make-groups-requires c κs =
+make-frames-requires : tie.Need-make-frames-requires
+make-frames-requires c κs =
     let h = c .before .before .before .before .before .before .before .before .before .before .before .before .before .before .before .before .before .before .before .pre in
     let r = c .before .before .before .before .before .before .before .before .before .before .before .before .before .r .ensures .0 in
     let x = c .before .before .before .before .before .before .before .before .before .fill-table in
     let f = c .before .before .before .before .before .before .fill-preimages in
     let all : length (x .last .1 .0) ≡ c .before .before .before .before .before .before .before .before .before .before .before .before .n .result = omega arith in
     rw (c .before .before .before .before .before .before .before .before .before .before .before .size .ensures) (
-      frame-ready h r (c .before .before .before .before .before .before .before .before .before .before .before .before .before .before .order .ensures .0) (part-is (x .last .1 .0) _ _ all) (part-is (f .last .1 .1 .0) _ _ (f .ensures .0)) (all ∙ c .before .before .before .before .before .before .before .before .before .before .before .before .n .ensures .0) (f .ensures .0) (f .ensures .1),
+      frames-ready h r (c .before .before .before .before .before .before .before .before .before .before .before .before .before .before .order .ensures .0) (part-is (x .last .1 .0) _ _ all) (part-is (f .last .1 .1 .0) _ _ (f .ensures .0)) (all ∙ c .before .before .before .before .before .before .before .before .before .before .before .before .n .ensures .0) (f .ensures .0) (f .ensures .1),
       red-long h r,
     )
 
@@ -52,13 +52,13 @@ returns c =
     let x = c .before .before .before .before .before .before .before .before .before .before .before .before .fill-table in
     let f = c .before .before .before .before .before .before .before .before .before .fill-preimages in
     let all : length (x .last .1 .0) ≡ c .before .before .before .before .before .before .before .before .before .before .before .before .before .before .before .n .result = omega arith in
-    frame-made (c .before .before .before .before .before .before .before .before .before .before .before .before .before .before .before .before .before .before .before .before .before .before .pre) (c .before .before .before .before .before .before .before .before .before .before .before .before .before .before .before .before .r .ensures .0) (c .before .before .before .before .before .before .before .before .before .before .before .before .before .before .before .before .before .order .ensures .0) (part-is (x .last .1 .0) _ _ all) (part-is (f .last .1 .1 .0) _ _ (f .ensures .0))
-    (all ∙ c .before .before .before .before .before .before .before .before .before .before .before .before .before .before .before .n .ensures .0) (f .ensures .0) (f .ensures .1) (x .ensures .0) (rw (c .before .before .before .before .before .before .before .before .before .before .before .before .before .before .size .ensures) at (c .before .before .make-groups .ensures))
+    frames-made (c .before .before .before .before .before .before .before .before .before .before .before .before .before .before .before .before .before .before .before .before .before .before .pre) (c .before .before .before .before .before .before .before .before .before .before .before .before .before .before .before .before .r .ensures .0) (c .before .before .before .before .before .before .before .before .before .before .before .before .before .before .before .before .before .order .ensures .0) (part-is (x .last .1 .0) _ _ all) (part-is (f .last .1 .1 .0) _ _ (f .ensures .0))
+    (all ∙ c .before .before .before .before .before .before .before .before .before .before .before .before .before .before .before .n .ensures .0) (f .ensures .0) (f .ensures .1) (x .ensures .0) (rw (c .before .before .before .before .before .before .before .before .before .before .before .before .before .before .size .ensures) at (c .before .before .make-frames .ensures))
 
 pub make-redundancy-spec : {M : Type 1} → statement M
 make-redundancy-spec =
     tie.close
     (tie.spec (λ c κs. search needs) (λ c κs. search needs) (λ c κs. search needs) (λ c κs. search needs) (λ c. search needs) (λ c. search needs)
     part-positions-end (λ c κs. search needs) (λ c. search needs) (λ c. search needs) (λ c. search needs) fill-preimages-requires (λ c. search needs)
-    (λ c. search needs) part-make-groups-end (λ c. search needs) (λ c. search needs) part-make-groups-end-2 make-groups-requires (λ c. search needs)
+    (λ c. search needs) part-make-frames-end (λ c. search needs) (λ c. search needs) part-make-frames-end-2 make-frames-requires (λ c. search needs)
     returns)
