@@ -2,7 +2,7 @@
 -- in each word, a corrected word is the sent word, and a round leaves the sent frame. For any list of words over sites.
 --   CodeDistance s n      codewords of n bits that differ in at most 2t places are equal
 --   nearest-errors        the error positions of a word are those at which it differs from the codeword within t changes
---   Sound s n f w         a word of the frame: n sites, no sent one twice, in the code
+--   Sound s n f w         a word of the frame: n sites, in the code
 --   Nearer f a b          b has the frame's bit or a's bit at each site
 --   correct-word          a corrected word is the sent word
 --   correctWords-restore  after a pass over some words these are the sent ones, and nothing has moved away from the frame
@@ -10,13 +10,14 @@
 -- Assumes of the code, as a parameter, that its distance is at least 2t + 1.
 use mathlib.Core.Path.{_≡_, refl, sym, ap, ap₂, _∙_, subst}
 use mathlib.Core.Bool.{Bool, true, cond}
-use mathlib.Core.Logic.{_⊎_, inl, inr}
+use mathlib.Core.Logic.{_≢_, _⊎_, inl, inr}
 use mathlib.Core.List.{List, [], _∷_, map}
 use Prim.Native.Nat.{ℕ, zero, suc, _+_, _-_, _*_, _≤_, _<_, zero-le}
 use native.Mathlib.Nat.{le-trans}
+use native.Mathlib.Decide.{ℕ-discrete}
 use native.Mathlib.Omega.{arith}
 use lib.Dec.{eqb}
-use lib.ListN.{length, getD, List·getD-map}
+use lib.ListN.{length, getD}
 use lib.Seq.{ext-getD}
 use Rattle.bch.specs.Polynomial.{Bits}
 use Rattle.bch.specs.Code.{isCodeword, unlike, distance}
@@ -24,20 +25,12 @@ use Rattle.bch.proofs.Distance.{unlike-same, distance-self, distance-comm, dist
 use Rattle.staircase.specs.Design.{Params}
 use Rattle.staircase.specs.Frame.{Frame, Site, bitAt, read, inCode, outsideAmong}
 use Rattle.staircase.specs.Frame.Site.{unsent, inInfo, inRed}
-use Rattle.staircase.specs.Decoder.{flipBits, errorPositions, allSent, correction, flipAll, Progress, correctWord, correctWords, round, Decoded, runRounds}
+use Rattle.staircase.specs.Decoder.{flipBits, errorPositions, once, permitted, correction, flipAll, Progress, correctWord, correctWords, round, Decoded, runRounds}
 use Rattle.staircase.proofs.Search.{cond-ind}
-use Rattle.staircase.proofs.Member.{In, in?, map-in}
-use Rattle.staircase.proofs.Flip.{Sent, Within, Received, flipAll-received, flipAll-other, error-within, read-same, same-read, read-bits, read-length, Distinct, site?, site-in, read-flipAll}
-use Rattle.staircase.proofs.Errors.{flipBits-length, flipBits-bits, flipBits-distance, flipBits-here, Positions, positions-once, positions-below, errors, errors-positions, errors-flipped, errorPositions-found, flips-once}
-
-all-sent : (w : List Site) (c : List ℕ) → ((j : ℕ) → In j c → Sent (getD w j unsent)) → allSent (map (λ j. getD w j unsent) c) ≡ true
-all-sent w [] h = refl
-all-sent w (j ∷ c) h = go (getD w j unsent) (h j (inl refl)) (all-sent w c (λ k i. h k (inr i)))
-  where
-    go : (x : Site) → Sent x → allSent (map (λ j. getD w j unsent) c) ≡ true → allSent (x ∷ map (λ j. getD w j unsent) c) ≡ true
-    go unsent s r = absurd s
-    go (inInfo k) s r = r
-    go (inRed k) s r = r
+use Rattle.staircase.proofs.Member.{In, in?}
+use Rattle.staircase.proofs.Flip.{Sent, Within, Received, flipAll-received, flipAll-other, error-within, read-same, same-read, read-bits, read-length, site?}
+use Rattle.staircase.proofs.Occurrences.{permitted-all, once-in, in-once, once-single, flipAll-here, differing, sites-differing, differing-in, in-differing, occurrences-differing}
+use Rattle.staircase.proofs.Errors.{flipBits-length, flipBits-bits, flipBits-distance, Positions, errors, errors-positions, errors-flipped, errorPositions-found, flips-once}
 
 -- The code's distance: words of n bits in the code that differ in at most 2t places are equal.
 abbrev pub CodeDistance : Params → ℕ → Type 0
@@ -65,17 +58,16 @@ module _ (s : Params) (n : ℕ) (apart : CodeDistance s n) (u v : List ℕ) (lu 
       flips-once (length u) (s .t) (errorPositions s u) (errors u v) u refl (nearest-found .0) (errors-positions u v (lu ∙ sym lv) (s .t) near) hu
       (nearest-flipped ∙ sym (errors-flipped u v hu hv (lu ∙ sym lv)))
 
--- a word of the frame: n sites, none of them twice, in the code
+-- a word of the frame: n sites, in the code; a bit may stand in it more than once
 pub record Sound (s : Params) (n : ℕ) (f : Frame) (w : List Site) : Type 0 where
   pub long : length w ≡ n
-  pub distinct : Distinct w
   pub coded : inCode s f w ≡ true
 
 -- b has the frame's bit or a's bit at each site
-abbrev Nearer : Frame → Frame → Frame → Type 0
+abbrev pub Nearer : Frame → Frame → Frame → Type 0
 Nearer f a b = (y : Site) → (bitAt b y ≡ bitAt f y) ⊎ (bitAt b y ≡ bitAt a y)
 
-nearer-trans : (f a b c : Frame) → Nearer f a b → Nearer f b c → Nearer f a c
+pub nearer-trans : (f a b c : Frame) → Nearer f a b → Nearer f b c → Nearer f a c
 nearer-trans f a b c p q y = go (p y) (q y)
   where
     go : (bitAt b y ≡ bitAt f y) ⊎ (bitAt b y ≡ bitAt a y) → (bitAt c y ≡ bitAt f y) ⊎ (bitAt c y ≡ bitAt b y) → (bitAt c y ≡ bitAt f y) ⊎ (bitAt c y ≡ bitAt a y)
@@ -83,7 +75,7 @@ nearer-trans f a b c p q y = go (p y) (q y)
     go (inl d) (inr e) = inl (e ∙ d)
     go (inr d) (inr e) = inr (e ∙ d)
 
-nearer-distance : (f a b : Frame) → Nearer f a b → (w : List Site) → distance (read f w) (read b w) ≤ distance (read f w) (read a w)
+pub nearer-distance : (f a b : Frame) → Nearer f a b → (w : List Site) → distance (read f w) (read b w) ≤ distance (read f w) (read a w)
 unfolding distance
 nearer-distance f a b p [] = zero-le
 nearer-distance f a b p (x ∷ w) = go (p x) (nearer-distance f a b p w)
@@ -94,7 +86,7 @@ nearer-distance f a b p (x ∷ w) = go (p x) (nearer-distance f a b p w)
     go (inr e) l =
         omega (arith, ap (unlike (bitAt f x)) e, l)
 
-nearer-same : (f a b : Frame) → Nearer f a b → (w : List Site) → read a w ≡ read f w → read b w ≡ read f w
+pub nearer-same : (f a b : Frame) → Nearer f a b → (w : List Site) → read a w ≡ read f w → read b w ≡ read f w
 nearer-same f a b p w e = read-same w b f (λ y i. go y i (p y))
   where
     go : (y : Site) → In y w → (bitAt b y ≡ bitAt f y) ⊎ (bitAt b y ≡ bitAt a y) → bitAt b y ≡ bitAt f y
@@ -124,51 +116,46 @@ module _ (s : Params) (n : ℕ) (apart : CodeDistance s n) (f : Frame) (ff : Rec
     near : distance got sent ≤ s .t
     near = omega (arith, distance-comm got sent, few)
 
-    good : Positions (length got) (s .t) found
-    good = nearest-found s n apart got sent long (sym same-length ∙ long) (read-bits f a g w) (read-bits f f ff w) (ok .coded) near .0
+    -- what was found are the positions of the wrong bits
+    found-errors : found ≡ errors got sent
+    found-errors = nearest-errors s n apart got sent long (sym same-length ∙ long) (read-bits f a g w) (read-bits f f ff w) (ok .coded) near
 
-    -- the codeword that was found is the sent word
-    found-sent : flipBits found got ≡ sent
-    found-sent = nearest-flipped s n apart got sent long (sym same-length ∙ long) (read-bits f a g w) (read-bits f f ff w) (ok .coded) near
+    found-sites : sites ≡ differing a f w
+    found-sites = ap (map (λ j. getD w j unsent)) found-errors ∙ sites-differing a f w
 
-    -- a position that was found is one at which the sent bit is the other one
-    at-position : (k : ℕ) (x : Frame) → getD (read x w) k 0 ≡ bitAt x (getD w k unsent)
-    at-position k x = List·getD-map (bitAt x) w k unsent
-
-    flipped : (j : ℕ) → In j found → bitAt f (getD w j unsent) ≡ 1 - bitAt a (getD w j unsent)
-    flipped j i =
-        sym (at-position j f) ∙ ap (λ (u : List ℕ). getD u j 0) (sym found-sent)
-        ∙ flipBits-here found got (positions-once good) j i (positions-below good j i) ∙ ap (λ (z : ℕ). 1 - z) (at-position j a)
-
-    inside : (j : ℕ) → In j found → (j < length w) × Within (getD w j unsent) a
-    inside j i = (
-      subst (λ (z : ℕ). j < z) (read-length a w) (positions-below good j i),
-      error-within f a g (getD w j unsent) (λ e. let d = flipped j i in let b = g .binary (getD w j unsent) in omega (arith, e, d, b)),
-    )
+    wrong-within : (y : Site) → bitAt a y ≢ bitAt f y → Within y a
+    wrong-within y d = error-within f a g y (λ e. d (sym e))
 
     sent-site : (x : Site) → Within x a → Sent x
     sent-site unsent h = h
     sent-site (inInfo k) h = tt
     sent-site (inRed k) h = tt
 
-    correction-sites : correction s a w ≡ sites
+    -- each wrong bit once
+    correction-sites : correction s a w ≡ once (differing a f w)
     unfolding correction
     correction-sites =
-        ap (λ (z : Bool). cond z sites []) (all-sent w found (λ j i. sent-site (getD w j unsent) (inside j i .1)))
-
-    itself : Received a a
-    itself = record { infoLength = refl; redLength = refl; binary = g .binary }
+        ap (permitted w) found-sites
+        ∙ permitted-all w (differing a f w) (λ y i. sent-site y (wrong-within y (differing-in a f w y i .1)))
+        (λ y i. occurrences-differing a f w y (differing-in a f w y i .1))
 
     pub correct-word : read (flipAll (correction s a w) a) w ≡ read f w
-    correct-word = ap (λ (c : List Site). read (flipAll c a) w) correction-sites ∙ read-flipAll a itself w (ok .distinct) found inside ∙ found-sent
+    correct-word =
+        ap (λ (c : List Site). read (flipAll c a) w) correction-sites
+        ∙ read-same w (flipAll (once (differing a f w)) a) f (λ y i. go y i (ℕ-discrete (bitAt a y) (bitAt f y)))
+      where
+        go : (y : Site) → In y w → Dec (bitAt a y ≡ bitAt f y) → bitAt (flipAll (once (differing a f w)) a) y ≡ bitAt f y
+        go y i (yes e) = flipAll-other (once (differing a f w)) a y (λ j. differing-in a f w y (once-in (differing a f w) y j) .1 e) ∙ e
+        go y i (no d) =
+            flipAll-here (once (differing a f w)) (once-single (differing a f w)) f a g y (wrong-within y d) (in-once (differing a f w) y (in-differing a f w y i d))
+            ∙ (let p = g .binary y in let q = ff .binary y in omega (arith, p, q, d))
 
-    correct-nearer : Nearer f a (flipAll (correction s a w) a)
+    pub correct-nearer : Nearer f a (flipAll (correction s a w) a)
     correct-nearer y = go (in? site? y (correction s a w))
       where
         among : In y (correction s a w) → In y w
         among i =
-            let q = map-in (λ j. getD w j unsent) found y (subst (λ (c : List Site). In y c) correction-sites i) in
-            subst (λ (x : Site). In x w) (sym (q .2)) (site-in w (q .0) (inside (q .0) (q .1) .0))
+            differing-in a f w y (once-in (differing a f w) y (subst (λ (c : List Site). In y c) correction-sites i)) .0
 
         go : In y (correction s a w) ⊎ (¬ In y (correction s a w)) → (bitAt (flipAll (correction s a w) a) y ≡ bitAt f y) ⊎ (bitAt (flipAll (correction s a w) a) y ≡ bitAt a y)
         go (inl i) = inl (same-read w (flipAll (correction s a w) a) f correct-word y (among i))

@@ -35,7 +35,7 @@ use Rattle.staircase.proofs.Outside.{all-inside}
 use Rattle.staircase.proofs.Correction.{Sound, outside-none, runRounds-restore}
 use Rattle.staircase.proofs.System.{Proper}
 use Rattle.staircase.proofs.BchCode.{proper-of, apart-of}
-use Rattle.staircase.proofs.Sites.{rowSites-distinct, columnSites-distinct, rowSites-length, columnSites-length, row-among-words, column-among-words, each-word, info-covered, red-covered}
+use Rattle.staircase.proofs.Sites.{rowSites-length, columnSites-length, row-among-words, column-among-words, each-word, info-covered, red-covered}
 use Rattle.staircase.proofs.Redundancy.{redundancy-length, redundancy-bits, rows-in-code, columns-in-code, redundancy-only}
 use Rattle.staircase.proofs.Reach.{reach}
 use Rattle.staircase.proofs.Demand2.{kit-passes}
@@ -135,12 +135,10 @@ module _ (K : Kit) (L : ℕ) (info old : List ℕ) (G : Given K L info old) wher
       each-word s L l ok (kit .self) (kit .parity) (Sound s (wordLength s) frame)
       (λ i a hi ha. record {
         long = rowSites-length s L l ok (kit .self) (kit .parity) i a;
-        distinct = rowSites-distinct s L l ok (kit .self) (kit .parity) i a ha;
         coded = made-rows i a hi ha;
       })
       (λ i a hi ha. record {
         long = columnSites-length s L l ok (kit .self) (kit .parity) i a;
-        distinct = columnSites-distinct s L l ok (kit .self) (kit .parity) i a ha;
         coded = made-columns i a hi ha;
       })
 

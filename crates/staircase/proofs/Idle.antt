@@ -15,7 +15,7 @@ use Rattle.staircase.specs.Design.{Params, Interleavers}
 use Rattle.staircase.specs.Lists.{tabulate}
 use Rattle.staircase.specs.Frame.{Frame, Site, words, read, inCode}
 use Rattle.staircase.specs.Frame.Site.{unsent}
-use Rattle.staircase.specs.Decoder.{choices, flipBits, firstCorrecting, errorPositions, allSent, correction, flipAll, Progress, correctWord, correctWords, round, runRounds, default-rounds, decoded}
+use Rattle.staircase.specs.Decoder.{choices, flipBits, firstCorrecting, errorPositions, everyOccurrence, once, permitted, correction, flipAll, Progress, correctWord, correctWords, round, runRounds, default-rounds, decoded}
 use Rattle.staircase.proofs.Member.{In}
 use Rattle.staircase.proofs.Rounds.{runRounds-idle}
 
@@ -35,10 +35,9 @@ errorPositions-none s u h =
     ap (firstCorrecting s u) e ∙ ap (λ (b : Bool). cond b [] (firstCorrecting s u rest)) h
 
 module _ (s : Params) (f : Frame) where
-  correction-none : (w : List Site) → inCode s f w ≡ true → correction s f w ≡ []
-  unfolding correction
-  correction-none w h =
-      ap (λ (c : List ℕ). let d : List Site = map (λ j. getD w j unsent) c in cond (allSent d) d []) (errorPositions-none s (read f w) h)
+  pub correction-none : (w : List Site) → inCode s f w ≡ true → correction s f w ≡ []
+  unfolding correction permitted everyOccurrence once
+  correction-none w h = ap (λ (c : List ℕ). permitted w (map (λ j. getD w j unsent) c)) (errorPositions-none s (read f w) h)
 
   correctWords-stay : (k : ℕ) (ws : List (List Site)) → ((w : List Site) → In w ws → inCode s f w ≡ true)
       → correctWords s (record { frame = f; flips = k }) ws ≡ record { frame = f; flips = k }

@@ -9,7 +9,7 @@ use mathlib.Core.Path.{_≡_, refl, sym, ap, _∙_}
 use mathlib.Core.Bool.{Bool, cond}
 use mathlib.Core.Logic.{_≢_}
 use mathlib.Core.List.{List, [], _∷_, _++_, map}
-use Prim.Native.Nat.{ℕ, zero, suc, _+_, _*_, _≤_, zero-le}
+use Prim.Native.Nat.{ℕ, zero, suc, _+_, _*_, _≤_}
 use native.Mathlib.Nat.{add-assoc, add-zero}
 use native.Mathlib.Omega.{arith}
 use lib.Dec.{eqb}
@@ -19,10 +19,11 @@ use Rattle.staircase.specs.Lists.{tabulate}
 use Rattle.staircase.specs.Design.{Params}
 use Rattle.staircase.specs.Frame.{Frame, Site, read}
 use Rattle.staircase.specs.Frame.Site.{unsent}
-use Rattle.staircase.specs.Decoder.{errorPositions, allSent, correction, flipAll, Progress, correctWord, correctWords, round, Decoded, runRounds}
+use Rattle.staircase.specs.Decoder.{errorPositions, correction, flipAll, Progress, correctWord, correctWords, round, Decoded, runRounds}
 use Rattle.staircase.proofs.Search.{cond-ind}
 use Rattle.staircase.proofs.Tabulate.{tabulate-last}
 use Rattle.staircase.proofs.Flip.{Received, flipAll-received}
+use Rattle.staircase.proofs.Occurrences.{permitted-length}
 use Rattle.staircase.proofs.Errors.{errorPositions-positions}
 
 -- ---- words, one after the other
@@ -65,8 +66,7 @@ unfolding correction
 correction-few s f w =
     let e : List ℕ = errorPositions s (read f w) in
     let c : List Site = map (λ j. getD w j unsent) e in
-    cond-ind (λ (c : List Site). length c ≤ s .t) (allSent c) c []
-    (λ q. omega (arith, length-map e (λ j. getD w j unsent), errorPositions-positions s (read f w) .few)) (λ q. zero-le)
+    omega (arith, permitted-length w c, length-map e (λ j. getD w j unsent), errorPositions-positions s (read f w) .few)
 
 pub correctWords-few : (s : Params) (x : Progress) (ws : List (List Site)) → (correctWords s x ws) .flips ≤ x .flips + s .t * length ws
 unfolding correctWords correctWord

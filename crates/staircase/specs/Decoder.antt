@@ -3,6 +3,7 @@
 --   flipBits                   a word with the bits at some positions flipped
 --   errorPositions             where the codeword within t changes differs from a word
 --   flipAll                    a frame with the bits at some sites flipped
+--   occurrences                how often a site stands in a word
 --   correction                 the sites that correcting a word flips
 --   correctWord, correctWords  words corrected one after the other, with the number of flips
 --   round, runRounds           a round, and rounds until one is idle or all are made
@@ -46,12 +47,40 @@ allSent (unsent ∷ c) = false
 allSent (inInfo k ∷ c) = allSent c
 allSent (inRed k ∷ c) = allSent c
 
+abbrev pub sameSite : Site → Site → Bool
+sameSite unsent unsent = true
+sameSite unsent (inInfo k) = false
+sameSite unsent (inRed k) = false
+sameSite (inInfo j) unsent = false
+sameSite (inInfo j) (inInfo k) = eqb j k
+sameSite (inInfo j) (inRed k) = false
+sameSite (inRed j) unsent = false
+sameSite (inRed j) (inInfo k) = false
+sameSite (inRed j) (inRed k) = eqb j k
+
+-- In document 01's words each sent site stands once; in some words of document 02's partial frames a bit stands twice.
+unfoldable pub occurrences : Site → List Site → ℕ
+occurrences x [] = 0
+occurrences x (y ∷ w) = cond (sameSite x y) 1 0 + occurrences x w
+
+-- "a correction turning only one of the two places isn't made": each of the sites d stands among the sites c as often as in the word w
+unfoldable pub everyOccurrence : List Site → List Site → List Site → Bool
+everyOccurrence w c [] = true
+everyOccurrence w c (x ∷ d) = cond (eqb (occurrences x c) (occurrences x w)) (everyOccurrence w c d) false
+
+-- "and one turning both turns one bit": each site once
+unfoldable pub once : List Site → List Site
+once [] = []
+once (x ∷ c) = cond (eqb (occurrences x c) 0) (x ∷ once c) (once c)
+
+-- what may be flipped of the sites c of a word's errors: all, each once, or none
+unfoldable pub permitted : List Site → List Site → List Site
+permitted w c = cond (allSent c) (cond (everyOccurrence w c c) (once c) []) []
+
 -- "if a codeword lies within t changes and touches no bit of an unsent block, the word becomes it, in both places of each redundancy bit;
 -- otherwise it stays". A redundancy bit is one site, so both its places change.
 unfoldable pub correction : Params → Frame → List Site → List Site
-correction s f w =
-    let c : List Site = map (λ j. getD w j unsent) (errorPositions s (read f w)) in
-    cond (allSent c) c []
+correction s f w = permitted w (map (λ j. getD w j unsent) (errorPositions s (read f w)))
 
 unfoldable pub flipAll : List Site → Frame → Frame
 flipAll [] f = f

@@ -7,6 +7,7 @@
 --   block                     the bits of a block
 --   rowSites, columnSites     the sites of a row word and of a column word
 --   words                     all words in the order of a round
+--   Word, word                a word with its code
 --   read, inCode              the bits of a word, and the test whether it is a codeword
 --   outside                   how many words are outside the code
 -- Assumes nothing.
@@ -75,6 +76,14 @@ columnSites s L i a = columnWord s (blockAt s L (2 * i + 1)) (blockAt s L (2 * i
 -- "groups 1 to G, in each the row words 0 to M-1, then the column words"
 unfoldable pub words : Params → Interleavers → ℕ → List (List Site)
 words s l L = concat (groups L) (λ i. tabulate (s .M) (rowSites s l L i) ++ tabulate (s .M) (columnSites s L i))
+
+-- Of the parameters of a word's code r, t and g count.
+pub record Word : Type 0 where
+  pub code : Params
+  pub sites : List Site
+
+abbrev pub word : Params → List Site → Word
+word s w = record { code = s; sites = w }
 
 abbrev pub read : Frame → List Site → List ℕ
 read f w = map (bitAt f) w
