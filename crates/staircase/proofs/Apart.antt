@@ -22,7 +22,7 @@ use Rattle.staircase.specs.Word.{rowInfo, rowWord, columnInfo, columnWor
 use Rattle.staircase.specs.System.{preimage}
 use Rattle.staircase.specs.Frame.{Frame, Site, blockAt, yAt, pAt, rowSites, columnSites, read}
 use Rattle.staircase.specs.Frame.Site.{unsent, inInfo, inRed}
-use Rattle.staircase.specs.Decoder.{errorPositions, correction, flipAll, Progress, correctWord, correctWords}
+use Rattle.staircase.specs.Decoder.{errorPositions, correction, flipAll, Progress, correctWord, correctEach, correctWords}
 use Rattle.staircase.specs.Demand2.{Permutes}
 use Rattle.staircase.proofs.Member.{In, tabulate-in, map-in}
 use Rattle.staircase.proofs.Stretches.{four-all}
@@ -55,7 +55,7 @@ correction-apart s f w v apart =
 
 pub correctWords-apart : (s : Params) (x : Progress) (ws : List (List Site)) (v : List Site) → ((w : List Site) → In w ws → Apart w v)
     → read ((correctWords s x ws) .frame) v ≡ read (x .frame) v
-unfolding correctWords correctWord
+unfolding correctWords correctEach correctWord
 correctWords-apart s x [] v apart = refl
 correctWords-apart s x (w ∷ ws) v apart =
     correctWords-apart s (correctWord s x w) ws v (λ u i. apart u (inr i)) ∙ correction-apart s (x .frame) w v (apart w (inl refl))

@@ -23,7 +23,7 @@ use Rattle.staircase.specs.Lines.{even, lineSites, Incidence, incidence,
 use Rattle.staircase.proofs.Flip.{Sent}
 use Rattle.staircase.proofs.System.{Proper}
 use Rattle.staircase.proofs.Sites.{block-sent}
-use Rattle.staircase.proofs.Lines.{even-twice, odd-twice, even-next, line-ind, partner-below, partner-back, line-first, line-second, line-red}
+use Rattle.staircase.proofs.Lines.{even-twice, odd-twice, even-next, line-ind, red-place, partner-below, partner-back, line-first, line-second, line-red}
 
 -- ---- the crossing word, as code finds it
 
@@ -85,13 +85,7 @@ module _ (s : Params) (L : ℕ) (l : Interleavers) (ok : Proper s) (ps : Permute
   next-kind : (k : ℕ) → even (k + 1) ≢ even k
   next-kind k e = different (even k) (sym (even-next k) ∙ e)
 
-  -- places of the redundancy, and positions
-  place-lt : (a p : ℕ) → a < s .M → 2 * s .M ≤ p → p < wordLength s → (p - 2 * s .M) * s .M + a < 2 * order s
-  place-lt a p ha low hp =
-      let h : (p - 2 * s .M) * s .M + a < (2 * s .r) * s .M = digits-lt {q = p - 2 * s .M} {m = 2 * s .r} (omega arith) ha in
-      let c : (2 * s .r) * s .M ≡ 2 * order s = mul-assoc 2 (s .r) (s .M) ∙ ap (λ (z : ℕ). 2 * z) (mul-comm (s .r) (s .M)) in
-      omega (arith, h, c)
-
+  -- positions of places of the redundancy
   position-lt : (x : ℕ) → x < 2 * order s → 2 * s .M + x / s .M < wordLength s
   position-lt x h =
       let c : 2 * order s ≡ (2 * s .r) * s .M = ap (λ (z : ℕ). 2 * z) (mul-comm (s .M) (s .r)) ∙ sym (mul-assoc 2 (s .r) (s .M)) in
@@ -138,7 +132,7 @@ module _ (s : Params) (L : ℕ) (l : Interleavers) (ok : Proper s) (ps : Permute
       y z = partner s l z x
 
       hx : x < 2 * order s
-      hx = place-lt a p ha low hp
+      hx = red-place s a p ha low hp
 
       hy : (z : Bool) → y z < 2 * order s
       hy z = partner-below s l ps pp z x hx
@@ -271,7 +265,7 @@ module _ (s : Params) (L : ℕ) (l : Interleavers) (ok : Proper s) (ps : Permute
   in-red : (k a p : ℕ) → a < s .M → 2 * s .M ≤ p → p < wordLength s → wordWith (even k) (at k a p) ≡ incidence k a p
   in-red k a p ha low hp =
       let x : ℕ = (p - 2 * s .M) * s .M + a in
-      let hx : x < 2 * order s = place-lt a p ha low hp in
+      let hx : x < 2 * order s = red-place s a p ha low hp in
       let whole : 2 * s .M + (p - 2 * s .M) ≡ p = omega arith in
       ap (wordWith (even k)) (line-red s l L ok a p ha low hp k)
       ∙ go (even k) refl x hx

@@ -1,14 +1,15 @@
 -- Kept remainders of a frame's words.
 --   line-length, line-distinct, line-within   the words of a line: their length, no sent site twice, and all sent sites bytes of the frame
---   word-number                               word a of line k by its number
+--   word-number, lines-keep, keeps-line       word a of line k by its number; numbers right for all words, line by line
+--   line-stuck, line-corrected                a word of a line that cannot be corrected, and one that is corrected
 --   crossing-keeps                            a flipped bit of a word changes the number of the crossing word alone; that of the word itself is left open
 -- Assumes nothing.
 use mathlib.Core.Path.{_≡_, sym, ap, ap₂, _∙_, subst}
 use mathlib.Core.Bool.{false}
 use mathlib.Core.Logic.{_≢_, _⊎_, inl, inr}
-use mathlib.Core.List.{List, _∷_}
+use mathlib.Core.List.{List, [], _∷_}
 use Prim.Native.Nat.{ℕ, zero, suc, _+_, _-_, _*_, _/_, _%_, _<_, zero-le, suc-le-suc}
-use native.Mathlib.Nat.{mod-lt, div-add-mod'}
+use native.Mathlib.Nat.{mod-lt, div-add-mod', div-lt-iff-lt-mul}
 use native.Mathlib.Omega.{arith}
 use lib.Arith.{digits-lt, digits-div, digits-mod}
 use lib.ListN.{length, getD}
@@ -16,10 +17,11 @@ use Rattle.bch.specs.Polynomial.{_⊕_}
 use Rattle.bch.specs.Powers.{powerMod}
 use Rattle.staircase.specs.Design.{Params, Interleavers, wordLength, order}
 use Rattle.staircase.specs.Word.{rowInfo, rowWord, columnInfo, columnWord}
-use Rattle.staircase.specs.Frame.{Frame, Site, flip, groups, blockAt, yAt, pAt, rowSites, columnSites}
+use Rattle.staircase.specs.Frame.{Frame, Site, word, flip, groups, blockAt, yAt, pAt, rowSites, columnSites}
 use Rattle.staircase.specs.Frame.Site.{unsent}
+use Rattle.staircase.specs.Decoder.{correction, flipAll}
 use Rattle.staircase.specs.Demand2.{Permutes}
-use Rattle.staircase.specs.Kept.{Kept, KeepsBut}
+use Rattle.staircase.specs.Kept.{Kept, Holds, Keeps, KeepsBut}
 use Rattle.staircase.specs.Lines.{lineSites, wordCount, frameWord, Incidence, incidence, crossing}
 use Rattle.staircase.proofs.Member.{In}
 use Rattle.staircase.proofs.Stretches.{four-all}
@@ -27,7 +29,7 @@ use Rattle.staircase.proofs.Flip.{Sent, Within, Received, Distinct}
 use Rattle.staircase.proofs.System.{Proper, place-lt}
 use Rattle.staircase.proofs.Sites.{block-sent, rowSites-distinct, columnSites-distinct, rowSites-length, columnSites-length}
 use Rattle.staircase.proofs.Weight.{weight, weight-at}
-use Rattle.staircase.proofs.Kept.{flip-keeps}
+use Rattle.staircase.proofs.Kept.{flip-keeps, corrected-keeps, stuck-keeps}
 use Rattle.staircase.proofs.Lines.{line-ind, line-row, line-column}
 use Rattle.staircase.proofs.Crossing.{Crosses, crossing-holds, only-two}
 
@@ -88,6 +90,42 @@ module _ (s : Params) (L : ℕ) (l : Interleavers) (ok : Proper s) (ps : Permute
         line-ind (λ (k : ℕ). k < 2 * groups L → In y (lineSites s l L k a) → Within y f)
         (λ i hi m. row-within i a (omega arith) ha y (subst (λ (v : List Site). In y v) (line-row s l L i a) m) sent)
         (λ i hi m. column-within i a (omega arith) ha y (subst (λ (v : List Site). In y v) (line-column s l L i a) m) sent) k hk
+
+  -- ---- word a of line k, which is or is not corrected
+
+  module _ (f : Frame) (kept : Kept) where
+    pub lines-keep : ((k a : ℕ) → k < 2 * groups L → a < s .M → Holds (word s (lineSites s l L k a)) (kept .number (k * s .M + a)) (kept .mark (k * s .M + a)) f)
+        → Keeps (frameWord s l L) (wordCount s L) f kept
+    lines-keep h w hw =
+        subst (λ (n : ℕ). Holds (frameWord s l L w) (kept .number n) (kept .mark n) f) (div-add-mod' w (s .M))
+        (h (w / s .M) (w % s .M) (div-lt-iff-lt-mul (ok .mpos) .1 hw) (mod-lt w (ok .mpos)))
+
+    number-lt : (k a : ℕ) → k < 2 * groups L → a < s .M → k * s .M + a < wordCount s L
+    number-lt k a hk ha = digits-lt hk ha
+
+    pub keeps-line : Keeps (frameWord s l L) (wordCount s L) f kept → (k a : ℕ) → k < 2 * groups L → a < s .M
+        → Holds (word s (lineSites s l L k a)) (kept .number (k * s .M + a)) (kept .mark (k * s .M + a)) f
+    keeps-line h k a hk ha =
+        subst (λ (v : List Site). Holds (word s v) (kept .number (k * s .M + a)) (kept .mark (k * s .M + a)) f) (word-number s l L k a ha)
+        (h (k * s .M + a) (number-lt k a hk ha))
+
+    pub line-stuck : (k a : ℕ) → a < s .M → correction s f (lineSites s l L k a) ≡ [] → Keeps (frameWord s l L) (wordCount s L) f kept
+        → (kept' : Kept) → kept' .number (k * s .M + a) ≡ kept .number (k * s .M + a)
+        → ((w : ℕ) → w < wordCount s L → w ≢ k * s .M + a → (kept' .number w ≡ kept .number w) × (kept' .mark w ≡ kept .mark w))
+        → Keeps (frameWord s l L) (wordCount s L) f kept'
+    line-stuck k a ha none h kept' same others =
+        stuck-keeps (frameWord s l L) (wordCount s L) f (k * s .M + a) (ap (correction s f) (word-number s l L k a ha) ∙ none) kept kept' h same others
+
+  -- its own number is written last
+  pub line-corrected : (f f' : Frame) → Received f f → length (f .info) ≡ L * (s .M * s .M) → length (f .red) ≡ groups L * (2 * order s)
+      → (k a : ℕ) → k < 2 * groups L → a < s .M → correction s f (lineSites s l L k a) ≢ [] → f' ≡ flipAll (correction s f (lineSites s l L k a)) f
+      → (kept : Kept) → KeepsBut (frameWord s l L) (wordCount s L) (k * s .M + a) f' kept
+      → kept .number (k * s .M + a) ≡ 0 → kept .mark (k * s .M + a) ≡ false → Keeps (frameWord s l L) (wordCount s L) f' kept
+  line-corrected f f' g info red k a hk ha some e kept h number mark =
+      let v : lineSites s l L ((k * s .M + a) / s .M) ((k * s .M + a) % s .M) ≡ lineSites s l L k a = word-number s l L k a ha in
+      corrected-keeps (frameWord s l L) (wordCount s L) f f' (k * s .M + a) g
+      (λ hu y sent i. line-within f info red k a hk ha y sent (subst (λ (w : List Site). In y w) v i))
+      (λ z. some (ap (correction s f) (sym v) ∙ z)) (e ∙ ap (λ (w : List Site). flipAll (correction s f w) f) (sym v)) kept h number mark
 
   -- ---- the bit at position p of word a of line k is flipped
 

@@ -2,18 +2,18 @@
 --   even-twice, odd-twice, even-next, line-ind   lines are row lines and column lines
 --   line-row, line-column                    the lines of a group
 --   words-lines, words-numbered              a frame's words, line by line, and by their numbers
---   partner-below, partner-back              the places of the redundancy
+--   red-place, partner-y, partner-p, partner-below, partner-back   the places of the redundancy
 --   line-first, line-second, line-red        the sites of a word: block k, block k + 1, redundancy
 -- Assumes nothing.
 use mathlib.Core.Path.{_≡_, refl, sym, ap, ap₂, _∙_, subst}
 use mathlib.Core.Bool.{Bool, true, false, not, cond}
 use mathlib.Core.List.{List, _++_, append-assoc}
 use Prim.Native.Nat.{ℕ, zero, suc, _+_, _-_, _*_, _/_, _%_, _≤_, _<_}
-use native.Mathlib.Nat.{zero-mul, suc-mul, add-mul, mul-comm, add-assoc}
+use native.Mathlib.Nat.{zero-mul, suc-mul, add-mul, mul-comm, mul-assoc, add-assoc}
 use native.Mathlib.Decide.{decLt}
 use native.Mathlib.Numerals.{add-one}
 use native.Mathlib.Omega.{arith}
-use lib.Arith.{digits-div, digits-mod}
+use lib.Arith.{digits-lt, digits-div, digits-mod}
 use lib.ListN.{getD}
 use borrow.Author.Tests.{eq-eqb, ne-eqb, lt-ltb, le-ltb}
 use Rattle.staircase.specs.Lists.{tabulate, concat}
@@ -97,6 +97,12 @@ module _ (s : Params) (l : Interleavers) (L : ℕ) where
 
 -- ---- the places of the redundancy
 
+pub red-place : (s : Params) (a p : ℕ) → a < s .M → 2 * s .M ≤ p → p < wordLength s → (p - 2 * s .M) * s .M + a < 2 * order s
+red-place s a p ha low hp =
+    let h : (p - 2 * s .M) * s .M + a < (2 * s .r) * s .M = digits-lt {q = p - 2 * s .M} {m = 2 * s .r} (omega arith) ha in
+    let c : (2 * s .r) * s .M ≡ 2 * order s = mul-assoc 2 (s .r) (s .M) ∙ ap (λ (z : ℕ). 2 * z) (mul-comm (s .r) (s .M)) in
+    omega (arith, h, c)
+
 module _ (list : List ℕ) (n : ℕ) (P : Permutes n (λ p. getD list p 0)) where
   along-below : (forth : Bool) (q : ℕ) → q < n → along list n forth q < n
   along-below true q h = P .below q h
@@ -110,11 +116,11 @@ module _ (s : Params) (l : Interleavers) where
   abbrev n : ℕ
   n = order s
 
-  partner-y : (forth : Bool) (q : ℕ) → q < order s → partner s l forth q ≡ along (l .self) (order s) forth q
+  pub partner-y : (forth : Bool) (q : ℕ) → q < order s → partner s l forth q ≡ along (l .self) (order s) forth q
   unfolding partner
   partner-y forth q h = ap (λ (z : Bool). cond z (along (l .self) n forth q) (n + along (l .parity) n forth (q - n))) (lt-ltb q n h)
 
-  partner-p : (forth : Bool) (q x : ℕ) → q ≡ order s + x → partner s l forth q ≡ order s + along (l .parity) (order s) forth x
+  pub partner-p : (forth : Bool) (q x : ℕ) → q ≡ order s + x → partner s l forth q ≡ order s + along (l .parity) (order s) forth x
   unfolding partner
   partner-p forth q x e =
       let back : q - n ≡ x = omega (arith, e) in

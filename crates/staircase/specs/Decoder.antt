@@ -1,12 +1,13 @@
--- Document 01, "Decoder": correcting a word, a round, the rounds and their counts. Any list of words over sites will do.
+-- Document 01, "Decoder": correcting a word, a round, the rounds and their counts. Any list of words over sites will do, each with its code.
 --   choices                    every choice of at most t entries of a list
 --   flipBits                   a word with the bits at some positions flipped
 --   errorPositions             where the codeword within t changes differs from a word
 --   flipAll                    a frame with the bits at some sites flipped
 --   occurrences                how often a site stands in a word
 --   correction                 the sites that correcting a word flips
---   correctWord, correctWords  words corrected one after the other, with the number of flips
---   round, runRounds           a round, and rounds until one is idle or all are made
+--   correctWord                a word corrected, with the number of flips
+--   correctEach, roundOf, runEach      words one after the other, a round, and rounds until one is idle or all are made
+--   correctWords, round, runRounds     the same for words of one code
 --   decoded                    the rounds of a frame
 -- Assumes nothing.
 use mathlib.Core.Bool.{Bool, true, false, cond}
@@ -17,7 +18,7 @@ use lib.ListN.{length, getD, set}
 use Rattle.bch.specs.Code.{isCodeword}
 use Rattle.staircase.specs.Lists.{tabulate}
 use Rattle.staircase.specs.Design.{Params, Interleavers}
-use Rattle.staircase.specs.Frame.{Frame, Site, flip, words, read}
+use Rattle.staircase.specs.Frame.{Frame, Site, Word, plain, flip, words, read}
 use Rattle.staircase.specs.Frame.Site.{unsent, inInfo, inRed}
 
 -- in the list's order; the empty choice first
@@ -73,7 +74,8 @@ unfoldable pub once : List Site → List Site
 once [] = []
 once (x ∷ c) = cond (eqb (occurrences x c) 0) (x ∷ once c) (once c)
 
--- what may be flipped of the sites c of a word's errors: all, each once, or none
+-- What may be flipped of the sites c of a word's errors: all, each once, or none. Where no sent site stands in the word twice, as in all of document
+-- 01's words, these are c itself or none (`correction-distinct` in proofs/Occurrences.antt).
 unfoldable pub permitted : List Site → List Site → List Site
 permitted w c = cond (allSent c) (cond (everyOccurrence w c c) (once c) []) []
 
@@ -98,9 +100,15 @@ correctWord s x w =
       flips = x .flips + length (correction s (x .frame) w);
     }
 
+unfoldable pub correctEach : Progress → List Word → Progress
+correctEach x [] = x
+correctEach x (w ∷ ws) = correctEach (correctWord (w .code) x (w .sites)) ws
+
 unfoldable pub correctWords : Params → Progress → List (List Site) → Progress
-correctWords s x [] = x
-correctWords s x (w ∷ ws) = correctWords s (correctWord s x w) ws
+correctWords s x ws = correctEach x (plain s ws)
+
+unfoldable pub roundOf : List Word → Frame → Progress
+roundOf ws f = correctEach (record { frame = f; flips = 0 }) ws
 
 -- "A round takes groups 1 to G, in each the row words 0 to M-1, then the column words", which is the order of `words`
 unfoldable pub round : Params → List (List Site) → Frame → Progress
@@ -112,14 +120,17 @@ pub record Decoded : Type 0 where
   pub flips : ℕ
 
 -- "Rounds end after one that turns no bit, or when all are made", "the idle last one counted"
-unfoldable pub runRounds : Params → List (List Site) → ℕ → Frame → Decoded
-runRounds s ws zero f = record { frame = f; rounds = 0; flips = 0 }
-runRounds s ws (suc k) f =
-    let x : Progress = round s ws f in
-    let rest : Decoded = runRounds s ws k (x .frame) in
+unfoldable pub runEach : List Word → ℕ → Frame → Decoded
+runEach ws zero f = record { frame = f; rounds = 0; flips = 0 }
+runEach ws (suc k) f =
+    let x : Progress = roundOf ws f in
+    let rest : Decoded = runEach ws k (x .frame) in
     cond (eqb (x .flips) 0)
     (record { frame = x .frame; rounds = 1; flips = 0 })
     (record { frame = rest .frame; rounds = 1 + rest .rounds; flips = x .flips + rest .flips })
+
+unfoldable pub runRounds : Params → List (List Site) → ℕ → Frame → Decoded
+runRounds s ws k f = runEach (plain s ws) k f
 
 -- "a number of rounds; 0 stands for 7"
 abbrev pub default-rounds : ℕ
