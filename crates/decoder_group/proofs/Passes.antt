@@ -18,7 +18,7 @@ use Rattle.staircase.specs.Lists.{tabulate}
 use Rattle.staircase.specs.Design.{Params, Interleavers}
 use Rattle.staircase.specs.Frame.{Frame, Site, frameOf}
 use Rattle.staircase.specs.Frame.Site.{inInfo, inRed}
-use Rattle.staircase.specs.Decoder.{correction, flipAll, Progress, correctWord, correctWords, round}
+use Rattle.staircase.specs.Decoder.{correction, flipAll, Progress, correctWord, correctEach, correctWords, round}
 use Rattle.staircase.proofs.Member.{In}
 use Rattle.staircase.proofs.System.{Proper}
 use Rattle.staircase.proofs.Tabulate.{tabulate-length, tabulate-at}
@@ -50,7 +50,7 @@ kept-fits {d} {L} {info} {red} {info'} {red'} ws F e =
 
 module _ (s : Params) (W : ℕ → List Site) (f : Frame) where
   pub pass-none : record { frame = f; flips = 0 } ≡ round s (tabulate 0 W) f
-  unfolding round correctWords tabulate
+  unfolding round correctWords correctEach tabulate
   pass-none = refl
 
   pub pass-more : (n : ℕ) (x : Progress) (g : Frame) (k : ℕ) → x ≡ round s (tabulate n W) f → g ≡ flipAll (correction s (x .frame) (W n)) (x .frame)

@@ -22,9 +22,10 @@ use Rattle.staircase.specs.Frame.Site.{unsent}
 use Rattle.staircase.specs.Decoder.{allSent, errorPositions, correction, flipAll}
 use Rattle.staircase.proofs.Member.{In}
 use Rattle.staircase.proofs.System.{Proper}
-use Rattle.staircase.proofs.Flip.{read-bits, read-length}
+use Rattle.staircase.proofs.Flip.{Distinct, read-bits, read-length}
+use Rattle.staircase.proofs.Occurrences.{correction-distinct}
 use Rattle.staircase.proofs.Errors.{errorPositions-positions, positions-below}
-use Rattle.staircase.proofs.Sites.{rowSites-length, columnSites-length}
+use Rattle.staircase.proofs.Sites.{rowSites-length, columnSites-length, rowSites-distinct, columnSites-distinct}
 use Rattle.design.specs.declared.Design.{Design}
 use Rattle.design.specs.Sizes.{paramsOf, orderOf, listsOf}
 use Rattle.design.proofs.Allowed.{proper-of}
@@ -107,7 +108,12 @@ module _ {d : Design} {L i : ℕ} {own parity positions syndromes field : List �
   word-length true a = columnSites-length s L l ok (R .lists .ownPermutes) (R .lists .parityPermutes) i a
   word-length false a = rowSites-length s L l ok (R .lists .ownPermutes) (R .lists .parityPermutes) i a
 
-  module _ {info red : List ℕ} (F : FrameFits d L info red) (column : Bool) (a x : ℕ)
+  word-distinct : (column : Bool) (a : ℕ) → a < d .size → Distinct (wordSites (paramsOf d) (listsOf d own parity) L i column a)
+  unfolding wordSites
+  word-distinct true a h = columnSites-distinct s L l ok (R .lists .ownPermutes) (R .lists .parityPermutes) i a h
+  word-distinct false a h = rowSites-distinct s L l ok (R .lists .ownPermutes) (R .lists .parityPermutes) i a h
+
+  module _ {info red : List ℕ} (F : FrameFits d L info red) (column : Bool) (a x : ℕ) (ha : a < d .size)
       (e : x ≡ remainderOf (paramsOf d) (frameOf info red) (wordSites (paramsOf d) (listsOf d own parity) L i column a)) where
     abbrev f : Frame
     f = frameOf info red
@@ -130,13 +136,13 @@ module _ {d : Design} {L i : ℕ} {own parity positions syndromes field : List �
     pub zero-corrected : x ≡ 0
         → (frameOf info red ≡ flipAll (correction (paramsOf d) (frameOf info red) (wordSites (paramsOf d) (listsOf d own parity) L i column a)) (frameOf info red))
         × (0 ≡ length (correction (paramsOf d) (frameOf info red) (wordSites (paramsOf d) (listsOf d own parity) L i column a)))
-    unfolding correction flipAll
+    unfolding flipAll
     zero-corrected z =
         let W = R .tables .words in
         let v : List ℕ → List Site = map (λ j. getD w j unsent) in
         let none : errorPositions s (read f w) ≡ [] =
         found ∙ ap (located positions (d .t)) z ∙ located-zero (d .m) (d .t) positions (W .position) (W .n-fits) (code-of W) in
-        let r : correction s f w ≡ [] = ap (λ (c : List ℕ). cond (allSent (v c)) (v c) []) none in
+        let r : correction s f w ≡ [] = correction-distinct s f w (word-distinct column a ha) ∙ ap (λ (c : List ℕ). cond (allSent (v c)) (v c) []) none in
         (ap (λ (y : List Site). flipAll y f) (sym r), ap length (sym r))
 
     module _ (z : Located) (h : positionsOf z ≡ located positions (d .t) x) where
@@ -149,11 +155,10 @@ module _ {d : Design} {L i : ℕ} {own parity positions syndromes field : List �
       -- the sites of the located positions
       module _ {c : List Site} (sites : c ≡ map (λ j. getD (wordSites (paramsOf d) (listsOf d own parity) L i column a) j unsent) (positionsOf z)) where
         by-sent : (b : Bool) → allSent c ≡ b → correction s f w ≡ cond b c []
-        unfolding correction
         by-sent b q =
             let v : List ℕ → List Site = map (λ j. getD w j unsent) in
             let same : v (errorPositions s (read f w)) ≡ c = ap v (found ∙ sym h) ∙ sym sites in
-            ap (λ (y : List Site). cond (allSent y) y []) same ∙ ap (λ (y : Bool). cond y c []) q
+            correction-distinct s f w (word-distinct column a ha) ∙ ap (λ (y : List Site). cond (allSent y) y []) same ∙ ap (λ (y : Bool). cond y c []) q
 
         pub none-corrected : allSent c ≡ false
             → (frameOf info red ≡ flipAll (correction (paramsOf d) (frameOf info red) (wordSites (paramsOf d) (listsOf d own parity) L i column a)) (frameOf info red))

@@ -19,7 +19,7 @@ use lib.ListN.{length}
 use Rattle.staircase.specs.Lists.{tabulate, concat}
 use Rattle.staircase.specs.Design.{Params, Interleavers}
 use Rattle.staircase.specs.Frame.{Frame, Site, groups, rowSites, columnSites, outsideAmong, outside}
-use Rattle.staircase.specs.Decoder.{correction, flipAll, Progress, correctWord, correctWords, round}
+use Rattle.staircase.specs.Decoder.{correction, flipAll, Progress, correctWord, correctEach, correctWords, round}
 use Rattle.staircase.proofs.Tabulate.{concat-last}
 use Rattle.staircase.proofs.Rounds.{correctWords-append, correctWords-from}
 use Rattle.design.specs.declared.Design.{Design}
@@ -67,7 +67,7 @@ group-round s l L i f x y e h = round-append s (tabulate (s .M) (rowSites s l L 
 
 module _ (s : Params) (W : ℕ → List (List Site)) (f : Frame) where
   pub round-none : record { frame = f; flips = 0 } ≡ round s (concat 0 W) f
-  unfolding round correctWords concat
+  unfolding round correctWords correctEach concat
   round-none = refl
 
   pub round-next : (n : ℕ) (x y : Progress) → x ≡ round s (concat n W) f → y ≡ round s (W n) (x .frame)
@@ -89,7 +89,7 @@ no-sites (x ∷ c) e = absurd (suc-ne-zero (length c) e)
 
 idle : (s : Params) (ws : List (List Site)) (f : Frame) → (correctWords s (record { frame = f; flips = 0 }) ws) .flips ≡ 0
     → (correctWords s (record { frame = f; flips = 0 }) ws) .frame ≡ f
-unfolding correctWords correctWord flipAll
+unfolding correctWords correctEach correctWord flipAll
 idle s [] f e = refl
 idle s (w ∷ ws) f e =
     let c : List Site = correction s f w in

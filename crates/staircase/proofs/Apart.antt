@@ -6,7 +6,7 @@
 --   rows-before-apart, columns-before-apart   a word and those before it
 -- Assumes nothing.
 use mathlib.Core.Path.{_≡_, refl, sym, ap, _∙_, subst}
-use mathlib.Core.Bool.{Bool, true, cond, true≢false}
+use mathlib.Core.Bool.{Bool, cond}
 use mathlib.Core.Logic.{_≢_, inl, inr}
 use mathlib.Core.List.{List, [], _∷_, map}
 use Prim.Native.Nat.{ℕ, _+_, _-_, _*_, _/_, _%_, _≤_, _<_}
@@ -22,12 +22,12 @@ use Rattle.staircase.specs.Word.{rowInfo, rowWord, columnInfo, columnWor
 use Rattle.staircase.specs.System.{preimage}
 use Rattle.staircase.specs.Frame.{Frame, Site, blockAt, yAt, pAt, rowSites, columnSites, read}
 use Rattle.staircase.specs.Frame.Site.{unsent, inInfo, inRed}
-use Rattle.staircase.specs.Decoder.{errorPositions, allSent, correction, flipAll, Progress, correctWord, correctWords}
+use Rattle.staircase.specs.Decoder.{errorPositions, correction, flipAll, Progress, correctWord, correctEach, correctWords}
 use Rattle.staircase.specs.Demand2.{Permutes}
-use Rattle.staircase.proofs.Search.{cond-ind}
 use Rattle.staircase.proofs.Member.{In, tabulate-in, map-in}
 use Rattle.staircase.proofs.Stretches.{four-all}
 use Rattle.staircase.proofs.Flip.{Sent, flipAll-other, read-same, read-length, site-in}
+use Rattle.staircase.proofs.Occurrences.{permitted-in}
 use Rattle.staircase.proofs.Errors.{positions-below, errorPositions-positions}
 use Rattle.staircase.proofs.Permutation.{preimage-of}
 use Rattle.staircase.proofs.System.{Proper, place-lt}
@@ -39,24 +39,14 @@ Apart w v = (y : Site) → Sent y → In y w → ¬ In y v
 
 -- ---- corrections
 
-all-sent : (c : List Site) → allSent c ≡ true → (y : Site) → In y c → Sent y
-all-sent (unsent ∷ c) h y i = absurd (true≢false (sym h))
-all-sent (inInfo k ∷ c) h y (inl e) = subst Sent (sym e) tt
-all-sent (inInfo k ∷ c) h y (inr i) = all-sent c h y i
-all-sent (inRed k ∷ c) h y (inl e) = subst Sent (sym e) tt
-all-sent (inRed k ∷ c) h y (inr i) = all-sent c h y i
-
-correction-in : (s : Params) (f : Frame) (w : List Site) (y : Site) → In y (correction s f w) → Sent y × In y w
+pub correction-in : (s : Params) (f : Frame) (w : List Site) (y : Site) → In y (correction s f w) → Sent y × In y w
 unfolding correction
-correction-in s f w y =
+correction-in s f w y i =
     let e : List ℕ = errorPositions s (read f w) in
-    let c : List Site = map (λ j. getD w j unsent) e in
-    cond-ind (λ (c : List Site). In y c → Sent y × In y w) (allSent c) c []
-    (λ h i.
-    let q = map-in (λ j. getD w j unsent) e y i in
+    let p = permitted-in w (map (λ j. getD w j unsent) e) y i in
+    let q = map-in (λ j. getD w j unsent) e y (p .1) in
     let below : q .0 < length w = subst (λ (n : ℕ). q .0 < n) (read-length f w) (positions-below (errorPositions-positions s (read f w)) (q .0) (q .1)) in
-    (all-sent c h y i, subst (λ (x : Site). In x w) (sym (q .2)) (site-in w (q .0) below)))
-    (λ h i. absurd i)
+    (p .0, subst (λ (x : Site). In x w) (sym (q .2)) (site-in w (q .0) below))
 
 correction-apart : (s : Params) (f : Frame) (w v : List Site) → Apart w v → read (flipAll (correction s f w) f) v ≡ read f v
 correction-apart s f w v apart =
@@ -65,7 +55,7 @@ correction-apart s f w v apart =
 
 pub correctWords-apart : (s : Params) (x : Progress) (ws : List (List Site)) (v : List Site) → ((w : List Site) → In w ws → Apart w v)
     → read ((correctWords s x ws) .frame) v ≡ read (x .frame) v
-unfolding correctWords correctWord
+unfolding correctWords correctEach correctWord
 correctWords-apart s x [] v apart = refl
 correctWords-apart s x (w ∷ ws) v apart =
     correctWords-apart s (correctWord s x w) ws v (λ u i. apart u (inr i)) ∙ correction-apart s (x .frame) w v (apart w (inl refl))

@@ -1,43 +1,38 @@
--- Correcting the words of a received frame: where all words of the sent frame are in the code and the received frame has at most t wrong bits
--- in each word, a corrected word is the sent word, and a round leaves the sent frame. For any list of words over sites.
+-- Correcting the words of a received frame: where each word of the sent frame is in its code, each code tells words of its length apart, and the
+-- received frame has at most t wrong bits in each word (a bit that stands twice counts twice), a corrected word is the sent word, and a round leaves
+-- the sent frame. For any list of words whatever.
 --   CodeDistance s n      codewords of n bits that differ in at most 2t places are equal
 --   nearest-errors        the error positions of a word are those at which it differs from the codeword within t changes
---   Sound s n f w         a word of the frame: n sites, no sent one twice, in the code
+--   Sound f w             a word of the frame is in its code, whose distance is at least 2t + 1
+--   FewWrong, Covers      at most t wrong bits in a word; each byte of the frame is in some word
 --   Nearer f a b          b has the frame's bit or a's bit at each site
 --   correct-word          a corrected word is the sent word
---   correctWords-restore  after a pass over some words these are the sent ones, and nothing has moved away from the frame
---   round-restores, runRounds-restore, outside-none   any number of rounds but none leaves the frame, with no word outside
--- Assumes of the code, as a parameter, that its distance is at least 2t + 1.
+--   correctEach-restore   after a pass over some words these are the sent ones, and nothing has moved away from the frame
+--   roundOf-restores, runEach-restore, outsideEach-none   any number of rounds but none leaves the frame, with no word outside
+-- Assumes nothing.
 use mathlib.Core.Path.{_≡_, refl, sym, ap, ap₂, _∙_, subst}
 use mathlib.Core.Bool.{Bool, true, cond}
-use mathlib.Core.Logic.{_⊎_, inl, inr}
+use mathlib.Core.Logic.{_≢_, _⊎_, inl, inr}
 use mathlib.Core.List.{List, [], _∷_, map}
 use Prim.Native.Nat.{ℕ, zero, suc, _+_, _-_, _*_, _≤_, _<_, zero-le}
 use native.Mathlib.Nat.{le-trans}
+use native.Mathlib.Decide.{ℕ-discrete}
 use native.Mathlib.Omega.{arith}
 use lib.Dec.{eqb}
-use lib.ListN.{length, getD, List·getD-map}
+use lib.ListN.{length, getD}
 use lib.Seq.{ext-getD}
 use Rattle.bch.specs.Polynomial.{Bits}
 use Rattle.bch.specs.Code.{isCodeword, unlike, distance}
 use Rattle.bch.proofs.Distance.{unlike-same, distance-self, distance-comm, distance-triangle}
 use Rattle.staircase.specs.Design.{Params}
-use Rattle.staircase.specs.Frame.{Frame, Site, bitAt, read, inCode, outsideAmong}
+use Rattle.staircase.specs.Frame.{Frame, Site, Word, bitAt, read, inCode, outsideEach}
 use Rattle.staircase.specs.Frame.Site.{unsent, inInfo, inRed}
-use Rattle.staircase.specs.Decoder.{flipBits, errorPositions, allSent, correction, flipAll, Progress, correctWord, correctWords, round, Decoded, runRounds}
+use Rattle.staircase.specs.Decoder.{flipBits, errorPositions, once, permitted, correction, flipAll, Progress, correctWord, correctEach, roundOf, Decoded, runEach}
 use Rattle.staircase.proofs.Search.{cond-ind}
-use Rattle.staircase.proofs.Member.{In, in?, map-in}
-use Rattle.staircase.proofs.Flip.{Sent, Within, Received, flipAll-received, flipAll-other, error-within, read-same, same-read, read-bits, read-length, Distinct, site?, site-in, read-flipAll}
-use Rattle.staircase.proofs.Errors.{flipBits-length, flipBits-bits, flipBits-distance, flipBits-here, Positions, positions-once, positions-below, errors, errors-positions, errors-flipped, errorPositions-found, flips-once}
-
-all-sent : (w : List Site) (c : List ℕ) → ((j : ℕ) → In j c → Sent (getD w j unsent)) → allSent (map (λ j. getD w j unsent) c) ≡ true
-all-sent w [] h = refl
-all-sent w (j ∷ c) h = go (getD w j unsent) (h j (inl refl)) (all-sent w c (λ k i. h k (inr i)))
-  where
-    go : (x : Site) → Sent x → allSent (map (λ j. getD w j unsent) c) ≡ true → allSent (x ∷ map (λ j. getD w j unsent) c) ≡ true
-    go unsent s r = absurd s
-    go (inInfo k) s r = r
-    go (inRed k) s r = r
+use Rattle.staircase.proofs.Member.{In, in?}
+use Rattle.staircase.proofs.Flip.{Sent, Within, Received, flipAll-received, flipAll-other, error-within, read-same, same-read, read-bits, read-length, site?}
+use Rattle.staircase.proofs.Occurrences.{permitted-all, once-in, in-once, once-single, flipAll-here, differing, sites-differing, differing-in, in-differing, occurrences-differing}
+use Rattle.staircase.proofs.Errors.{flipBits-length, flipBits-bits, flipBits-distance, Positions, errors, errors-positions, errors-flipped, errorPositions-found, flips-once}
 
 -- The code's distance: words of n bits in the code that differ in at most 2t places are equal.
 abbrev pub CodeDistance : Params → ℕ → Type 0
@@ -65,11 +60,17 @@ module _ (s : Params) (n : ℕ) (apart : CodeDistance s n) (u v : List ℕ) (lu 
       flips-once (length u) (s .t) (errorPositions s u) (errors u v) u refl (nearest-found .0) (errors-positions u v (lu ∙ sym lv) (s .t) near) hu
       (nearest-flipped ∙ sym (errors-flipped u v hu hv (lu ∙ sym lv)))
 
--- a word of the frame: n sites, none of them twice, in the code
-pub record Sound (s : Params) (n : ℕ) (f : Frame) (w : List Site) : Type 0 where
-  pub long : length w ≡ n
-  pub distinct : Distinct w
-  pub coded : inCode s f w ≡ true
+pub record Sound (f : Frame) (w : Word) : Type 0 where
+  pub coded : inCode (w .code) f (w .sites) ≡ true
+  pub apart : CodeDistance (w .code) (length (w .sites))
+
+abbrev pub FewWrong : Frame → Frame → Word → Type 0
+FewWrong f a w = distance (read f (w .sites)) (read a (w .sites)) ≤ w .code .t
+
+abbrev pub Covers : Frame → List Word → Type 0
+Covers f ws =
+    ((k : ℕ) → k < length (f .info) → (w : Word) × In w ws × In (inInfo k) (w .sites))
+    × ((k : ℕ) → k < length (f .red) → (w : Word) × In w ws × In (inRed k) (w .sites))
 
 -- b has the frame's bit or a's bit at each site
 abbrev Nearer : Frame → Frame → Frame → Type 0
@@ -101,8 +102,14 @@ nearer-same f a b p w e = read-same w b f (λ y i. go y i (p y))
     go y i (inl q) = q
     go y i (inr q) = q ∙ same-read w a f e y i
 
-module _ (s : Params) (n : ℕ) (apart : CodeDistance s n) (f : Frame) (ff : Received f f) where
-  module _ (a : Frame) (g : Received f a) (w : List Site) (ok : Sound s n f w) (few : distance (read f w) (read a w) ≤ s .t) where
+module _ (f : Frame) (ff : Received f f) where
+  module _ (a : Frame) (g : Received f a) (v : Word) (ok : Sound f v) (few : FewWrong f a v) where
+    abbrev s : Params
+    s = v .code
+
+    abbrev w : List Site
+    w = v .sites
+
     abbrev sent : List ℕ
     sent = read f w
 
@@ -115,136 +122,111 @@ module _ (s : Params) (n : ℕ) (apart : CodeDistance s n) (f : Frame) (ff : Rec
     abbrev sites : List Site
     sites = map (λ j. getD w j unsent) (errorPositions s (read a w))
 
-    long : length got ≡ n
-    long = read-length a w ∙ ok .long
-
-    same-length : length got ≡ length sent
-    same-length = read-length a w ∙ sym (read-length f w)
-
     near : distance got sent ≤ s .t
     near = omega (arith, distance-comm got sent, few)
 
-    good : Positions (length got) (s .t) found
-    good = nearest-found s n apart got sent long (sym same-length ∙ long) (read-bits f a g w) (read-bits f f ff w) (ok .coded) near .0
+    -- what was found are the positions of the wrong bits
+    found-errors : found ≡ errors got sent
+    found-errors =
+        nearest-errors s (length w) (ok .apart) got sent (read-length a w) (read-length f w) (read-bits f a g w) (read-bits f f ff w) (ok .coded) near
 
-    -- the codeword that was found is the sent word
-    found-sent : flipBits found got ≡ sent
-    found-sent = nearest-flipped s n apart got sent long (sym same-length ∙ long) (read-bits f a g w) (read-bits f f ff w) (ok .coded) near
+    found-sites : sites ≡ differing a f w
+    found-sites = ap (map (λ j. getD w j unsent)) found-errors ∙ sites-differing a f w
 
-    -- a position that was found is one at which the sent bit is the other one
-    at-position : (k : ℕ) (x : Frame) → getD (read x w) k 0 ≡ bitAt x (getD w k unsent)
-    at-position k x = List·getD-map (bitAt x) w k unsent
-
-    flipped : (j : ℕ) → In j found → bitAt f (getD w j unsent) ≡ 1 - bitAt a (getD w j unsent)
-    flipped j i =
-        sym (at-position j f) ∙ ap (λ (u : List ℕ). getD u j 0) (sym found-sent)
-        ∙ flipBits-here found got (positions-once good) j i (positions-below good j i) ∙ ap (λ (z : ℕ). 1 - z) (at-position j a)
-
-    inside : (j : ℕ) → In j found → (j < length w) × Within (getD w j unsent) a
-    inside j i = (
-      subst (λ (z : ℕ). j < z) (read-length a w) (positions-below good j i),
-      error-within f a g (getD w j unsent) (λ e. let d = flipped j i in let b = g .binary (getD w j unsent) in omega (arith, e, d, b)),
-    )
+    wrong-within : (y : Site) → bitAt a y ≢ bitAt f y → Within y a
+    wrong-within y d = error-within f a g y (λ e. d (sym e))
 
     sent-site : (x : Site) → Within x a → Sent x
     sent-site unsent h = h
     sent-site (inInfo k) h = tt
     sent-site (inRed k) h = tt
 
-    correction-sites : correction s a w ≡ sites
+    -- each wrong bit once
+    correction-sites : correction s a w ≡ once (differing a f w)
     unfolding correction
     correction-sites =
-        ap (λ (z : Bool). cond z sites []) (all-sent w found (λ j i. sent-site (getD w j unsent) (inside j i .1)))
+        ap (permitted w) found-sites
+        ∙ permitted-all w (differing a f w) (λ y i. sent-site y (wrong-within y (differing-in a f w y i .1)))
+        (λ y i. occurrences-differing a f w y (differing-in a f w y i .1))
 
-    itself : Received a a
-    itself = record { infoLength = refl; redLength = refl; binary = g .binary }
+    correct-word : read (flipAll (correction (v .code) a (v .sites)) a) (v .sites) ≡ read f (v .sites)
+    correct-word =
+        ap (λ (c : List Site). read (flipAll c a) w) correction-sites
+        ∙ read-same w (flipAll (once (differing a f w)) a) f (λ y i. go y i (ℕ-discrete (bitAt a y) (bitAt f y)))
+      where
+        go : (y : Site) → In y w → Dec (bitAt a y ≡ bitAt f y) → bitAt (flipAll (once (differing a f w)) a) y ≡ bitAt f y
+        go y i (yes e) = flipAll-other (once (differing a f w)) a y (λ j. differing-in a f w y (once-in (differing a f w) y j) .1 e) ∙ e
+        go y i (no d) =
+            flipAll-here (once (differing a f w)) (once-single (differing a f w)) f a g y (wrong-within y d) (in-once (differing a f w) y (in-differing a f w y i d))
+            ∙ (let p = g .binary y in let q = ff .binary y in omega (arith, p, q, d))
 
-    pub correct-word : read (flipAll (correction s a w) a) w ≡ read f w
-    correct-word = ap (λ (c : List Site). read (flipAll c a) w) correction-sites ∙ read-flipAll a itself w (ok .distinct) found inside ∙ found-sent
-
-    correct-nearer : Nearer f a (flipAll (correction s a w) a)
+    correct-nearer : Nearer f a (flipAll (correction (v .code) a (v .sites)) a)
     correct-nearer y = go (in? site? y (correction s a w))
       where
         among : In y (correction s a w) → In y w
         among i =
-            let q = map-in (λ j. getD w j unsent) found y (subst (λ (c : List Site). In y c) correction-sites i) in
-            subst (λ (x : Site). In x w) (sym (q .2)) (site-in w (q .0) (inside (q .0) (q .1) .0))
+            differing-in a f w y (once-in (differing a f w) y (subst (λ (c : List Site). In y c) correction-sites i)) .0
 
         go : In y (correction s a w) ⊎ (¬ In y (correction s a w)) → (bitAt (flipAll (correction s a w) a) y ≡ bitAt f y) ⊎ (bitAt (flipAll (correction s a w) a) y ≡ bitAt a y)
         go (inl i) = inl (same-read w (flipAll (correction s a w) a) f correct-word y (among i))
         go (inr d) = inr (flipAll-other (correction s a w) a y d)
 
-  abbrev Few : Frame → List (List Site) → Type 0
-  Few a ws = (w : List Site) → In w ws → distance (read f w) (read a w) ≤ s .t
-
-  abbrev AllSound : List (List Site) → Type 0
-  AllSound ws = (w : List Site) → In w ws → Sound s n f w
-
   -- after a pass over some words these are the frame's, and nothing has moved away from the frame
-  correctWords-restore : (ws : List (List Site)) → AllSound ws → (x : Progress) → Received f (x .frame) → Few (x .frame) ws
-      → Received f ((correctWords s x ws) .frame) × Nearer f (x .frame) ((correctWords s x ws) .frame)
-      × ((w : List Site) → In w ws → read ((correctWords s x ws) .frame) w ≡ read f w)
-  unfolding correctWords correctWord
-  correctWords-restore [] ok x g few = (g, (λ y. inr refl), (λ w i. absurd i))
-  correctWords-restore (v ∷ ws) ok x g few =
-      let y : Progress = correctWord s x v in
+  correctEach-restore : (ws : List Word) → ((w : Word) → In w ws → Sound f w) → (x : Progress) → Received f (x .frame)
+      → ((w : Word) → In w ws → FewWrong f (x .frame) w)
+      → Received f (correctEach x ws .frame) × Nearer f (x .frame) (correctEach x ws .frame)
+      × ((w : Word) → In w ws → read (correctEach x ws .frame) (w .sites) ≡ read f (w .sites))
+  unfolding correctEach correctWord
+  correctEach-restore [] ok x g few = (g, (λ y. inr refl), (λ w i. absurd i))
+  correctEach-restore (v ∷ ws) ok x g few =
       let a : Frame = x .frame in
-      let few0 : distance (read f v) (read a v) ≤ s .t = few v (inl refl) in
-      let word : read (y .frame) v ≡ read f v = correct-word a g v (ok v (inl refl)) few0 in
-      let near : Nearer f a (y .frame) = correct-nearer a g v (ok v (inl refl)) few0 in
-      let like : Received f (y .frame) = flipAll-received (correction s a v) f a g in
-      let rest = correctWords-restore ws (λ w i. ok w (inr i)) y like (λ w i. le-trans (nearer-distance f a (y .frame) near w) (few w (inr i))) in
-      let z : Frame = (correctWords s y ws) .frame in
-      (rest .0, nearer-trans f a (y .frame) z near (rest .1), λ w i. go word (rest .1) (rest .2) w i)
+      let y : Progress = correctWord (v .code) x (v .sites) in
+      let own : read (y .frame) (v .sites) ≡ read f (v .sites) = correct-word a g v (ok v (inl refl)) (few v (inl refl)) in
+      let near : Nearer f a (y .frame) = correct-nearer a g v (ok v (inl refl)) (few v (inl refl)) in
+      let like : Received f (y .frame) = flipAll-received (correction (v .code) a (v .sites)) f a g in
+      let rest = correctEach-restore ws (λ w i. ok w (inr i)) y like (λ w i. le-trans (nearer-distance f a (y .frame) near (w .sites)) (few w (inr i))) in
+      let z : Frame = correctEach y ws .frame in
+      (rest .0, nearer-trans f a (y .frame) z near (rest .1), λ w i. each (y .frame) z own (rest .1) (rest .2) w i)
     where
-      go : read ((correctWord s x v) .frame) v ≡ read f v → Nearer f ((correctWord s x v) .frame) ((correctWords s (correctWord s x v) ws) .frame)
-          → ((w : List Site) → In w ws → read ((correctWords s (correctWord s x v) ws) .frame) w ≡ read f w)
-          → (w : List Site) → In w (v ∷ ws) → read ((correctWords s (correctWord s x v) ws) .frame) w ≡ read f w
-      go word near rest w (inl e) =
-          subst (λ (u : List Site). read ((correctWords s (correctWord s x v) ws) .frame) u ≡ read f u) (sym e)
-          (nearer-same f ((correctWord s x v) .frame) ((correctWords s (correctWord s x v) ws) .frame) near v word)
-      go word near rest w (inr i) = rest w i
+      each : (b z : Frame) → read b (v .sites) ≡ read f (v .sites) → Nearer f b z → ((w : Word) → In w ws → read z (w .sites) ≡ read f (w .sites))
+          → (w : Word) → In w (v ∷ ws) → read z (w .sites) ≡ read f (w .sites)
+      each b z own near rest w (inl e) = subst (λ (u : Word). read z (u .sites) ≡ read f (u .sites)) (sym e) (nearer-same f b z near (v .sites) own)
+      each b z own near rest w (inr i) = rest w i
 
-  -- every byte of the buffers is in some word
-  abbrev Covered : List (List Site) → Type 0
-  Covered ws =
-      ((k : ℕ) → k < length (f .info) → (w : List Site) × In w ws × In (inInfo k) w)
-      × ((k : ℕ) → k < length (f .red) → (w : List Site) × In w ws × In (inRed k) w)
-
-  module _ (ws : List (List Site)) (ok : AllSound ws) (all : Covered ws) where
-    round-restores : (a : Frame) → Received f a → Few a ws → (round s ws a) .frame ≡ f
-    unfolding round
-    round-restores a g few =
+  module _ (ws : List Word) (ok : (w : Word) → In w ws → Sound f w) (all : Covers f ws) where
+    roundOf-restores : (a : Frame) → Received f a → ((w : Word) → In w ws → FewWrong f a w) → roundOf ws a .frame ≡ f
+    unfolding roundOf
+    roundOf-restores a g few =
         let x : Progress = record { frame = a; flips = 0 } in
-        let p = correctWords-restore ws ok x g few in
-        let b : Frame = (correctWords s x ws) .frame in
+        let p = correctEach-restore ws ok x g few in
+        let b : Frame = correctEach x ws .frame in
         let info-same : b .info ≡ f .info =
         ext-getD 0 (b .info) (f .info) (p .0 .infoLength)
-        (λ k h. let c = all .0 k (omega (arith, p .0 .infoLength)) in same-read (c .0) b f (p .2 (c .0) (c .1)) (inInfo k) (c .2)) in
+        (λ k h. let c = all .0 k (omega (arith, p .0 .infoLength)) in same-read (c .0 .sites) b f (p .2 (c .0) (c .1)) (inInfo k) (c .2)) in
         let red-same : b .red ≡ f .red =
         ext-getD 0 (b .red) (f .red) (p .0 .redLength)
-        (λ k h. let c = all .1 k (omega (arith, p .0 .redLength)) in same-read (c .0) b f (p .2 (c .0) (c .1)) (inRed k) (c .2)) in
+        (λ k h. let c = all .1 k (omega (arith, p .0 .redLength)) in same-read (c .0 .sites) b f (p .2 (c .0) (c .1)) (inRed k) (c .2)) in
         λ i. record { info = info-same i; red = red-same i }
 
-    none-wrong : Few f ws
-    none-wrong w i = subst (λ (z : ℕ). z ≤ s .t) (sym (distance-self (read f w))) zero-le
+    none-wrong : (w : Word) → In w ws → FewWrong f f w
+    none-wrong w i = subst (λ (z : ℕ). z ≤ w .code .t) (sym (distance-self (read f (w .sites)))) zero-le
 
-    runRounds-keep : (k : ℕ) (a : Frame) → a ≡ f → (runRounds s ws k a) .frame ≡ f
-    unfolding runRounds
-    runRounds-keep zero a e = e
-    runRounds-keep (suc k) a e =
-        let one : (round s ws a) .frame ≡ f = ap (λ (z : Frame). (round s ws z) .frame) e ∙ round-restores f ff none-wrong in
-        cond-ind (λ (d : Decoded). d .frame ≡ f) (eqb ((round s ws a) .flips) 0) _ _ (λ q. one) (λ q. runRounds-keep k ((round s ws a) .frame) one)
+    runEach-keep : (k : ℕ) (a : Frame) → a ≡ f → runEach ws k a .frame ≡ f
+    unfolding runEach
+    runEach-keep zero a e = e
+    runEach-keep (suc k) a e =
+        let one : roundOf ws a .frame ≡ f = ap (λ (z : Frame). roundOf ws z .frame) e ∙ roundOf-restores f ff none-wrong in
+        cond-ind (λ (d : Decoded). d .frame ≡ f) (eqb (roundOf ws a .flips) 0) _ _ (λ q. one) (λ q. runEach-keep k (roundOf ws a .frame) one)
 
     -- any number of rounds but none leaves the frame
-    pub runRounds-restore : (k : ℕ) (a : Frame) → Received f a → Few a ws → (runRounds s ws (suc k) a) .frame ≡ f
-    unfolding runRounds
-    runRounds-restore k a g few =
-        let one : (round s ws a) .frame ≡ f = round-restores a g few in
-        cond-ind (λ (d : Decoded). d .frame ≡ f) (eqb ((round s ws a) .flips) 0) _ _ (λ q. one) (λ q. runRounds-keep k ((round s ws a) .frame) one)
+    pub runEach-restore : (k : ℕ) (a : Frame) → Received f a → ((w : Word) → In w ws → FewWrong f a w) → runEach ws (suc k) a .frame ≡ f
+    unfolding runEach
+    runEach-restore k a g few =
+        let one : roundOf ws a .frame ≡ f = roundOf-restores a g few in
+        cond-ind (λ (d : Decoded). d .frame ≡ f) (eqb (roundOf ws a .flips) 0) _ _ (λ q. one) (λ q. runEach-keep k (roundOf ws a .frame) one)
 
-  pub outside-none : (ws : List (List Site)) → AllSound ws → outsideAmong s f ws ≡ 0
-  unfolding outsideAmong
-  outside-none [] ok = refl
-  outside-none (w ∷ ws) ok =
-      ap₂ (λ (x y : ℕ). x + y) (ap (λ (z : Bool). cond z 0 1) (ok w (inl refl) .coded)) (outside-none ws (λ v i. ok v (inr i)))
+  pub outsideEach-none : (ws : List Word) → ((w : Word) → In w ws → Sound f w) → outsideEach f ws ≡ 0
+  unfolding outsideEach
+  outsideEach-none [] ok = refl
+  outsideEach-none (w ∷ ws) ok =
+      ap₂ (λ (x y : ℕ). x + y) (ap (λ (z : Bool). cond z 0 1) (ok w (inl refl) .coded)) (outsideEach-none ws (λ v i. ok v (inr i)))

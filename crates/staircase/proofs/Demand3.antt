@@ -19,23 +19,23 @@ use borrow.Author.Tests.{le-ltb}
 use Rattle.bch.specs.Polynomial.{Bits}
 use Rattle.bch.specs.Code.{distance}
 use Rattle.staircase.specs.Design.{Params, Interleavers, wordLength, order, Limits, most-blocks, most-rounds}
-use Rattle.staircase.specs.Frame.{Frame, Site, frameOf, groups, rowSites, columnSites, words, read, inCode, outsideAmong, outside}
+use Rattle.staircase.specs.Frame.{Frame, Site, Word, word, plain, frameOf, groups, rowSites, columnSites, words, read, inCode, outsideAmong, outside}
 use Rattle.staircase.specs.System.{redundancy}
-use Rattle.staircase.specs.Frame.Site.{inInfo, inRed}
-use Rattle.staircase.specs.Decoder.{Decoded, runRounds, default-rounds, roundsAllowed, decoded}
+use Rattle.staircase.specs.Decoder.{Decoded, runEach, runRounds, default-rounds, roundsAllowed, decoded}
 use Rattle.staircase.specs.Rules.{Verdict, countRule, roundsRule, listLengths, infoLength, redLength, frameLengths, kitWork, wordWork, listRule, kitRules, frameBits}
 use Rattle.staircase.specs.Rules.Verdict.{accepted}
 use Rattle.staircase.specs.Calls.{encodeVerdict, Encoded, encodedBy, encodeCall, decodeVerdict, correctedBy, decodeCall}
 use Rattle.staircase.specs.Demand2.{KitPasses}
 use Rattle.staircase.specs.Demand3.{Kit, sizes, lists, decode, Given, EachWord, SameBut, Restored, Demand3}
 use Rattle.staircase.proofs.Rules.{then-first, then-accepted, refuse-accepted, inRange, length-accepted, design-limits, lengths-accepted, bits-accepted, accepted-content}
-use Rattle.staircase.proofs.Member.{In}
+use Rattle.staircase.proofs.Member.{In, in-map}
 use Rattle.staircase.proofs.Flip.{Received, bitAt-bits}
+use Rattle.staircase.proofs.Rounds.{plain-each}
 use Rattle.staircase.proofs.Outside.{all-inside}
-use Rattle.staircase.proofs.Correction.{Sound, outside-none, runRounds-restore}
+use Rattle.staircase.proofs.Correction.{CodeDistance, Sound, FewWrong, Covers, outsideEach-none, runEach-restore}
 use Rattle.staircase.proofs.System.{Proper}
 use Rattle.staircase.proofs.BchCode.{proper-of, apart-of}
-use Rattle.staircase.proofs.Sites.{rowSites-distinct, columnSites-distinct, rowSites-length, columnSites-length, row-among-words, column-among-words, each-word, info-covered, red-covered}
+use Rattle.staircase.proofs.Sites.{rowSites-length, columnSites-length, row-among-words, column-among-words, each-word, info-covered, red-covered}
 use Rattle.staircase.proofs.Redundancy.{redundancy-length, redundancy-bits, rows-in-code, columns-in-code, redundancy-only}
 use Rattle.staircase.proofs.Reach.{reach}
 use Rattle.staircase.proofs.Demand2.{kit-passes}
@@ -130,26 +130,24 @@ module _ (K : Kit) (L : ℕ) (info old : List ℕ) (G : Given K L info old) wher
   frame-itself : Received frame frame
   frame-itself = record { infoLength = refl; redLength = refl; binary = bitAt-bits frame (G .bits) made-bits }
 
-  sound : (v : List Site) → In v (words s l L) → Sound s (wordLength s) frame v
+  sound : (w : Word) → In w (plain s (words s l L)) → Sound frame w
   sound =
-      each-word s L l ok (kit .self) (kit .parity) (Sound s (wordLength s) frame)
-      (λ i a hi ha. record {
-        long = rowSites-length s L l ok (kit .self) (kit .parity) i a;
-        distinct = rowSites-distinct s L l ok (kit .self) (kit .parity) i a ha;
-        coded = made-rows i a hi ha;
-      })
-      (λ i a hi ha. record {
-        long = columnSites-length s L l ok (kit .self) (kit .parity) i a;
-        distinct = columnSites-distinct s L l ok (kit .self) (kit .parity) i a ha;
-        coded = made-columns i a hi ha;
-      })
+      plain-each s (Sound frame) (words s l L)
+      (each-word s L l ok (kit .self) (kit .parity) (λ (v : List Site). Sound frame (word s v))
+      (λ i a hi ha. record { coded = made-rows i a hi ha; apart = far (rowSites s l L i a) (rowSites-length s L l ok (kit .self) (kit .parity) i a) })
+      (λ i a hi ha. record { coded = made-columns i a hi ha; apart = far (columnSites s L i a) (columnSites-length s L l ok (kit .self) (kit .parity) i a) }))
+    where
+      far : (v : List Site) → length v ≡ wordLength s → CodeDistance s (length v)
+      far v e = subst (CodeDistance s) (sym e) (apart-of limits)
 
-  covered : ((k : ℕ) → k < length info → (v : List Site) × In v (words s l L) × In (inInfo k) v)
-      × ((k : ℕ) → k < length made → (v : List Site) × In v (words s l L) × In (inRed k) v)
+  covered : Covers frame (plain s (words s l L))
   covered = (
-    λ k h. info-covered s L l ok (kit .self) (kit .parity) k (subst (λ (z : ℕ). k < z) (G .info-fits) h),
-    λ k h. red-covered s L l ok (kit .self) (kit .parity) k (subst (λ (z : ℕ). k < z) made-length h),
+    λ k h. among (info-covered s L l ok (kit .self) (kit .parity) k (subst (λ (z : ℕ). k < z) (G .info-fits) h)),
+    λ k h. among (red-covered s L l ok (kit .self) (kit .parity) k (subst (λ (z : ℕ). k < z) made-length h)),
   )
+    where
+      among : {y : Site} → (v : List Site) × In v (words s l L) × In y v → (w : Word) × In w (plain s (words s l L)) × In y (w .sites)
+      among c = (word s (c .0), in-map (word s) (words s l L) (c .0) (c .1), c .2)
 
   -- the four parts
 
@@ -177,8 +175,19 @@ module _ (K : Kit) (L : ℕ) (info old : List ℕ) (G : Given K L info old) wher
 
   restored : (k : ℕ) (received : Frame) → Received frame received
       → ((v : List Site) → In v (words s l L) → distance (read frame v) (read received v) ≤ t) → (runRounds s (words s l L) (roundsAllowed k) received) .frame ≡ frame
-  restored zero received like few = runRounds-restore s (wordLength s) (apart-of limits) frame frame-itself (words s l L) sound covered (default-rounds - 1) received like few
-  restored (suc k) received like few = runRounds-restore s (wordLength s) (apart-of limits) frame frame-itself (words s l L) sound covered k received like few
+  unfolding runRounds
+  restored k received like few = go k
+    where
+      each : (w : Word) → In w (plain s (words s l L)) → FewWrong frame received w
+      each = plain-each s (FewWrong frame received) (words s l L) few
+
+      go : (k : ℕ) → runEach (plain s (words s l L)) (roundsAllowed k) received .frame ≡ frame
+      go zero = runEach-restore frame frame-itself (plain s (words s l L)) sound covered (default-rounds - 1) received like each
+      go (suc k) = runEach-restore frame frame-itself (plain s (words s l L)) sound covered k received like each
+
+  none-outside : outsideAmong s frame (words s l L) ≡ 0
+  unfolding outsideAmong
+  none-outside = outsideEach-none frame frame-itself (plain s (words s l L)) sound
 
   pub made-restored : (received : Frame) → length (received .info) ≡ length info → length (received .red) ≡ length made
       → Bits (received .info) → Bits (received .red) → EachWord s l L (λ x. distance (read frame x) (read received x) ≤ t)
@@ -190,7 +199,7 @@ module _ (K : Kit) (L : ℕ) (info old : List ℕ) (G : Given K L info old) wher
       restored k received (record { infoLength = li; redLength = lr; binary = bitAt-bits received hi hr })
       (each-word s L l ok (kit .self) (kit .parity) (λ x. distance (read frame x) (read received x) ≤ t) (few .rows) (few .columns)) in
       let none : outsideAmong s (d .frame) (words s l L) ≡ 0 =
-      ap (λ (x : Frame). outsideAmong s x (words s l L)) same ∙ outside-none s (wordLength s) (apart-of limits) frame frame-itself (words s l L) sound in (
+      ap (λ (x : Frame). outsideAmong s x (words s l L)) same ∙ none-outside in (
         d .rounds,
         d .flips,
         ap (λ (v : Verdict). correctedBy v received d (outsideAmong s (d .frame) (words s l L)))

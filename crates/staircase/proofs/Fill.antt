@@ -5,7 +5,6 @@
 --   filled                        the first i entries by the rule, the rest as it was
 --   filled-none, filled-more, filled-all, filled-length   the loop's start, its step, its end
 --   filled-next                   the entry that comes next is the old one
---   tabulate-append               a table in two parts
 --   filled-stretch                a step that fills the next stretch
 --   stretches                     the first i stretches of one width by the rule, the rest as it was
 --   stretches-none, stretches-more, stretches-sets, stretches-all   the loop's start, its step by a part or by stores, its end
@@ -17,8 +16,8 @@
 use mathlib.Core.Path.{_≡_, refl, sym, ap, _∙_, subst}
 use mathlib.Core.Logic.{_≢_}
 use mathlib.Core.List.{List, [], _∷_, _++_, append-nil, append-assoc}
-use Prim.Native.Nat.{ℕ, zero, suc, _+_, _-_, _*_, _≤_, _<_}
-use native.Mathlib.Nat.{zero-add, suc-add, zero-mul, suc-mul, add-sub-cancel-left}
+use Prim.Native.Nat.{ℕ, _+_, _-_, _*_, _≤_, _<_}
+use native.Mathlib.Nat.{zero-mul, suc-mul, add-sub-cancel-left}
 use native.Mathlib.Numerals.{add-one}
 use native.Mathlib.Decide.{decLt}
 use native.Mathlib.Omega.{arith}
@@ -26,7 +25,7 @@ use lib.ListN.{length, getD, set, take, drop, length-append, length-drop, drop-o
 use lib.Seq.{length-take-le, take-at, drop-at, drop-drop, sets, sets-eq, getD-take, getD-drop, getD-append-add, getD-set-other, ext-getD}
 use Rattle.bch.proofs.Store.{set-each}
 use Rattle.staircase.specs.Lists.{tabulate, concat}
-use Rattle.staircase.proofs.Tabulate.{tabulate-length, tabulate-at, tabulate-same, tabulate-last, concat-last, concat-length}
+use Rattle.staircase.proofs.Tabulate.{tabulate-length, tabulate-at, tabulate-append, tabulate-last, concat-last, concat-length}
 
 -- ---- a new front: the first a entries are g, the rest as it was
 
@@ -83,15 +82,6 @@ filled-next f l i =
     let e : i ≡ length (tabulate i f) + 0 = omega (arith, tabulate-length i f) in
     ap (λ (z : ℕ). getD (tabulate i f ++ drop i l) z 0) e ∙ getD-append-add (tabulate i f) (drop i l) 0 0 ∙ getD-drop i l 0 0
     ∙ ap (λ (z : ℕ). getD l z 0) (let q : i + 0 ≡ i = omega arith in q)
-
-pub tabulate-append : (m n : ℕ) (f : ℕ → ℕ) → tabulate (m + n) f ≡ tabulate m f ++ tabulate n (λ k. f (m + k))
-unfolding tabulate
-tabulate-append zero n f = ap (λ (k : ℕ). tabulate k f) (zero-add n) ∙ tabulate-same n f (λ k. f (zero + k)) (λ k l. ap f (sym (zero-add k)))
-tabulate-append (suc m) n f =
-    ap (λ (k : ℕ). tabulate k f) (suc-add m n)
-    ∙ ap (λ (t : List ℕ). f zero ∷ t)
-    (tabulate-append m n (λ k. f (suc k))
-    ∙ ap (λ (t : List ℕ). tabulate m (λ k. f (suc k)) ++ t) (tabulate-same n (λ k. f (suc (m + k))) (λ k. f (suc m + k)) (λ k l. ap f (sym (suc-add m k)))))
 
 -- the stretch of w entries from `from` on was lent and came back as ys
 pub filled-stretch : (f : ℕ → ℕ) (l xs ys : List ℕ) (from w : ℕ) → xs ≡ filled f l from → ys ≡ tabulate w (λ k. f (from + k))

@@ -1,5 +1,6 @@
 -- Flipping bits of a frame: what is flipped and what stays.
 --   Sent, Within            a site of a sent block; a byte of the buffers
+--   allSent-each, each-allSent   the test that all of some sites are sent
 --   place, buffer, site?    sites can be told apart
 --   flip-same, flip-other   a flipped bit is the other bit, and no other site is touched
 --   Received f x            x has the lengths of the frame f and holds bits
@@ -8,27 +9,40 @@
 --   read-same, same-read    a word's bits are those of its sites
 --   read-bits, read-length, site-in   they are bits, one for each site; the site at a position
 --   Distinct w              no sent site stands twice in a word
---   read-flip, read-flipAll flipping sites of a word flips the bits at their positions
 -- Assumes nothing.
 use mathlib.Core.Path.{_≡_, refl, sym, ap, ap₂, _∙_, subst}
+use mathlib.Core.Bool.{true, true≢false}
 use mathlib.Core.Logic.{_≢_, _⊎_, inl, inr}
-use mathlib.Core.List.{List, [], _∷_, map}
+use mathlib.Core.List.{List, [], _∷_}
 use Prim.Native.Nat.{ℕ, zero, suc, _-_, _<_}
 use native.Mathlib.Nat.{le-of-suc-le-suc, not-suc-le-zero}
 use native.Mathlib.Decide.{ℕ-discrete, decLt}
 use native.Mathlib.Omega.{arith}
-use lib.ListN.{length, getD, set, length-set, length-map, List·getD-map, List·getD-eq-default}
+use lib.ListN.{length, getD, length-set, length-map, List·getD-map, List·getD-eq-default}
 use lib.Seq.{getD-set-same, getD-set-other, set-out}
 use Rattle.bch.specs.Polynomial.{Bits}
 use Rattle.staircase.specs.Frame.{Frame, Site, bitAt, flip, read}
 use Rattle.staircase.specs.Frame.Site.{unsent, inInfo, inRed}
-use Rattle.staircase.specs.Decoder.{flipBits, flipAll}
+use Rattle.staircase.specs.Decoder.{allSent, flipAll}
 use Rattle.staircase.proofs.Member.{In}
 
 abbrev pub Sent : Site → Type 0
 Sent unsent = ⊥
 Sent (inInfo k) = Unit {0}
 Sent (inRed k) = Unit {0}
+
+pub allSent-each : (c : List Site) → allSent c ≡ true → (y : Site) → In y c → Sent y
+allSent-each (unsent ∷ c) h y i = absurd (true≢false (sym h))
+allSent-each (inInfo k ∷ c) h y (inl e) = subst Sent (sym e) tt
+allSent-each (inInfo k ∷ c) h y (inr i) = allSent-each c h y i
+allSent-each (inRed k ∷ c) h y (inl e) = subst Sent (sym e) tt
+allSent-each (inRed k ∷ c) h y (inr i) = allSent-each c h y i
+
+pub each-allSent : (c : List Site) → ((y : Site) → In y c → Sent y) → allSent c ≡ true
+each-allSent [] h = refl
+each-allSent (unsent ∷ c) h = absurd (h unsent (inl refl))
+each-allSent (inInfo k ∷ c) h = each-allSent c (λ y i. h y (inr i))
+each-allSent (inRed k ∷ c) h = each-allSent c (λ y i. h y (inr i))
 
 -- the place of a site in its buffer, and the buffer
 abbrev pub place : Site → ℕ
@@ -60,7 +74,7 @@ site? (inRed k) (inRed j) = go (ℕ-discrete k j)
     go (yes e) = inl (ap inRed e)
     go (no d) = inr (λ e. d (ap place e))
 
-flip-other : (x y : Site) (f : Frame) → x ≢ y → bitAt (flip x f) y ≡ bitAt f y
+pub flip-other : (x y : Site) (f : Frame) → x ≢ y → bitAt (flip x f) y ≡ bitAt f y
 flip-other unsent y f d = refl
 flip-other (inInfo k) unsent f d = refl
 flip-other (inInfo k) (inInfo j) f d = getD-set-other (f .info) k j (1 - getD (f .info) k 0) 0 (λ e. d (ap inInfo (sym e)))
@@ -74,7 +88,7 @@ Within unsent f = ⊥
 Within (inInfo k) f = k < length (f .info)
 Within (inRed k) f = k < length (f .red)
 
-flip-same : (x : Site) (f : Frame) → Within x f → bitAt (flip x f) x ≡ 1 - bitAt f x
+pub flip-same : (x : Site) (f : Frame) → Within x f → bitAt (flip x f) x ≡ 1 - bitAt f x
 flip-same unsent f h = absurd h
 flip-same (inInfo k) f h = getD-set-same (f .info) k (1 - getD (f .info) k 0) 0 h
 flip-same (inRed k) f h = getD-set-same (f .red) k (1 - getD (f .red) k 0) 0 h
@@ -108,7 +122,7 @@ within? (inRed k) f = go (decLt k (length (f .red)))
     go (yes h) = inl h
     go (no h) = inr (λ i. record { info = f .info; red = set-out (f .red) k (1 - getD (f .red) k 0) (omega arith) i })
 
-flip-received : (x : Site) (f a : Frame) → Received f a → Received f (flip x a)
+pub flip-received : (x : Site) (f a : Frame) → Received f a → Received f (flip x a)
 flip-received x f a g =
     record {
       infoLength = flip-lengths x a .0 ∙ g .infoLength;
@@ -142,7 +156,7 @@ error-within f a g (inRed k) d = go (decLt k (length (a .red)))
     go (no h) =
         absurd (d (List·getD-eq-default (f .red) 0 {n = k} (omega (arith, g .redLength)) ∙ sym (List·getD-eq-default (a .red) 0 {n = k} (omega arith))))
 
-received-within : (f a b : Frame) → Received f a → Received f b → (x : Site) → Within x a → Within x b
+pub received-within : (f a b : Frame) → Received f a → Received f b → (x : Site) → Within x a → Within x b
 received-within f a b g h unsent w = w
 received-within f a b g h (inInfo k) w = omega (arith, g .infoLength, h .infoLength)
 received-within f a b g h (inRed k) w = omega (arith, g .redLength, h .redLength)
@@ -165,11 +179,6 @@ abbrev pub Distinct : List Site → Type 0
 Distinct [] = Unit {0}
 Distinct (x ∷ w) = (Sent x → ¬ In x w) × Distinct w
 
-flip-tail : (x : Site) (w : List Site) (f : Frame) → (Sent x → ¬ In x w) → read (flip x f) w ≡ read f w
-flip-tail unsent w f d = refl
-flip-tail (inInfo k) w f d = read-same w (flip (inInfo k) f) f (λ y i. flip-other (inInfo k) y f (λ e. d tt (subst (λ (z : Site). In z w) (sym e) i)))
-flip-tail (inRed k) w f d = read-same w (flip (inRed k) f) f (λ y i. flip-other (inRed k) y f (λ e. d tt (subst (λ (z : Site). In z w) (sym e) i)))
-
 pub read-bits : (f a : Frame) → Received f a → (w : List Site) → Bits (read a w)
 read-bits f a g w k = subst (λ (z : ℕ). z < 2) (sym (List·getD-map (bitAt a) w k unsent)) (g .binary (getD w k unsent))
 
@@ -181,27 +190,3 @@ pub site-in : (w : List Site) (j : ℕ) → j < length w → In (getD w j unsent
 site-in [] j h = absurd (not-suc-le-zero h)
 site-in (y ∷ w) zero h = inl refl
 site-in (y ∷ w) (suc j) h = inr (site-in w j (le-of-suc-le-suc h))
-
-head-kept : (f : Frame) (y z : Site) (w : List Site) → (Sent y → ¬ In y w) → In z w → bitAt (flip z f) y ≡ bitAt f y
-head-kept f unsent z w n i = refl
-head-kept f (inInfo k) z w n i = flip-other z (inInfo k) f (λ e. n tt (subst (λ (v : Site). In v w) e i))
-head-kept f (inRed k) z w n i = flip-other z (inRed k) f (λ e. n tt (subst (λ (v : Site). In v w) e i))
-
-read-flip : (f : Frame) (w : List Site) → Distinct w → (j : ℕ) → j < length w → Within (getD w j unsent) f
-    → read (flip (getD w j unsent) f) w ≡ set (read f w) j (1 - getD (read f w) j 0)
-read-flip f [] d j l h = absurd (not-suc-le-zero l)
-read-flip f (y ∷ w) d zero l h = ap₂ (λ (p : ℕ) (q : List ℕ). p ∷ q) (flip-same y f h) (flip-tail y w f (d .0))
-read-flip f (y ∷ w) d (suc j) l h =
-    ap₂ (λ (p : ℕ) (q : List ℕ). p ∷ q) (head-kept f y (getD w j unsent) w (d .0) (site-in w j (le-of-suc-le-suc l)))
-    (read-flip f w (d .1) j (le-of-suc-le-suc l) h)
-
-pub read-flipAll : (f : Frame) → Received f f → (w : List Site) → Distinct w → (c : List ℕ)
-    → ((j : ℕ) → In j c → (j < length w) × Within (getD w j unsent) f)
-    → read (flipAll (map (λ j. getD w j unsent) c) f) w ≡ flipBits c (read f w)
-unfolding flipAll flipBits
-read-flipAll f g w d [] h = refl
-read-flipAll f g w d (j ∷ c) h =
-    let a : Frame = flipAll (map (λ j. getD w j unsent) c) f in
-    let p = h j (inl refl) in
-    read-flip a w d j (p .0) (received-within f f a g (flipAll-received (map (λ j. getD w j unsent) c) f f g) (getD w j unsent) (p .1))
-    ∙ ap (λ (u : List ℕ). set u j (1 - getD u j 0)) (read-flipAll f g w d c (λ k i. h k (inr i)))

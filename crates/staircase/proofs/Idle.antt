@@ -1,7 +1,7 @@
 -- The decoder on a frame whose words are all in the code: one idle round.
 --   errorPositions-none, correction-none   a codeword has no errors, and nothing is flipped
---   correctWords-stay, round-stays         a round of such words leaves the frame
---   rounds-stay, decoded-stays             rounds, and the rounds of a frame: one is made
+--   correctEach-stay, roundOf-stays        a round of such words leaves the frame
+--   runEach-stays, decoded-stays           rounds, and the rounds of a frame: one is made
 -- Assumes nothing.
 use mathlib.Core.Path.{_≡_, refl, ap, _∙_}
 use mathlib.Core.Bool.{Bool, true, cond}
@@ -13,11 +13,11 @@ use lib.ListN.{length, getD}
 use Rattle.bch.specs.Code.{isCodeword}
 use Rattle.staircase.specs.Design.{Params, Interleavers}
 use Rattle.staircase.specs.Lists.{tabulate}
-use Rattle.staircase.specs.Frame.{Frame, Site, words, read, inCode}
+use Rattle.staircase.specs.Frame.{Frame, Site, Word, plain, words, read, inCode}
 use Rattle.staircase.specs.Frame.Site.{unsent}
-use Rattle.staircase.specs.Decoder.{choices, flipBits, firstCorrecting, errorPositions, allSent, correction, flipAll, Progress, correctWord, correctWords, round, runRounds, default-rounds, decoded}
+use Rattle.staircase.specs.Decoder.{choices, flipBits, firstCorrecting, errorPositions, everyOccurrence, once, permitted, correction, flipAll, Progress, correctWord, correctEach, roundOf, runEach, runRounds, default-rounds, roundsAllowed, decoded}
 use Rattle.staircase.proofs.Member.{In}
-use Rattle.staircase.proofs.Rounds.{runRounds-idle}
+use Rattle.staircase.proofs.Rounds.{runEach-idle, plain-each}
 
 -- the empty choice comes first
 choices-first : (t : ℕ) (w : List ℕ) → (rest : List (List ℕ)) × (choices t w ≡ [] ∷ rest)
@@ -35,34 +35,40 @@ errorPositions-none s u h =
     ap (firstCorrecting s u) e ∙ ap (λ (b : Bool). cond b [] (firstCorrecting s u rest)) h
 
 module _ (s : Params) (f : Frame) where
-  correction-none : (w : List Site) → inCode s f w ≡ true → correction s f w ≡ []
-  unfolding correction
-  correction-none w h =
-      ap (λ (c : List ℕ). let d : List Site = map (λ j. getD w j unsent) c in cond (allSent d) d []) (errorPositions-none s (read f w) h)
+  pub correction-none : (w : List Site) → inCode s f w ≡ true → correction s f w ≡ []
+  unfolding correction permitted everyOccurrence once
+  correction-none w h = ap (λ (c : List ℕ). permitted w (map (λ j. getD w j unsent) c)) (errorPositions-none s (read f w) h)
 
-  correctWords-stay : (k : ℕ) (ws : List (List Site)) → ((w : List Site) → In w ws → inCode s f w ≡ true)
-      → correctWords s (record { frame = f; flips = k }) ws ≡ record { frame = f; flips = k }
-  unfolding correctWords correctWord flipAll
-  correctWords-stay k [] h = refl
-  correctWords-stay k (w ∷ ws) h =
-      let e = correction-none w (h w (inl refl)) in
+module _ (f : Frame) where
+  correctEach-stay : (k : ℕ) (ws : List Word) → ((w : Word) → In w ws → inCode (w .code) f (w .sites) ≡ true)
+      → correctEach (record { frame = f; flips = k }) ws ≡ record { frame = f; flips = k }
+  unfolding correctEach correctWord flipAll
+  correctEach-stay k [] h = refl
+  correctEach-stay k (w ∷ ws) h =
+      let e = correction-none (w .code) f (w .sites) (h w (inl refl)) in
       let z : k + 0 ≡ k = omega arith in
-      ap (λ (c : List Site). correctWords s (record { frame = flipAll c f; flips = k + length c }) ws) e
-      ∙ ap (λ (j : ℕ). correctWords s (record { frame = f; flips = j }) ws) z
-      ∙ correctWords-stay k ws (λ v i. h v (inr i))
+      ap (λ (c : List Site). correctEach (record { frame = flipAll c f; flips = k + length c }) ws) e
+      ∙ ap (λ (j : ℕ). correctEach (record { frame = f; flips = j }) ws) z
+      ∙ correctEach-stay k ws (λ v i. h v (inr i))
 
-  module _ (ws : List (List Site)) (h : (w : List Site) → In w ws → inCode s f w ≡ true) where
-    round-stays : round s ws f ≡ record { frame = f; flips = 0 }
-    unfolding round
-    round-stays = correctWords-stay 0 ws h
+  module _ (ws : List Word) (h : (w : Word) → In w ws → inCode (w .code) f (w .sites) ≡ true) where
+    roundOf-stays : roundOf ws f ≡ record { frame = f; flips = 0 }
+    unfolding roundOf
+    roundOf-stays = correctEach-stay 0 ws h
 
-    pub rounds-stay : (k : ℕ) → runRounds s ws (suc k) f ≡ record { frame = f; rounds = 1; flips = 0 }
-    rounds-stay k =
-        runRounds-idle s ws k f (ap (λ (x : Progress). x .flips) round-stays)
-        ∙ ap (λ (x : Progress). record { frame = x .frame; rounds = 1; flips = 0 }) round-stays
+    pub runEach-stays : (k : ℕ) → runEach ws (suc k) f ≡ record { frame = f; rounds = 1; flips = 0 }
+    runEach-stays k =
+        runEach-idle ws k f (ap (λ (x : Progress). x .flips) roundOf-stays)
+        ∙ ap (λ (x : Progress). record { frame = x .frame; rounds = 1; flips = 0 }) roundOf-stays
 
-  pub decoded-stays : (l : Interleavers) (L k : ℕ) → ((w : List Site) → In w (words s l L) → inCode s f w ≡ true)
-      → decoded s l L k f ≡ record { frame = f; rounds = 1; flips = 0 }
-  unfolding decoded
-  decoded-stays l L zero h = rounds-stay (words s l L) h (default-rounds - 1)
-  decoded-stays l L (suc k) h = rounds-stay (words s l L) h k
+pub decoded-stays : (s : Params) (f : Frame) (l : Interleavers) (L k : ℕ) → ((w : List Site) → In w (words s l L) → inCode s f w ≡ true)
+    → decoded s l L k f ≡ record { frame = f; rounds = 1; flips = 0 }
+unfolding decoded runRounds
+decoded-stays s f l L k h = go k
+  where
+    each : (w : Word) → In w (plain s (words s l L)) → inCode (w .code) f (w .sites) ≡ true
+    each = plain-each s (λ (w : Word). inCode (w .code) f (w .sites) ≡ true) (words s l L) h
+
+    go : (k : ℕ) → runEach (plain s (words s l L)) (roundsAllowed k) f ≡ record { frame = f; rounds = 1; flips = 0 }
+    go zero = runEach-stays f (plain s (words s l L)) each (default-rounds - 1)
+    go (suc k) = runEach-stays f (plain s (words s l L)) each k

@@ -18,6 +18,7 @@ pub mod Solution
 pub mod Entries
 pub mod Flip
 pub mod Errors
+pub mod Occurrences
 pub mod Correction
 pub mod Sites
 pub mod Positions
@@ -27,6 +28,12 @@ pub mod Reach
 pub mod Rounds
 pub mod Outside
 pub mod Idle
+pub mod CorrectedWord
+pub mod Weight
+pub mod Kept
+pub mod Lines
+pub mod Crossing
+pub mod KeptFrame
 pub mod Rules
 pub mod OrderMoved
 pub mod Decoded

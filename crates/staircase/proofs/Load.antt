@@ -35,8 +35,7 @@ use Rattle.staircase.specs.Rules.Verdict.{accepted, refused}
 use Rattle.staircase.specs.Demand1.{ByTable, Demand1}
 use Rattle.staircase.specs.Load.{output, stateAfter, loadBit, drawnBits, drawn, randomTurns, runTurns, turnedWhere, turnedFrame, fillVerdict, turnVerdict, filledBy, fillCall, errorsBy, errorsCall, runBy, runCall}
 use Rattle.staircase.specs.LoadRows.{LoadRows}
-use Rattle.staircase.proofs.Tabulate.{tabulate-length, tabulate-at, tabulate-bits, tabulate-same}
-use Rattle.staircase.proofs.Fill.{tabulate-append}
+use Rattle.staircase.proofs.Tabulate.{tabulate-length, tabulate-at, tabulate-bits, tabulate-same, tabulate-append}
 use Rattle.staircase.proofs.Rules.{then-first, then-rest, then-accepted, length-accepted, frame-lengths, frame-bits, bits-accepted}
 use Rattle.staircase.proofs.Demand1.{byTable-then, design-byTable, count-byTable, length-byTable, frame-fits-byTable, frame-bits-byTable}
 

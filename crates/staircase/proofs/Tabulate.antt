@@ -2,6 +2,7 @@
 --   Binary f                                      every value of f is a bit
 --   tabulate-length, tabulate-at, tabulate-bits   the length of a table, its entries, and that they are bits
 --   tabulate-same, tabulate-map                   tables of the same values, and of values under a function
+--   tabulate-append                               a table in two parts
 --   tabulate-last, concat-last                    one more entry, and one more list, at the end
 --   concat-same                                   the same lists, one after the other
 --   concat-length, concat-at                      lists of one size, one after the other
@@ -9,7 +10,7 @@
 use mathlib.Core.Path.{_≡_, refl, sym, ap, ap₂, _∙_}
 use mathlib.Core.List.{List, [], _∷_, _++_, map, append-nil, append-assoc}
 use Prim.Native.Nat.{ℕ, zero, suc, _+_, _*_, _<_, zero-le, suc-le-suc}
-use native.Mathlib.Nat.{le-of-suc-le-suc, not-suc-le-zero, zero-mul, suc-mul, zero-add, add-assoc, add-comm}
+use native.Mathlib.Nat.{le-of-suc-le-suc, not-suc-le-zero, zero-mul, suc-mul, zero-add, suc-add, add-assoc, add-comm}
 use native.Mathlib.Omega.{arith}
 use lib.ListN.{length, getD, length-append, List·getD-append}
 use lib.Seq.{getD-append-add}
@@ -52,6 +53,15 @@ tabulate-last zero f = refl
 tabulate-last (suc n) f = ap (λ t. f zero ∷ t) (tabulate-last n (λ k. f (suc k)))
 
 -- ---- lists one after the other
+
+pub tabulate-append : {A : Type 0} (m n : ℕ) (f : ℕ → A) → tabulate (m + n) f ≡ tabulate m f ++ tabulate n (λ k. f (m + k))
+unfolding tabulate
+tabulate-append zero n f = ap (λ (k : ℕ). tabulate k f) (zero-add n) ∙ tabulate-same n f (λ k. f (zero + k)) (λ k l. ap f (sym (zero-add k)))
+tabulate-append {A} (suc m) n f =
+    ap (λ (k : ℕ). tabulate k f) (suc-add m n)
+    ∙ ap (λ (t : List A). f zero ∷ t)
+    (tabulate-append m n (λ k. f (suc k))
+    ∙ ap (λ (t : List A). tabulate m (λ k. f (suc k)) ++ t) (tabulate-same n (λ k. f (suc (m + k))) (λ k. f (suc m + k)) (λ k l. ap f (sym (suc-add m k)))))
 
 pub concat-last : {A : Type 0} (n : ℕ) (f : ℕ → List A) → concat (suc n) f ≡ concat n f ++ f n
 unfolding concat

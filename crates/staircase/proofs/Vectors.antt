@@ -5,7 +5,7 @@
 --   rowsSpread  rows of the call for spread lists
 -- Assumes nothing.
 use mathlib.Core.Path.{_≡_, refl, sym, ap, ap₂, _∙_}
-use mathlib.Core.Bool.{true, not, cond}
+use mathlib.Core.Bool.{true, not}
 use mathlib.Core.List.{List, [], _∷_, map}
 use Prim.Native.Nat.{ℕ, _*_, _/_, _%_, _≤_, _<_}
 use native.Mathlib.Nat.{mod-lt, div-lt-iff-lt-mul}
@@ -18,10 +18,10 @@ use Rattle.bch.specs.Code.{leastFrom, minimalPoly, generator, isCodeword, parit
 use Rattle.staircase.specs.Lists.{sumBits, tabulate, concat, firstWhere}
 use Rattle.staircase.specs.Design.{Interleavers, Limits}
 use Rattle.staircase.specs.Word.{rowInfo, rowWord, columnInfo, columnWord}
-use Rattle.staircase.specs.Frame.{Site, rowSites, columnSites, words, read, outsideAmong, outside}
+use Rattle.staircase.specs.Frame.{Site, rowSites, columnSites, words, read, outsideEach, outsideAmong, outside}
 use Rattle.staircase.specs.Frame.Site.{unsent}
 use Rattle.staircase.specs.System.{preimage, columnParity, rowParity, residual, systemEntry, constantEntry, inverseEntry, product, identity, selfEntry, groupBits, groupRedundancy, redundancy}
-use Rattle.staircase.specs.Decoder.{choices, flipBits, firstCorrecting, errorPositions, allSent, correction, flipAll, correctWord, correctWords, round, runRounds, decoded}
+use Rattle.staircase.specs.Decoder.{choices, flipBits, firstCorrecting, errorPositions, occurrences, everyOccurrence, once, permitted, correction, flipAll, correctWord, correctEach, correctWords, roundOf, round, runEach, runRounds, decoded}
 use Rattle.staircase.specs.Rules.{Verdict, refuseFirst, sizeRule, longRule, largeRule, designRules, countRule, roundsRule, listLengths, kitLengths, redLength, frameLengths, kitWork, wordWork, entries, interleavers, badEntry, listRule, spareRow, spareRule, wrongEntry, inverseRule, kitRules, contentRules, bitRule, frameBits}
 use Rattle.staircase.specs.Rules.Verdict.{accepted}
 use Rattle.staircase.specs.Calls.{kitVerdict, encodeVerdict, encodedBy, encodeCall, wordsVerdict, wordsCall, decodeVerdict, decodeCall, showVerdict, showCall}
@@ -39,7 +39,7 @@ use Rattle.staircase.proofs.Correction.{nearest-errors}
 use Rattle.staircase.proofs.BchCode.{apart-of}
 
 pub rowsK : RowsK
-unfolding _⊕_ _⊗_ timesX iterate polyAtDigits polyAt horner remainder bitsOf fieldPoly valueAt leastFrom minimalPoly generator isCodeword parity sumBits tabulate concat firstWhere rowInfo rowWord columnInfo columnWord preimage columnParity rowParity residual systemEntry constantEntry inverseEntry product selfEntry groupBits rowSites columnSites words outsideAmong outside groupRedundancy redundancy choices flipBits firstCorrecting errorPositions correction flipAll correctWord correctWords round runRounds decoded refuseFirst sizeRule longRule largeRule designRules countRule roundsRule listLengths kitLengths frameLengths kitWork wordWork entries badEntry listRule spareRow spareRule wrongEntry inverseRule kitRules contentRules bitRule frameBits kitVerdict encodeVerdict encodeCall wordsVerdict wordsCall decodeVerdict decodeCall showVerdict showCall batchRule batchLengths batchVerdict batchRedundancy batchCall
+unfolding _⊕_ _⊗_ timesX iterate polyAtDigits polyAt horner remainder bitsOf fieldPoly valueAt leastFrom minimalPoly generator isCodeword parity sumBits tabulate concat firstWhere rowInfo rowWord columnInfo columnWord preimage columnParity rowParity residual systemEntry constantEntry inverseEntry product selfEntry groupBits rowSites columnSites words outsideEach outsideAmong outside groupRedundancy redundancy choices flipBits firstCorrecting errorPositions occurrences everyOccurrence once permitted correction flipAll correctWord correctEach correctWords roundOf round runEach runRounds decoded refuseFirst sizeRule longRule largeRule designRules countRule roundsRule listLengths kitLengths frameLengths kitWork wordWork entries badEntry listRule spareRow spareRule wrongEntry inverseRule kitRules contentRules bitRule frameBits kitVerdict encodeVerdict encodeCall wordsVerdict wordsCall decodeVerdict decodeCall showVerdict showCall batchRule batchLengths batchVerdict batchRedundancy batchCall
 rowsK =
     record {
       x9 = refl;
@@ -140,7 +140,7 @@ inverse-accepted =
 -- rule 9 apart
 encoded-but : encodeCall 4 1 2 3 selfS parityS inverseS infoS (replicate (redLength paramsS 3) 255) (kitWork paramsS)
     ≡ encodedBy (inverseRule paramsS listsS inverseS) (replicate (redLength paramsS 3) 255) redS
-unfolding _⊕_ _⊗_ timesX iterate polyAtDigits polyAt horner remainder bitsOf fieldPoly valueAt leastFrom minimalPoly generator isCodeword parity sumBits tabulate concat firstWhere rowInfo rowWord columnInfo columnWord preimage columnParity rowParity residual systemEntry constantEntry inverseEntry product selfEntry groupBits rowSites columnSites words outsideAmong outside groupRedundancy redundancy choices flipBits firstCorrecting errorPositions correction flipAll correctWord correctWords round runRounds decoded refuseFirst sizeRule longRule largeRule designRules countRule roundsRule listLengths kitLengths frameLengths kitWork wordWork entries badEntry listRule spareRow spareRule wrongEntry kitRules contentRules bitRule frameBits kitVerdict encodeVerdict encodeCall decodeVerdict decodeCall
+unfolding _⊕_ _⊗_ timesX iterate polyAtDigits polyAt horner remainder bitsOf fieldPoly valueAt leastFrom minimalPoly generator isCodeword parity sumBits tabulate concat firstWhere rowInfo rowWord columnInfo columnWord preimage columnParity rowParity residual systemEntry constantEntry inverseEntry product selfEntry groupBits rowSites columnSites words outsideEach outsideAmong outside groupRedundancy redundancy choices flipBits firstCorrecting errorPositions occurrences everyOccurrence once permitted correction flipAll correctWord correctEach correctWords roundOf round runEach runRounds decoded refuseFirst sizeRule longRule largeRule designRules countRule roundsRule listLengths kitLengths frameLengths kitWork wordWork entries badEntry listRule spareRow spareRule wrongEntry kitRules contentRules bitRule frameBits kitVerdict encodeVerdict encodeCall decodeVerdict decodeCall
 encoded-but = refl
 
 -- ---- two errors
@@ -173,18 +173,18 @@ positions1T = errors-of (wordT 1) code1T refl refl refl refl refl (let e : dista
 
 -- the sites of a word at some positions, if all are sent
 abbrev sentAt : List Site → List ℕ → List Site
-sentAt w e = cond (allSent (map (λ j. getD w j unsent) e)) (map (λ j. getD w j unsent) e) []
+sentAt w e = permitted w (map (λ j. getD w j unsent) e)
 
 two-errors : correctionT 0 ≡ correction0T
-unfolding correction rowSites rowWord rowInfo tabulate
+unfolding occurrences everyOccurrence once permitted correction rowSites rowWord rowInfo tabulate
 two-errors = ap (sentAt (rowSites paramsT listsT 1 0 0)) positions0T
 
 needs-B0 : correctionT 1 ≡ correction1T
-unfolding correction rowSites rowWord rowInfo tabulate
+unfolding occurrences everyOccurrence once permitted correction rowSites rowWord rowInfo tabulate
 needs-B0 = ap (sentAt (rowSites paramsT listsT 1 0 1)) positions1T
 
 pub secondKit : SecondKit
-unfolding _⊕_ _⊗_ timesX iterate polyAtDigits polyAt horner remainder bitsOf fieldPoly valueAt leastFrom minimalPoly generator isCodeword parity sumBits tabulate concat firstWhere rowInfo rowWord columnInfo columnWord preimage columnParity rowParity residual systemEntry constantEntry inverseEntry product selfEntry groupBits rowSites columnSites words outsideAmong outside groupRedundancy redundancy choices flipBits firstCorrecting errorPositions correction flipAll correctWord correctWords round runRounds decoded refuseFirst sizeRule longRule largeRule designRules countRule roundsRule listLengths kitLengths frameLengths kitWork wordWork entries badEntry listRule spareRow spareRule wrongEntry inverseRule kitRules contentRules bitRule frameBits kitVerdict encodeVerdict encodeCall decodeVerdict decodeCall
+unfolding _⊕_ _⊗_ timesX iterate polyAtDigits polyAt horner remainder bitsOf fieldPoly valueAt leastFrom minimalPoly generator isCodeword parity sumBits tabulate concat firstWhere rowInfo rowWord columnInfo columnWord preimage columnParity rowParity residual systemEntry constantEntry inverseEntry product selfEntry groupBits rowSites columnSites words outsideEach outsideAmong outside groupRedundancy redundancy choices flipBits firstCorrecting errorPositions occurrences everyOccurrence once permitted correction flipAll correctWord correctEach correctWords roundOf round runEach runRounds decoded refuseFirst sizeRule longRule largeRule designRules countRule roundsRule listLengths kitLengths frameLengths kitWork wordWork entries badEntry listRule spareRow spareRule wrongEntry inverseRule kitRules contentRules bitRule frameBits kitVerdict encodeVerdict encodeCall decodeVerdict decodeCall
 secondKit =
     record {
       system = system-rows;

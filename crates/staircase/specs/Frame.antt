@@ -7,8 +7,9 @@
 --   block                     the bits of a block
 --   rowSites, columnSites     the sites of a row word and of a column word
 --   words                     all words in the order of a round
+--   Word, word, plain         a word with its code; words of one code
 --   read, inCode              the bits of a word, and the test whether it is a codeword
---   outside                   how many words are outside the code
+--   outsideEach, outsideAmong, outside   how many words are outside their codes, of one code, of a frame
 -- Assumes nothing.
 use mathlib.Core.Bool.{Bool, cond}
 use mathlib.Core.List.{List, [], _∷_, _++_, map}
@@ -76,6 +77,17 @@ columnSites s L i a = columnWord s (blockAt s L (2 * i + 1)) (blockAt s L (2 * i
 unfoldable pub words : Params → Interleavers → ℕ → List (List Site)
 words s l L = concat (groups L) (λ i. tabulate (s .M) (rowSites s l L i) ++ tabulate (s .M) (columnSites s L i))
 
+-- Of the parameters of a word's code r, t and g count.
+pub record Word : Type 0 where
+  pub code : Params
+  pub sites : List Site
+
+abbrev pub word : Params → List Site → Word
+word s w = record { code = s; sites = w }
+
+abbrev pub plain : Params → List (List Site) → List Word
+plain s ws = map (word s) ws
+
 abbrev pub read : Frame → List Site → List ℕ
 read f w = map (bitAt f) w
 
@@ -84,9 +96,12 @@ abbrev pub inCode : Params → Frame → List Site → Bool
 inCode s f w = isCodeword (s .g) (s .r) (read f w)
 
 -- "the words outside the code"
+unfoldable pub outsideEach : Frame → List Word → ℕ
+outsideEach f [] = 0
+outsideEach f (w ∷ ws) = cond (inCode (w .code) f (w .sites)) 0 1 + outsideEach f ws
+
 unfoldable pub outsideAmong : Params → Frame → List (List Site) → ℕ
-outsideAmong s f [] = 0
-outsideAmong s f (w ∷ ws) = cond (inCode s f w) 0 1 + outsideAmong s f ws
+outsideAmong s f ws = outsideEach f (plain s ws)
 
 unfoldable pub outside : Params → Interleavers → ℕ → Frame → ℕ
 outside s l L f = outsideAmong s f (words s l L)

@@ -6,6 +6,8 @@ pub mod System
 pub mod Square
 pub mod Solvable
 pub mod Decoder
+pub mod Kept
+pub mod Lines
 pub mod Rules
 pub mod Calls
 pub mod Maker

@@ -16,7 +16,7 @@ use Rattle.bch.specs.Polynomial.{remainder}
 use Rattle.bch.specs.Code.{isCodeword}
 use Rattle.staircase.specs.Lists.{tabulate, concat}
 use Rattle.staircase.specs.Design.{Params, Interleavers}
-use Rattle.staircase.specs.Frame.{Frame, Site, groups, rowSites, columnSites, words, read, outsideAmong, outside}
+use Rattle.staircase.specs.Frame.{Frame, Site, groups, rowSites, columnSites, words, read, outsideEach, outsideAmong, outside}
 use Rattle.staircase.proofs.Tabulate.{tabulate-length}
 use Rattle.staircase.proofs.Outside.{outside-append, outside-bound, outside-next}
 use Rattle.words.specs.Words.{rowRemainders, columnRemainders, nonzeros, groupWords}
@@ -32,7 +32,7 @@ module _ (l : List ℕ) where
 
 module _ (s : Params) (f : Frame) where
   remainders-outside : (n : ℕ) (w : ℕ → List Site) → nonzeros (tabulate n (λ a. remainder (s .g) (s .r) (read f (w a)))) ≡ outsideAmong s f (tabulate n w)
-  unfolding nonzeros tabulate outsideAmong isCodeword
+  unfolding nonzeros tabulate outsideEach outsideAmong isCodeword
   remainders-outside zero w = refl
   remainders-outside (suc n) w = ap (λ (k : ℕ). cond (eqb (remainder (s .g) (s .r) (read f (w zero))) 0) 0 1 + k) (remainders-outside n (λ a. w (suc a)))
 
@@ -50,7 +50,7 @@ module _ (s : Params) (f : Frame) where
         omega (arith, outside-bound s f (u ++ v), length-append u v, tabulate-length (s .M) (rowSites s l L i), tabulate-length (s .M) (columnSites s L i))
 
     pub none-yet : 0 ≡ outsideAmong s f (concat 0 (groupWords s l L))
-    unfolding concat outsideAmong
+    unfolding concat outsideEach outsideAmong
     none-yet = refl
 
     pub next-group : (i total more : ℕ) → total ≡ outsideAmong s f (concat i (groupWords s l L)) → more ≡ outsideAmong s f (groupWords s l L i)

@@ -12,21 +12,21 @@ returns c =
     let start = c .before .before .before .before .before .before .before .before in
     let p = start .pre in
     let a = start .args in
-    zero-corrected (p .0) (p .1) (a .column) (a .a) (a .remainder) (p .3) (c .if1 .taken)
+    zero-corrected (p .0) (p .1) (a .column) (a .a) (a .remainder) (p .2) (p .3) (c .if1 .taken)
 
 locate-requires : tie.Need-locate-requires
 locate-requires c κs =
     let start = c .before .before .before .before .before .before .before .before .before .before in
     let p = start .pre in
     let a = start .args in
-    rw (c .before .m .ensures, c .t .ensures) (p .0 .tables, remainder-small (p .0) (p .1) (a .column) (a .a) (a .remainder) (p .3))
+    rw (c .before .m .ensures, c .t .ensures) (p .0 .tables, remainder-small (p .0) (p .1) (a .column) (a .a) (a .remainder) (p .2) (p .3))
 
 sites-of-requires : tie.Need-sites-of-requires
 sites-of-requires c κs =
     let start = c .before .before .before .before .before .before .before .before .before .before .before in
     let p = start .pre in
     let a = start .args in
-    (p .0 .allowed, p .0 .few-blocks, p .0 .group, p .2, p .0 .lists, located-below (p .0) (p .1) (a .column) (a .a) (a .remainder) (p .3) (c .locate .result) (rw (c .before .t .ensures) at (c .locate .ensures)))
+    (p .0 .allowed, p .0 .few-blocks, p .0 .group, p .2, p .0 .lists, located-below (p .0) (p .1) (a .column) (a .a) (a .remainder) (p .2) (p .3) (c .locate .result) (rw (c .before .t .ensures) at (c .locate .ensures)))
 
 returns-2 : tie.Need-returns-2
 returns-2 c =
@@ -35,7 +35,7 @@ returns-2 c =
     let a = start .args in
     let locate = c .before .before .before .locate in
     let sites-of = c .before .before .sites-of in
-    none-corrected (p .0) (p .1) (a .column) (a .a) (a .remainder) (p .3) (locate .result) (rw (c .before .before .before .before .t .ensures) at (locate .ensures)) (sites-of .ensures .0)
+    none-corrected (p .0) (p .1) (a .column) (a .a) (a .remainder) (p .2) (p .3) (locate .result) (rw (c .before .before .before .before .t .ensures) at (locate .ensures)) (sites-of .ensures .0)
     (sym (c .before .all-sent .ensures) ∙ not-true (c .before .all-sent .result) (c .if2 .taken))
 
 flip-all-requires : tie.Need-flip-all-requires
@@ -53,7 +53,7 @@ returns-3 c =
     let locate = c .before .before .before .before .before .before .before .before .before .before .locate in
     let sites-of = c .before .before .before .before .before .before .before .before .before .sites-of in
     let all-sent = c .before .before .before .before .before .before .before .before .all-sent in
-    all-corrected (p .0) (p .1) (a .column) (a .a) (a .remainder) (p .3) (locate .result) (rw (c .before .before .before .before .before .before .before .before .before .before .before .t .ensures) at (locate .ensures)) (sites-of .ensures .0)
+    all-corrected (p .0) (p .1) (a .column) (a .a) (a .remainder) (p .2) (p .3) (locate .result) (rw (c .before .before .before .before .before .before .before .before .before .before .before .t .ensures) at (locate .ensures)) (sites-of .ensures .0)
     (sym (all-sent .ensures) ∙ not-false (all-sent .result) (c .before .before .before .before .before .before .before .if2 .left)) (c .before .before .before .before .flip-all .ensures) (sites-of .ensures .1)
 
 pub correct-word-spec : {M : Type 1} → statement M

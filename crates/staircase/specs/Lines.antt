@@ -1,0 +1,57 @@
+-- A frame's words as lines, which the decoder goes through: line 2i has the row words of the group that i groups precede, line 2i + 1 its column
+-- words. Line k has bits of blocks k and k + 1 (block 0 is B0), so a bit of block b, b from 1, stands in line b - 1, in the second stretch of its
+-- word, and in line b, in the first.
+--   even               the kind of a line: row words for an even number
+--   lineSites          the sites of word a of line k
+--   wordCount, frameWord   the words of a frame by their numbers, k × M + a
+--   Incidence          a line, a word of it and a position of that: where a word has a bit
+--   along, partner     from the place of a redundancy bit in its row word to that in its column word, and back
+--   crossing           the other word that has the bit at a position of a word, and the position
+-- Assumes nothing.
+use mathlib.Core.Bool.{Bool, cond}
+use mathlib.Core.List.{List}
+use Prim.Native.Nat.{ℕ, _+_, _-_, _*_, _/_, _%_}
+use lib.Dec.{eqb, ltb}
+use lib.ListN.{getD}
+use Rattle.staircase.specs.Design.{Params, Interleavers, order}
+use Rattle.staircase.specs.System.{preimage}
+use Rattle.staircase.specs.Frame.{Site, Word, word, groups, rowSites, columnSites}
+
+abbrev pub even : ℕ → Bool
+even k = eqb (k % 2) 0
+
+unfoldable pub lineSites : Params → Interleavers → ℕ → ℕ → ℕ → List Site
+lineSites s l L k a = cond (even k) (rowSites s l L (k / 2) a) (columnSites s L (k / 2) a)
+
+abbrev pub wordCount : Params → ℕ → ℕ
+wordCount s L = 2 * groups L * s .M
+
+abbrev pub frameWord : Params → Interleavers → ℕ → ℕ → Word
+frameWord s l L w = word s (lineSites s l L (w / s .M) (w % s .M))
+
+pub record Incidence : Type 0 where
+  pub line : ℕ
+  pub word : ℕ
+  pub position : ℕ
+
+abbrev pub incidence : ℕ → ℕ → ℕ → Incidence
+incidence k a p = record { line = k; word = a; position = p }
+
+-- where a list sends a place; and back, the place that it sends there
+abbrev pub along : List ℕ → ℕ → Bool → ℕ → ℕ
+along list n forth q = cond forth (getD list q 0) (preimage list n q)
+
+-- Places of X and then of Q, column by column, counted on as those of one matrix, and so those of Y and then of P: from a place of the first to that
+-- of the same bit in the second (forth, for row words), and back (for column words).
+unfoldable pub partner : Params → Interleavers → Bool → ℕ → ℕ
+partner s l forth q =
+    let n : ℕ = order s in
+    cond (ltb q n) (along (l .self) n forth q) (n + along (l .parity) n forth (q - n))
+
+-- Word a of line k has at position p of its first stretch what word p of line k - 1 has at position a of its second.
+unfoldable pub crossing : Params → Interleavers → ℕ → ℕ → ℕ → Incidence
+crossing s l k a p =
+    let q : ℕ = partner s l (even k) ((p - 2 * s .M) * s .M + a) in
+    cond (ltb p (s .M)) (incidence (k - 1) p (s .M + a))
+    (cond (ltb p (2 * s .M)) (incidence (k + 1) (p - s .M) a)
+    (incidence (cond (even k) (k + 1) (k - 1)) (q % s .M) (2 * s .M + q / s .M)))
