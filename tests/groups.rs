@@ -915,10 +915,12 @@ fn load_rows(case: &mut Case) {
     case.same("the first draw from seed 0", 13_821, Generator(0).draw());
     let kit = kit_k();
     let four = Lent::new(&kit, 4, vec![255; 4], vec![0; 16]);
-    case.same("four blocks under K", (bits_of("0011"), 0xAAF9_5334), case.load_fill(&four, 0));
+    let filled = case.load_fill(&four, 0);
+    case.same("four blocks under K", (bits_of("0011"), 0xAAF9_5334), filled);
     let two = Lent::new(&kit, 2, bits_of("01"), bits_of("0001 0110"));
     for (limit, info, red) in [(13_822, "11", "0011 0101"), (13_821, "01", "0011 0101"), (0, "01", "0001 0110"), (65_536, "10", "1110 1001")] {
-        case.same("errors from seed 0", (bits_of(info), bits_of(red), 451_923_744), case.load_errors(&two, 0, limit));
+        let left = case.load_errors(&two, 0, limit);
+        case.same("errors from seed 0", (bits_of(info), bits_of(red), 451_923_744), left);
     }
     for (place, length, info, red) in [
         (1, 3, "00", "1101 0110"),
@@ -927,7 +929,8 @@ fn load_rows(case: &mut Case) {
         (u64::MAX, u64::MAX, "01", "0001 0110"),
         (0, u64::MAX, "10", "1110 1001"),
     ] {
-        case.same("a run", (bits_of(info), bits_of(red)), case.load_run(&two, place, length));
+        let left = case.load_run(&two, place, length);
+        case.same("a run", (bits_of(info), bits_of(red)), left);
     }
     // README, "The same frames on two benches"
     let text = include_bytes!("../examples/five/kit.txt");
@@ -973,7 +976,8 @@ fn loads(case: &mut Case) {
         if limit >= 65_536 {
             case.check("every bit turned", lent.info.iter().zip(&turned.info).all(|(a, b)| a ^ b == 1));
         }
-        case.same("turned back", (lent.info.clone(), lent.red.clone(), state), case.load_errors(&turned, seed, limit));
+        let back = case.load_errors(&turned, seed, limit);
+        case.same("turned back", (lent.info.clone(), lent.red.clone(), state), back);
     }
     for place in [0, 1, border - 1, border, border + 1, count - 1, count, count + 1, 1 << 32, 1 << 63, u64::MAX - 1, u64::MAX] {
         for length in [0, 1, 2, border, count, 1 << 32, 1 << 63, u64::MAX - 1, u64::MAX] {
