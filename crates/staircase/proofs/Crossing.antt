@@ -20,6 +20,7 @@ use Rattle.staircase.specs.Frame.{Site, blockAt}
 use Rattle.staircase.specs.Frame.Site.{unsent, inInfo, inRed}
 use Rattle.staircase.specs.Demand2.{Permutes}
 use Rattle.staircase.specs.Lines.{even, lineSites, Incidence, incidence, partner, crossing}
+use Rattle.staircase.proofs.Search.{cond-true, cond-false}
 use Rattle.staircase.proofs.Flip.{Sent}
 use Rattle.staircase.proofs.System.{Proper}
 use Rattle.staircase.proofs.Sites.{block-sent}
@@ -28,27 +29,19 @@ use Rattle.staircase.proofs.Lines.{even-twice, odd-twice, even-next, li
 -- ---- the crossing word, as code finds it
 
 module _ (s : Params) (l : Interleavers) (k a p : ℕ) where
-  abbrev q : ℕ
-  q = partner s l (even k) ((p - 2 * s .M) * s .M + a)
-
-  abbrev crossed : Bool → Bool → Incidence
-  crossed b c =
-      cond b (incidence (k - 1) p (s .M + a)) (cond c (incidence (k + 1) (p - s .M) a) (incidence (cond (even k) (k + 1) (k - 1)) (q % s .M) (2 * s .M + q / s .M)))
-
-  crossing-cases : (b c : Bool) → ltb p (s .M) ≡ b → ltb p (2 * s .M) ≡ c → crossing s l k a p ≡ crossed b c
-  unfolding crossing
-  crossing-cases b c e d = ap₂ crossed e d
-
   pub crossing-first : p < s .M → crossing s l k a p ≡ incidence (k - 1) p (s .M + a)
-  crossing-first h = crossing-cases true true (lt-ltb p (s .M) h) (lt-ltb p (2 * s .M) (omega arith))
+  unfolding crossing
+  crossing-first h = cond-true (ltb p (s .M)) _ _ (lt-ltb p (s .M) h)
 
   pub crossing-second : s .M ≤ p → p < 2 * s .M → crossing s l k a p ≡ incidence (k + 1) (p - s .M) a
-  crossing-second low h = crossing-cases false true (le-ltb p (s .M) low) (lt-ltb p (2 * s .M) h)
+  unfolding crossing
+  crossing-second low h = cond-false (ltb p (s .M)) _ _ (le-ltb p (s .M) low) ∙ cond-true (ltb p (2 * s .M)) _ _ (lt-ltb p (2 * s .M) h)
 
   pub crossing-red : 2 * s .M ≤ p → crossing s l k a p
       ≡ incidence (cond (even k) (k + 1) (k - 1)) (partner s l (even k) ((p - 2 * s .M) * s .M + a) % s .M)
       (2 * s .M + partner s l (even k) ((p - 2 * s .M) * s .M + a) / s .M)
-  crossing-red low = crossing-cases false false (le-ltb p (s .M) (omega arith)) (le-ltb p (2 * s .M) low)
+  unfolding crossing
+  crossing-red low = cond-false (ltb p (s .M)) _ _ (le-ltb p (s .M) (omega arith)) ∙ cond-false (ltb p (2 * s .M)) _ _ (le-ltb p (2 * s .M) low)
 
 -- ---- the crossing word has the bit
 

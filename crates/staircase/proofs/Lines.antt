@@ -14,6 +14,7 @@ use native.Mathlib.Decide.{decLt}
 use native.Mathlib.Numerals.{add-one}
 use native.Mathlib.Omega.{arith}
 use lib.Arith.{digits-lt, digits-div, digits-mod}
+use lib.Dec.{ltb}
 use lib.ListN.{getD}
 use borrow.Author.Tests.{eq-eqb, ne-eqb, lt-ltb, le-ltb}
 use Rattle.staircase.specs.Lists.{tabulate, concat}
@@ -22,6 +23,7 @@ use Rattle.staircase.specs.Frame.{Site, groups, blockAt, rowSites, colum
 use Rattle.staircase.specs.Frame.Site.{unsent, inRed}
 use Rattle.staircase.specs.Demand2.{Permutes}
 use Rattle.staircase.specs.Lines.{even, lineSites, wordCount, frameWord, along, partner}
+use Rattle.staircase.proofs.Search.{cond-true, cond-false}
 use Rattle.staircase.proofs.Tabulate.{tabulate-same, tabulate-append, concat-last, concat-same}
 use Rattle.staircase.proofs.Permutation.{preimage-sent, preimage-of}
 use Rattle.staircase.proofs.System.{Proper, place-lt}
@@ -104,13 +106,13 @@ red-place s a p ha low hp =
     omega (arith, h, c)
 
 module _ (list : List ℕ) (n : ℕ) (P : Permutes n (λ p. getD list p 0)) where
-  along-below : (forth : Bool) (q : ℕ) → q < n → along list n forth q < n
-  along-below true q h = P .below q h
-  along-below false q h = preimage-sent list n P q h .0
-
   along-back : (forth : Bool) (q : ℕ) → q < n → along list n (not forth) (along list n forth q) ≡ q
   along-back true q h = preimage-of list n P q h
   along-back false q h = preimage-sent list n P q h .1
+
+  along-below : (forth : Bool) (q : ℕ) → q < n → along list n forth q < n
+  along-below true q h = P .below q h
+  along-below false q h = preimage-sent list n P q h .0
 
 module _ (s : Params) (l : Interleavers) where
   abbrev n : ℕ
@@ -118,14 +120,13 @@ module _ (s : Params) (l : Interleavers) where
 
   pub partner-y : (forth : Bool) (q : ℕ) → q < order s → partner s l forth q ≡ along (l .self) (order s) forth q
   unfolding partner
-  partner-y forth q h = ap (λ (z : Bool). cond z (along (l .self) n forth q) (n + along (l .parity) n forth (q - n))) (lt-ltb q n h)
+  partner-y forth q h = cond-true (ltb q n) _ _ (lt-ltb q n h)
 
   pub partner-p : (forth : Bool) (q x : ℕ) → q ≡ order s + x → partner s l forth q ≡ order s + along (l .parity) (order s) forth x
   unfolding partner
   partner-p forth q x e =
       let back : q - n ≡ x = omega (arith, e) in
-      ap (λ (z : Bool). cond z (along (l .self) n forth q) (n + along (l .parity) n forth (q - n))) (le-ltb q n (omega (arith, e)))
-      ∙ ap (λ (z : ℕ). n + along (l .parity) n forth z) back
+      cond-false (ltb q n) _ _ (le-ltb q n (omega (arith, e))) ∙ ap (λ (z : ℕ). n + along (l .parity) n forth z) back
 
   module _ (ps : Permutes (order s) (λ p. getD (l .self) p 0)) (pp : Permutes (order s) (λ p. getD (l .parity) p 0)) where
     pub partner-below : (forth : Bool) (q : ℕ) → q < 2 * order s → partner s l forth q < 2 * order s

@@ -24,7 +24,7 @@ use Rattle.staircase.specs.Design.{Params}
 use Rattle.staircase.specs.Frame.{Frame, Site, bitAt, flip, read}
 use Rattle.staircase.specs.Frame.Site.{unsent, inInfo, inRed}
 use Rattle.staircase.specs.Decoder.{errorPositions, allSent, sameSite, occurrences, everyOccurrence, once, permitted, correction, flipAll}
-use Rattle.staircase.proofs.Search.{cond-ind, bool?}
+use Rattle.staircase.proofs.Search.{cond-ind, cond-true, cond-false, bool?}
 use Rattle.staircase.proofs.Member.{In, in?, Sub, done, skip, keep}
 use Rattle.staircase.proofs.Flip.{Sent, allSent-each, each-allSent, Within, Received, flipAll-received, flipAll-other, flip-same, flip-other, received-within, Distinct, site?, read-length}
 use Rattle.staircase.proofs.Errors.{errorsAt, errors, errorPositions-positions}
@@ -77,7 +77,8 @@ pub everyOccurrence-all : (w c d : List Site) → ((x : Site) → In x d → occ
 unfolding everyOccurrence
 everyOccurrence-all w c [] h = refl
 everyOccurrence-all w c (x ∷ d) h =
-    ap (λ (z : Bool). cond z (everyOccurrence w c d) false) (eq-eqb (occurrences x c) (occurrences x w) (h x (inl refl))) ∙ everyOccurrence-all w c d (λ y i. h y (inr i))
+    cond-true (eqb (occurrences x c) (occurrences x w)) _ _ (eq-eqb (occurrences x c) (occurrences x w) (h x (inl refl)))
+    ∙ everyOccurrence-all w c d (λ y i. h y (inr i))
 
 pub everyOccurrence-each : (w c d : List Site) → everyOccurrence w c d ≡ true → (x : Site) → In x d → occurrences x c ≡ occurrences x w
 unfolding everyOccurrence
@@ -85,9 +86,9 @@ everyOccurrence-each w c (y ∷ d) h x i = go (bool? (eqb (occurrences y c) (occ
   where
     go : (eqb (occurrences y c) (occurrences y w) ≡ true) ⊎ (eqb (occurrences y c) (occurrences y w) ≡ false) → In x (y ∷ d)
         → (everyOccurrence w c d ≡ true → In x d → occurrences x c ≡ occurrences x w) → occurrences x c ≡ occurrences x w
-    go (inr q) i rest = absurd (true≢false (sym h ∙ ap (λ (z : Bool). cond z (everyOccurrence w c d) false) q))
+    go (inr q) i rest = absurd (true≢false (sym h ∙ cond-false (eqb (occurrences y c) (occurrences y w)) _ _ q))
     go (inl q) (inl e) rest = subst (λ (z : Site). occurrences z c ≡ occurrences z w) (sym e) (eqb-true (occurrences y c) (occurrences y w) q)
-    go (inl q) (inr j) rest = rest (sym (ap (λ (z : Bool). cond z (everyOccurrence w c d) false) q) ∙ h) j
+    go (inl q) (inr j) rest = rest (sym (cond-true (eqb (occurrences y c) (occurrences y w)) _ _ q) ∙ h) j
 
 -- ---- each site once
 
@@ -149,12 +150,11 @@ module _ (w c : List Site) where
   pub permitted-all : ((y : Site) → In y c → Sent y) → ((y : Site) → In y c → occurrences y c ≡ occurrences y w) → permitted w c ≡ once c
   unfolding permitted
   permitted-all sent every =
-      ap (λ (z : Bool). cond z (cond (everyOccurrence w c c) (once c) []) []) (each-allSent c sent)
-      ∙ ap (λ (z : Bool). cond z (once c) []) (everyOccurrence-all w c c every)
+      cond-true (allSent c) _ _ (each-allSent c sent) ∙ cond-true (everyOccurrence w c c) _ _ (everyOccurrence-all w c c every)
 
   permitted-unsent : allSent c ≡ false → permitted w c ≡ []
   unfolding permitted
-  permitted-unsent e = ap (λ (z : Bool). cond z (cond (everyOccurrence w c c) (once c) []) []) e
+  permitted-unsent e = cond-false (allSent c) _ _ e
 
   pub permitted-ind : (F : List Site → Type 0) → (allSent c ≡ true → everyOccurrence w c c ≡ true → F (once c)) → F [] → F (permitted w c)
   unfolding permitted

@@ -1,5 +1,5 @@
 -- Tests, and the first place that passes one.
---   bool?, cond-ind     the two cases of a test
+--   bool?, cond-ind, cond-true, cond-false   the two cases of a test
 --   firstWhere-le       at most n
 --   firstWhere-found    a place that passes is found, at it or before it
 --   firstWhere-none     n where no place passes
@@ -22,6 +22,12 @@ use Rattle.staircase.specs.Lists.{firstWhere}
 pub cond-ind : {A : Type 0} (P : A → Type 0) (z : Bool) (a b : A) → (z ≡ true → P a) → (z ≡ false → P b) → P (cond z a b)
 cond-ind P true a b h k = h refl
 cond-ind P false a b h k = k refl
+
+pub cond-true : {A : Type 0} (z : Bool) (a b : A) → z ≡ true → cond z a b ≡ a
+cond-true z a b e = ap (λ (y : Bool). cond y a b) e
+
+pub cond-false : {A : Type 0} (z : Bool) (a b : A) → z ≡ false → cond z a b ≡ b
+cond-false z a b e = ap (λ (y : Bool). cond y a b) e
 
 pub bool? : (z : Bool) → (z ≡ true) ⊎ (z ≡ false)
 bool? true = inl refl

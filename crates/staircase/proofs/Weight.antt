@@ -4,7 +4,7 @@
 --   weight-at      the one power, in a word in which no sent site stands twice
 -- Assumes nothing.
 use mathlib.Core.Path.{_≡_, sym, ap, ap₂, _∙_, subst, refl}
-use mathlib.Core.Bool.{Bool, cond}
+use mathlib.Core.Bool.{cond}
 use mathlib.Core.Logic.{_≢_, _⊎_, inl, inr}
 use mathlib.Core.List.{List, [], _∷_}
 use Prim.Native.Nat.{ℕ, zero, suc, _-_, _*_, _<_}
@@ -20,6 +20,7 @@ use Rattle.bch.proofs.Word.{horner-cons}
 use Rattle.staircase.specs.Frame.{Frame, Site, bitAt, flip, read}
 use Rattle.staircase.specs.Frame.Site.{unsent}
 use Rattle.staircase.specs.Decoder.{sameSite}
+use Rattle.staircase.proofs.Search.{cond-true, cond-false}
 use Rattle.staircase.proofs.Member.{In}
 use Rattle.staircase.proofs.Flip.{Sent, Within, flip-same, flip-other, read-length, Distinct, site?, site-in}
 use Rattle.staircase.proofs.Occurrences.{same-site, other-site}
@@ -55,12 +56,12 @@ module _ (g r : ℕ) where
 
   weight-here : (x y : Site) (w : List Site) → x ≡ y → weight g r x (y ∷ w) ≡ powerMod g r (length w) ⊕ weight g r x w
   unfolding weight
-  weight-here x y w e = ap (λ (z : Bool). cond z (powerMod g r (length w)) 0 ⊕ weight g r x w) (same-site x y e)
+  weight-here x y w e = ap (λ (z : ℕ). z ⊕ weight g r x w) (cond-true (sameSite x y) _ _ (same-site x y e))
 
   weight-other : (x y : Site) (w : List Site) → x ≢ y → weight g r x (y ∷ w) ≡ weight g r x w
   unfolding weight
   weight-other x y w d =
-      ap (λ (z : Bool). cond z (powerMod g r (length w)) 0 ⊕ weight g r x w) (other-site x y d) ∙ ⊕-zero-left (weight g r x w)
+      ap (λ (z : ℕ). z ⊕ weight g r x w) (cond-false (sameSite x y) _ _ (other-site x y d)) ∙ ⊕-zero-left (weight g r x w)
 
   weight-none : (x : Site) (w : List Site) → ¬ In x w → weight g r x w ≡ 0
   weight-none x [] n = weight-nil x

@@ -4,6 +4,7 @@
 --   errorPositions             where the codeword within t changes differs from a word
 --   flipAll                    a frame with the bits at some sites flipped
 --   occurrences                how often a site stands in a word
+--   everyOccurrence, once, permitted   which of the sites of a word's errors may be flipped
 --   correction                 the sites that correcting a word flips
 --   correctWord                a word corrected, with the number of flips
 --   correctEach, roundOf, runEach      words one after the other, a round, and rounds until one is idle or all are made

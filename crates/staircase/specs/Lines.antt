@@ -48,7 +48,8 @@ partner s l forth q =
     let n : ℕ = order s in
     cond (ltb q n) (along (l .self) n forth q) (n + along (l .parity) n forth (q - n))
 
--- Word a of line k has at position p of its first stretch what word p of line k - 1 has at position a of its second.
+-- Word a of line k has at position p of its first stretch what word p of line k - 1 has at position a of its second; a bit of the redundancy stands
+-- in the group's other line.
 unfoldable pub crossing : Params → Interleavers → ℕ → ℕ → ℕ → Incidence
 crossing s l k a p =
     let q : ℕ = partner s l (even k) ((p - 2 * s .M) * s .M + a) in
