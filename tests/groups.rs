@@ -941,6 +941,7 @@ fn load_rows(case: &mut Case) {
     let mut lent = Lent::new(&kit, blocks, vec![0; info_len(&d, blocks)], vec![0; red_len(&d, blocks)]);
     let (info, state) = case.load_fill(&lent, 1);
     case.same("the state after the information", 0x2830_2492, state);
+    case.same("ones of the information", 399, info.iter().filter(|&&bit| bit == 1).count());
     lent.info = info;
     case.encode(&lent);
     lent.red = encode(&kit, blocks as u64, &lent.info, lent.red.len(), lent.kit_work).unwrap();
