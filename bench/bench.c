@@ -200,7 +200,7 @@ int main(void)
                check[1], check[0], check[1] / check[0], ours, plain, ours / plain);
         printf("  a bad last byte refused in %.0f us, %.2f of the kit check; its bytes searched plainly in %.0f us, ratio %.2f\n", bad[1] * 1e6,
                bad[1] / check[1], bad[0] * 1e6, bad[1] / bad[0]);
-        if (i == 0)
+        if (M == 72)
             differ |= time_batch(m, t, M, &s, self, parity, inverse, info);     /* LONG blocks are more than FRAMES frames of two */
         differ |= time_kit(m, t, M, &s, self, parity, inverse);
         memcpy(info + SHORT * area, red, SHORT / 2 * group);    /* the first blocks and groups are a frame by themselves */
