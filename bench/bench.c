@@ -279,7 +279,7 @@ int main(void)
                ours * 1e6, plain * 1e6, ours / plain, encode[1][0] * 1e6, encode[1][0] / ours);
         printf("  a bad last byte refused in %.0f us, %.2f of the kit check; its bytes searched plainly in %.0f us, ratio %.2f\n", bad[1] * 1e6,
                bad[1] / check[1], bad[0] * 1e6, bad[1] / bad[0]);
-        if (i == 0)
+        if (M == 72)
             differ |= time_batch(m, t, M, &s, self, parity, inverse, info);     /* LONG blocks are more than BATCH frames of two */
         differ |= time_kit(m, t, M, &s, self, parity, inverse);
         differ |= time_frames(m, t, M, &s, self, parity, inverse);

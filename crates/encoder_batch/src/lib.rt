@@ -85,14 +85,7 @@ pub fn encode_batch(
     let Check::Passed = checked else {
         return checked;
     };
-    encoder_frame::make_redundancy(
-        d,
-        blocks as usize,
-        frames as usize,
-        parity,
-        inverse,
-        info,
-        red,
-    );
+    let count = frames as usize;
+    encoder_frame::make_redundancy(d, blocks as usize, count, parity, inverse, info, red);
     checked
 }
