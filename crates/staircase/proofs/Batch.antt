@@ -4,7 +4,7 @@
 --   batch-one, batch-single              the redundancy of a single frame, and the call on it
 --   batch-limits                         rule 17
 --   batch-given                          of an accepted batch each frame is as demand 3 takes it for given
---   batch-made                           what an accepted call leaves
+--   batch-few, batch-made, batch-long    the number of frames of an accepted batch, what it leaves, and how long that is
 --   batch-alone, batch-refused, batch-accepted, batch-others, batch-reach   the promises
 --   batch-frames                         all of them
 -- Assumes nothing.

@@ -1,8 +1,9 @@
 -- Document 02, U9: "Either every frame is encoded as it would be alone, or none is touched. A block changed in one frame alters no other frame's
 -- groups, and within its own only those already named for single frames." The theorem is `batch-frames` in proofs/Batch.antt. Frames and groups are
 -- counted from 0 here.
---   encodeBatch   the call on n frames under a kit
---   BatchFrames   the claim
+--   encodeBatch     the call on n frames under a kit
+--   infoAt, redAt   frame f of the information, and of the redundancy
+--   BatchFrames     the claim
 -- Assumes nothing.
 use mathlib.Core.Path.{_≡_}
 use mathlib.Core.Logic.{_≢_, _↔_}
@@ -20,7 +21,6 @@ use Rattle.staircase.specs.Demand3.{Kit, sizes, encode, SameBut, SameBut
 abbrev pub encodeBatch : Kit → ℕ → ℕ → List ℕ → List ℕ → ℕ → Encoded
 encodeBatch K L n info red work = batchCall (K .m) (K .t) (K .M) L n (K .self) (K .parity) (K .inverse) info red work
 
--- frame f of the information, and of the redundancy
 abbrev pub infoAt : Kit → ℕ → List ℕ → ℕ → List ℕ
 infoAt K L info f = frameAt (infoLength (sizes K) L) info f
 
