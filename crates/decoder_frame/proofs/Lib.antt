@@ -1,0 +1,4 @@
+pub mod Tables
+pub mod Numbers
+pub mod Limit
+pub mod Lines

@@ -1,0 +1,203 @@
+-- The kept numbers of a frame, filled, and counted.
+--   row-sums, column-sums    the remainders of a line's words
+--   put-more                 one number more
+--   line-filled, line-stored a line more
+--   filled-keeps             the remainders of all words, as kept numbers
+--   kept-outside             the words outside the code are those whose number is not 0
+-- Assumes nothing.
+use mathlib.Core.Path.{_≡_, refl, sym, ap, ap₂, _∙_, subst, subst⁻¹}
+use mathlib.Core.Bool.{Bool, true, cond, true≢false}
+use mathlib.Core.Logic.{_≢_}
+use mathlib.Core.List.{List, [], _∷_, _++_}
+use Prim.Native.Nat.{ℕ, zero, suc, _+_, _-_, _*_, _/_, _%_, _^_, _≤_, _<_}
+use native.Mathlib.Nat.{mod-eq-of-lt, add-zero}
+use native.Mathlib.Decide.{decLt, ℕ-discrete}
+use native.Mathlib.Omega.{arith}
+use lib.Dec.{eqb, leb}
+use lib.Pow.{pow-mono}
+use lib.ListN.{length, getD, take, drop, length-drop}
+use lib.Seq.{take-all, drop-at}
+use borrow.Author.Tests.{eq-eqb, ne-eqb, lt-leb}
+use Rattle.bch.specs.Polynomial.{remainder}
+use Rattle.bch.specs.Code.{isCodeword}
+use Rattle.bch.proofs.Word.{remainder-below}
+use Rattle.staircase.specs.Lists.{tabulate}
+use Rattle.staircase.specs.Design.{Params, Interleavers}
+use Rattle.staircase.specs.Frame.{Frame, Site, frameOf, read, rowSites, columnSites, outsideAmong, outside}
+use Rattle.staircase.specs.Lines.{lineSites, wordCount, frameWord}
+use Rattle.staircase.proofs.Tabulate.{tabulate-length, tabulate-at, tabulate-last}
+use Rattle.staircase.proofs.Flip.{read-bits}
+use Rattle.staircase.proofs.Fill.{front-last}
+use Rattle.staircase.proofs.Outside.{outside-append}
+use Rattle.staircase.proofs.Lines.{words-numbered}
+use Rattle.staircase.proofs.KeptFrame.{word-number}
+use Rattle.design.specs.declared.Design.{Design}
+use Rattle.design.specs.Answers.{Allowed}
+use Rattle.design.specs.Sizes.{paramsOf, orderOf, listsOf}
+use Rattle.design.proofs.Allowed.{proper-of, r-small}
+use Rattle.rules.specs.Received.{FrameFits}
+use Rattle.words_positions.proofs.Parts.{part-is}
+use Rattle.words.specs.Words.{rowRemainders, columnRemainders}
+use Rattle.decoder_kept.specs.Numbers.{keptAt, numberAt, OnlyAt, nonzeroNumbers}
+use Rattle.decoder_lines.specs.declared.Line.{Line}
+use Rattle.decoder_lines.specs.Links.{listsIn}
+use Rattle.decoder_words.specs.Ready.{FrameKept}
+use Rattle.decoder_words.proofs.Flips.{received}
+use Rattle.decoder_frame.specs.Filled.{lineRemainder, Filled, PutFrom}
+
+-- ---- the remainders of a line
+
+module _ (line : Line) (own parity : List ℕ) (f : Frame) where
+  abbrev s : Params
+  s = paramsOf (line .d)
+
+  abbrev l : Interleavers
+  l = listsOf (line .d) own parity
+
+  pub row-sums : {u : List ℕ} → line .k % 2 ≡ 0 → u ≡ rowRemainders (paramsOf (line .d)) (listsOf (line .d) own parity) (line .blocks) f (line .k / 2)
+      → u ≡ tabulate (line .d .size) (lineRemainder line own parity f)
+  unfolding rowRemainders lineSites
+  row-sums e h =
+      h ∙ ap (λ (z : Bool). tabulate (s .M) (λ a. remainder (s .g) (s .r) (read f (cond z (rowSites s l (line .blocks) (line .k / 2) a) (columnSites s (line .blocks) (line .k / 2) a)))))
+      (sym (eq-eqb (line .k % 2) 0 e))
+
+  pub column-sums : {u : List ℕ} → line .k % 2 ≢ 0 → u ≡ columnRemainders (paramsOf (line .d)) (line .blocks) f (line .k / 2)
+      → u ≡ tabulate (line .d .size) (lineRemainder line own parity f)
+  unfolding columnRemainders lineSites
+  column-sums e h =
+      h ∙ ap (λ (z : Bool). tabulate (s .M) (λ a. remainder (s .g) (s .r) (read f (cond z (rowSites s l (line .blocks) (line .k / 2) a) (columnSites s (line .blocks) (line .k / 2) a)))))
+      (sym (ne-eqb (line .k % 2) 0 e))
+
+-- ---- a line's numbers
+
+pub put-more : (sums : List ℕ) (from n : ℕ) (b m a : List ℕ) → ((k : ℕ) → k < n → keptAt m (from + k) ≡ getD sums k 0) → ((w : ℕ) → w < from → keptAt m w ≡ keptAt b w)
+    → OnlyAt m a (from + n) (getD sums n 0)
+    → ((k : ℕ) → k < n + 1 → keptAt a (from + k) ≡ getD sums k 0) × ((w : ℕ) → w < from → keptAt a w ≡ keptAt b w)
+put-more sums from n b m a here before O = (more, λ w h. O .others w (λ e. omega (arith, e, h)) ∙ before w h)
+  where
+    more : (k : ℕ) → k < n + 1 → keptAt a (from + k) ≡ getD sums k 0
+    more k h = go (ℕ-discrete k n)
+      where
+        go : Dec (k ≡ n) → keptAt a (from + k) ≡ getD sums k 0
+        go (yes e) = ap (λ (j : ℕ). keptAt a (from + j)) e ∙ O .here ∙ ap (λ (j : ℕ). getD sums j 0) (sym e)
+        go (no e) = O .others (from + k) (λ d. e (omega (arith, d))) ∙ here k (omega arith)
+
+pub line-filled : (line : Line) (own parity : List ℕ) (f : Frame) {sums b a : List ℕ} {from : ℕ} → from ≡ line .k * line .d .size
+    → sums ≡ tabulate (line .d .size) (lineRemainder line own parity f) → PutFrom sums from b a → Filled line own parity f b (line .k * line .d .size)
+    → Filled line own parity f a (line .k * line .d .size + line .d .size)
+line-filled line own parity f {sums} {b} {a} {from} ef es P F w hw = go (decLt w (line .k * line .d .size))
+  where
+    M : ℕ
+    M = line .d .size
+
+    long : length sums ≡ M
+    long = ap length es ∙ tabulate-length M (lineRemainder line own parity f)
+
+    right : ℕ → ℕ
+    right v =
+        remainder (paramsOf (line .d) .g) (paramsOf (line .d) .r)
+        (read f (frameWord (paramsOf (line .d)) (listsOf (line .d) own parity) (line .blocks) v .sites))
+
+    go : Dec (w < line .k * line .d .size) → keptAt a w ≡ right w
+    go (yes h) = P .before w (omega (arith, h, ef)) ∙ F w h
+    go (no h) =
+        let j : ℕ = w - line .k * M in
+        let hj : j < M = omega (arith, hw, h) in
+        let at : from + j ≡ w = omega (arith, ef, h) in
+        let num : line .k * M + j ≡ w = omega (arith, h) in
+        ap (keptAt a) (sym at) ∙ P .here j (omega (arith, long, hj)) ∙ ap (λ (l : List ℕ). getD l j 0) es
+        ∙ tabulate-at M (lineRemainder line own parity f) 0 j hj
+        ∙ ap (λ (v : List Site). remainder (paramsOf (line .d) .g) (paramsOf (line .d) .r) (read f v))
+        (sym (word-number (paramsOf (line .d)) (listsOf (line .d) own parity) (line .blocks) (line .k) j hj))
+        ∙ ap right num
+
+-- the numbers stand behind n working bytes: these were lent and came back as W, then the numbers as B
+pub line-stored : (line : Line) (own parity : List ℕ) (f : Frame) (S E W work B : List ℕ) (n size all from : ℕ) → n ≡ orderOf (line .d) → size ≡ line .d .size
+    → all ≡ length work → n ≤ all → length W ≡ n → from ≡ line .k * line .d .size → S ≡ tabulate (line .d .size) (lineRemainder line own parity f)
+    → PutFrom (take (size - 0) (drop 0 (S ++ E))) from (take (all - n) (drop n (W ++ drop (n - 0) work))) B
+    → Filled line own parity f (drop (orderOf (line .d)) work) (line .k * line .d .size)
+    → Filled line own parity f (drop (orderOf (line .d)) (take n (W ++ drop (n - 0) work) ++ (B ++ drop (all - n) (drop n (W ++ drop (n - 0) work)))))
+    (line .k * line .d .size + line .d .size)
+line-stored line own parity f S E W work B n size all from en em ea le lw ef es P F =
+    subst⁻¹ (λ (b : List ℕ). Filled line own parity f b (line .k * line .d .size + line .d .size)) left
+    (line-filled line own parity f ef es
+    (subst (λ (u : List ℕ). PutFrom S from u B) lent (subst (λ (u : List ℕ). PutFrom u from (take (all - n) (drop n (W ++ drop (n - 0) work))) B) (part-is S E size ls) P)) F)
+  where
+    ls : length S ≡ size
+    ls = ap length es ∙ tabulate-length (line .d .size) (lineRemainder line own parity f) ∙ sym em
+
+    same : n - 0 ≡ orderOf (line .d)
+    same = omega (arith, en)
+
+    lent : take (all - n) (drop n (W ++ drop (n - 0) work)) ≡ drop (orderOf (line .d)) work
+    lent =
+        ap (take (all - n)) (drop-at W (drop (n - 0) work) n lw) ∙ take-all (all - n) (drop (n - 0) work) (omega (arith, length-drop (n - 0) work, ea))
+        ∙ ap (λ (k : ℕ). drop k work) same
+
+    left : drop (orderOf (line .d)) (take n (W ++ drop (n - 0) work) ++ (B ++ drop (all - n) (drop n (W ++ drop (n - 0) work)))) ≡ B
+    left =
+        ap (drop (orderOf (line .d))) (front-last W (drop (n - 0) work) B n (all - n) lw (omega (arith, length-drop (n - 0) work, ea)))
+        ∙ drop-at W B (orderOf (line .d)) (lw ∙ en)
+
+-- ---- all numbers
+
+module _ (line : Line) (own parity links : List ℕ) {info red : List ℕ} (A : Allowed (line .d)) (F : FrameFits (line .d) (line .blocks) info red)
+    (same : listsIn (line .d) links ≡ listsOf (line .d) own parity) where
+  abbrev q : Params
+  q = paramsOf (line .d)
+
+  abbrev f : Frame
+  f = frameOf info red
+
+  abbrev left : List Site → ℕ
+  left w = remainder (q .g) (q .r) (read f w)
+
+  left-small : (w : List Site) → left w < 2147483648
+  left-small w =
+      let ok = proper-of (line .d) A in
+      let low = remainder-below (q .g) (q .r) (ok .rpos) (ok .degree) (read f w) (read-bits f f (received info red (F .infoBits) (F .redBits)) w) in
+      let high : 2 ^ (line .d .m * line .d .t) ≤ 2 ^ 31 = pow-mono {i = line .d .m * line .d .t} {j = 31} (omega (arith, r-small (line .d) A)) in
+      omega (arith, low, high)
+
+  pub filled-keeps : {b : List ℕ} → length b ≡ 4 * wordCount (paramsOf (line .d)) (line .blocks)
+      → Filled line own parity (frameOf info red) b (wordCount (paramsOf (line .d)) (line .blocks)) → FrameKept (line .d) (line .blocks) links info red b
+  filled-keeps {b} long H =
+      record {
+        frame = F;
+        long = long;
+        kept =
+            λ w hw.
+            let e : keptAt b w ≡ left (frameWord q (listsIn (line .d) links) (line .blocks) w .sites) =
+            H w hw ∙ ap (λ (z : Interleavers). left (frameWord q z (line .blocks) w .sites)) (sym same) in
+            let small = left-small (frameWord q (listsIn (line .d) links) (line .blocks) w .sites) in
+            record {
+              number = ap (λ (n : ℕ). n % 2147483648) e ∙ mod-eq-of-lt small;
+              mark = λ m. absurd (true≢false (sym m ∙ ap (leb 2147483648) e ∙ lt-leb 2147483648 _ small));
+            };
+      }
+
+-- ---- words outside the code
+
+abbrev one : ℕ → ℕ
+one n = cond (eqb n 0) 0 1
+
+module _ (s₂ : Params) (f₂ : Frame) (b₂ : List ℕ) (W : ℕ → List Site) where
+  outside-one : (w : List Site) → one (remainder (s₂ .g) (s₂ .r) (read f₂ w)) ≡ outsideAmong s₂ f₂ (w ∷ [])
+  unfolding outsideAmong isCodeword
+  outside-one w = sym (add-zero (one (remainder (s₂ .g) (s₂ .r) (read f₂ w))))
+
+  numbers-outside : (n : ℕ) → ((w : ℕ) → w < n → numberAt b₂ w ≡ remainder (s₂ .g) (s₂ .r) (read f₂ (W w)))
+      → nonzeroNumbers b₂ n ≡ outsideAmong s₂ f₂ (tabulate n W)
+  unfolding nonzeroNumbers outsideAmong tabulate
+  numbers-outside zero h = refl
+  numbers-outside (suc n) h =
+      ap₂ _+_ (numbers-outside n (λ w k. h w (omega arith))) (ap one (h n (omega arith)) ∙ outside-one (W n))
+      ∙ sym (outside-append s₂ f₂ (tabulate n W) (W n ∷ [])) ∙ ap (outsideAmong s₂ f₂) (sym (tabulate-last n W))
+
+pub kept-outside : {d : Design} {L : ℕ} {links info red b : List ℕ} → FrameKept d L links info red b
+    → nonzeroNumbers b (wordCount (paramsOf d) L) ≡ outside (paramsOf d) (listsIn d links) L (frameOf info red)
+unfolding outside
+kept-outside {d} {L} {links} {info} {red} {b} K =
+    numbers-outside (paramsOf d) (frameOf info red) b (λ w. frameWord (paramsOf d) (listsIn d links) L w .sites) (wordCount (paramsOf d) L)
+    (λ w h. K .kept w h .number)
+    ∙ ap (outsideAmong (paramsOf d) (frameOf info red)) (sym (words-numbered (paramsOf d) (listsIn d links) L))

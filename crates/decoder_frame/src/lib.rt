@@ -1,0 +1,240 @@
+// Document 01's rounds, over the words of a received frame whose sizes are known, in place.
+//   fill_tables     the tables of a design, which correcting reads
+//   fill_numbers    the remainders of all words of a frame, as their kept numbers
+//   rounds_allowed  the limit that a number of rounds stands for
+//   run_rounds      corrects all words again and again, until a round flips nothing or the limit is reached
+//
+// The remainders of all words are summed once, line by line, in the order in which their bits stand in memory (crate `words`), and kept in working
+// bytes (crate `decoder_kept`). A round takes the lines one after the other and corrects the words whose kept number is not 0 (crate `decoder_words`),
+// which keeps all numbers right. Rounds end after one that flips nothing. The words outside the code at the end are those whose number is not 0.
+ghost use mathlib.Core.Path.{_≡_};
+ghost use Prim.Native.Nat.{_+_, _*_, _^_, _≤_};
+ghost use lib.ListN.{length, take, drop};
+ghost use Rattle.staircase.specs.Lists.{tabulate};
+ghost use Rattle.staircase.specs.Design.{most-rounds, wordLength};
+ghost use Rattle.staircase.specs.Frame.{frameOf, words};
+ghost use Rattle.staircase.specs.Decoder.{runRounds, roundsAllowed};
+ghost use Rattle.staircase.specs.Lines.{wordCount};
+ghost use Rattle.design.specs.Answers.{Allowed};
+ghost use Rattle.design.specs.Sizes.{paramsOf, orderOf};
+ghost use Rattle.rules.specs.Received.{Received};
+ghost use Rattle.bch.specs.Locator.{FieldTables, SyndromeTable};
+ghost use Rattle.words.specs.Words.{WordTable};
+ghost use Rattle.decoder_locator.specs.Located.{SumTable};
+ghost use Rattle.decoder_lines.specs.Links.{listsIn, LineFits};
+ghost use Rattle.decoder_words.specs.Ready.{WordTables, LineReady, FrameKept};
+ghost use Rattle.decoder_frame.specs.Filled.{lineRemainder, Filled, PutFrom};
+use decoder_lines::Line;
+use design::Design;
+
+// "0 stands for 7"
+const DEFAULT_ROUNDS: usize = 7;
+
+// Rounds made and bits flipped.
+pub struct Made {
+    pub rounds: usize,
+    pub flips: usize,
+}
+
+// Fills the values of the positions of a word and, behind them, those of four bits, from the field's tables.
+fn fill_values(d: Design, field: &[u16], values: &mut [u32])
+    requires { ⌜ Allowed d × FieldTables (d .m) (now field) × (length (now values) ≡ wordLength (paramsOf d) + 128) ⌝ }
+    ensures { λ u. ⌜ SyndromeTable (d .m) (take (wordLength (paramsOf d)) (now (values .exit)))
+        × SumTable (d .m) (d .m * d .t) (drop (wordLength (paramsOf d)) (now (values .exit)))
+        × (length (now (values .exit)) ≡ length (now (values .entry))) ⌝ }
+{
+    let m = d.m();
+    let bits = d.n();
+    bch_field::fill_syndromes(m, field, &mut values[0..bits]);
+    decoder_locator::fill_sums(m, d.r(), bits, values);
+}
+
+// Fills the tables of a design: the powers of x at the positions of a word, behind them their values and then those of four bits, and the field's.
+pub fn fill_tables(d: Design, tables: &mut [u32], field: &mut [u16])
+    requires { ⌜ Allowed d × (length (now tables) ≡ wordLength (paramsOf d) + (wordLength (paramsOf d) + 128)) × (length (now field) ≡ 4 * 2 ^ (d .m)) ⌝ }
+    ensures { λ u. ⌜ WordTables d (now (tables .exit)) (now (field .exit)) ⌝ }
+{
+    let bits = d.n();
+    let all = tables.len();
+    words_positions::fill_table(d, &mut tables[0..bits]);
+    bch_field::fill_field(d.m(), field);
+    fill_values(d, &field[..], &mut tables[bits..all]);
+}
+
+// The rounds that a number of rounds stands for.
+pub fn rounds_allowed(rounds: u64) -> usize
+    requires { ⌜ rounds ≤ most-rounds ⌝ }
+    ensures { λ a. ⌜ (a ≡ roundsAllowed rounds) × (a ≤ most-rounds) ⌝ }
+{
+    if rounds == 0 {
+        return DEFAULT_ROUNDS;
+    }
+    rounds as usize
+}
+
+// Makes `sums` the remainders of the words of a line.
+fn line_remainders(
+    line: Line,
+    own: &[u8],
+    parity: &[u8],
+    info: &[u8],
+    red: &[u8],
+    positions: &[u32],
+    work: &mut [u8],
+    sums: &mut [u32],
+)
+    requires { ⌜ Received (line .d) (line .blocks) (now own) (now parity) (now info) (now red) × LineFits line × WordTable (line .d) (now positions)
+        × (length (now work) ≡ orderOf (line .d)) × (length (now sums) ≡ line .d .size) ⌝ }
+    ensures { λ u. ⌜ (now (sums .exit) ≡ tabulate (line .d .size)
+        (lineRemainder line (now (own .entry)) (now (parity .entry)) (frameOf (now (info .entry)) (now (red .entry)))))
+        × (length (now (work .exit)) ≡ length (now (work .entry))) ⌝ }
+{
+    let i = line.k / 2;
+    if line.k % 2 == 0 {
+        words::row_remainders(
+            line.d,
+            line.blocks,
+            i,
+            own,
+            parity,
+            info,
+            red,
+            positions,
+            work,
+            sums,
+        );
+        return;
+    }
+    words::column_remainders(
+        line.d,
+        line.blocks,
+        i,
+        own,
+        parity,
+        info,
+        red,
+        positions,
+        sums,
+    );
+}
+
+// Makes the numbers from `from` on those of the lent list, without marks.
+fn put_numbers(sums: &[u32], from: usize, numbers: &mut [u8])
+    requires { ⌜ (4 * (from + length (now sums)) ≤ length (now numbers)) × (length (now numbers) ≤ 16777216) ⌝ }
+    ensures { λ u. ⌜ PutFrom (now (sums .entry)) from (now (numbers .entry)) (now (numbers .exit)) ⌝ }
+{
+    for a in 0..sums.len() {
+        decoder_kept::put(numbers, from + a, sums[a]);
+    }
+}
+
+// Working entries for the remainders of a line; only their number is told: the most that a line has, or more.
+fn sum_entries() -> [u32; 512]
+    ensures { λ a. ⌜ 512 ≡ length a ⌝ }
+{
+    [0; 512]
+}
+
+// Fills the kept numbers of a line, those of the lines before it being filled. They stand behind the working bytes for the entries of a list.
+fn fill_line(
+    line: Line,
+    own: &[u8],
+    parity: &[u8],
+    info: &[u8],
+    red: &[u8],
+    positions: &[u32],
+    work: &mut [u8],
+)
+    requires { ⌜ Received (line .d) (line .blocks) (now own) (now parity) (now info) (now red) × LineFits line × WordTable (line .d) (now positions)
+        × (length (now work) ≡ orderOf (line .d) + 4 * wordCount (paramsOf (line .d)) (line .blocks))
+        × Filled line (now own) (now parity) (frameOf (now info) (now red)) (drop (orderOf (line .d)) (now work)) (line .k * line .d .size) ⌝ }
+    ensures { λ u. ⌜ (length (now (work .exit)) ≡ length (now (work .entry)))
+        × Filled line (now (own .entry)) (now (parity .entry)) (frameOf (now (info .entry)) (now (red .entry)))
+        (drop (orderOf (line .d)) (now (work .exit))) (line .k * line .d .size + line .d .size) ⌝ }
+{
+    let n = line.d.order();
+    let size = line.d.size();
+    let all = work.len();
+    let from = decoder_lines::word_number(line, 0);
+    let mut sums = sum_entries();
+    line_remainders(
+        line,
+        own,
+        parity,
+        info,
+        red,
+        positions,
+        &mut work[0..n],
+        &mut sums[0..size],
+    );
+    put_numbers(&sums[0..size], from, &mut work[n..all]);
+}
+
+// Fills the kept numbers of all words of a frame. They stand behind the working bytes for the entries of a list. One step for each bit of the words.
+// The line is any of the frame.
+pub fn fill_numbers(
+    line: Line,
+    own: &[u8],
+    parity: &[u8],
+    info: &[u8],
+    red: &[u8],
+    positions: &[u32],
+    work: &mut [u8],
+)
+    requires { ⌜ Received (line .d) (line .blocks) (now own) (now parity) (now info) (now red) × WordTable (line .d) (now positions)
+        × (length (now work) ≡ orderOf (line .d) + 4 * wordCount (paramsOf (line .d)) (line .blocks)) ⌝ }
+    ensures { λ u. ⌜ (length (now (work .exit)) ≡ length (now (work .entry)))
+        × Filled line (now (own .entry)) (now (parity .entry)) (frameOf (now (info .entry)) (now (red .entry)))
+        (drop (orderOf (line .d)) (now (work .exit))) (wordCount (paramsOf (line .d)) (line .blocks)) ⌝ }
+{
+    let lines = decoder_lines::line_count(line.blocks);
+    for k in 0..lines {
+        let here = decoder_lines::line_at(line, k);
+        fill_line(here, own, parity, info, red, positions, work);
+    }
+}
+
+// Corrects all words of a frame, until a round flips nothing or `limit` rounds are made. The line is the first.
+pub fn run_rounds(
+    line: Line,
+    limit: usize,
+    links: &[u16],
+    tables: &[u32],
+    field: &[u16],
+    info: &mut [u8],
+    red: &mut [u8],
+    numbers: &mut [u8],
+) -> Made
+    requires { ⌜ LineReady line (now links) (now tables) (now field) × (line .k ≡ 0) × (limit ≤ most-rounds)
+        × FrameKept (line .d) (line .blocks) (now links) (now info) (now red) (now numbers) ⌝ }
+    ensures { λ a. ⌜ (record { frame = frameOf (now (info .exit)) (now (red .exit)); rounds = a .rounds; flips = a .flips }
+        ≡ runRounds (paramsOf (line .d)) (words (paramsOf (line .d)) (listsIn (line .d) (now (links .entry))) (line .blocks)) limit
+        (frameOf (now (info .entry)) (now (red .entry))))
+        × FrameKept (line .d) (line .blocks) (now (links .entry)) (now (info .exit)) (now (red .exit)) (now (numbers .exit)) ⌝ }
+{
+    let lines = decoder_lines::line_count(line.blocks);
+    let mut flips = 0;
+    for k in 0..limit {
+        let more = decoder_words::correct_lines(
+            line,
+            lines,
+            links,
+            tables,
+            field,
+            info,
+            red,
+            numbers,
+        );
+        flips += more;
+        if more == 0 {
+            return Made {
+                rounds: k + 1,
+                flips: flips,
+            };
+        }
+    }
+    Made {
+        rounds: limit,
+        flips: flips,
+    }
+}

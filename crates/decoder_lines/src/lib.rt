@@ -1,0 +1,261 @@
+// The lines of a frame: where the bits of their words stand, and the other word that has a bit.
+//   fill_links      the table of links, from the two lists
+//   line_at         another line of the same frame
+//   line_count      the lines of a frame
+//   site_at         where a position of a word stands in the buffers of a frame
+//   crossing_word   the other word that has the bit at a position of a word, and the position
+//   add_power       adds the power of that position to the word's kept number, and takes its mark away
+//
+// A line is the row words of a group, or its column words: M words that share no bit. Line k takes block k and block k + 1, block 0 being B0, and its
+// words cross those of line k - 1 in the first and those of line k + 1 in the second. In the redundancy the two lines of a group cross, and the table
+// of links says where: entry q is the place in Y and then P of place q of X and then Q, and entry 2n + q the way back, for lists of n entries.
+ghost use mathlib.Core.Path.{_≡_};
+ghost use mathlib.Core.Bool.{true, cond};
+ghost use mathlib.Core.List.{[], _∷_};
+ghost use Prim.Native.Nat.{ℕ, _+_, _*_, _/_, _%_, _≤_, _<_};
+ghost use lib.ListN.{length, getD};
+ghost use Rattle.staircase.specs.Design.{most-blocks, wordLength};
+ghost use Rattle.staircase.specs.Frame.{blockAt, groups};
+ghost use Rattle.staircase.specs.Frame.Site.{unsent, inRed};
+ghost use Rattle.staircase.specs.Decoder.{allSent};
+ghost use Rattle.staircase.specs.Lines.{even, lineSites, incidence, partner, crossing, wordCount};
+ghost use Rattle.design.specs.Answers.{Allowed};
+ghost use Rattle.design.specs.Sizes.{paramsOf, orderOf, listsOf};
+ghost use Rattle.rules.specs.Received.{ListsFit};
+ghost use Rattle.words_blocks.specs.Blocks.{Powers};
+ghost use Rattle.decoder_lines.specs.Sites.{sitesOf, Inside};
+ghost use Rattle.decoder_lines.specs.Links.{listsIn, LinksFit, LineFits, incidenceOf, Crossed};
+use design::Design;
+
+// A line of a frame of `blocks` blocks: line 2i has the row words of a group, line 2i + 1 its column words.
+pub struct Line {
+    pub d: Design,
+    pub blocks: usize,
+    pub k: usize,
+}
+
+// A position of a word of a line.
+pub struct WordBit {
+    pub line: usize,
+    pub word: usize,
+    pub position: usize,
+}
+
+// Where a bit of a word stands: in a block that is not sent, in a byte of the information or in a byte of the redundancy. `Absent` is no bit.
+pub enum BitSite {
+    Absent,
+    Unsent,
+    Info(usize),
+    Red(usize),
+}
+
+fn wide(x: u16) -> usize
+    ensures { λ a. ⌜ (a ≡ x) × (a < 65536) ⌝ }
+{
+    x as usize
+}
+
+// Entry q of the part of a table that begins at `from`.
+fn link_at(links: &[u16], from: usize, q: usize) -> usize
+    requires { ⌜ from + q < length (now links) ⌝ }
+    ensures { λ a. ⌜ (a ≡ getD (now (links .entry)) (from + q) 0) × (a < 65536) ⌝ }
+{
+    wide(links[from + q])
+}
+
+// Place (row, column) of a matrix with `width` columns, row by row.
+fn place(row: usize, width: usize, column: usize) -> usize
+    requires { ⌜ (row ≤ 8192) × (width ≤ 1024) × (column ≤ 1024) ⌝ }
+    ensures { λ a. ⌜ (a ≡ row * width + column) × (a ≤ 8389632) ⌝ }
+{
+    row * width + column
+}
+
+// Another line of the same frame.
+pub fn line_at(line: Line, k: usize) -> Line
+    ensures { λ z. ⌜ z ≡ record { d = line .d; blocks = line .blocks; k = k } ⌝ }
+{
+    let d = line.d;
+    Line {
+        d: d,
+        blocks: line.blocks,
+        k: k,
+    }
+}
+
+// The lines of a frame, two for each group.
+pub fn line_count(blocks: usize) -> usize
+    requires { ⌜ blocks ≤ most-blocks ⌝ }
+    ensures { λ n. ⌜ (n ≡ 2 * groups blocks) × (n ≤ 4098) ⌝ }
+{
+    blocks + blocks % 2
+}
+
+// The number of word a of a line, among all words of the frame.
+pub fn word_number(line: Line, a: usize) -> usize
+    requires { ⌜ LineFits line × (a < line .d .size) ⌝ }
+    ensures { λ w. ⌜ (w ≡ line .k * line .d .size + a) × (w < wordCount (paramsOf (line .d)) (line .blocks)) × (w ≤ 2049000) ⌝ }
+{
+    let d = line.d;
+    line.k * d.size() + a
+}
+
+// Where the lists send place q of X and then Q: a place of Y and then P.
+fn sent_to(d: Design, own: &[u8], parity: &[u8], q: usize) -> usize
+    requires { ⌜ Allowed d × ListsFit d (now own) (now parity) × (q < 2 * orderOf d) ⌝ }
+    ensures { λ a. ⌜ (a ≡ partner (paramsOf d) (listsOf d (now (own .entry)) (now (parity .entry))) true q) × (a < 2 * orderOf d) ⌝ }
+{
+    let n = d.order();
+    if q < n {
+        return rules::entry(own, q);
+    }
+    n + rules::entry(parity, q - n)
+}
+
+// Fills the table of links. Two steps for each entry of a list.
+pub fn fill_links(d: Design, own: &[u8], parity: &[u8], links: &mut [u16])
+    requires { ⌜ Allowed d × ListsFit d (now own) (now parity) × (length (now links) ≡ 4 * orderOf d) ⌝ }
+    ensures { λ u. ⌜ LinksFit d (now (links .exit)) × (listsIn d (now (links .exit)) ≡ listsOf d (now (own .entry)) (now (parity .entry))) ⌝ }
+{
+    let half = 2 * d.order();
+    for q in 0..half {
+        let f = sent_to(d, own, parity, q);
+        links[q] = f as u16;
+        links[half + f] = q as u16;
+    }
+}
+
+// Where bit c of block b stands.
+fn block_site(d: Design, blocks: usize, b: usize, c: usize) -> BitSite
+    requires { ⌜ (b ≤ most-blocks + 2) × (c < d .size * d .size) ⌝ }
+    ensures { λ x. ⌜ (sitesOf x ≡ blockAt (paramsOf d) blocks b c ∷ []) × ((n : ℕ) → Inside x (blocks * (d .size * d .size)) n) ⌝ }
+{
+    if b < 1 {
+        return BitSite::Unsent;
+    }
+    if blocks <= b - 1 {
+        return BitSite::Unsent;
+    }
+    BitSite::Info((b - 1) * d.area() + c)
+}
+
+// Where bit q of a group, which is Y and then P, stands.
+fn group_site(d: Design, blocks: usize, i: usize, q: usize) -> BitSite
+    requires { ⌜ (blocks ≤ most-blocks) × (i < groups blocks) × (q < 2 * orderOf d) ⌝ }
+    ensures { λ x. ⌜ (sitesOf x ≡ inRed (i * (2 * orderOf d) + q) ∷ []) × ((n : ℕ) → Inside x n (groups blocks * (2 * orderOf d))) ⌝ }
+{
+    BitSite::Red(i * (2 * d.order()) + q)
+}
+
+// Where bit c of row a of a block stands in it, for an even line; or of column a.
+fn block_bit(k: usize, size: usize, a: usize, c: usize) -> usize
+    requires { ⌜ (size ≤ 1024) × (a < size) × (c < size) ⌝ }
+    ensures { λ q. ⌜ (q ≡ cond (even k) (a * size + c) (c * size + a)) × (q < size * size) ⌝ }
+{
+    if k % 2 == 0 {
+        return place(a, size, c);
+    }
+    place(c, size, a)
+}
+
+// The bit of a group, which is Y and then P, at place q of X and then Q for an even line, and of Y and then P for an odd one.
+fn group_bit(line: Line, links: &[u16], q: usize) -> usize
+    requires { ⌜ LineFits line × LinksFit (line .d) (now links) × (q < 2 * orderOf (line .d)) ⌝ }
+    ensures { λ b. ⌜ (b ≡ cond (even (line .k)) (partner (paramsOf (line .d)) (listsIn (line .d) (now (links .entry))) true q) q)
+        × (b < 2 * orderOf (line .d)) ⌝ }
+{
+    if line.k % 2 == 0 {
+        return link_at(links, 0, q);
+    }
+    q
+}
+
+// Where position p of word a of a line stands.
+pub fn site_at(line: Line, links: &[u16], a: usize, p: usize) -> BitSite
+    requires { ⌜ LineFits line × LinksFit (line .d) (now links) × (a < line .d .size) × (p < wordLength (paramsOf (line .d))) ⌝ }
+    ensures { λ x. ⌜ (sitesOf x
+        ≡ getD (lineSites (paramsOf (line .d)) (listsIn (line .d) (now (links .entry))) (line .blocks) (line .k) a) p unsent ∷ [])
+        × Inside x (line .blocks * (line .d .size * line .d .size)) (groups (line .blocks) * (2 * orderOf (line .d))) ⌝ }
+{
+    let d = line.d;
+    let size = d.size();
+    let k = line.k;
+    if p < size {
+        return block_site(d, line.blocks, k, block_bit(k, size, a, p));
+    }
+    if p < 2 * size {
+        return block_site(d, line.blocks, k + 1, block_bit(k, size, a, p - size));
+    }
+    let q = place(p - 2 * size, size, a);
+    group_site(d, line.blocks, k / 2, group_bit(line, links, q))
+}
+
+// Column f / size, row f % size of X and Q, or of Y and P side by side.
+fn red_bit(line: usize, f: usize, size: usize) -> WordBit
+    requires { ⌜ (0 < size) × (size ≤ 500) × (f < 65536) ⌝ }
+    ensures { λ b. ⌜ incidenceOf b ≡ incidence line (f % size) (2 * size + f / size) ⌝ }
+{
+    WordBit {
+        line: line,
+        word: f % size,
+        position: 2 * size + f / size,
+    }
+}
+
+// The other word that has the bit at position p of word a of a line.
+pub fn crossing_word(line: Line, links: &[u16], a: usize, p: usize) -> WordBit
+    requires { ⌜ LineFits line × LinksFit (line .d) (now links) × (a < line .d .size) × (p < wordLength (paramsOf (line .d)))
+        × (p < line .d .size → 1 ≤ line .k) ⌝ }
+    ensures { λ b. ⌜ incidenceOf b ≡ crossing (paramsOf (line .d)) (listsIn (line .d) (now (links .entry))) (line .k) a p ⌝ }
+{
+    let d = line.d;
+    let size = d.size();
+    let k = line.k;
+    if p < size {
+        return WordBit {
+            line: k - 1,
+            word: p,
+            position: size + a,
+        };
+    }
+    if p < 2 * size {
+        return WordBit {
+            line: k + 1,
+            word: p - size,
+            position: a,
+        };
+    }
+    let q = place(p - 2 * size, size, a);
+    if k % 2 == 0 {
+        let f = link_at(links, 0, q);
+        return red_bit(k + 1, f, size);
+    }
+    let f = link_at(links, 2 * d.order(), q);
+    red_bit(k - 1, f, size)
+}
+
+// Adds the power of the bit at position p of word a of a line, which is sent, to the kept number of the other word that has it, if the frame has that
+// word, and takes its mark away.
+pub fn add_power(
+    line: Line,
+    links: &[u16],
+    positions: &[u32],
+    a: usize,
+    p: usize,
+    numbers: &mut [u8],
+)
+    requires { ⌜ LineFits line × LinksFit (line .d) (now links) × Powers (paramsOf (line .d)) (now positions)
+        × (a < line .d .size) × (p < wordLength (paramsOf (line .d)))
+        × (length (now numbers) ≡ 4 * wordCount (paramsOf (line .d)) (line .blocks))
+        × (allSent (getD (lineSites (paramsOf (line .d)) (listsIn (line .d) (now links)) (line .blocks) (line .k) a) p unsent ∷ []) ≡ true) ⌝ }
+    ensures { λ u. ⌜ Crossed (paramsOf (line .d)) (wordCount (paramsOf (line .d)) (line .blocks))
+        (crossing (paramsOf (line .d)) (listsIn (line .d) (now (links .entry))) (line .k) a p) (now (numbers .entry)) (now (numbers .exit)) ⌝ }
+{
+    let c = crossing_word(line, links, a, p);
+    let d = line.d;
+    if c.line < line_count(line.blocks) {
+        let w = place(c.line, d.size(), c.word);
+        let at = c.position;
+        decoder_kept::add(numbers, w, positions[at]);
+    }
+}

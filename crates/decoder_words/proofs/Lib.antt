@@ -1,0 +1,5 @@
+pub mod Flips
+pub mod Word
+pub mod Tables
+pub mod Corrected
+pub mod Passes

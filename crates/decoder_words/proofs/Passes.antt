@@ -1,0 +1,62 @@
+-- Words of a line, and lines, corrected one after the other.
+--   pass-none, pass-more     the words before a, and one word more
+--   pass-few                 a pass flips at most three bits for each word
+--   lines-none, lines-next   no line, and one line more
+--   ready-at                 what is asked of a later line
+-- Assumes nothing.
+use mathlib.Core.Path.{_≡_, refl, sym, ap, ap₂, _∙_}
+use mathlib.Core.List.{List}
+use Prim.Native.Nat.{ℕ, _+_, _*_, _≤_, _<_}
+use native.Mathlib.Numerals.{add-one}
+use native.Mathlib.Omega.{arith}
+use lib.ListN.{length}
+use Rattle.staircase.specs.Lists.{tabulate, concat}
+use Rattle.staircase.specs.Design.{Params}
+use Rattle.staircase.specs.Frame.{Frame, Site, groups}
+use Rattle.staircase.specs.Decoder.{correction, flipAll, Progress, correctWord, correctWords, round}
+use Rattle.staircase.proofs.Tabulate.{tabulate-length, concat-last}
+use Rattle.staircase.proofs.Bounds.{small-product}
+use Rattle.staircase.proofs.Rounds.{correctWords-append, correctWords-from, correctWords-last, correctWords-few}
+use Rattle.decoder_lines.specs.declared.Line.{Line}
+use Rattle.decoder_words.specs.Ready.{LineReady}
+
+module _ (s : Params) (W : ℕ → List Site) (f : Frame) where
+  pub pass-none : record { frame = f; flips = 0 } ≡ round s (tabulate 0 W) f
+  unfolding round correctWords tabulate
+  pass-none = refl
+
+  pub pass-more : (n : ℕ) (x : Progress) (g : Frame) (k : ℕ) → x ≡ round s (tabulate n W) f → g ≡ flipAll (correction s (x .frame) (W n)) (x .frame)
+      → k ≡ length (correction s (x .frame) (W n)) → record { frame = g; flips = x .flips + k } ≡ round s (tabulate (n + 1) W) f
+  unfolding round correctWord
+  pass-more n x g k e h c =
+      ap₂ (λ (a : Frame) (b : ℕ). record { frame = a; flips = x .flips + b }) h c ∙ ap (λ (y : Progress). correctWord s y (W n)) e
+      ∙ sym (correctWords-last s (record { frame = f; flips = 0 }) n W) ∙ ap (λ (m : ℕ). round s (tabulate m W) f) (sym (add-one n))
+
+  pub pass-few : (n : ℕ) (x : Progress) → s .t ≤ 3 → x ≡ round s (tabulate n W) f → x .flips ≤ 3 * n
+  unfolding round
+  pass-few n x h e =
+      let a = correctWords-few s (record { frame = f; flips = 0 }) (tabulate n W) in
+      let b = small-product (s .t) (length (tabulate n W)) 3 n h (omega (arith, tabulate-length n W)) in
+      omega (arith, a, b, ap (λ (y : Progress). y .flips) e)
+
+module _ (s : Params) (W : ℕ → List (List Site)) (f : Frame) where
+  pub lines-none : record { frame = f; flips = 0 } ≡ round s (concat 0 W) f
+  unfolding round correctWords concat
+  lines-none = refl
+
+  pub lines-next : (n : ℕ) (x y : Progress) → x ≡ round s (concat n W) f → y ≡ round s (W n) (x .frame)
+      → record { frame = y .frame; flips = x .flips + y .flips } ≡ round s (concat (n + 1) W) f
+  unfolding round
+  lines-next n x y e h =
+      ap (λ (z : Progress). record { frame = z .frame; flips = x .flips + z .flips }) h ∙ sym (correctWords-from s (x .frame) (x .flips) (W n))
+      ∙ ap (λ (z : Progress). correctWords s z (W n)) e ∙ sym (correctWords-append s (record { frame = f; flips = 0 }) (concat n W) (W n))
+      ∙ ap (λ (z : List (List Site)). round s z f) (sym (concat-last n W) ∙ ap (λ (m : ℕ). concat m W) (sym (add-one n)))
+
+pub ready-at : {line : Line} {links tables field : List ℕ} (k : ℕ) → LineReady line links tables field → k < 2 * groups (line .blocks)
+    → LineReady (record { d = line .d; blocks = line .blocks; k = k }) links tables field
+ready-at k R h =
+    record {
+      fits = record { allowed = R .fits .allowed; few-blocks = R .fits .few-blocks; within = h };
+      linked = R .linked;
+      word-tables = R .word-tables;
+    }

@@ -1,0 +1,80 @@
+-- The word's bits, then the numbers of the words that cross, then its own; or its mark.
+-- Assumes nothing.
+use mathlib.Core.Path.{sym, ap, _∙_, subst, subst⁻¹}
+use mathlib.Core.List.{List}
+use Prim.Native.Nat.{ℕ, _+_, _%_}
+use native.Mathlib.Omega.{arith}
+use Rattle.staircase.specs.Design.{wordLength}
+use Rattle.decoder_words.proofs.Tables.{first-part}
+use Rattle.words_blocks.specs.Blocks.{Powers}
+use Rattle.design.specs.Sizes.{paramsOf}
+use Rattle.decoder_kept.specs.Numbers.{keptAt, OnlyAt}
+use Rattle.decoder_words.proofs.Word.{table-powers}
+use Rattle.decoder_words.proofs.Corrected.{number-is, sent-found, flips-is, word-stuck, word-corrected}
+use borrow.Author.Needs.{needs}
+use Rattle.decoder_words.proofs.correct_word.Statement.{statement}
+use Rattle.decoder_words.proofs.correct_word.Tie as tie
+
+word-number-requires : tie.Need-word-number-requires
+word-number-requires c κs = (c .before .before .before .before .before .before .pre .0 .fits, c .before .before .before .before .before .before .pre .1)
+
+get-requires : tie.Need-get-requires
+get-requires c κs = omega (arith, c .before .word-number .ensures .1, c .before .before .before .before .before .before .before .before .pre .2 .long)
+
+flip-found-requires : tie.Need-flip-found-requires
+flip-found-requires c κs =
+    let p = c .before .before .before .before .before .before .before .before .before .before .before .pre in
+    let a = c .before .before .before .before .before .before .before .before .before .before .before .args in
+    let x = c .before .before .get .ensures ∙ ap (keptAt (a .numbers .now)) (c .before .before .before .before .word-number .ensures .0) in
+    (p .0, p .2 .frame, p .1, number-is (p .0 .fits) (p .0 .linked) (a .a) (p .1) (p .2) x)
+
+put-requires : tie.Need-put-requires
+put-requires c κs = omega (arith, c .before .before .before .before .before .before .before .before .before .before .before .before .word-number .ensures .1, c .before .before .before .before .before .before .before .before .before .before .before .before .before .before .before .before .before .before .before .pre .2 .long)
+
+returns : tie.Need-returns
+returns c =
+    let p = c .before .before .before .before .before .before .before .before .before .before .before .before .before .before .before .before .before .before .before .before .before .before .pre in
+    let a = c .before .before .before .before .before .before .before .before .before .before .before .before .before .before .before .before .before .before .before .before .before .before .args in
+    let ff = c .before .before .before .before .before .before .before .before .before .before .flip-found in
+    let x = c .before .before .before .before .before .before .before .before .before .before .before .before .before .get .ensures ∙ ap (keptAt (a .numbers .now)) (c .before .before .before .before .before .before .before .before .before .before .before .before .before .before .before .word-number .ensures .0) in
+    let k = c .before .before .before .before .before .count-of .ensures .0 in
+    let z = c .before .before .before .before .if1 .taken in
+    let O = subst (λ (w : ℕ). OnlyAt (a .numbers .now) (c .before .before .put .last .0) w (c .before .before .before .before .before .before .before .before .before .before .before .before .before .get .result % 2147483648 + 2147483648)) (c .before .before .before .before .before .before .before .before .before .before .before .before .before .before .before .word-number .ensures .0) (c .before .before .put .ensures) in (
+      ff .ensures .0,
+      flips-is (p .0 .fits) (p .0 .linked) (a .a) (p .1) (p .2) (ff .result) (ff .ensures .1) (sym z ∙ k),
+      word-stuck (p .0 .fits) (p .0 .linked) (a .a) (p .1) (p .2) (ff .result) (ff .ensures .1) x k z O (ff .ensures .0),
+    )
+
+part-add-powers-end : tie.Need-part-add-powers-end
+part-add-powers-end c = omega (arith, c .n .ensures .0, c .before .before .before .before .before .before .before .before .before .before .before .before .before .before .before .before .before .before .before .pre .0 .word-tables .long)
+
+add-powers-requires : tie.Need-add-powers-requires
+add-powers-requires c κs =
+    let p = c .before .before .before .before .before .before .before .before .before .before .before .before .before .before .before .before .before .before .before .before .before .pre in
+    let a = c .before .before .before .before .before .before .before .before .before .before .before .before .before .before .before .before .before .before .before .before .before .args in
+    let ff = c .before .before .before .before .before .before .before .before .before .flip-found in
+    let P = subst⁻¹ (λ (l : List ℕ). Powers (paramsOf (a .line .d)) l) (first-part (a .tables .now) (c .before .before .n .result) (wordLength (paramsOf (a .line .d))) (c .before .before .n .ensures .0)) (table-powers (p .0)) in
+    (p .0 .fits, p .0 .linked, P, p .1, sent-found (p .0 .fits) (p .0 .linked) (a .a) (p .1) (p .2) (ff .result) (ff .ensures .1) (ff .ensures .2), p .2 .long)
+
+put-requires-2 : tie.Need-put-requires-2
+put-requires-2 c κs = omega (arith, c .before .before .before .before .before .before .before .before .before .before .before .before .before .before .before .before .before .before .word-number .ensures .1, c .before .before .before .add-powers .ensures .1, c .before .before .before .before .before .before .before .before .before .before .before .before .before .before .before .before .before .before .before .before .before .before .before .before .before .pre .2 .long)
+
+returns-2 : tie.Need-returns-2
+returns-2 c =
+    let p = c .before .before .before .before .before .before .before .before .before .before .before .before .before .before .before .before .before .before .before .before .before .before .before .before .before .before .before .before .pre in
+    let a = c .before .before .before .before .before .before .before .before .before .before .before .before .before .before .before .before .before .before .before .before .before .before .before .before .before .before .before .before .args in
+    let ff = c .before .before .before .before .before .before .before .before .before .before .before .before .before .before .before .before .flip-found in
+    let k = c .before .before .before .before .before .before .before .before .before .before .before .count-of .ensures .0 in
+    let C = c .before .before .before .before .before .before .add-powers .ensures in
+    let O = subst (λ (w : ℕ). OnlyAt (c .before .before .before .before .before .before .add-powers .last .1 .1 .1 .1 .1 .0) (c .before .before .put2 .last .0) w 0) (c .before .before .before .before .before .before .before .before .before .before .before .before .before .before .before .before .before .before .before .before .before .word-number .ensures .0) (c .before .before .put2 .ensures) in (
+      ff .ensures .0,
+      flips-is (p .0 .fits) (p .0 .linked) (a .a) (p .1) (p .2) (ff .result) (ff .ensures .1) k,
+      word-corrected (p .0 .fits) (p .0 .linked) (a .a) (p .1) (p .2) (ff .result) (ff .ensures .1) (ff .ensures .2) k (c .before .before .before .before .before .before .before .before .before .before .if1 .left) (C .0) (C .1) O (ff .ensures .0),
+    )
+
+pub correct-word-spec : {M : Type 1} → statement M
+correct-word-spec =
+    tie.close
+    (tie.spec word-number-requires get-requires flip-found-requires (λ c κs. search needs) (λ c. search needs) put-requires (λ c. search needs)
+    (λ c. search needs) (λ c. search needs) returns (λ c κs. search needs) (λ c. search needs) (λ c. search needs) part-add-powers-end
+    add-powers-requires put-requires-2 (λ c. search needs) (λ c. search needs) (λ c. search needs) returns-2)
