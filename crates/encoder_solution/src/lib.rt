@@ -11,11 +11,12 @@
 // Q is spread into bytes before c is packed, which spares a division for each entry.
 ghost use mathlib.Core.Path.{_≡_};
 ghost use Prim.Native.Nat.{ℕ, _+_, _-_, _*_, _/_, _%_, _^_, _≤_, _<_};
-ghost use lib.ListN.{length, getD};
+ghost use lib.ListN.{length, getD, drop};
 ghost use Rattle.bch.specs.Polynomial.{Bits};
-ghost use Rattle.staircase.specs.Lists.{bitSum, tabulate};
+ghost use Rattle.staircase.specs.Lists.{bitSum, sumBits, tabulate};
 ghost use Rattle.staircase.specs.Design.{most-order};
 ghost use Rattle.staircase.specs.System.{rowBytes};
+ghost use Rattle.matrix.specs.Packed.{packedBit};
 ghost use Rattle.encoder_solution.specs.Bits.{remainderDigit, Packed, constantBit, productBit};
 
 // Bit a of the r digits of a remainder x, the highest first.
@@ -111,6 +112,40 @@ pub fn constant_bits(
     constant_in(columns, rows, preimages, size, r, &mut q[0..size * r], c);
 }
 
+// Makes `to` the bytes of `from`.
+fn copy(from: &[u8], to: &mut [u8])
+    requires { ⌜ length (now to) ≡ length (now from) ⌝ }
+    ensures { λ u. ⌜ now (to .exit) ≡ now (from .entry) ⌝ }
+{
+    for i in 0..from.len() {
+        to[i] = from[i];
+    }
+}
+
+// 1 where the row of w bytes from `from` on shares an odd number of ones with the constant, whose bytes behind the first w are 0. Where the inverse has as
+// many bytes left as the constant, what follows the row is masked away with it: a loop over a number of bytes that is a multiple of 32 has no rest.
+fn row_odd(inverse: &[u8], from: usize, w: usize, c: &[u8]) -> u8
+    requires { ⌜ (from + w ≤ length (now inverse)) × (w ≤ length (now c)) × ((k : ℕ) → 8 * w ≤ k → packedBit (now c) k ≡ 0) ⌝ }
+    ensures { λ v. ⌜ v ≡ sumBits (8 * w) (λ k. packedBit (drop from (now (inverse .entry))) k * packedBit (now (c .entry)) k) ⌝ }
+{
+    let p = c.len();
+    if inverse.len() - from < p {
+        return matrix::shared_odd(&inverse[from..from + w], &c[0..w]);
+    }
+    matrix::shared_odd(&inverse[from..from + p], c)
+}
+
+// `y_bits` by a constant that zeros follow, as many that its bytes are a multiple of 32.
+fn y_rows(inverse: &[u8], c: &[u8], w: usize, size: usize, r: usize, out: &mut [u8])
+    requires { ⌜ (length (now inverse) ≡ size * r * rowBytes (size * r)) × (w ≡ rowBytes (size * r)) × (w ≤ length (now c)) × ((k : ℕ) → 8 * w ≤ k → packedBit (now c) k ≡ 0)
+        × (length (now out) ≡ size * r) × (0 < size) × (0 < r) × (size * r ≤ most-order) ⌝ }
+    ensures { λ u. ⌜ now (out .exit) ≡ tabulate (size * r) (productBit (now (inverse .entry)) (now (c .entry)) size r) ⌝ }
+{
+    for e in 0..out.len() {
+        out[e % r * size + e / r] = row_odd(inverse, e * w, w, c);
+    }
+}
+
 // Makes Y in the lent `out`: the lent inverse times the lent constant, both packed, each bit at its place in Y. One step for each byte of the
 // inverse.
 pub fn y_bits(inverse: &[u8], c: &[u8], size: usize, r: usize, out: &mut [u8])
@@ -119,8 +154,8 @@ pub fn y_bits(inverse: &[u8], c: &[u8], size: usize, r: usize, out: &mut [u8])
     ensures { λ u. ⌜ now (out .exit) ≡ tabulate (size * r) (productBit (now (inverse .entry)) (now (c .entry)) size r) ⌝ }
 {
     let w = c.len();
-    for e in 0..out.len() {
-        let from = e * w;
-        out[e % r * size + e / r] = matrix::shared_odd(&inverse[from..from + w], c);
-    }
+    let whole = (w + 31) / 32 * 32;
+    let mut padded = [0u8; 512];
+    copy(c, &mut padded[0..w]);
+    y_rows(inverse, &padded[0..whole], w, size, r, out);
 }
