@@ -14,7 +14,7 @@ use native.Mathlib.Nat.{sub-zero, zero-add}
 use native.Mathlib.Omega.{arith}
 use Rattle.staircase.specs.Design.{Params}
 use Rattle.staircase.specs.Frame.{Frame, Site}
-use Rattle.staircase.specs.Decoder.{Progress, round, Decoded, runRounds, roundsAllowed}
+use Rattle.staircase.specs.Decoder.{Progress, round, Decoded, runEach, runRounds, roundsAllowed}
 use Rattle.staircase.proofs.Rounds.{runRounds-idle, runRounds-more}
 
 -- k rounds with n flips before them
@@ -51,7 +51,7 @@ module _ (s : Params) (ws : List (List Site)) where
         ∙ sym (h ∙ ap (λ (m : ℕ). after k n (runRounds s ws m g)) (left l) ∙ ap (after k n) (runRounds-idle s ws (K - (k + 1)) g q))
 
     pub rounds-end : k ≡ K → record { frame = g; rounds = K; flips = n } ≡ D
-    unfolding runRounds
+    unfolding runEach runRounds
     rounds-end e =
         let z : K - k ≡ 0 = omega arith in
         let a : K ≡ k + 0 = omega arith in

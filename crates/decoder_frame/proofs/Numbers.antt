@@ -23,7 +23,7 @@ use Rattle.bch.specs.Code.{isCodeword}
 use Rattle.bch.proofs.Word.{remainder-below}
 use Rattle.staircase.specs.Lists.{tabulate}
 use Rattle.staircase.specs.Design.{Params, Interleavers}
-use Rattle.staircase.specs.Frame.{Frame, Site, frameOf, read, rowSites, columnSites, outsideAmong, outside}
+use Rattle.staircase.specs.Frame.{Frame, Site, frameOf, read, rowSites, columnSites, outsideEach, outsideAmong, outside}
 use Rattle.staircase.specs.Lines.{lineSites, wordCount, frameWord}
 use Rattle.staircase.proofs.Tabulate.{tabulate-length, tabulate-at, tabulate-last}
 use Rattle.staircase.proofs.Flip.{read-bits}
@@ -183,12 +183,12 @@ one n = cond (eqb n 0) 0 1
 
 module _ (s₂ : Params) (f₂ : Frame) (b₂ : List ℕ) (W : ℕ → List Site) where
   outside-one : (w : List Site) → one (remainder (s₂ .g) (s₂ .r) (read f₂ w)) ≡ outsideAmong s₂ f₂ (w ∷ [])
-  unfolding outsideAmong isCodeword
+  unfolding outsideAmong outsideEach isCodeword
   outside-one w = sym (add-zero (one (remainder (s₂ .g) (s₂ .r) (read f₂ w))))
 
   numbers-outside : (n : ℕ) → ((w : ℕ) → w < n → numberAt b₂ w ≡ remainder (s₂ .g) (s₂ .r) (read f₂ (W w)))
       → nonzeroNumbers b₂ n ≡ outsideAmong s₂ f₂ (tabulate n W)
-  unfolding nonzeroNumbers outsideAmong tabulate
+  unfolding nonzeroNumbers outsideAmong outsideEach tabulate
   numbers-outside zero h = refl
   numbers-outside (suc n) h =
       ap₂ _+_ (numbers-outside n (λ w k. h w (omega arith))) (ap one (h n (omega arith)) ∙ outside-one (W n))

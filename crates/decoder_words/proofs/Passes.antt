@@ -13,7 +13,7 @@ use lib.ListN.{length}
 use Rattle.staircase.specs.Lists.{tabulate, concat}
 use Rattle.staircase.specs.Design.{Params}
 use Rattle.staircase.specs.Frame.{Frame, Site, groups}
-use Rattle.staircase.specs.Decoder.{correction, flipAll, Progress, correctWord, correctWords, round}
+use Rattle.staircase.specs.Decoder.{correction, flipAll, Progress, correctWord, correctEach, correctWords, round}
 use Rattle.staircase.proofs.Tabulate.{tabulate-length, concat-last}
 use Rattle.staircase.proofs.Bounds.{small-product}
 use Rattle.staircase.proofs.Rounds.{correctWords-append, correctWords-from, correctWords-last, correctWords-few}
@@ -22,7 +22,7 @@ use Rattle.decoder_words.specs.Ready.{LineReady}
 
 module _ (s : Params) (W : ℕ → List Site) (f : Frame) where
   pub pass-none : record { frame = f; flips = 0 } ≡ round s (tabulate 0 W) f
-  unfolding round correctWords tabulate
+  unfolding round correctWords correctEach tabulate
   pass-none = refl
 
   pub pass-more : (n : ℕ) (x : Progress) (g : Frame) (k : ℕ) → x ≡ round s (tabulate n W) f → g ≡ flipAll (correction s (x .frame) (W n)) (x .frame)
@@ -41,7 +41,7 @@ module _ (s : Params) (W : ℕ → List Site) (f : Frame) where
 
 module _ (s : Params) (W : ℕ → List (List Site)) (f : Frame) where
   pub lines-none : record { frame = f; flips = 0 } ≡ round s (concat 0 W) f
-  unfolding round correctWords concat
+  unfolding round correctWords correctEach concat
   lines-none = refl
 
   pub lines-next : (n : ℕ) (x y : Progress) → x ≡ round s (concat n W) f → y ≡ round s (W n) (x .frame)
