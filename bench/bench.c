@@ -160,7 +160,9 @@ static int time_frame(unsigned m, unsigned t, unsigned M, unsigned L, unsigned t
                       const uint8_t *frame)
 {
     size_t list = 2 * (size_t)s->size, info = (size_t)L * M * M, red = (L + 1) / 2 * list;
-    uint8_t *received = lend(info + red), *mine = lend(info + red), *other = lend(info + red), *work = lend(s->size);
+    uint8_t *received = lend(info + red), *mine = lend(info + red), *other = lend(info + red);
+    size_t working = s->size + 8 * (size_t)M * ((L + 1) / 2);
+    uint8_t *work = lend(working);
     plain_frame lent = { self, parity, other, other + info, list, list, info, red };
     int (*const decoder[2])(unsigned, unsigned, unsigned, unsigned, unsigned, const plain_frame *, uint64_t *, uint64_t *) = { plain_decode, strong_decode };
     double words[2] = { 1e9, 1e9 }, decode[RATES][3];           /* plain, ours; plain, strong, ours */
@@ -175,7 +177,7 @@ static int time_frame(unsigned m, unsigned t, unsigned M, unsigned L, unsigned t
             double a = now();
             differ |= bauchleton_check_words(m, t, M, L, self, list, parity, list, mine, info, mine + info, red, work, s->size, words_answer, 2) != 0;
             double b = now();
-            differ |= bauchleton_decode(m, t, M, L, 0, self, list, parity, list, mine, info, mine + info, red, work, s->size, decode_answer, 4) != 0;
+            differ |= bauchleton_decode(m, t, M, L, 0, self, list, parity, list, mine, info, mine + info, red, work, working, decode_answer, 4) != 0;
             double c = now();
             words[1] = least(words[1], b - a);
             decode[e][2] = least(decode[e][2], c - b);
