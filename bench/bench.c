@@ -80,7 +80,9 @@ static int time_kit(unsigned m, unsigned t, unsigned M, const plain_sizes *s, co
 static int time_frame(unsigned m, unsigned t, unsigned M, const plain_sizes *s, const uint8_t *self, const uint8_t *parity, const uint8_t *frame)
 {
     size_t list = 2 * (size_t)s->size, info = SHORT * (size_t)M * M, red = SHORT * (size_t)s->size;
-    uint8_t *received = lend(info + red), *mine = lend(info + red), *other = lend(info + red), *work = lend(s->size);
+    uint8_t *received = lend(info + red), *mine = lend(info + red), *other = lend(info + red);
+    size_t working = s->size + 4 * (size_t)M * SHORT;
+    uint8_t *work = lend(working);
     plain_frame lent = { self, parity, other, other + info, list, list, info, red };
     double words[2] = { 1e9, 1e9 }, decode[RATES][2];
     uint64_t counts[RATES][3], place, outside, words_answer[2], decode_answer[4], state = 88172645463325252u;
@@ -104,7 +106,7 @@ static int time_frame(unsigned m, unsigned t, unsigned M, const plain_sizes *s, 
             differ |= bauchleton_check_words(m, t, M, SHORT, self, list, parity, list, mine, info, mine + info, red, work, s->size,
                                              words_answer, 2) != 0;
             b = now();
-            differ |= bauchleton_decode(m, t, M, SHORT, 0, self, list, parity, list, mine, info, mine + info, red, work, s->size,
+            differ |= bauchleton_decode(m, t, M, SHORT, 0, self, list, parity, list, mine, info, mine + info, red, work, working,
                                         decode_answer, 4) != 0;
             c = now();
             words[1] = least(words[1], b - a);

@@ -191,6 +191,8 @@ struct Lent {
     kit_work: usize,
     make_work: usize,
     word_work: usize,
+    decoder_work: usize,
+    loopback_work: usize,
     info_errors: Vec<u8>,
     red_errors: Vec<u8>,
 }
@@ -213,6 +215,8 @@ impl Lent {
             kit_work: order * ((order + 7) / 8),
             make_work: (2 * order + 512) * ((order + 7) / 8),
             word_work: order,
+            decoder_work: order + 8 * kit.size as usize * ((blocks + 1) / 2),
+            loopback_work: order * ((order + 7) / 8) + 8 * kit.size as usize * ((blocks + 1) / 2),
             info_errors: vec![],
             red_errors: vec![],
         }
@@ -372,12 +376,12 @@ impl Case<'_> {
     }
     /// The answer is what the decoder leaves in information and redundancy, by the reference.
     fn decode(&mut self, l: &Lent) -> (Vec<u8>, Vec<u8>) {
-        let result = decode(&l.received(), l.rounds, l.word_work);
+        let result = decode(&l.received(), l.rounds, l.decoder_work);
         let (number, told) = answered(&result, |(_, _, (rounds, turned, outside))| vec![*rounds, *turned, *outside], 4);
         let (info, red) = result.map_or((l.info.clone(), l.red.clone()), |(info, red, _)| (info, red));
         let buffers = vec![l.own.clone(), l.parity.clone(), info.clone(), red.clone()];
         let lent: [&[u8]; 4] = [&l.own, &l.parity, &l.info, &l.red];
-        self.call("decode", &lent, l.word_work, Expected { number, told, buffers }, |b, w, a| {
+        self.call("decode", &lent, l.decoder_work, Expected { number, told, buffers }, |b, w, a| {
             let [own, parity, info, red] = b else { unreachable!() };
             host::decode(l.design(), l.blocks, l.rounds, own, parity, info, red, w, a)
         });
@@ -385,13 +389,13 @@ impl Case<'_> {
     }
     fn loopback(&mut self, l: &Lent) {
         let result =
-            loopback(&l.kit(), l.blocks, l.rounds, (&l.info_errors, &l.red_errors), &l.info, l.red.len(), l.kit_work);
+            loopback(&l.kit(), l.blocks, l.rounds, (&l.info_errors, &l.red_errors), &l.info, l.red.len(), l.loopback_work);
         let (number, told) = answered(&result, |(_, _, (rounds, turned, outside))| vec![*rounds, *turned, *outside], 4);
         let (info, red) = result.map_or((l.info.clone(), l.red.clone()), |(info, red, _)| (info, red));
         let same = [&l.own, &l.parity, &l.inverse, &l.info_errors, &l.red_errors];
         let buffers = same.iter().map(|b| b.to_vec()).chain([info, red]).collect();
         let lent: Vec<&[u8]> = same.iter().map(|b| &b[..]).chain([&l.info[..], &l.red[..]]).collect();
-        self.call("loopback", &lent, l.kit_work, Expected { number, told, buffers }, |b, w, a| {
+        self.call("loopback", &lent, l.loopback_work, Expected { number, told, buffers }, |b, w, a| {
             let [own, parity, inverse, info_errors, red_errors, info, red] = b else { unreachable!() };
             host::loopback(l.design(), l.blocks, l.rounds, own, parity, inverse, info_errors, red_errors, info, red, w, a)
         });

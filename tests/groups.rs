@@ -467,6 +467,8 @@ fn lengths(case: &mut Case) {
                 lent.kit_work = other(lent.kit_work);
                 lent.make_work = other(lent.make_work);
                 lent.word_work = other(lent.word_work);
+                lent.decoder_work = other(lent.decoder_work);
+                lent.loopback_work = other(lent.loopback_work);
                 return;
             }
         };
@@ -496,7 +498,10 @@ fn lengths(case: &mut Case) {
     // the other call's working length
     let mut lent = right.clone();
     std::mem::swap(&mut lent.kit_work, &mut lent.word_work);
+    std::mem::swap(&mut lent.loopback_work, &mut lent.decoder_work);
     case.all(&lent);
+    // the working lengths without the words' numbers
+    case.all(&Lent { decoder_work: right.word_work, loopback_work: right.kit_work, ..right.clone() });
     case.make_inverse(&Lent { make_work: right.kit_work, ..right.clone() });
 }
 
@@ -799,7 +804,7 @@ fn loopbacks(case: &mut Case) {
         1 => wrong.info[0] = 2,
         2 => wrong.own[1] = 255,
         3 => drop(wrong.red.pop()),
-        4 => wrong.kit_work -= 1,
+        4 => wrong.loopback_work -= 1,
         _ => wrong.blocks = 0,
     }
     case.loopback(&wrong);
@@ -953,7 +958,7 @@ fn made_kit(case: &mut Case, good: &Good) {
         let at = place.checked_sub(lent.info.len());
         at.map_or_else(|| lent.info[place] ^= 1, |at| lent.red[at] ^= 1);
     }
-    work.resize(lent.word_work, 0);
+    work.resize(lent.decoder_work, 0);
     let number =
         host::decode(d3, lent.blocks, 0, &lent.own, &lent.parity, &mut lent.info, &mut lent.red, &mut work, &mut counts);
     case.same("decoded, none outside", (0, 0, 0), (number, counts[0], counts[3]));

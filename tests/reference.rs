@@ -53,7 +53,7 @@ impl Design {
     pub fn row_bytes(&self) -> usize {
         (self.order() + 7) / 8
     }
-    /// working bytes of kit checker, encoder and loopback
+    /// working bytes of kit checker and encoder
     pub fn kit_work(&self) -> usize {
         self.order() * self.row_bytes()
     }
@@ -61,9 +61,21 @@ impl Design {
     pub fn make_work(&self) -> usize {
         (2 * self.order() + 512) * self.row_bytes()
     }
-    /// working bytes of word checker and decoder
+    /// working bytes of the word checker
     pub fn word_work(&self) -> usize {
         self.order()
+    }
+    /// bytes for a number of four bytes for each of the 2 M words of each group, which decoder and loopback want beside the others
+    pub fn number_work(&self, blocks: usize) -> usize {
+        4 * 2 * self.side() * groups(blocks)
+    }
+    /// working bytes of the decoder
+    pub fn decoder_work(&self, blocks: usize) -> usize {
+        self.word_work() + self.number_work(blocks)
+    }
+    /// working bytes of the loopback
+    pub fn loopback_work(&self, blocks: usize) -> usize {
+        self.kit_work() + self.number_work(blocks)
     }
 }
 
@@ -543,6 +555,13 @@ fn block_count(blocks: u64) -> Answer<usize> {
 
 /// The encoder: rules 1 to 4, 6 to 8, 10 and then 9. The answer is the redundancy.
 pub fn encode(kit: &Kit, blocks: u64, info: &[u8], red: usize, work: usize) -> Answer<Vec<u8>> {
+    encode_by(kit, blocks, info, red, work, |d, _| d.kit_work())
+}
+
+/// The encoder with another working length.
+fn encode_by(
+    kit: &Kit, blocks: u64, info: &[u8], red: usize, work: usize, due: impl Fn(&Design, usize) -> usize,
+) -> Answer<Vec<u8>> {
     let d = design(kit.m, kit.t, kit.size)?;
     let blocks = block_count(blocks)?;
     lengths(&[
@@ -551,7 +570,7 @@ pub fn encode(kit: &Kit, blocks: u64, info: &[u8], red: usize, work: usize) -> A
         (3, kit.inverse.len(), d.order() * d.row_bytes()),
         (4, info.len(), info_len(&d, blocks)),
         (5, red, red_len(&d, blocks)),
-        (6, work, d.kit_work()),
+        (6, work, due(&d, blocks)),
     ])?;
     let (own, parity) = permutations(&d, &kit.own, &kit.parity)?;
     spare_bits(&d, &kit.inverse)?;
@@ -600,7 +619,9 @@ pub struct Received {
 }
 
 /// Rules 1 to 4, 5 (for a call with rounds), 6, 7 and 10. The answer is the shape and the frame.
-fn received(lent: &Received, rounds: u64, work: usize) -> Answer<(Shape, Vec<u8>)> {
+fn received(
+    lent: &Received, rounds: u64, work: usize, due: impl Fn(&Design, usize) -> usize,
+) -> Answer<(Shape, Vec<u8>)> {
     let d = design(lent.m, lent.t, lent.size)?;
     let blocks = block_count(lent.blocks)?;
     if rounds > 64 {
@@ -611,7 +632,7 @@ fn received(lent: &Received, rounds: u64, work: usize) -> Answer<(Shape, Vec<u8>
         (2, lent.parity.len(), 2 * d.order()),
         (4, lent.info.len(), info_len(&d, blocks)),
         (5, lent.red.len(), red_len(&d, blocks)),
-        (6, work, d.word_work()),
+        (6, work, due(&d, blocks)),
     ])?;
     let (own, parity) = permutations(&d, &lent.own, &lent.parity)?;
     let frame = [&lent.info[..], &lent.red[..]].concat();
@@ -621,7 +642,7 @@ fn received(lent: &Received, rounds: u64, work: usize) -> Answer<(Shape, Vec<u8>
 
 /// The word checker: rules 1 to 4, 6, 7 and 10. The answer is the number of words outside the code.
 pub fn check_words(lent: &Received, work: usize) -> Answer<u64> {
-    let (shape, frame) = received(lent, 0, work)?;
+    let (shape, frame) = received(lent, 0, work, |d, _| d.word_work())?;
     Ok(words_outside(&shape, &frame))
 }
 
@@ -674,7 +695,7 @@ pub type Counts = (u64, u64, u64);
 
 /// The decoder: rules 1 to 7 and 10. The answer is the mended information and redundancy, and counts.
 pub fn decode(lent: &Received, rounds: u64, work: usize) -> Answer<(Vec<u8>, Vec<u8>, Counts)> {
-    let (shape, mut frame) = received(lent, rounds, work)?;
+    let (shape, mut frame) = received(lent, rounds, work, |d, blocks| d.decoder_work(blocks))?;
     let counts = mend(&shape, &mut frame, rounds);
     let red = frame.split_off(lent.info.len());
     Ok((frame, red, counts))
@@ -712,11 +733,11 @@ pub fn loopback(
     kit: &Kit, blocks: u64, rounds: u64, errors: (&[u8], &[u8]), info: &[u8], red: usize, work: usize,
 ) -> Answer<(Vec<u8>, Vec<u8>, Counts)> {
     let d = design(kit.m, kit.t, kit.size)?;
-    block_count(blocks)?;
+    let count = block_count(blocks)?;
     if rounds > 64 {
         return Err((5, rounds));
     }
-    let red = encode(kit, blocks, info, red, work)?;
+    let red = encode_by(kit, blocks, info, red, work, |d, blocks| d.loopback_work(blocks))?;
     let turn = |buffer: &[u8], pattern: &[u8]| -> Vec<u8> {
         let turns = pattern.iter().map(|&byte| (byte != 0) as u8).chain(std::iter::repeat(0));
         buffer.iter().zip(turns).map(|(bit, turn)| bit ^ turn).collect()
@@ -731,7 +752,7 @@ pub fn loopback(
         info: turn(info, errors.0),
         red: turn(&red, errors.1),
     };
-    decode(&copy, rounds, d.word_work())
+    decode(&copy, rounds, d.decoder_work(count))
 }
 
 /// "A block or a group is shown as the stretch of whichever buffer holds it": rules 1 to 4 and 6.
@@ -1033,7 +1054,7 @@ fn mend_program(kit: &[u8], text: &[u8]) -> Answer<String> {
     let (d, kit) = program_kit(kit, text)?;
     let (blocks, info, red) = scan_frame(d.m, d.t, d.size, text)?;
     let lent = Received { m: d.m, t: d.t, size: d.size, blocks, own: kit.own, parity: kit.parity, info, red };
-    let (info, red, counts) = decode(&lent, 0, d.word_work())?;
+    let (info, red, counts) = decode(&lent, 0, d.decoder_work(blocks as usize))?;
     Ok(block_text(&d, &info) + &group_text(&d, &red) + &count_lines(counts))
 }
 

@@ -3,12 +3,12 @@
 -- Assumes nothing.
 use mathlib.Core.Path.{_≡_, refl, sym, ap, _∙_}
 use mathlib.Core.Logic.{_≢_}
-use mathlib.Core.List.{List}
+use mathlib.Core.List.{List, []}
 use Prim.Native.Nat.{ℕ}
 use Rattle.staircase.specs.Design.{Params, params}
 use Rattle.staircase.specs.Frame.{Frame, frameOf, outside}
 use Rattle.staircase.specs.Decoder.{Decoded, decoded}
-use Rattle.staircase.specs.Rules.{Verdict, _then_, designRules, interleavers}
+use Rattle.staircase.specs.Rules.{Verdict, _then_, designRules, interleavers, listRule, frameBits}
 use Rattle.staircase.specs.Rules.Verdict.{accepted, refused}
 use Rattle.staircase.specs.Calls.{Corrected, correctedBy, decodeVerdict, decodeCall}
 use Rattle.design.specs.declared.Refusal.{Refusal}
@@ -20,10 +20,10 @@ use Rattle.design.specs.declared.Designed.the-variants as designed
 use Rattle.design.specs.Answers.{verdictOf, designVerdict, DesignIs}
 use Rattle.design.specs.Sizes.{paramsOf, listsOf}
 use Rattle.design.proofs.Answers.{check-refused, check-passed, made-params, refused-design, made-design}
-use Rattle.words.specs.Checks.{receivedRules}
-use Rattle.words.proofs.WordsCall.{received-flat}
+use Rattle.rules.specs.Lengths.{lengthsOf, decoderDue, frameRules}
+use Rattle.rules.proofs.Chain.{decoder-rules, received-bytes}
 use Rattle.decoder.specs.declared.Decoding.{Decoding}
-use Rattle.decoder.specs.Answers.{correctedOf, correctedFrame, refusedFrame}
+use Rattle.decoder.specs.Answers.{copyRules, correctedOf, correctedFrame, refusedFrame}
 
 by-refused : (v : Verdict) (f : Frame) (x : Decoded) (o : ℕ) → v ≢ accepted → refusedFrame v f ≡ correctedBy v f x o
 unfolding refusedFrame
@@ -46,18 +46,22 @@ module _ (m t M L k : ℕ) (own parity info red : List ℕ) (work : ℕ) where
   refused-call x other e = by-refused x f done left other ∙ ap (λ (v : Verdict). correctedBy v f done left) e
 
   abbrev rules : Params → Verdict
-  rules s = receivedRules s L k own parity info red work
+  rules s = copyRules s L k own parity info red work
 
-  whole : (designRules m t M then receivedRules (params m t M) L k own parity info red work) ≡ decodeVerdict m t M L k own parity info red work
-  unfolding decodeVerdict
-  whole = ap (λ (z : Verdict). designRules m t M then z) (received-flat m t M L k own parity info red work)
+  whole : (designRules m t M then copyRules (params m t M) L k own parity info red work) ≡ decodeVerdict m t M L k own parity info red work
+  unfolding decodeVerdict copyRules
+  whole =
+      ap (λ (z : Verdict). designRules m t M then z)
+      (ap (λ (z : Verdict). frameRules (params m t M) L k (lengthsOf own parity [] info red work) (decoderDue (params m t M) L) then z)
+      (received-bytes (params m t M) (interleavers (params m t M) own parity) info red)
+      ∙ decoder-rules (params m t M) own parity work (listRule (params m t M) (interleavers (params m t M) own parity) then frameBits info red) L k info red)
 
   module _ (a : Designed) (n : designVerdict a ≡ designRules m t M) where
     pub decode-design : (c : Decoding) (x : Check) (r : Refusal) → ((g : Frame) → correctedOf c g ≡ refusedFrame (verdictOf x) g) → a ≡ designed.Refused r
         → verdictOf x ≡ designVerdict a → correctedOf c (frameOf info red) ≡ decodeCall m t M L k own parity info red work
     decode-design c x r h g e = let q = refused-design m t M rules a n x g e in h f ∙ refused-call (verdictOf x) (q .0) (q .1 ∙ whole)
 
-    module _ (i : DesignIs a m t M) (d : Design) (g : a ≡ designed.Made d) (x : Check) (e : verdictOf x ≡ receivedRules (paramsOf d) L k own parity info red work) where
+    module _ (i : DesignIs a m t M) (d : Design) (g : a ≡ designed.Made d) (x : Check) (e : verdictOf x ≡ copyRules (paramsOf d) L k own parity info red work) where
       verdict-is : verdictOf x ≡ decodeVerdict m t M L k own parity info red work
       verdict-is = made-design m t M rules a n x i g e ∙ whole
 

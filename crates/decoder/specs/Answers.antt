@@ -1,18 +1,26 @@
--- What the decoder's answer says.
+-- The rules on a frame that is to be decoded after the design's, and what the decoder's answer says.
+--   copyRules        rules 4 to 7 and 10 for a frame that is to be decoded
 --   correctedOf      the answer and the frame that the call leaves, as document 01's result
 --   correctedFrame   the result for a frame that no rule refuses
 --   refusedFrame     the result for one that is refused
 -- Assumes nothing.
+use mathlib.Core.List.{List, []}
 use Prim.Native.Nat.{ℕ}
 use Rattle.staircase.specs.Design.{Params, Interleavers}
 use Rattle.staircase.specs.Frame.{Frame, outside}
 use Rattle.staircase.specs.Decoder.{Decoded, decoded}
-use Rattle.staircase.specs.Rules.{Verdict}
+use Rattle.staircase.specs.Rules.{Verdict, _then_, interleavers}
 use Rattle.staircase.specs.Rules.Verdict.{accepted}
 use Rattle.staircase.specs.Calls.{Corrected, correctedBy}
 use Rattle.design.specs.Answers.{refusalVerdict}
+use Rattle.rules.specs.Lengths.{lengthsOf, decoderDue, frameRules}
+use Rattle.rules.specs.Bytes.{byteRules}
 use Rattle.decoder.specs.declared.Decoding.{Decoding}
 use Rattle.decoder.specs.declared.Decoding.the-variants as decoding
+
+unfoldable pub copyRules : Params → ℕ → ℕ → List ℕ → List ℕ → List ℕ → List ℕ → ℕ → Verdict
+copyRules s L k self parity info red work =
+    frameRules s L k (lengthsOf self parity [] info red work) (decoderDue s L) then byteRules s (interleavers s self parity) [] info red
 
 -- "The result: rounds made .., bits turned .., words outside the code at the end"; a refused call counts nothing
 unfoldable pub correctedOf : Decoding → Frame → Corrected

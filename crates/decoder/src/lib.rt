@@ -1,21 +1,29 @@
-// The decoder: rules 1 to 7 and 10 of document 01's table, then rounds over the words of the received frame, in place (crate `decoder_rounds`).
+// The decoder: rules 1 to 7 and 10 of document 01's table, then rounds over the words of the received frame, in place (crate `decoder_frame`).
 //   decode          corrects a frame, and counts rounds, flipped bits and words outside the code at the end
 //   refused_frame   a refusal as the decoder's answer
 ghost use mathlib.Core.Path.{_≡_};
-ghost use Prim.Native.Nat.{_+_, _*_, _^_, _≤_};
-ghost use lib.ListN.{length};
+ghost use Prim.Native.Nat.{_+_, _*_, _≤_};
+ghost use lib.ListN.{length, take, drop};
 ghost use Rattle.staircase.specs.Design.{most-rounds, wordLength};
-ghost use Rattle.staircase.specs.Frame.{Frame, frameOf};
+ghost use Rattle.staircase.specs.Frame.{Frame, frameOf, groups, words, outside};
+ghost use Rattle.staircase.specs.Decoder.{runRounds};
+ghost use Rattle.staircase.specs.Lines.{wordCount};
 ghost use Rattle.staircase.specs.Calls.{decodeCall};
-ghost use Rattle.design.specs.Answers.{verdictOf};
+ghost use Rattle.design.specs.Answers.{Allowed, verdictOf};
 ghost use Rattle.design.specs.Sizes.{paramsOf, orderOf, listsOf};
 ghost use Rattle.rules.specs.Received.{Received};
-ghost use Rattle.decoder.specs.Answers.{correctedOf, correctedFrame, refusedFrame};
+ghost use Rattle.words_blocks.specs.Blocks.{Powers};
+ghost use Rattle.decoder_lines.specs.Links.{listsIn};
+ghost use Rattle.decoder_words.specs.Ready.{LineReady, FrameKept};
+ghost use Rattle.decoder_frame.specs.Filled.{Filled};
+ghost use Rattle.decoder.specs.Answers.{copyRules, correctedOf, correctedFrame, refusedFrame};
 ghost use Rattle.decoder.specs.declared.Decoding.the-variants as Decoding;
+use decoder_lines::Line;
 use design::Check;
 use design::Design;
 use design::Designed;
 use design::Refusal;
+use rules::Lengths;
 
 // What decoding a frame has done: rounds made, bits flipped, words outside the code at the end.
 pub struct Counts {
@@ -30,74 +38,13 @@ pub enum Decoding {
     Refused(Refusal),
 }
 
-// `correct_frame` with its working entries lent: the tables, and `sums` for the remainders of the words of a group.
-fn correct_in(
-    d: Design,
-    blocks: usize,
-    rounds: u64,
-    own: &[u8],
-    parity: &[u8],
-    info: &mut [u8],
-    red: &mut [u8],
-    work: &mut [u8],
-    positions: &mut [u32],
-    syndromes: &mut [u32],
-    field: &mut [u16],
-    sums: &mut [u32],
-) -> Counts
-    requires { ⌜ Received d blocks (now own) (now parity) (now info) (now red) × (length (now work) ≡ orderOf d) × (rounds ≤ most-rounds)
-        × (length (now positions) ≡ wordLength (paramsOf d)) × (length (now syndromes) ≡ wordLength (paramsOf d) + 128)
-        × (length (now field) ≡ 4 * 2 ^ (d .m)) × (length (now sums) ≡ d .size) ⌝ }
-    ensures { λ a. ⌜ correctedOf (Decoding.Decoded a) (frameOf (now (info .exit)) (now (red .exit)))
-        ≡ correctedFrame (paramsOf d) (listsOf d (now (own .entry)) (now (parity .entry))) blocks rounds (frameOf (now (info .entry)) (now (red .entry))) ⌝ }
+// Working entries for the positions of a word with their values and those of four bits, for a field, and for the table of links. Only their lengths
+// are told: the most that a design needs, or more. A word has at most 2^10 - 1 bits, and behind the values of its positions stand 128 of four bits; a
+// field has four tables of at most 2^10 entries; a list has at most 4,096 entries.
+fn table_entries() -> [u32; 2304]
+    ensures { λ a. ⌜ 2304 ≡ length a ⌝ }
 {
-    let limit = decoder_rounds::rounds_allowed(rounds);
-    decoder_rounds::fill_tables(d, positions, syndromes, field);
-    let made = decoder_rounds::run_rounds(
-        d,
-        blocks,
-        limit,
-        own,
-        parity,
-        &positions[..],
-        &syndromes[..],
-        &field[..],
-        info,
-        red,
-        work,
-        sums,
-    );
-    let outside = decoder_rounds::outside_after(
-        d,
-        blocks,
-        made,
-        own,
-        parity,
-        &info[..],
-        &red[..],
-        &positions[..],
-        work,
-    );
-    Counts {
-        rounds: made.rounds as u64,
-        flips: made.flips as u64,
-        outside: outside,
-    }
-}
-
-// Working entries for the positions of a word, for their values and those of four bits, for a field, and for the remainders of a group's row words
-// or column words. Only their lengths are told: the most that a design needs, or more. A word has at most 2^10 - 1 bits, and behind the values of its
-// positions stand at most 128 of four bits; a field has four tables of at most 2^10 entries; M is at most 500.
-fn position_entries() -> [u32; 1024]
-    ensures { λ a. ⌜ 1024 ≡ length a ⌝ }
-{
-    [0; 1024]
-}
-
-fn syndrome_entries() -> [u32; 1152]
-    ensures { λ a. ⌜ 1152 ≡ length a ⌝ }
-{
-    [0; 1152]
+    [0; 2304]
 }
 
 fn field_entries() -> [u16; 4096]
@@ -106,10 +53,70 @@ fn field_entries() -> [u16; 4096]
     [0; 4096]
 }
 
-fn sum_entries() -> [u32; 512]
-    ensures { λ a. ⌜ 512 ≡ length a ⌝ }
+fn link_entries() -> [u16; 16384]
+    ensures { λ a. ⌜ 16384 ≡ length a ⌝ }
 {
-    [0; 512]
+    [0; 16384]
+}
+
+// The first line of a frame.
+fn first_line(d: Design, blocks: usize) -> Line
+    ensures { λ z. ⌜ z ≡ record { d = d; blocks = blocks; k = 0 } ⌝ }
+{
+    Line {
+        d: d,
+        blocks: blocks,
+        k: 0,
+    }
+}
+
+// Runs the rounds over a frame whose numbers are filled behind the first n working bytes, and counts.
+fn correct_lines(
+    line: Line,
+    limit: usize,
+    links: &[u16],
+    tables: &[u32],
+    field: &[u16],
+    info: &mut [u8],
+    red: &mut [u8],
+    numbers: &mut [u8],
+) -> Counts
+    requires { ⌜ LineReady line (now links) (now tables) (now field) × (line .k ≡ 0) × (limit ≤ most-rounds)
+        × FrameKept (line .d) (line .blocks) (now links) (now info) (now red) (now numbers) ⌝ }
+    ensures { λ a. ⌜ (record { frame = frameOf (now (info .exit)) (now (red .exit)); rounds = a .rounds; flips = a .flips }
+        ≡ runRounds (paramsOf (line .d)) (words (paramsOf (line .d)) (listsIn (line .d) (now (links .entry))) (line .blocks)) limit
+        (frameOf (now (info .entry)) (now (red .entry))))
+        × (a .outside ≡ outside (paramsOf (line .d)) (listsIn (line .d) (now (links .entry))) (line .blocks) (frameOf (now (info .exit)) (now (red .exit))))
+        × (length (now (numbers .exit)) ≡ length (now (numbers .entry))) ⌝ }
+{
+    let made = decoder_frame::run_rounds(line, limit, links, tables, field, info, red, numbers);
+    let outside = decoder_kept::count(&numbers[..], numbers.len() / 4);
+    Counts {
+        rounds: made.rounds as u64,
+        flips: made.flips as u64,
+        outside: outside,
+    }
+}
+
+// Fills the kept numbers of a frame, with all tables of the design lent.
+fn fill_kept(
+    line: Line,
+    own: &[u8],
+    parity: &[u8],
+    info: &[u8],
+    red: &[u8],
+    tables: &[u32],
+    work: &mut [u8],
+)
+    requires { ⌜ Received (line .d) (line .blocks) (now own) (now parity) (now info) (now red)
+        × Powers (paramsOf (line .d)) (take (wordLength (paramsOf (line .d))) (now tables)) × (wordLength (paramsOf (line .d)) ≤ length (now tables))
+        × (length (now work) ≡ orderOf (line .d) + 4 * wordCount (paramsOf (line .d)) (line .blocks)) ⌝ }
+    ensures { λ u. ⌜ (length (now (work .exit)) ≡ length (now (work .entry)))
+        × Filled line (now (own .entry)) (now (parity .entry)) (frameOf (now (info .entry)) (now (red .entry)))
+        (drop (orderOf (line .d)) (now (work .exit))) (wordCount (paramsOf (line .d)) (line .blocks)) ⌝ }
+{
+    let bits = line.d.n();
+    decoder_frame::fill_numbers(line, own, parity, info, red, &tables[0..bits], work);
 }
 
 // Corrects a received frame whose arguments have passed all rules, and counts.
@@ -123,31 +130,72 @@ fn correct_frame(
     red: &mut [u8],
     work: &mut [u8],
 ) -> Counts
-    requires { ⌜ Received d blocks (now own) (now parity) (now info) (now red) × (length (now work) ≡ orderOf d) × (rounds ≤ most-rounds) ⌝ }
+    requires { ⌜ Received d blocks (now own) (now parity) (now info) (now red)
+        × (length (now work) ≡ orderOf d + 8 * (groups blocks * d .size)) × (rounds ≤ most-rounds) ⌝ }
     ensures { λ a. ⌜ correctedOf (Decoding.Decoded a) (frameOf (now (info .exit)) (now (red .exit)))
         ≡ correctedFrame (paramsOf d) (listsOf d (now (own .entry)) (now (parity .entry))) blocks rounds (frameOf (now (info .entry)) (now (red .entry))) ⌝ }
 {
-    let bits = d.n();
-    let size = d.size();
+    let line = first_line(d, blocks);
+    let limit = decoder_frame::rounds_allowed(rounds);
+    let n = d.order();
+    let all = work.len();
+    let due = 2 * d.n() + 128;
     let powers = 1 << d.m();
-    let mut positions = position_entries();
-    let mut syndromes = syndrome_entries();
+    let mut tables = table_entries();
     let mut field = field_entries();
-    let mut sums = sum_entries();
-    correct_in(
-        d,
-        blocks,
-        rounds,
+    let mut links = link_entries();
+    decoder_frame::fill_tables(d, &mut tables[0..due], &mut field[0..4 * powers]);
+    decoder_lines::fill_links(d, own, parity, &mut links[0..4 * n]);
+    fill_kept(
+        line,
         own,
         parity,
+        &info[..],
+        &red[..],
+        &tables[0..due],
+        work,
+    );
+    correct_lines(
+        line,
+        limit,
+        &links[0..4 * n],
+        &tables[0..due],
+        &field[0..4 * powers],
         info,
         red,
-        work,
-        &mut positions[..bits],
-        &mut syndromes[..bits + 128],
-        &mut field[..4 * powers],
-        &mut sums[..size],
+        &mut work[n..all],
     )
+}
+
+// Rules 4 to 7 and 10 for a frame that is to be decoded.
+fn check_copy(
+    d: Design,
+    blocks: u64,
+    rounds: u64,
+    own: &[u8],
+    parity: &[u8],
+    info: &[u8],
+    red: &[u8],
+    work: &mut [u8],
+) -> Check
+    requires { ⌜ Allowed d ⌝ }
+    ensures { λ a. ⌜ verdictOf a ≡ copyRules (paramsOf d) blocks rounds (now (own .entry)) (now (parity .entry)) (now (info .entry)) (now (red .entry))
+        (length (now (work .entry))) ⌝ }
+{
+    let have = Lengths {
+        own: own.len(),
+        parity: parity.len(),
+        inverse: 0,
+        info: info.len(),
+        red: red.len(),
+        work: work.len(),
+    };
+    let lengths = rules::check_frame(d, blocks, rounds, have, rules::decoder_due(d, blocks));
+    let Check::Passed = lengths else {
+        return lengths;
+    };
+    let n = d.order();
+    rules::check_bytes(d, own, parity, &own[..0], info, red, &mut work[0..n])
 }
 
 // A refused check as the decoder's answer; for calls that end in a decoding.
@@ -165,8 +213,8 @@ pub fn refused_frame(a: Check) -> Decoding
 }
 
 // Corrects the lent frame of `blocks` blocks in place, in at most `rounds` rounds, 0 standing for 7, or refuses it by the first of rules 1 to 7 and
-// 10; a refused frame is left as it was. The working bytes are one for each entry of a list, and free afterwards. The work of a round is one step
-// for each bit of the words, and some more for each word that is outside the code.
+// 10; a refused frame is left as it was. The working bytes are one for each entry of a list and four for each word, and free afterwards. The work is
+// one step for each bit of the words, and some more for each word that is outside the code when a round meets it.
 pub fn decode(
     m: u64,
     t: u64,
@@ -186,7 +234,7 @@ pub fn decode(
     let Designed::Made(d) = designed else {
         return refused_frame(design::design_check(designed));
     };
-    let received = words::check_received(d, blocks, rounds, own, parity, &info[..], &red[..], work);
+    let received = check_copy(d, blocks, rounds, own, parity, &info[..], &red[..], work);
     let Check::Passed = received else {
         return refused_frame(received);
     };

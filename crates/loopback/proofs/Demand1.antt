@@ -6,13 +6,13 @@ use mathlib.Core.List.{List, [], _∷_}
 use Prim.Native.Nat.{ℕ}
 use native.Mathlib.Omega.{arith}
 use Rattle.staircase.specs.Design.{Params, Interleavers, params}
-use Rattle.staircase.specs.Rules.{Verdict, _then_, designRules, countRule, roundsRule, lengthRule, kitLengths, frameLengths, kitWork, interleavers, contentRules}
+use Rattle.staircase.specs.Rules.{Verdict, _then_, designRules, countRule, roundsRule, lengthRule, kitLengths, frameLengths, interleavers, contentRules}
 use Rattle.staircase.specs.Rules.Verdict.{accepted}
 use Rattle.staircase.specs.Demand1.{ByTable, Demand1}
 use Rattle.staircase.proofs.Rules.{then-first, design-limits}
 use Rattle.staircase.proofs.Decoded.{correctedBy-verdict}
 use Rattle.staircase.proofs.Demand1.{byTable-then, design-byTable, count-byTable, rounds-byTable, length-byTable, kit-fits-byTable, frame-fits-byTable, content-byTable, correctedBy-untouched}
-use Rattle.loopback.specs.Link.{numberRules, loopbackVerdict, loopbackCall}
+use Rattle.loopback.specs.Link.{numberRules, loopbackWork, loopbackVerdict, loopbackCall}
 
 abbrev numbers : List ℕ
 numbers = 1 ∷ 2 ∷ 3 ∷ 4 ∷ 5 ∷ 6 ∷ 7 ∷ 8 ∷ 9 ∷ 10 ∷ []
@@ -33,13 +33,13 @@ loopback-byTable m t M L k self parity w info red work =
     let s : Params = params m t M in
     let l : Interleavers = interleavers s self parity in
     let v9 : Verdict = contentRules s l w info in
-    let v6 : Verdict = lengthRule 6 work (kitWork s) in
+    let v6 : Verdict = lengthRule 6 work (loopbackWork s L) in
     let frame : Verdict = frameLengths s L info red in
     let kit : Verdict = kitLengths s self parity w in
     byTable-then numbers (numberRules m t M L k) (kit then frame then v6 then v9) (numbers-byTable m t M L k)
     (λ d. byTable-then numbers kit (frame then v6 then v9) (kit-fits-byTable numbers refl s self parity w)
     (λ e. byTable-then numbers frame (v6 then v9) (frame-fits-byTable numbers refl s L info red)
-    (λ f. byTable-then numbers v6 v9 (length-byTable numbers refl 6 work (kitWork s) (omega arith) (omega arith))
+    (λ f. byTable-then numbers v6 v9 (length-byTable numbers refl 6 work (loopbackWork s L) (omega arith) (omega arith))
     (λ g. content-byTable numbers refl refl refl refl s (design-limits m t M (design-first m t M L k d) .order-high) l w info))))
 
 pub loopback-demand1 : (m t M L k : ℕ) (self parity w infoErrors redErrors info red : List ℕ) (work : ℕ)

@@ -3,31 +3,32 @@
 --   numbers-accepted             rules 1 to 5 accept what demand 3 takes for given, at an allowed number of rounds
 --   loopback-numbers             the result where rules 1 to 5 refuse
 --   loopback-encoder             where the encoder does
---   own-length, working-fits     the decoder's working bytes, as many as a list has entries, are among the encoder's
+--   small-frame                  its blocks are few, and so are their rows
+--   own-length, working-fits     the decoder's working bytes are among those that are lent
 --   loopback-decoded             the result after the decoder, which accepts the frame
 -- Assumes nothing.
 use mathlib.Core.Path.{_≡_, refl, sym, ap, ap₂, _∙_, subst}
-use mathlib.Core.Bool.{Bool, true, false, cond}
+use mathlib.Core.Bool.{Bool, true, false, not, cond}
 use mathlib.Core.Logic.{_≢_}
 use mathlib.Core.List.{List}
-use Prim.Native.Nat.{ℕ, _-_, _*_, _≤_, _<_}
-use native.Mathlib.Decide.{decLt}
+use Prim.Native.Nat.{ℕ, _+_, _-_, _*_, _≤_, _<_}
+use native.Mathlib.Decide.{decLt, ℕ-discrete}
 use native.Mathlib.Omega.{arith}
-use borrow.Author.Tests.{le-ltb, ltb-false}
+use borrow.Author.Tests.{le-ltb, ltb-false, eq-eqb, ne-eqb}
 use lib.Dec.{eqb, ltb}
 use lib.ListN.{length, getD, List·getD-eq-default}
 use Rattle.bch.specs.Polynomial.{Bits}
-use Rattle.staircase.specs.Design.{Params, Interleavers, params, order, most-blocks, most-rounds}
+use Rattle.staircase.specs.Design.{Params, Interleavers, params, order, most-M, most-order, most-blocks, most-rounds}
 use Rattle.staircase.specs.System.{rowBytes, redundancy}
-use Rattle.staircase.specs.Frame.{Frame, frameOf, outside}
+use Rattle.staircase.specs.Frame.{Frame, frameOf, groups, outside}
 use Rattle.staircase.specs.Decoder.{Decoded, decoded}
-use Rattle.staircase.specs.Rules.{Verdict, _then_, designRules, countRule, roundsRule, lengthRule, kitLengths, frameLengths, kitWork, wordWork, interleavers, contentRules}
+use Rattle.staircase.specs.Rules.{Verdict, _then_, refuse, designRules, countRule, roundsRule, lengthRule, kitLengths, frameLengths, kitWork, decoderWork, interleavers, contentRules}
 use Rattle.staircase.specs.Rules.Verdict.{accepted, refused}
 use Rattle.staircase.specs.Calls.{encodedBy, encodeVerdict, encodeCall, Corrected, correctedBy, decodeVerdict, decodeCall}
 use Rattle.staircase.specs.Demand3.{Kit, Given}
 use Rattle.staircase.proofs.Bounds.{small-product}
 use Rattle.staircase.proofs.Tabulate.{tabulate-length, tabulate-at}
-use Rattle.staircase.proofs.Rules.{then-first, then-rest, then-accepted, refuse-false, refuse-accepted, inRange, design-limits}
+use Rattle.staircase.proofs.Rules.{then-first, then-rest, then-accepted, refuse-false, refuse-accepted, inRange, design-limits, count-limits}
 use Rattle.staircase.proofs.BchCode.{proper-of}
 use Rattle.staircase.proofs.Demand3.{decode-admits, made-length, made-bits}
 use Rattle.staircase.proofs.Encoded.{encodedBy-verdict, encode-accepted, encode-work}
@@ -37,7 +38,7 @@ use Rattle.design.specs.declared.Check.the-variants as check
 use Rattle.design.specs.Answers.{verdictOf}
 use Rattle.design.proofs.Answers.{refused-then, check-refused}
 use Rattle.decoder.specs.Answers.{refusedFrame}
-use Rattle.loopback.specs.Link.{turned, numberRules, loopbackVerdict, loopbackCall}
+use Rattle.loopback.specs.Link.{turned, numberRules, loopbackWork, loopbackVerdict, loopbackCall}
 
 -- ---- turned bits
 
@@ -58,6 +59,13 @@ turned-bits errors b h k = go (decLt k (length b))
     go (no l) = subst (λ (z : ℕ). z < 2) (sym (List·getD-eq-default (turned errors b) 0 {n = k} (omega (arith, turned-length errors b)))) (omega arith)
 
 -- ---- the verdict
+
+less-rule : (w x a : ℕ) → 0 < a → lengthRule 6 (w - x) a ≡ lengthRule 6 w (a + x)
+less-rule w x a h = ap (λ (z : Bool). refuse (not z) 6 6) (go (ℕ-discrete (w - x) a))
+  where
+    go : Dec (w - x ≡ a) → eqb (w - x) a ≡ eqb w (a + x)
+    go (yes e) = eq-eqb (w - x) a e ∙ sym (eq-eqb w (a + x) (omega (arith, e)))
+    go (no n) = ne-eqb (w - x) a n ∙ sym (ne-eqb w (a + x) (λ e. n (omega (arith, e))))
 
 pub numbers-accepted : (K : Kit) (L : ℕ) (info old : List ℕ) → Given K L info old → (k : ℕ) → k ≤ most-rounds → numberRules (K .m) (K .t) (K .M) L k ≡ accepted
 unfolding numberRules countRule roundsRule
@@ -98,7 +106,7 @@ module _ (m t M L k : ℕ) (self parity w infoErrors redErrors info red : List �
   unfolding loopbackVerdict
   loopback-numbers x v e =
       refused-result (verdictOf x) (check-refused e)
-      (sym (refused-then (kitLengths s self parity w then frameLengths s L info red then lengthRule 6 work (kitWork s) then contentRules s l w info) v e))
+      (sym (refused-then (kitLengths s self parity w then frameLengths s L info red then lengthRule 6 work (loopbackWork s L) then contentRules s l w info) v e))
 
   module _ (ok : numberRules m t M L k ≡ accepted) where
     counted : (countRule L then roundsRule k) ≡ accepted
@@ -109,27 +117,53 @@ module _ (m t M L k : ℕ) (self parity w infoErrors redErrors info red : List �
     unfolding roundsRule
     few-rounds = ltb-false most-rounds k (refuse-false (ltb most-rounds k) 5 k (then-rest (countRule L) (roundsRule k) counted))
 
+    designed : designRules m t M ≡ accepted
+    unfolding numberRules
+    designed = then-first (designRules m t M) (countRule L then roundsRule k) ok
+
+    pub small-frame : (M ≤ most-M) × (L ≤ most-blocks) × (order (params m t M) ≤ most-order)
+    small-frame =
+        let limits = design-limits m t M designed in (limits .M-high, count-limits L (then-first (countRule L) (roundsRule k) counted) .1, limits .order-high)
+
+    abbrev more : ℕ
+    more = 8 * (groups L * M)
+
+    kit-some : (0 < kitWork s) × (order s ≤ kitWork s)
+    unfolding kitWork
+    kit-some =
+        let fit = proper-of (design-limits m t M designed) in
+        let p = small-product 1 1 M (m * t) (fit .mpos) (fit .rpos) in
+        let one : 1 ≤ rowBytes (order s) = omega (arith, p) in
+        let q = small-product (order s) 1 (order s) (rowBytes (order s)) (omega arith) one in
+        (omega (arith, p, q), omega (arith, q))
+
+    -- the last of the working bytes are left out: those of the decoder's numbers
+    same-rule : lengthRule 6 (work - 8 * (groups L * M)) (kitWork s) ≡ lengthRule 6 work (loopbackWork s L)
+    unfolding loopbackWork
+    same-rule = less-rule work more (kitWork s) (kit-some .0)
+
     -- the encoder's rules 1 to 4 are passed, so that the others decide
-    verdict-encodes : loopbackVerdict m t M L k self parity w info red work ≡ encodeVerdict m t M L self parity w info red work
+    verdict-encodes : loopbackVerdict m t M L k self parity w info red work ≡ encodeVerdict m t M L self parity w info red (work - 8 * (groups L * M))
     unfolding loopbackVerdict encodeVerdict numberRules
     verdict-encodes =
-        let rest : Verdict = kitLengths s self parity w then frameLengths s L info red then lengthRule 6 work (kitWork s) then contentRules s l w info in
-        ap (λ (v : Verdict). v then rest) ok
+        let rest : Verdict = kitLengths s self parity w then frameLengths s L info red then lengthRule 6 (work - more) (kitWork s) then contentRules s l w info in
+        ap (λ (v : Verdict). v then kitLengths s self parity w then frameLengths s L info red then lengthRule 6 work (loopbackWork s L) then contentRules s l w info) ok
+        ∙ ap (λ (v : Verdict). kitLengths s self parity w then frameLengths s L info red then v then contentRules s l w info) (sym same-rule)
         ∙ sym (ap (λ (v : Verdict). v then countRule L then rest) (then-first (designRules m t M) (countRule L then roundsRule k) ok)
         ∙ ap (λ (v : Verdict). v then rest) (then-first (countRule L) (roundsRule k) counted))
 
-    encoder-verdict : encodeCall m t M L self parity w info red work .verdict ≡ encodeVerdict m t M L self parity w info red work
+    encoder-verdict : encodeCall m t M L self parity w info red (work - 8 * (groups L * M)) .verdict ≡ encodeVerdict m t M L self parity w info red (work - 8 * (groups L * M))
     unfolding encodeCall
-    encoder-verdict = encodedBy-verdict (encodeVerdict m t M L self parity w info red work) red (redundancy s l w L info)
+    encoder-verdict = encodedBy-verdict (encodeVerdict m t M L self parity w info red (work - 8 * (groups L * M))) red (redundancy s l w L info)
 
     -- refused by the encoder, which leaves the redundancy
-    pub loopback-encoder : (x : Check) (after : List ℕ) → verdictOf x ≡ encodeCall m t M L self parity w info red work .verdict
-        → after ≡ encodeCall m t M L self parity w info red work .red → {r : Refusal} → x ≡ check.Refused r
+    pub loopback-encoder : (x : Check) (after : List ℕ) → verdictOf x ≡ encodeCall m t M L self parity w info red (work - 8 * (groups L * M)) .verdict
+        → after ≡ encodeCall m t M L self parity w info red (work - 8 * (groups L * M)) .red → {r : Refusal} → x ≡ check.Refused r
         → refusedFrame (verdictOf x) (frameOf info after) ≡ loopbackCall m t M L k self parity w infoErrors redErrors info red work
     unfolding encodeCall
     loopback-encoder x after v a e =
         let n : verdictOf x ≢ accepted = check-refused e in
-        let u : Verdict = encodeVerdict m t M L self parity w info red work in
+        let u : Verdict = encodeVerdict m t M L self parity w info red (work - 8 * (groups L * M)) in
         ap (λ (z : List ℕ). refusedFrame (verdictOf x) (frameOf info z)) (a ∙ red-stays u (λ z. n (v ∙ encoder-verdict ∙ z)))
         ∙ refused-result (verdictOf x) n (verdict-encodes ∙ sym (v ∙ encoder-verdict))
       where
@@ -138,30 +172,26 @@ module _ (m t M L k : ℕ) (self parity w infoErrors redErrors info red : List �
         red-stays (refused n p) h = refl
 
     -- encoded: the decoder's answer
-    module _ (v : encodeCall m t M L self parity w info red work .verdict ≡ accepted) where
-      accepts : encodeVerdict m t M L self parity w info red work ≡ accepted
+    module _ (v : encodeCall m t M L self parity w info red (work - 8 * (groups L * M)) .verdict ≡ accepted) where
+      accepts : encodeVerdict m t M L self parity w info red (work - 8 * (groups L * M)) ≡ accepted
       accepts = sym encoder-verdict ∙ v
 
       G : Given K L info red
-      G = encode-accepted K L info red work accepts
+      G = encode-accepted K L info red (work - 8 * (groups L * M)) accepts
 
-      made-red : encodeCall m t M L self parity w info red work .red ≡ redundancy s l w L info
+      made-red : encodeCall m t M L self parity w info red (work - 8 * (groups L * M)) .red ≡ redundancy s l w L info
       unfolding encodeCall
       made-red = ap (λ (x : Verdict). encodedBy x red (redundancy s l w L info) .red) accepts
 
       pub own-length : length self ≡ 2 * order (params m t M)
       own-length = G .fits .selfLength
 
-      pub working-fits : order (params m t M) ≤ work
-      unfolding kitWork
+      pub working-fits : order (params m t M) + 8 * (groups L * M) ≤ work
       working-fits =
-          let e : work ≡ order s * rowBytes (order s) = encode-work K L info red work accepts in
-          let ok = proper-of (design-limits m t M (G .design)) in
-          let p = small-product 1 1 M (m * t) (ok .mpos) (ok .rpos) in
-          let one : 1 ≤ rowBytes (order s) = omega (arith, p) in
-          omega (arith, e, small-product (order s) 1 (order s) (rowBytes (order s)) (omega arith) one)
+          let e : work - more ≡ kitWork s = encode-work K L info red (work - 8 * (groups L * M)) accepts in
+          omega (arith, e, kit-some .0, kit-some .1)
 
-      pub loopback-decoded : (x : Corrected) (after : List ℕ) (n : ℕ) → after ≡ encodeCall m t M L self parity w info red work .red → n ≡ wordWork (params m t M)
+      pub loopback-decoded : (x : Corrected) (after : List ℕ) (n : ℕ) → after ≡ encodeCall m t M L self parity w info red (work - 8 * (groups L * M)) .red → n ≡ decoderWork (params m t M) L
           → x ≡ decodeCall m t M L k self parity (turned infoErrors info) (turned redErrors after) n
           → x ≡ loopbackCall m t M L k self parity w infoErrors redErrors info red work
       unfolding loopbackCall decodeCall
@@ -169,7 +199,7 @@ module _ (m t M L k : ℕ) (self parity w infoErrors redErrors info red : List �
           let made : List ℕ = redundancy s l w L info in
           let i : List ℕ = turned infoErrors info in
           let o : List ℕ = turned redErrors made in
-          let ev : decodeVerdict m t M L k self parity i o (wordWork s) ≡ accepted =
+          let ev : decodeVerdict m t M L k self parity i o (decoderWork s L) ≡ accepted =
           decode-admits K L info red G k few-rounds i o (turned-length infoErrors info ∙ G .info-fits) (turned-length redErrors made ∙ made-length K L info red G)
           (turned-bits infoErrors info (G .bits)) (turned-bits redErrors made (made-bits K L info red G)) in
           e

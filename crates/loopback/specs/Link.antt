@@ -1,17 +1,18 @@
 -- The loopback: a frame is encoded, the link turns bits of it, and what it delivers is decoded.
 --   turned            a buffer with the bits turned that a pattern names
 --   numberRules       rules 1 to 5
+--   loopbackWork      the working length
 --   loopbackVerdict   rules 1 to 10, in rising order but for 10 before 9
 --   loopbackCall      what the loopback answers and leaves
 -- Assumes nothing.
 use mathlib.Core.Bool.{cond}
 use mathlib.Core.List.{List}
-use Prim.Native.Nat.{ℕ, _-_}
+use Prim.Native.Nat.{ℕ, _+_, _-_, _*_}
 use lib.Dec.{eqb}
 use lib.ListN.{length, getD}
 use Rattle.staircase.specs.Lists.{tabulate}
 use Rattle.staircase.specs.Design.{Params, Interleavers, params}
-use Rattle.staircase.specs.Frame.{Frame, frameOf, outside}
+use Rattle.staircase.specs.Frame.{Frame, frameOf, groups, outside}
 use Rattle.staircase.specs.System.{redundancy}
 use Rattle.staircase.specs.Decoder.{Decoded, decoded}
 use Rattle.staircase.specs.Rules.{Verdict, _then_, designRules, countRule, roundsRule, lengthRule, kitLengths, frameLengths, kitWork, interleavers, contentRules}
@@ -24,12 +25,16 @@ turned errors b = tabulate (length b) (λ k. cond (eqb (getD errors k 0) 0) (get
 unfoldable pub numberRules : ℕ → ℕ → ℕ → ℕ → ℕ → Verdict
 numberRules m t M L k = designRules m t M then countRule L then roundsRule k
 
+-- the encoder's, and four bytes for each of the 2 M words of each group, which the decoder has
+unfoldable pub loopbackWork : Params → ℕ → ℕ
+loopbackWork s L = kitWork s + 8 * (groups L * s .M)
+
 -- "Checks run in rising order": the decoder's rule 5 among those of the encoder, and before anything is written
 unfoldable pub loopbackVerdict : ℕ → ℕ → ℕ → ℕ → ℕ → List ℕ → List ℕ → List ℕ → List ℕ → List ℕ → ℕ → Verdict
 loopbackVerdict m t M L k self parity w info red work =
     let s : Params = params m t M in
     numberRules m t M L k
-    then kitLengths s self parity w then frameLengths s L info red then lengthRule 6 work (kitWork s)
+    then kitLengths s self parity w then frameLengths s L info red then lengthRule 6 work (loopbackWork s L)
     then contentRules s (interleavers s self parity) w info
 
 -- the result is the decoder's, on the encoder's frame with the named bits turned; a refused call leaves both buffers as they were

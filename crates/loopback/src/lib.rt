@@ -6,11 +6,12 @@
 // (`loopback-restores` in proofs/Restores.antt): where the patterns leave no word with more than t wrong bits, the frame comes back.
 ghost use mathlib.Core.Path.{_≡_};
 ghost use mathlib.Core.Bool.{cond};
-ghost use Prim.Native.Nat.{_-_, _≤_};
+ghost use Prim.Native.Nat.{_-_, _*_, _≤_};
 ghost use lib.Dec.{eqb};
 ghost use lib.ListN.{length, getD};
-ghost use Rattle.staircase.specs.Frame.{frameOf};
-ghost use Rattle.staircase.specs.Calls.{decodeCall};
+ghost use Rattle.staircase.specs.Design.{most-M, most-blocks};
+ghost use Rattle.staircase.specs.Frame.{frameOf, groups};
+ghost use Rattle.staircase.specs.Calls.{encodeCall, decodeCall};
 ghost use Rattle.decoder.specs.Answers.{correctedOf};
 ghost use Rattle.design.specs.Answers.{verdictOf};
 ghost use Rattle.loopback.specs.Link.{turned, numberRules, loopbackCall};
@@ -66,6 +67,58 @@ fn check_numbers(m: u64, t: u64, size: u64, blocks: u64, rounds: u64) -> Check
     design::check_rounds(rounds)
 }
 
+// The working bytes of the decoder's numbers: four for each word of a frame.
+fn number_bytes(size: u64, blocks: u64) -> usize
+    requires { ⌜ (size ≤ most-M) × (blocks ≤ most-blocks) ⌝ }
+    ensures { λ a. ⌜ (a ≡ 8 * (groups blocks * size)) × (a ≤ 16384000) ⌝ }
+{
+    (8 * (design::group_count(blocks) * size)) as usize
+}
+
+// How many bytes come before the last `more` of `all`; none where there are not so many.
+fn bytes_before(all: usize, more: usize) -> usize
+    ensures { λ a. ⌜ (a ≡ all - more) × (a ≤ all) ⌝ }
+{
+    if all < more {
+        return 0;
+    }
+    all - more
+}
+
+// The encoder's call with the first n of the lent working bytes.
+fn encode_front(
+    m: u64,
+    t: u64,
+    size: u64,
+    blocks: u64,
+    own: &[u8],
+    parity: &[u8],
+    inverse: &[u8],
+    info: &[u8],
+    red: &mut [u8],
+    work: &mut [u8],
+    n: usize,
+) -> Check
+    requires { ⌜ n ≤ length (now work) ⌝ }
+    ensures { λ a. ⌜ (verdictOf a ≡ (encodeCall m t size blocks (now (own .entry)) (now (parity .entry)) (now (inverse .entry)) (now (info .entry))
+        (now (red .entry)) n) .verdict)
+        × (now (red .exit) ≡ (encodeCall m t size blocks (now (own .entry)) (now (parity .entry)) (now (inverse .entry)) (now (info .entry))
+        (now (red .entry)) n) .red) ⌝ }
+{
+    encoder::encode(
+        m,
+        t,
+        size,
+        blocks,
+        own,
+        parity,
+        inverse,
+        info,
+        red,
+        &mut work[..n],
+    )
+}
+
 // The decoder's call with the first n of the lent working bytes.
 fn decode_front(
     m: u64,
@@ -100,7 +153,8 @@ fn decode_front(
 
 // Encodes the lent information, turns the bits of the frame that the two patterns name, and decodes it in at most `rounds` rounds, 0 standing for
 // 7. Byte k of a pattern that is not 0 turns bit k of its buffer; a pattern may have any length. The answer is the decoder's: its counts, or the
-// first of rules 1 to 10 that refuses; a refused call leaves both buffers as they were. The working bytes are as many as the inverse's. The work is that of the two calls.
+// first of rules 1 to 10 that refuses; a refused call leaves both buffers as they were. The working bytes are as many as the inverse's and four for each
+// word. The work is that of the two calls.
 pub fn loopback(
     m: u64,
     t: u64,
@@ -124,7 +178,9 @@ pub fn loopback(
     let Check::Passed = numbers else {
         return decoder::refused_frame(numbers);
     };
-    let encoded = encoder::encode(
+    let more = number_bytes(size, blocks);
+    let spare = bytes_before(work.len(), more);
+    let encoded = encode_front(
         m,
         t,
         size,
@@ -135,12 +191,13 @@ pub fn loopback(
         &info[..],
         red,
         work,
+        spare,
     );
     let Check::Passed = encoded else {
         return decoder::refused_frame(encoded);
     };
     turn_bits(info_errors, info);
     turn_bits(red_errors, red);
-    let n = own.len() / 2;
+    let n = own.len() / 2 + more;
     decode_front(m, t, size, blocks, rounds, own, parity, info, red, work, n)
 }

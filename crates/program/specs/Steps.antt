@@ -19,11 +19,11 @@ use lib.ListN.{length, take}
 use Rattle.staircase.specs.Design.{most-blocks}
 use Rattle.staircase.specs.Frame.{groups}
 use Rattle.staircase.specs.System.{rowBytes}
-use Rattle.staircase.specs.Rules.{Verdict, _then_}
+use Rattle.staircase.specs.Rules.{Verdict, _then_, decoderWork}
 use Rattle.staircase.specs.Rules.Verdict.{accepted, refused}
 use Rattle.design.specs.declared.Design.{Design}
 use Rattle.design.specs.Answers.{Allowed}
-use Rattle.design.specs.Sizes.{orderOf}
+use Rattle.design.specs.Sizes.{paramsOf, orderOf}
 use Rattle.text.specs.KitReader.{headNumber, scanKit}
 use Rattle.text.specs.FrameReader.{blockRule, blockCount, frameRule, frameCount}
 use Rattle.text.specs.Programs.{most-input, inputRule}
@@ -92,7 +92,7 @@ FrameReady d L kit text own parity inverse info red work =
     ProgramReady false (orderOf d * rowBytes (orderOf d)) d L kit text own parity inverse info red work
 
 abbrev pub MendReady : Design → ℕ → List ℕ → List ℕ → ℕ → ℕ → ℕ → ℕ → ℕ → ℕ → Type 0
-MendReady d L kit text own parity inverse info red work = ProgramReady true (orderOf d) d L kit text own parity inverse info red work
+MendReady d L kit text own parity inverse info red work = ProgramReady true (decoderWork (paramsOf d) L) d L kit text own parity inverse info red work
 
 -- ---- what is printed
 

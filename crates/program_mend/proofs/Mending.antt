@@ -2,7 +2,7 @@
 --   mend-stopped                   the refusal of a rule before the call
 --   block-bits .. lines-printed    both texts of a corrected frame and the counts, one after the other
 --   frame-fits                     they have room behind a text that was scanned
---   red-room                       the redundancy that such a text shows
+--   red-room, work-room            the redundancy that such a text shows, and the decoder's working bytes
 --   decoded-prints, refused-prints what the decoder's answer prints
 --   mend-printed                   it is what `mend` prints
 -- Assumes nothing.
@@ -11,18 +11,18 @@ use mathlib.Core.Bool.{true}
 use mathlib.Core.List.{List, _++_}
 use Prim.Native.Nat.{ℕ, _+_, _*_, _≤_}
 use native.Mathlib.Omega.{arith}
-use native.Mathlib.Nat.{mul-add}
+use native.Mathlib.Nat.{mul-add, mul-le-mul, le-refl, mul-assoc, mul-comm}
 use lib.ListN.{length, length-append}
 use lib.Seq.{sets, length-sets}
 use Rattle.staircase.specs.Design.{most-blocks}
 use Rattle.staircase.specs.Frame.{Frame, frameOf, groups}
-use Rattle.staircase.specs.Rules.{wordWork}
+use Rattle.staircase.specs.Rules.{wordWork, decoderWork}
 use Rattle.staircase.specs.Rules.Verdict.{accepted, refused}
 use Rattle.staircase.specs.Calls.{Corrected, decodeCall}
 use Rattle.design.specs.declared.Design.{Design}
 use Rattle.design.specs.declared.Refusal.{Refusal}
 use Rattle.design.specs.Answers.{refusalVerdict}
-use Rattle.design.specs.Sizes.{orderOf}
+use Rattle.design.specs.Sizes.{paramsOf, orderOf}
 use Rattle.rules_verdict.specs.declared.Judged.{Judged}
 use Rattle.rules_verdict.specs.Number.{judgedOf}
 use Rattle.decoder.specs.declared.Counts.{Counts}
@@ -46,7 +46,7 @@ use Rattle.program.specs.declared.Sizes.{Sizes}
 use Rattle.text.proofs.Programs.{stopped, called}
 use Rattle.program.proofs.Printing.{printed-as, printed-refused}
 use Rattle.program.proofs.Starting.{behind-kit}
-use Rattle.program.proofs.ProgramReady.{order-is, kit-left, frame-scanned, few-blocks}
+use Rattle.program.proofs.ProgramReady.{order-is, few-entries, kit-left, frame-scanned, few-blocks}
 
 -- ---- before the call
 
@@ -67,6 +67,18 @@ short d L kit text B =
 
 pub red-room : (d : Design) (L : ℕ) (kit text : List ℕ) → Scanned true d L kit text → (s : Sizes) → SizesAre s d L → s .red ≤ most-input
 red-room d L kit text B s z = omega (arith, z .red-is, short d L kit text B)
+
+pub work-room : (d : Design) (L : ℕ) (kit text : List ℕ) → Scanned true d L kit text → decoderWork (paramsOf d) L ≤ 32949
+unfolding decoderWork wordWork
+work-room d L kit text B =
+    let A = B .started .allowed in
+    let r : 4 * 1 ≤ d .m * d .t = mul-le-mul (A .m-low) (A .t-low) in
+    let w : groups L * d .size * 4 ≤ groups L * d .size * (d .m * d .t) = mul-le-mul (le-refl (groups L * d .size)) r in
+    let e : groups L * (2 * orderOf d) ≡ 2 * (groups L * d .size * (d .m * d .t)) = red-as (groups L) (d .size) (d .m * d .t) in
+    omega (arith, w, e, short d L kit text B, few-entries d kit text (B .started))
+  where
+    red-as : (g M r : ℕ) → g * (2 * (M * r)) ≡ 2 * (g * M * r)
+    red-as g M r = sym (mul-assoc g 2 (M * r)) ∙ ap (λ (z : ℕ). z * (M * r)) (mul-comm g 2) ∙ mul-assoc 2 g (M * r) ∙ ap (λ (z : ℕ). 2 * z) (sym (mul-assoc g M r))
 
 pub frame-fits : (d : Design) (L : ℕ) (kit text : List ℕ) (own parity inverse info red work : ℕ) → MendReady d L kit text own parity inverse info red work
     → (i q : ℕ) → i ≡ info → q ≡ red → FrameSized d L i q
@@ -166,7 +178,7 @@ module _ (d : Design) (L : ℕ) (kit text o₀ p₀ w₀ i₀ q₀ : List ℕ) (
     (ei : i ≡ readFrameCall (d .size) (d .m * d .t) text i₀ q₀ .info) (eq : q ≡ readFrameCall (d .size) (d .m * d .t) text i₀ q₀ .red) where
   -- the call on what the texts show
   whole : decodeCall (d .m) (d .t) (d .size) L 0 o p i q work ≡ mendCall kit text
-  unfolding mendCall wordWork
+  unfolding mendCall
   whole =
       let S = F .scanned .started in
       let r : ℕ = d .m * d .t in

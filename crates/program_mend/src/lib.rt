@@ -15,12 +15,13 @@ use decoder::Decoding;
 use design::Design;
 use program::Start;
 
-// A byte for each entry of a list. Only their room is told: a kit text of at most 32,768 bytes has at most 181 rows.
-fn entry_bytes(n: usize) -> [u8; 181]
-    requires { ⌜ n ≤ 181 ⌝ }
+// The decoder's working bytes. Only their room is told: a kit text of at most 32,768 bytes has at most 181 rows, and a frame text of as many at most
+// 32,768 bits of redundancy, of which a word has 2 r, and so 8 at least.
+fn working_bytes(n: usize) -> [u8; 32949]
+    requires { ⌜ n ≤ 32949 ⌝ }
     ensures { λ a. ⌜ RoomFor n a ⌝ }
 {
-    [0; 181]
+    [0; 32949]
 }
 
 // Writes both texts of a corrected frame and the three counts.
@@ -113,7 +114,8 @@ fn mend_arrays(kit: &[u8], text: &[u8], d: Design, blocks: u64, out: &mut [u8]) 
     let mut own = program::list_bytes(s.list);
     let mut parity = program::list_bytes(s.list);
     let mut inverse = program::matrix_bytes(s.inverse);
-    let mut work = entry_bytes(s.order);
+    let due = rules::decoder_due(d, blocks);
+    let mut work = working_bytes(due.work);
     let mut info = program::text_bits(s.info);
     let mut red = program::text_bits(s.red);
     mend_call(
@@ -126,7 +128,7 @@ fn mend_arrays(kit: &[u8], text: &[u8], d: Design, blocks: u64, out: &mut [u8]) 
         &mut inverse[..s.inverse],
         &mut info[..s.info],
         &mut red[..s.red],
-        &mut work[..s.order],
+        &mut work[..due.work],
         out,
     )
 }

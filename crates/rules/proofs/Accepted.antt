@@ -2,7 +2,8 @@
 --   lengths-equal      each slice has the length that is due
 --   frame-accepted     rules 4 and 5, and the same
 --   frame-small        the lengths of a frame are small
---   received           what the rules leave of a received frame
+--   received, received-work   what the rules leave of a received frame
+--   decoder-received, decoder-work, decoder-rounds   and of one that is to be decoded
 -- Assumes nothing.
 use mathlib.Core.Path.{_≡_}
 use mathlib.Core.List.{List, []}
@@ -12,7 +13,7 @@ use lib.Dec.{ltb}
 use borrow.Author.Tests.{ltb-false}
 use Rattle.staircase.specs.Design.{Params, most-blocks, most-rounds}
 use Rattle.staircase.specs.Frame.{groups}
-use Rattle.staircase.specs.Rules.{Verdict, _then_, countRule, roundsRule, lengthRule, infoLength, redLength, listRule, spareRule, frameBits, interleavers, wordWork}
+use Rattle.staircase.specs.Rules.{Verdict, _then_, countRule, roundsRule, lengthRule, infoLength, redLength, listRule, spareRule, frameBits, interleavers, wordWork, decoderWork}
 use Rattle.staircase.specs.Rules.Verdict.{accepted}
 use Rattle.staircase.proofs.Bounds.{small-product}
 use Rattle.staircase.proofs.Rules.{then-first, then-rest, refuse-false, count-limits, length-equal, lists-permute, frame-bits}
@@ -20,7 +21,7 @@ use Rattle.design.specs.declared.Design.{Design}
 use Rattle.design.specs.Answers.{Allowed}
 use Rattle.design.specs.Sizes.{paramsOf, orderOf}
 use Rattle.rules.specs.declared.lengths.Lengths.{Lengths}
-use Rattle.rules.specs.Lengths.{lengthsOf, lengthsRule, listsDue, frameDue, frameRules}
+use Rattle.rules.specs.Lengths.{lengthsOf, lengthsRule, listsWith, listsDue, decoderDue, frameDue, frameRules}
 use Rattle.rules.specs.Bytes.{byteRules}
 use Rattle.rules.specs.Received.{Received}
 
@@ -66,21 +67,21 @@ frame-small d L info red a h e f =
     let y = small-product (groups L) (2 * orderOf d) 4096 8192 (omega arith) (omega (arith, a .order-high)) in
     omega (arith, e, f, x, y)
 
-module _ (d : Design) (L k : ℕ) (own parity info red : List ℕ) (work : ℕ) (allowed : Allowed d)
-    (e : (frameRules (paramsOf d) L k (lengthsOf own parity [] info red work) (listsDue (paramsOf d)) then byteRules (paramsOf d) (interleavers (paramsOf d) own parity) [] info red) ≡ accepted) where
+module _ (d : Design) (L k : ℕ) (own parity info red : List ℕ) (work due : ℕ) (allowed : Allowed d)
+    (e : (frameRules (paramsOf d) L k (lengthsOf own parity [] info red work) (listsWith (paramsOf d) due) then byteRules (paramsOf d) (interleavers (paramsOf d) own parity) [] info red) ≡ accepted) where
   abbrev s : Params
   s = paramsOf d
 
   abbrev first : Verdict
-  first = frameRules s L k (lengthsOf own parity [] info red work) (listsDue s)
+  first = frameRules s L k (lengthsOf own parity [] info red work) (listsWith s due)
 
   abbrev bytes : Verdict
   bytes = byteRules s (interleavers s own parity) [] info red
 
-  pub received : Received d L own parity info red
-  unfolding listsDue frameDue byteRules
-  received =
-      let n = frame-accepted s L k (lengthsOf own parity [] info red work) (listsDue s) (then-first first bytes e) in
+  received-by : Received d L own parity info red
+  unfolding frameDue byteRules
+  received-by =
+      let n = frame-accepted s L k (lengthsOf own parity [] info red work) (listsWith s due) (then-first first bytes e) in
       let b : bytes ≡ accepted = then-rest first bytes e in
       let lists = listRule s (interleavers s own parity) in
       let p = lists-permute s (interleavers s own parity) (then-first lists (spareRule s [] then frameBits info red) b) in
@@ -93,9 +94,35 @@ module _ (d : Design) (L k : ℕ) (own parity info red : List ℕ) (work : ℕ) 
         frame = record { infoLength = n .3 .3; redLength = n .3 .4; infoBits = q .0; redBits = q .1 };
       }
 
-  pub received-work : work ≡ orderOf d
-  unfolding listsDue frameDue wordWork
-  received-work = frame-accepted s L k (lengthsOf own parity [] info red work) (listsDue s) (then-first first bytes e) .3 .5
+  work-by : work ≡ due
+  unfolding frameDue
+  work-by = frame-accepted s L k (lengthsOf own parity [] info red work) (listsWith s due) (then-first first bytes e) .3 .5
 
-  pub received-rounds : k ≤ most-rounds
-  received-rounds = frame-accepted s L k (lengthsOf own parity [] info red work) (listsDue s) (then-first first bytes e) .2
+  rounds-by : k ≤ most-rounds
+  rounds-by = frame-accepted s L k (lengthsOf own parity [] info red work) (listsWith s due) (then-first first bytes e) .2
+
+-- the word checker's working bytes
+module _ (d : Design) (L k : ℕ) (own parity info red : List ℕ) (work : ℕ) (allowed : Allowed d)
+    (e : (frameRules (paramsOf d) L k (lengthsOf own parity [] info red work) (listsDue (paramsOf d)) then byteRules (paramsOf d) (interleavers (paramsOf d) own parity) [] info red) ≡ accepted) where
+  pub received : Received d L own parity info red
+  unfolding listsDue
+  received = received-by d L k own parity info red work (wordWork (paramsOf d)) allowed e
+
+  pub received-work : work ≡ orderOf d
+  unfolding listsDue wordWork
+  received-work = work-by d L k own parity info red work (wordWork (paramsOf d)) allowed e
+
+-- the decoder's
+module _ (d : Design) (L k : ℕ) (own parity info red : List ℕ) (work : ℕ) (allowed : Allowed d)
+    (e : (frameRules (paramsOf d) L k (lengthsOf own parity [] info red work) (decoderDue (paramsOf d) L) then byteRules (paramsOf d) (interleavers (paramsOf d) own parity) [] info red) ≡ accepted) where
+  pub decoder-received : Received d L own parity info red
+  unfolding decoderDue
+  decoder-received = received-by d L k own parity info red work (decoderWork (paramsOf d) L) allowed e
+
+  pub decoder-work : work ≡ orderOf d + 8 * (groups L * d .size)
+  unfolding decoderDue decoderWork wordWork
+  decoder-work = work-by d L k own parity info red work (decoderWork (paramsOf d) L) allowed e
+
+  pub decoder-rounds : k ≤ most-rounds
+  unfolding decoderDue
+  decoder-rounds = rounds-by d L k own parity info red work (decoderWork (paramsOf d) L) allowed e

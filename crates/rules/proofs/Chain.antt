@@ -1,10 +1,10 @@
 -- Rules one after another, and rules 4 to 6 of each kind of call as those of the crate `staircase`.
 --   both-then                     the first refusal of two
 --   then-assoc, then-where        of three; a rest that counts only where what comes before it accepts
---   frame-rules-of                rules 4 to 6, by the number of blocks where it is allowed
+--   frame-rules-of, due-where     rules 4 to 6, by the number of blocks where it is allowed
 --   kit-lengths-rule              rule 6 of the kit checker, and then others
 --   make-lengths-rule             rule 6 of the maker of a kit's inverse, and then others
---   encode-rules, received-rules  rules 4 to 6 of calls with a kit, and of those with its lists alone, and then others
+--   encode-rules, received-rules, decoder-rules  rules 4 to 6 of calls with a kit, and of those with its lists alone, and then others
 --   lists-alone, kit-alone, frame-alone   rule 6 for some of the slices
 --   content-rules, kit-rules      rules 7 to 10 of calls with a kit, and of the kit checker
 --   received-bytes                rules 7 and 10 of calls with its lists alone
@@ -17,14 +17,14 @@ use lib.ListN.{length}
 use Rattle.staircase.specs.Design.{Params, Interleavers, order, most-blocks}
 use Rattle.staircase.specs.Lists.{firstWhere}
 use Rattle.staircase.specs.System.{rowBytes}
-use Rattle.staircase.specs.Rules.{Verdict, _then_, countRule, roundsRule, lengthRule, infoLength, redLength, listLengths, kitLengths, frameLengths, kitWork, wordWork, refuseFirst, listRule, spareRow, spareRule, inverseRule, kitRules, bitRule, frameBits, contentRules}
+use Rattle.staircase.specs.Rules.{Verdict, _then_, countRule, roundsRule, lengthRule, infoLength, redLength, listLengths, kitLengths, frameLengths, kitWork, wordWork, decoderWork, refuseFirst, listRule, spareRow, spareRule, inverseRule, kitRules, bitRule, frameBits, contentRules}
 use Rattle.staircase.specs.Rules.Verdict.{accepted, refused}
 use Rattle.staircase.specs.Maker.{makeWork}
 use Rattle.staircase.proofs.Rules.{count-limits, length-accepted, refuseFirst-accepted}
 use Rattle.rules.specs.declared.lengths.Lengths.{Lengths}
 use Rattle.rules.specs.Bytes.{byteRules}
 use Rattle.rules.proofs.Spare.{empty-spare}
-use Rattle.rules.specs.Lengths.{lengthsOf, lengthsRule, kitDue, makeDue, listsDue, frameDue, frameRules}
+use Rattle.rules.specs.Lengths.{lengthsOf, lengthsRule, kitDue, makeDue, listsWith, listsDue, decoderDue, frameDue, frameRules}
 
 pub both-then : {x y z u v : Verdict} → z ≡ (x then y) → x ≡ u → y ≡ v → z ≡ (u then v)
 both-then h e f = h ∙ ap₂ (λ (p q : Verdict). p then q) e f
@@ -48,6 +48,12 @@ module _ (s : Params) (L k : ℕ) (have due : Lengths) where
   frame-rules-of few same =
       then-where (countRule L) (roundsRule k then lengthsRule have (frameDue s few due)) (roundsRule k then lengthsRule have (frameDue s L due))
       (λ e. ap (λ (n : ℕ). roundsRule k then lengthsRule have (frameDue s n due)) (same (count-limits L e .1)))
+
+  pub due-where : (other : Lengths) → (L ≤ most-blocks → due ≡ other) → frameRules s L k have due ≡ frameRules s L k have other
+  unfolding frameRules
+  due-where other same =
+      then-where (countRule L) (roundsRule k then lengthsRule have (frameDue s L due)) (roundsRule k then lengthsRule have (frameDue s L other))
+      (λ e. ap (λ (x : Lengths). roundsRule k then lengthsRule have (frameDue s L x)) (same (count-limits L e .1)))
 
 -- a to f flat and then v, and as kit, frame and working bytes and then v
 grouped : (a b c d e f v : Verdict) → ((a then b then c then d then e then f) then v) ≡ (((a then b) then c) then (d then e) then f then v)
@@ -85,14 +91,24 @@ module _ (s : Params) (self parity : List ℕ) (work : ℕ) (v : Verdict) where
         (grouped (lengthRule 1 (length self) (2 * order s)) (lengthRule 2 (length parity) (2 * order s)) (lengthRule 3 (length w) (order s * rowBytes (order s)))
         (lengthRule 4 (length info) (infoLength s L)) (lengthRule 5 (length red) (redLength s L)) (lengthRule 6 work (kitWork s)) v)
 
-    pub received-rules : (frameRules s L k (lengthsOf self parity [] info red work) (listsDue s) then v)
-        ≡ (countRule L then roundsRule k then listLengths s self parity then frameLengths s L info red then lengthRule 6 work (wordWork s) then v)
-    unfolding frameRules frameDue lengthsRule listsDue listLengths frameLengths
-    received-rules =
+    lists-rules : (due : ℕ) → (frameRules s L k (lengthsOf self parity [] info red work) (listsWith s due) then v)
+        ≡ (countRule L then roundsRule k then listLengths s self parity then frameLengths s L info red then lengthRule 6 work due then v)
+    unfolding frameRules frameDue lengthsRule listLengths frameLengths
+    lists-rules due =
         counted _ _
         (grouped (lengthRule 1 (length self) (2 * order s)) (lengthRule 2 (length parity) (2 * order s)) accepted
-        (lengthRule 4 (length info) (infoLength s L)) (lengthRule 5 (length red) (redLength s L)) (lengthRule 6 work (wordWork s)) v
-        ∙ ap (λ (z : Verdict). z then frameLengths s L info red then lengthRule 6 work (wordWork s) then v) (then-none (listLengths s self parity)))
+        (lengthRule 4 (length info) (infoLength s L)) (lengthRule 5 (length red) (redLength s L)) (lengthRule 6 work due) v
+        ∙ ap (λ (z : Verdict). z then frameLengths s L info red then lengthRule 6 work due then v) (then-none (listLengths s self parity)))
+
+    pub received-rules : (frameRules s L k (lengthsOf self parity [] info red work) (listsDue s) then v)
+        ≡ (countRule L then roundsRule k then listLengths s self parity then frameLengths s L info red then lengthRule 6 work (wordWork s) then v)
+    unfolding listsDue
+    received-rules = lists-rules (wordWork s)
+
+    pub decoder-rules : (frameRules s L k (lengthsOf self parity [] info red work) (decoderDue s L) then v)
+        ≡ (countRule L then roundsRule k then listLengths s self parity then frameLengths s L info red then lengthRule 6 work (decoderWork s L) then v)
+    unfolding decoderDue
+    decoder-rules = lists-rules (decoderWork s L)
 
 -- ---- rule 6 for some of the slices: the others have the length that is due
 

@@ -1,7 +1,7 @@
 -- Rules 4 to 6, over the lengths of a call's slices.
 --   lengthsOf                   the lengths of a call's slices
 --   lengthsRule have due        rule 6
---   kitDue, makeDue, listsDue, frameDue  what is due
+--   kitDue, makeDue, listsDue, decoderDue, frameDue  what is due
 --   frameRules                  rules 4 to 6
 -- Assumes nothing.
 use mathlib.Core.List.{List}
@@ -9,7 +9,7 @@ use Prim.Native.Nat.{ℕ, _*_}
 use lib.ListN.{length}
 use Rattle.staircase.specs.Design.{Params, order}
 use Rattle.staircase.specs.System.{rowBytes}
-use Rattle.staircase.specs.Rules.{Verdict, _then_, countRule, roundsRule, lengthRule, infoLength, redLength, kitWork, wordWork}
+use Rattle.staircase.specs.Rules.{Verdict, _then_, countRule, roundsRule, lengthRule, infoLength, redLength, kitWork, wordWork, decoderWork}
 use Rattle.staircase.specs.Maker.{makeWork}
 use Rattle.rules.specs.declared.lengths.Lengths.{Lengths}
 
@@ -50,8 +50,15 @@ makeDue s = record {
   work = makeWork s;
 }
 
+-- the lists and some working bytes
+abbrev pub listsWith : Params → ℕ → Lengths
+listsWith s work = record { own = 2 * order s; parity = 2 * order s; inverse = 0; info = 0; red = 0; work = work }
+
 unfoldable pub listsDue : Params → Lengths
-listsDue s = record { own = 2 * order s; parity = 2 * order s; inverse = 0; info = 0; red = 0; work = wordWork s }
+listsDue s = listsWith s (wordWork s)
+
+unfoldable pub decoderDue : Params → ℕ → Lengths
+decoderDue s L = listsWith s (decoderWork s L)
 
 unfoldable pub frameDue : Params → ℕ → Lengths → Lengths
 frameDue s L due = record {

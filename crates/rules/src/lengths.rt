@@ -3,6 +3,7 @@
 //   check_length(place, have, due)      rule 6 for one slice
 //   check_lengths(have, due)            for all six
 //   kit_due, make_due, lists_due, frame_due   the lengths that are due of a kit, of one that is made, of its lists, of a frame
+//   decoder_due                         of the lists, and of the working bytes of the decoder
 //   check_list_lengths, check_kit_lengths, check_frame_lengths   rule 6 for some of the slices
 //   check_frame                         rules 4 to 6
 //
@@ -12,8 +13,8 @@ ghost use Prim.Native.Nat.{_≤_};
 ghost use Rattle.staircase.specs.Design.{most-blocks};
 ghost use Rattle.staircase.specs.Rules.{_then_, lengthRule, listLengths, kitLengths, frameLengths};
 ghost use Rattle.design.specs.Sizes.{paramsOf};
-ghost use Rattle.design.specs.Answers.{verdictOf};
-ghost use Rattle.rules.specs.Lengths.{lengthsRule, kitDue, makeDue, listsDue, frameDue, frameRules};
+ghost use Rattle.design.specs.Answers.{verdictOf, Allowed};
+ghost use Rattle.rules.specs.Lengths.{lengthsRule, kitDue, makeDue, listsDue, decoderDue, frameDue, frameRules};
 use design::Check;
 use design::Design;
 use design::Refusal;
@@ -203,6 +204,24 @@ fn blocks_allowed(blocks: u64) -> u64
         return 0;
     }
     blocks
+}
+
+// Of the lists of a kit, and of the working bytes of the decoder for a frame of `blocks` blocks, where rule 4 accepts them.
+pub fn decoder_due(d: Design, blocks: u64) -> Lengths
+    requires { ⌜ Allowed d ⌝ }
+    ensures { λ a. ⌜ (blocks ≤ most-blocks → a ≡ decoderDue (paramsOf d) blocks) ⌝ }
+{
+    let n = d.order();
+    let count = design::group_count(blocks_allowed(blocks)) as usize;
+    let numbers = 8 * (count * d.size());
+    Lengths {
+        own: 2 * n,
+        parity: 2 * n,
+        inverse: 0,
+        info: 0,
+        red: 0,
+        work: n + numbers,
+    }
 }
 
 // Rules 4 to 6, for the frame of a design: the number of blocks, the number of rounds, and the lengths, with `due` for those that are not the frame's.

@@ -31,6 +31,7 @@ pub use lengths::check_kit_lengths;
 pub use lengths::check_length;
 pub use lengths::check_lengths;
 pub use lengths::check_list_lengths;
+pub use lengths::decoder_due;
 pub use lengths::first;
 pub use lengths::frame_due;
 pub use lengths::kit_due;

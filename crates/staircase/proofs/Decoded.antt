@@ -12,7 +12,7 @@ use Rattle.staircase.specs.Design.{Params, Interleavers, params}
 use Rattle.staircase.specs.Frame.{Frame, frameOf, words, outside, outsideAmong}
 use Rattle.staircase.specs.Frame.Site.{inInfo, inRed}
 use Rattle.staircase.specs.Decoder.{Decoded, decoded, roundsAllowed}
-use Rattle.staircase.specs.Rules.{Verdict, _then_, designRules, countRule, roundsRule, lengthRule, listLengths, infoLength, redLength, frameLengths, wordWork, interleavers, listRule, frameBits}
+use Rattle.staircase.specs.Rules.{Verdict, _then_, designRules, countRule, roundsRule, lengthRule, listLengths, infoLength, redLength, frameLengths, decoderWork, interleavers, listRule, frameBits}
 use Rattle.staircase.specs.Rules.Verdict.{accepted, refused}
 use Rattle.staircase.specs.Calls.{correctedBy, decodeVerdict, decodeCall}
 use Rattle.staircase.proofs.Rules.{then-first, then-rest, then-accepted, length-accepted, frame-lengths, bits-accepted, frame-bits}
@@ -41,7 +41,7 @@ decode-accepted m t M L k self parity info red work e =
     let s : Params = params m t M in
     let l : Interleavers = interleavers s self parity in
     let v7 : Verdict = listRule s l then frameBits info red in
-    let v6 : Verdict = lengthRule 6 work (wordWork s) then v7 in
+    let v6 : Verdict = lengthRule 6 work (decoderWork s L) then v7 in
     let v5 : Verdict = frameLengths s L info red then v6 in
     let v3 : Verdict = listLengths s self parity then v5 in
     let v2 : Verdict = roundsRule k then v3 in
@@ -51,7 +51,7 @@ decode-accepted m t M L k self parity info red work e =
     let e3 : v3 ≡ accepted = then-rest (roundsRule k) v3 e2 in
     let e5 : v5 ≡ accepted = then-rest (listLengths s self parity) v5 e3 in
     let e6 : v6 ≡ accepted = then-rest (frameLengths s L info red) v6 e5 in
-    let e7 : v7 ≡ accepted = then-rest (lengthRule 6 work (wordWork s)) v7 e6 in
+    let e7 : v7 ≡ accepted = then-rest (lengthRule 6 work (decoderWork s L)) v7 e6 in
     record {
       design = then-first (designRules m t M) v1 e;
       count = then-first (countRule L) v2 e1;
@@ -62,7 +62,7 @@ decode-accepted m t M L k self parity info red work e =
       bits = then-rest (listRule s l) (frameBits info red) e7;
     }
 
-module _ (m t M L k : ℕ) (self parity info red : List ℕ) (ok : decodeVerdict m t M L k self parity info red (wordWork (params m t M)) ≡ accepted) where
+module _ (m t M L k : ℕ) (self parity info red : List ℕ) (ok : decodeVerdict m t M L k self parity info red (decoderWork (params m t M) L) ≡ accepted) where
   abbrev s : Params
   s = params m t M
 
@@ -73,7 +73,7 @@ module _ (m t M L k : ℕ) (self parity info red : List ℕ) (ok : decodeVerdict
   d = decoded s l L k (frameOf info red)
 
   D : Decodes m t M L k self parity info red
-  D = decode-accepted m t M L k self parity info red (wordWork s) ok
+  D = decode-accepted m t M L k self parity info red (decoderWork s L) ok
 
   pub decode-received : Received (frameOf info red) (decoded (params m t M) (interleavers (params m t M) self parity) L k (frameOf info red) .frame)
   unfolding decoded
@@ -82,14 +82,14 @@ module _ (m t M L k : ℕ) (self parity info red : List ℕ) (ok : decodeVerdict
       runRounds-received s (words s l L) (frameOf info red) (roundsAllowed k) (frameOf info red)
       (record { infoLength = refl; redLength = refl; binary = bitAt-bits (frameOf info red) (b .0) (b .1) })
 
-  pub decode-left : decodeCall m t M L k self parity info red (wordWork (params m t M))
+  pub decode-left : decodeCall m t M L k self parity info red (decoderWork (params m t M) L)
       ≡ correctedBy accepted (frameOf info red) (decoded (params m t M) (interleavers (params m t M) self parity) L k (frameOf info red))
       (outside (params m t M) (interleavers (params m t M) self parity) L
       (decoded (params m t M) (interleavers (params m t M) self parity) L k (frameOf info red) .frame))
   unfolding decodeCall
   decode-left = ap (λ (v : Verdict). correctedBy v (frameOf info red) d (outside s l L (d .frame))) ok
 
-  verdict-again : decodeVerdict m t M L k self parity (d .frame .info) (d .frame .red) (wordWork s) ≡ accepted
+  verdict-again : decodeVerdict m t M L k self parity (d .frame .info) (d .frame .red) (decoderWork s L) ≡ accepted
   unfolding decodeVerdict frameLengths frameBits
   verdict-again =
       let x : List ℕ = d .frame .info in
@@ -100,13 +100,13 @@ module _ (m t M L k : ℕ) (self parity info red : List ℕ) (ok : decodeVerdict
       let red-fits = length-accepted 5 (length y) (redLength s L) (R .redLength ∙ n .1) in
       let bits = then-accepted (bits-accepted 0 x (λ j. R .binary (inInfo j))) (bits-accepted (length x) y (λ j. R .binary (inRed j))) in
       then-accepted (D .design) (then-accepted (D .count) (then-accepted (D .rounds) (then-accepted (D .lists-fit)
-      (then-accepted (then-accepted info-fits red-fits) (then-accepted (length-accepted 6 (wordWork s) (wordWork s) refl) (then-accepted (D .lists) bits))))))
+      (then-accepted (then-accepted info-fits red-fits) (then-accepted (length-accepted 6 (decoderWork s L) (decoderWork s L) refl) (then-accepted (D .lists) bits))))))
 
   pub decode-again : outside (params m t M) (interleavers (params m t M) self parity) L
       (decoded (params m t M) (interleavers (params m t M) self parity) L k (frameOf info red) .frame) ≡ 0
       → decodeCall m t M L k self parity
       (decoded (params m t M) (interleavers (params m t M) self parity) L k (frameOf info red) .frame .info)
-      (decoded (params m t M) (interleavers (params m t M) self parity) L k (frameOf info red) .frame .red) (wordWork (params m t M))
+      (decoded (params m t M) (interleavers (params m t M) self parity) L k (frameOf info red) .frame .red) (decoderWork (params m t M) L)
       ≡ record {
         verdict = accepted;
         frame = decoded (params m t M) (interleavers (params m t M) self parity) L k (frameOf info red) .frame;

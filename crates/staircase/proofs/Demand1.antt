@@ -20,7 +20,7 @@ use Rattle.staircase.specs.Design.{Params, Interleavers, params, wordLen
 use Rattle.staircase.specs.Frame.{Frame, groups}
 use Rattle.staircase.specs.System.{systemEntry, inverseEntry, rowBytes, redundancy}
 use Rattle.staircase.specs.Decoder.{Decoded}
-use Rattle.staircase.specs.Rules.{Verdict, _then_, refuse, refuseFirst, outOfRange, Part, sizeRule, longRule, largeRule, designRules, countRule, partRule, roundsRule, lengthRule, listLengths, kitLengths, infoLength, redLength, frameLengths, kitWork, wordWork, interleavers, badEntry, listRule, spareRow, spareRule, wrongEntry, inverseRule, kitRules, bitRule, frameBits, contentRules}
+use Rattle.staircase.specs.Rules.{Verdict, _then_, refuse, refuseFirst, outOfRange, Part, sizeRule, longRule, largeRule, designRules, countRule, partRule, roundsRule, lengthRule, listLengths, kitLengths, infoLength, redLength, frameLengths, kitWork, wordWork, decoderWork, interleavers, badEntry, listRule, spareRow, spareRule, wrongEntry, inverseRule, kitRules, bitRule, frameBits, contentRules}
 use Rattle.staircase.specs.Rules.Verdict.{accepted, refused}
 use Rattle.staircase.specs.Rules.Part.{block, group}
 use Rattle.staircase.specs.Calls.{kitVerdict, encodeVerdict, encodedBy, encodeCall, wordsVerdict, countedBy, wordsCall, correctedBy, decodeVerdict, decodeCall, showVerdict, shownBy, showCall}
@@ -313,20 +313,20 @@ encode-demand1 m t M L self parity w info red work =
 
 -- a received frame, behind the rules on numbers: rules 6, 7 and 10
 received-byTable : (rules : List ℕ) → among 6 rules ≡ true → among 7 rules ≡ true → among 10 rules ≡ true → (m t M L : ℕ) → designRules m t M ≡ accepted
-    → (self parity info red : List ℕ) (work : ℕ)
+    → (self parity info red : List ℕ) (work due : ℕ)
     → ByTable rules
-    (listLengths (params m t M) self parity then frameLengths (params m t M) L info red then lengthRule 6 work (wordWork (params m t M))
+    (listLengths (params m t M) self parity then frameLengths (params m t M) L info red then lengthRule 6 work due
     then listRule (params m t M) (interleavers (params m t M) self parity) then frameBits info red)
-received-byTable rules h6 h7 h10 m t M L d self parity info red work =
+received-byTable rules h6 h7 h10 m t M L d self parity info red work due =
     let s : Params = params m t M in
     let l : Interleavers = interleavers s self parity in
     let v10 : Verdict = frameBits info red in
     let v7 : Verdict = listRule s l in
-    let v6 : Verdict = lengthRule 6 work (wordWork s) in
+    let v6 : Verdict = lengthRule 6 work due in
     let frame : Verdict = frameLengths s L info red in
     byTable-then rules (listLengths s self parity) (frame then v6 then v7 then v10) (lists-fit-byTable rules h6 s self parity)
     (λ e. byTable-then rules frame (v6 then v7 then v10) (frame-fits-byTable rules h6 s L info red)
-    (λ f. byTable-then rules v6 (v7 then v10) (length-byTable rules h6 6 work (wordWork s) (omega arith) (omega arith))
+    (λ f. byTable-then rules v6 (v7 then v10) (length-byTable rules h6 6 work due (omega arith) (omega arith))
     (λ g. byTable-then rules v7 v10 (lists-byTable rules s (design-limits m t M d .order-high) h7 l) (λ h. frame-bits-byTable rules h10 info red))))
 
 -- "the word checker 1 to 4, 6, 7 and 10"
@@ -341,7 +341,7 @@ words-byTable m t M L self parity info red work =
     then listRule s (interleavers s self parity) then frameBits info red in
     byTable-then wordNumbers (designRules m t M) (countRule L then rest) (design-byTable wordNumbers refl refl refl m t M)
     (λ d. byTable-then wordNumbers (countRule L) rest (count-byTable wordNumbers refl L)
-    (λ c. received-byTable wordNumbers refl refl refl m t M L d self parity info red work))
+    (λ c. received-byTable wordNumbers refl refl refl m t M L d self parity info red work (wordWork s)))
 
 pub words-demand1 : (m t M L : ℕ) (self parity info red : List ℕ) (work : ℕ)
     → Demand1 (1 ∷ 2 ∷ 3 ∷ 4 ∷ 6 ∷ 7 ∷ 10 ∷ []) (wordsCall m t M L self parity info red work .verdict) [] []
@@ -361,12 +361,12 @@ decode-byTable : (m t M L k : ℕ) (self parity info red : List ℕ) (work : ℕ
 unfolding decodeVerdict
 decode-byTable m t M L k self parity info red work =
     let s : Params = params m t M in
-    let rest : Verdict = listLengths s self parity then frameLengths s L info red then lengthRule 6 work (wordWork s)
+    let rest : Verdict = listLengths s self parity then frameLengths s L info red then lengthRule 6 work (decoderWork s L)
     then listRule s (interleavers s self parity) then frameBits info red in
     byTable-then decoderNumbers (designRules m t M) (countRule L then roundsRule k then rest) (design-byTable decoderNumbers refl refl refl m t M)
     (λ d. byTable-then decoderNumbers (countRule L) (roundsRule k then rest) (count-byTable decoderNumbers refl L)
     (λ c. byTable-then decoderNumbers (roundsRule k) rest (rounds-byTable decoderNumbers refl k)
-    (λ r. received-byTable decoderNumbers refl refl refl m t M L d self parity info red work)))
+    (λ r. received-byTable decoderNumbers refl refl refl m t M L d self parity info red work (decoderWork s L))))
 
 pub decode-demand1 : (m t M L k : ℕ) (self parity info red : List ℕ) (work : ℕ)
     → Demand1 (1 ∷ 2 ∷ 3 ∷ 4 ∷ 5 ∷ 6 ∷ 7 ∷ 10 ∷ []) (decodeCall m t M L k self parity info red work .verdict) (info ∷ red ∷ [])

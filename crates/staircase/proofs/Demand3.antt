@@ -23,7 +23,7 @@ use Rattle.staircase.specs.Frame.{Frame, Site, frameOf, groups, rowSites
 use Rattle.staircase.specs.System.{redundancy}
 use Rattle.staircase.specs.Frame.Site.{inInfo, inRed}
 use Rattle.staircase.specs.Decoder.{Decoded, runRounds, default-rounds, roundsAllowed, decoded}
-use Rattle.staircase.specs.Rules.{Verdict, countRule, roundsRule, listLengths, infoLength, redLength, frameLengths, kitWork, wordWork, listRule, kitRules, frameBits}
+use Rattle.staircase.specs.Rules.{Verdict, countRule, roundsRule, listLengths, infoLength, redLength, frameLengths, kitWork, decoderWork, listRule, kitRules, frameBits}
 use Rattle.staircase.specs.Rules.Verdict.{accepted}
 use Rattle.staircase.specs.Calls.{encodeVerdict, Encoded, encodedBy, encodeCall, decodeVerdict, correctedBy, decodeCall}
 use Rattle.staircase.specs.Demand2.{KitPasses}
@@ -104,13 +104,13 @@ module _ (K : Kit) (L : ℕ) (info old : List ℕ) (G : Given K L info old) wher
       (then-accepted (sized i o hi ho) (then-accepted (length-accepted 6 (kitWork s) (kitWork s) refl) (accepted-content s l w i rules (bits-accepted 0 i hb)))))))
 
   pub decode-admits : (k : ℕ) → k ≤ most-rounds → (i o : List ℕ) → length i ≡ infoLength s L → length o ≡ redLength s L → Bits i → Bits o
-      → decodeVerdict m t M L k self parity i o (wordWork s) ≡ accepted
+      → decodeVerdict m t M L k self parity i o (decoderWork s L) ≡ accepted
   unfolding decodeVerdict roundsRule listLengths frameBits kitRules
   decode-admits k hk i o hi ho bi bo =
       then-accepted (G .design) (then-accepted counted (then-accepted (refuse-accepted 5 k (le-ltb most-rounds k hk))
       (then-accepted
       (then-accepted (length-accepted 1 (length self) (2 * order s) (G .fits .selfLength)) (length-accepted 2 (length parity) (2 * order s) (G .fits .parityLength)))
-      (then-accepted (sized i o hi ho) (then-accepted (length-accepted 6 (wordWork s) (wordWork s) refl)
+      (then-accepted (sized i o hi ho) (then-accepted (length-accepted 6 (decoderWork s L) (decoderWork s L) refl)
       (then-accepted (then-first (listRule s l) _ rules) (then-accepted (bits-accepted 0 i bi) (bits-accepted (length i) o bo))))))))
 
   -- the frame that the encoder leaves

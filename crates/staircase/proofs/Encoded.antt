@@ -18,7 +18,7 @@ use Rattle.staircase.specs.Design.{Params, Interleavers, params, most-ro
 use Rattle.staircase.specs.Frame.{Frame, Site, frameOf, rowSites, columnSites, words, read, inCode, outside}
 use Rattle.staircase.specs.System.{redundancy}
 use Rattle.staircase.specs.Decoder.{Decoded, decoded}
-use Rattle.staircase.specs.Rules.{Verdict, _then_, designRules, countRule, lengthRule, kitLengths, infoLength, redLength, frameLengths, kitWork, wordWork, interleavers, contentRules}
+use Rattle.staircase.specs.Rules.{Verdict, _then_, designRules, countRule, lengthRule, kitLengths, infoLength, redLength, frameLengths, kitWork, decoderWork, interleavers, contentRules}
 use Rattle.staircase.specs.Rules.Verdict.{accepted, refused}
 use Rattle.staircase.specs.Calls.{Encoded, encodeVerdict, encodedBy, encodeCall, Corrected, correctedBy, decodeVerdict, decodeCall}
 use Rattle.staircase.specs.Demand3.{Kit, sizes, lists, encode, decode, Given, EachWord, Demand3}
@@ -119,7 +119,7 @@ module _ (K : Kit) (L : ℕ) (info old : List ℕ) (G : Given K L info old) wher
       } in
       let r = made-restored K L info old G frame refl refl (G .bits) (made-bits K L info old G) near k hk in
       let d : Decoded = decoded s l L k frame in
-      let v : Verdict = decodeVerdict (K .m) (K .t) (K .M) L k (K .self) (K .parity) info made (wordWork s) in
+      let v : Verdict = decodeVerdict (K .m) (K .t) (K .M) L k (K .self) (K .parity) info made (decoderWork s L) in
       let o : ℕ = outside s l L (d .frame) in
       let ev : v ≡ accepted = decode-admits K L info old G k hk info made (G .info-fits) (made-length K L info old G) (G .bits) (made-bits K L info old G) in
       let ed : d ≡ record { frame = frame; rounds = 1; flips = 0 } = decoded-stays s frame l L k inside in

@@ -13,7 +13,7 @@ use Rattle.staircase.specs.Design.{Params, Interleavers, params, order}
 use Rattle.staircase.specs.Frame.{Frame, outside}
 use Rattle.staircase.specs.System.{redundancy}
 use Rattle.staircase.specs.Decoder.{Decoded, decoded}
-use Rattle.staircase.specs.Rules.{Verdict, _then_, Part, designRules, countRule, partRule, roundsRule, lengthRule, listLengths, kitLengths, frameLengths, kitWork, wordWork, interleavers, listRule, kitRules, contentRules, frameBits}
+use Rattle.staircase.specs.Rules.{Verdict, _then_, Part, designRules, countRule, partRule, roundsRule, lengthRule, listLengths, kitLengths, frameLengths, kitWork, wordWork, decoderWork, interleavers, listRule, kitRules, contentRules, frameBits}
 use Rattle.staircase.specs.Rules.Verdict.{accepted, refused}
 use Rattle.staircase.specs.Rules.Part.{block, group}
 
@@ -77,7 +77,7 @@ unfoldable pub decodeVerdict : ℕ → ℕ → ℕ → ℕ → ℕ → List ℕ 
 decodeVerdict m t M L k self parity info red work =
     let s : Params = params m t M in
     designRules m t M then countRule L then roundsRule k
-    then listLengths s self parity then frameLengths s L info red then lengthRule 6 work (wordWork s)
+    then listLengths s self parity then frameLengths s L info red then lengthRule 6 work (decoderWork s L)
     then listRule s (interleavers s self parity) then frameBits info red
 
 -- "The result: rounds made .., bits turned .., words outside the code at the end"

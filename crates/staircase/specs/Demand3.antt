@@ -19,7 +19,7 @@ use Rattle.bch.specs.Polynomial.{Bits}
 use Rattle.bch.specs.Code.{distance}
 use Rattle.staircase.specs.Design.{Params, Interleavers, params, order, most-blocks, most-rounds}
 use Rattle.staircase.specs.Frame.{Frame, Site, frameOf, groups, rowSites, columnSites, read, inCode, outside}
-use Rattle.staircase.specs.Rules.{designRules, infoLength, redLength, interleavers, kitWork, wordWork}
+use Rattle.staircase.specs.Rules.{designRules, infoLength, redLength, interleavers, kitWork, decoderWork}
 use Rattle.staircase.specs.Rules.Verdict.{accepted}
 use Rattle.staircase.specs.Calls.{Encoded, encodeCall, Corrected, decodeCall}
 use Rattle.staircase.specs.Demand2.{KitPasses, FitsOrder}
@@ -45,7 +45,7 @@ encode K L info old = encodeCall (K .m) (K .t) (K .M) L (K .self) (K .parity) (K
 
 -- the decoder's call on a received frame of L blocks, with k rounds
 abbrev pub decode : Kit → ℕ → ℕ → Frame → Corrected
-decode K L k f = decodeCall (K .m) (K .t) (K .M) L k (K .self) (K .parity) (f .info) (f .red) (wordWork (sizes K))
+decode K L k f = decodeCall (K .m) (K .t) (K .M) L k (K .self) (K .parity) (f .info) (f .red) (decoderWork (sizes K) L)
 
 -- "Take any kit that passes by 2's rule, any allowed number of blocks and any information, and let the encoder make the frame, whatever its
 -- redundancy buffer held."

@@ -19,7 +19,7 @@ use Rattle.bch.specs.Code.{generator, parity}
 use Rattle.staircase.specs.Lists.{tabulate}
 use Rattle.staircase.specs.Design.{Params, params}
 use Rattle.staircase.specs.System.{systemEntry, inverseEntry, product, identity}
-use Rattle.staircase.specs.Rules.{Verdict, Part, designRules, redLength, kitWork, wordWork, interleavers}
+use Rattle.staircase.specs.Rules.{Verdict, Part, designRules, redLength, kitWork, wordWork, decoderWork, interleavers}
 use Rattle.staircase.specs.Rules.Verdict.{accepted, refused}
 use Rattle.staircase.specs.Rules.Part.{block, group}
 use Rattle.staircase.specs.Calls.{kitVerdict, Encoded, encodeCall, Counted, wordsCall, Corrected, decodeCall, Shown, showCall}
@@ -53,7 +53,7 @@ encodedK L info = encodeCall 4 1 1 L selfK parityK inverseK info (replicate (red
 
 -- L blocks and a number of rounds
 abbrev pub decodedK : ℕ → ℕ → List ℕ → List ℕ → Corrected
-decodedK L rounds info red = decodeCall 4 1 1 L rounds selfK parityK info red (wordWork paramsK)
+decodedK L rounds info red = decodeCall 4 1 1 L rounds selfK parityK info red (decoderWork paramsK L)
 
 -- a refused call of the decoder: both buffers as they were, and nothing counted
 abbrev pub refusedK : ℕ → ℕ → List ℕ → List ℕ → Corrected

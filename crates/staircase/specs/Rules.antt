@@ -7,7 +7,7 @@
 --   kitRules              rules 7 to 9 of a kit
 --   contentRules          rules 7, 8, 10 and 9 of a kit and the information under it
 --   Part                  what is shown
---   kitWork, wordWork     the working lengths
+--   kitWork, wordWork, decoderWork   the working lengths
 --   entries, interleavers the lists, from their bytes
 -- Assumes nothing.
 use mathlib.Core.Bool.{Bool, true, false, not, _||_}
@@ -103,9 +103,13 @@ frameLengths s L info red = lengthRule 4 (length info) (infoLength s L) then len
 unfoldable pub kitWork : Params → ℕ
 kitWork s = order s * rowBytes (order s)
 
--- of the word checker and the decoder: a byte an entry of a list
+-- of the word checker: a byte an entry of a list
 unfoldable pub wordWork : Params → ℕ
 wordWork s = order s
+
+-- of the decoder: the same, and four bytes for each of the 2 M words of each group
+unfoldable pub decoderWork : Params → ℕ → ℕ
+decoderWork s L = wordWork s + 8 * (groups L * s .M)
 
 -- "two bytes an entry, low byte first"
 unfoldable pub entries : ℕ → List ℕ → List ℕ

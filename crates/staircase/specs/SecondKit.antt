@@ -26,7 +26,7 @@ use Rattle.staircase.specs.Frame.{Frame, Site, rowSites}
 use Rattle.staircase.specs.Frame.Site.{inRed}
 use Rattle.staircase.specs.System.{systemEntry}
 use Rattle.staircase.specs.Decoder.{correction}
-use Rattle.staircase.specs.Rules.{Verdict, redLength, kitWork, wordWork, interleavers}
+use Rattle.staircase.specs.Rules.{Verdict, redLength, kitWork, decoderWork, interleavers}
 use Rattle.staircase.specs.Rules.Verdict.{accepted, refused}
 use Rattle.staircase.specs.Calls.{kitVerdict, encodeCall, Counts, Corrected, decodeCall}
 
@@ -81,7 +81,7 @@ kitS w = kitVerdict 4 1 2 selfS parityS w (kitWork paramsS)
 
 -- L blocks, and rounds 0
 abbrev pub decodedS : ℕ → Frame → Corrected
-decodedS L f = decodeCall 4 1 2 L 0 selfS parityS (f .info) (f .red) (wordWork paramsS)
+decodedS L f = decodeCall 4 1 2 L 0 selfS parityS (f .info) (f .red) (decoderWork paramsS L)
 
 -- ---- two words with t 2
 

@@ -15,7 +15,7 @@ use Rattle.text_formats.proofs.Parts.{fit-append}
 use Rattle.staircase.specs.Design.{Params, order, most-blocks}
 use Rattle.staircase.specs.Frame.{frameOf, groups, read, outside}
 use Rattle.staircase.specs.System.{redundancy}
-use Rattle.staircase.specs.Rules.{Verdict, _then_, redLength, kitWork, wordWork, interleavers}
+use Rattle.staircase.specs.Rules.{Verdict, _then_, redLength, kitWork, decoderWork, interleavers}
 use Rattle.staircase.specs.Rules.Verdict.{accepted, refused}
 use Rattle.staircase.specs.Calls.{Encoded, encodeVerdict, encodeCall, Corrected, decodeCall}
 use Rattle.staircase.specs.Demand3.{sizes, lists, Given, EachWord}
@@ -148,7 +148,7 @@ module _ (kit text : List ℕ) (ok : frameVerdict kit text ≡ accepted) where
 
   -- what `mend` prints of any frame text whose decoding leaves the frame
   mend-sends : (copy : List ℕ) → length copy ≤ most-input → frameRule M (m * t) copy ≡ accepted → frameCount M (m * t) copy ≡ L → (rounds turned : ℕ)
-      → decodeCall m t M L 0 (selfOf kit) (parityOf kit) (frameInfo M (m * t) copy) (frameRed M (m * t) copy) (wordWork (kitParams kit))
+      → decodeCall m t M L 0 (selfOf kit) (parityOf kit) (frameInfo M (m * t) copy) (frameRed M (m * t) copy) (decoderWork (kitParams kit) L)
       ≡ record { verdict = accepted; frame = frameOf info red; counts = record { rounds = rounds; flips = turned; outside = 0 } }
       → mendOutput kit copy ≡ sent kit text ++ countsText rounds turned 0
   unfolding mendOutput judged printed mendCall mendText
@@ -157,7 +157,7 @@ module _ (kit text : List ℕ) (ok : frameVerdict kit text ≡ accepted) where
       let c : Corrected = record { verdict = accepted; frame = frameOf info red; counts = record { rounds = rounds; flips = turned; outside = 0 } } in
       let call : mendCall kit copy ≡ c =
       ap (λ (k : ℕ). decodeCall m t M k 0 (selfOf kit) (parityOf kit) (frameInfo M (m * t) copy) (frameRed M (m * t) copy)
-      (wordWork (kitParams kit))) count ∙ e in
+      (decoderWork (kitParams kit) k)) count ∙ e in
       let v : (inputRule kit copy then scanKit kit then frameRule M (m * t) copy then mendCall kit copy .verdict) ≡ accepted =
       then-accepted (short-inputs kit copy (A .kit-short) short)
       (then-accepted (A .kit-ok) (then-accepted accepts (ap (λ (x : Corrected). x .verdict) call))) in
@@ -182,7 +182,7 @@ module _ (kit text : List ℕ) (ok : frameVerdict kit text ≡ accepted) where
       mends : length (sent kit text) ≤ most-input → mendOutput kit (sent kit text) ≡ sent kit text ++ countsText 1 0 0
       mends h =
           mend-sends (sent kit text) h (read-back .0) (sym (read-back .1)) 1 0
-          (ap₂ (λ (i o : List ℕ). decodeCall m t M L 0 (selfOf kit) (parityOf kit) i o (wordWork (kitParams kit))) (sym (parts .0)) (sym (parts .1))
+          (ap₂ (λ (i o : List ℕ). decodeCall m t M L 0 (selfOf kit) (parityOf kit) i o (decoderWork (kitParams kit) L)) (sym (parts .0)) (sym (parts .1))
           ∙ made-idle (kitOf kit) L info old G 0 (omega arith))
 
       refuses : most-input < length (sent kit text) → mendOutput kit (sent kit text) ≡ refusalText 13 2

@@ -11,7 +11,7 @@ use Rattle.staircase.specs.Design.{Params, Interleavers, most-blocks}
 use Rattle.staircase.specs.Frame.{Frame, frameOf, groups, outside}
 use Rattle.staircase.specs.Frame.Site.{inInfo, inRed}
 use Rattle.staircase.specs.Decoder.{Decoded, decoded}
-use Rattle.staircase.specs.Rules.{Verdict, infoLength, redLength, wordWork, interleavers}
+use Rattle.staircase.specs.Rules.{Verdict, infoLength, redLength, decoderWork, interleavers}
 use Rattle.staircase.specs.Rules.Verdict.{accepted}
 use Rattle.staircase.specs.Calls.{Corrected, decodeVerdict, decodeCall}
 use Rattle.staircase.proofs.Flip.{Received}
@@ -29,7 +29,7 @@ use Rattle.staircase.proofs.Decoded.{correctedBy-verdict, decode-left, decode-r
 
 mendCall-by : (kit text : List ℕ) (L : ℕ) (i o : List ℕ) → frameCount (headNumber kit 2) (headNumber kit 0 * headNumber kit 1) text ≡ L
     → frameInfo (headNumber kit 2) (headNumber kit 0 * headNumber kit 1) text ≡ i → frameRed (headNumber kit 2) (headNumber kit 0 * headNumber kit 1) text ≡ o
-    → mendCall kit text ≡ decodeCall (headNumber kit 0) (headNumber kit 1) (headNumber kit 2) L 0 (selfOf kit) (parityOf kit) i o (wordWork (kitParams kit))
+    → mendCall kit text ≡ decodeCall (headNumber kit 0) (headNumber kit 1) (headNumber kit 2) L 0 (selfOf kit) (parityOf kit) i o (decoderWork (kitParams kit) L)
 unfolding mendCall
 mendCall-by kit text L i o a b c = rw (a, b, c) refl
 
@@ -53,14 +53,14 @@ module _ (kit copy : List ℕ) (ok : mendVerdict kit copy ≡ accepted) where
   unfolding mendVerdict
   A = judged-accepted kit copy (frameRule M r copy) (mendCall kit copy .verdict) ok
 
-  decodes : decodeVerdict m t M L 0 (selfOf kit) (parityOf kit) (frameInfo M r copy) (frameRed M r copy) (wordWork (kitParams kit)) ≡ accepted
+  decodes : decodeVerdict m t M L 0 (selfOf kit) (parityOf kit) (frameInfo M r copy) (frameRed M r copy) (decoderWork (kitParams kit) L) ≡ accepted
   unfolding mendCall decodeCall
   decodes =
       let s : Params = kitParams kit in
       let l : Interleavers = interleavers s (selfOf kit) (parityOf kit) in
       let f : Frame = frameOf (frameInfo M r copy) (frameRed M r copy) in
       let d : Decoded = decoded s l L 0 f in
-      let v : Verdict = decodeVerdict m t M L 0 (selfOf kit) (parityOf kit) (frameInfo M r copy) (frameRed M r copy) (wordWork s) in
+      let v : Verdict = decodeVerdict m t M L 0 (selfOf kit) (parityOf kit) (frameInfo M r copy) (frameRed M r copy) (decoderWork s L) in
       sym (correctedBy-verdict v f d (outside s l L (d .frame))) ∙ A .call-ok
 
   abbrev made : Decoded

@@ -14,7 +14,7 @@ use Rattle.text_formats.specs.Format.{byte, num}
 use Rattle.text_formats.specs.Items.{lits, spell}
 use Rattle.staircase.specs.Design.{Params, order}
 use Rattle.staircase.specs.Frame.{groups}
-use Rattle.staircase.specs.Rules.{Verdict, _then_, refuse, redLength, kitWork, wordWork}
+use Rattle.staircase.specs.Rules.{Verdict, _then_, refuse, redLength, kitWork, decoderWork}
 use Rattle.staircase.specs.Rules.Verdict.{accepted, refused}
 use Rattle.staircase.specs.Calls.{Encoded, encodeCall, Corrected, decodeCall}
 use Rattle.text.specs.KitText.{twoNumbers}
@@ -83,7 +83,7 @@ mendCall kit text =
     let M : ℕ = headNumber kit 2 in
     let r : ℕ = headNumber kit 0 * headNumber kit 1 in
     decodeCall (headNumber kit 0) (headNumber kit 1) M (frameCount M r text) 0 (selfOf kit) (parityOf kit) (frameInfo M r text) (frameRed M r text)
-    (wordWork (kitParams kit))
+    (decoderWork (kitParams kit) (frameCount M r text))
 
 -- "it prints both mended, then `rounds turned outside` and the three numbers."
 unfoldable pub mendText : ℕ → ℕ → ℕ → Corrected → List ℕ

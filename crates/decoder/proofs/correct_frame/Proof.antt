@@ -1,60 +1,184 @@
--- The working entries are as long as a design needs.
+-- The tables are filled, then the kept numbers, then the rounds run; each buffer is lent as long as the design needs.
 -- Assumes nothing.
+use mathlib.Core.Path.{_≡_, refl, sym, ap, _∙_, subst}
+use mathlib.Core.List.{_++_}
+use Prim.Native.Nat.{_+_, _-_, _*_, _%_, _^_, _≤_}
 use native.Mathlib.Omega.{arith}
-use mathlib.Core.Path.{sym, ap, _∙_}
-use Prim.Native.Nat.{ℕ, _+_}
-use Rattle.decoder.proofs.Room.{lent, positions-room, syndromes-room, field-is, field-room, sums-room}
+use lib.ListN.{length, take, drop}
+use lib.Seq.{length-take-le}
+use Rattle.staircase.specs.Design.{wordLength, most-rounds}
+use Rattle.staircase.specs.Frame.{frameOf, words, outside}
+use Rattle.staircase.specs.Decoder.{runRounds}
+use Rattle.staircase.specs.Lines.{wordCount}
+use Rattle.decoder_frame.specs.Filled.{Filled}
+use Rattle.design.specs.Sizes.{paramsOf, orderOf, listsOf}
+use Rattle.rules.specs.Received.{Received}
+use Rattle.words_blocks.specs.Blocks.{Powers}
+use Rattle.words_positions.proofs.Parts.{part-fits, part-is}
+use Rattle.decoder_lines.specs.declared.Line.{Line}
+use Rattle.decoder_lines.specs.Links.{listsIn}
+use Rattle.decoder_lines.proofs.Links.{links-long}
+use Rattle.decoder_words.specs.Ready.{LineReady, FrameKept}
+use Rattle.decoder.proofs.Room.{tables-room, field-is, field-room, links-room}
+use Rattle.decoder.proofs.Rounds.{first-fits, powers-of, ready-lent, kept-lent, behind-same, corrected-is}
 use borrow.Author.Needs.{needs}
 use Rattle.decoder.proofs.correct_frame.Statement.{statement}
 use Rattle.decoder.proofs.correct_frame.Tie as tie
 
-array-borrow-prefix-positions : tie.Need-array-borrow-prefix-positions
-array-borrow-prefix-positions c = lent _ 1024 (c .before .before .before .before .before .before .position-entries .result) (c .before .before .before .before .before .before .position-entries .ensures) (positions-room _ (c .before .before .before .before .before .before .before .before .before .before .before .before .before .before .before .pre .0 .allowed) _ (c .before .before .before .before .before .before .before .before .before .n .ensures .0)) .0
+part-tables-end : tie.Need-part-tables-end
+part-tables-end c = omega (arith, c .before .before .table-entries .ensures, tables-room (c .before .before .before .before .before .before .before .before .before .before .before .before .before .args .d) (c .before .before .before .before .before .before .before .before .before .before .before .before .before .pre .0 .allowed) (c .before .before .before .before .n .result) (c .before .before .before .before .n .ensures .0))
 
-slice-aggregate-correct-in : tie.Need-slice-aggregate-correct-in
-slice-aggregate-correct-in c = sym (lent _ 1024 (c .before .before .before .before .before .before .before .position-entries .result) (c .before .before .before .before .before .before .before .position-entries .ensures) (positions-room _ (c .before .before .before .before .before .before .before .before .before .before .before .before .before .before .before .before .pre .0 .allowed) _ (c .before .before .before .before .before .before .before .before .before .before .n .ensures .0)) .1)
+mul-fill-tables : tie.Need-mul-fill-tables
+mul-fill-tables c = omega (arith, field-room (c .before .before .before .before .before .before .before .before .before .before .before .before .before .before .args .d) (c .before .before .before .before .before .before .before .before .before .before .before .before .before .before .pre .0 .allowed) (c .before .before .before .before .m .result) (c .before .before .before .before .m .ensures))
 
-array-borrow-prefix-syndromes : tie.Need-array-borrow-prefix-syndromes
-array-borrow-prefix-syndromes c = lent _ 1152 (c .before .before .before .before .before .before .syndrome-entries .result) (c .before .before .before .before .before .before .syndrome-entries .ensures) (syndromes-room _ (c .before .before .before .before .before .before .before .before .before .before .before .before .before .before .before .before .pre .0 .allowed) _ (c .before .before .before .before .before .before .before .before .before .before .n .ensures .0)) .0
+part-field-end : tie.Need-part-field-end
+part-field-end c = omega (arith, c .before .before .field-entries .ensures, field-room (c .before .before .before .before .before .before .before .before .before .before .before .before .before .before .args .d) (c .before .before .before .before .before .before .before .before .before .before .before .before .before .before .pre .0 .allowed) (c .before .before .before .before .m .result) (c .before .before .before .before .m .ensures))
 
-slice-aggregate-correct-in-2 : tie.Need-slice-aggregate-correct-in-2
-slice-aggregate-correct-in-2 c = sym (lent _ 1152 (c .before .before .before .before .before .before .before .syndrome-entries .result) (c .before .before .before .before .before .before .before .syndrome-entries .ensures) (syndromes-room _ (c .before .before .before .before .before .before .before .before .before .before .before .before .before .before .before .before .before .pre .0 .allowed) _ (c .before .before .before .before .before .before .before .before .before .before .before .n .ensures .0)) .1)
+fill-tables-requires : tie.Need-fill-tables-requires
+fill-tables-requires c κs =
+    let p = c .before .before .before .before .before .before .before .before .before .before .before .before .before .before .before .pre in
+    let a = c .before .before .before .before .before .before .before .before .before .before .before .before .before .before .before .args in
+    let lt = length-take-le (2 * c .before .before .before .before .before .before .n .result + 128 - 0) (c .before .before .before .before .table-entries .result) (omega (arith, c .before .before .before .before .table-entries .ensures, tables-room (a .d) (p .0 .allowed) (c .before .before .before .before .before .before .n .result) (c .before .before .before .before .before .before .n .ensures .0))) in
+    let lf = length-take-le (4 * ((1 * 2 ^ c .before .before .before .before .before .m .result) % 2 ^ 64) - 0) (c .before .before .before .field-entries .result) (omega (arith, c .before .before .before .field-entries .ensures, field-room (a .d) (p .0 .allowed) (c .before .before .before .before .before .m .result) (c .before .before .before .before .before .m .ensures))) in
+    (p .0 .allowed, omega (arith, lt, c .before .before .before .before .before .before .n .ensures .0), omega (arith, lf, field-is (a .d) (p .0 .allowed) (c .before .before .before .before .before .m .result) (c .before .before .before .before .before .m .ensures)))
 
-mul-field : tie.Need-mul-field
-mul-field c = omega (arith, field-room _ (c .before .before .before .before .before .before .before .before .before .before .before .before .before .before .before .before .before .pre .0 .allowed) _ (c .before .before .before .before .before .before .before .before .before .m .ensures))
+mul-fill-links : tie.Need-mul-fill-links
+mul-fill-links c = omega (arith, links-room (c .before .before .before .before .before .before .before .before .before .before .before .before .before .before .before .before .before .before .args .d) (c .before .before .before .before .before .before .before .before .before .before .before .before .before .before .before .before .before .before .pre .0 .allowed) (c .before .before .before .before .before .before .before .before .before .before .order .result) (c .before .before .before .before .before .before .before .before .before .before .order .ensures .0))
 
-array-borrow-prefix-field : tie.Need-array-borrow-prefix-field
-array-borrow-prefix-field c = lent _ 4096 (c .before .before .before .before .before .before .field-entries .result) (c .before .before .before .before .before .before .field-entries .ensures) (field-room _ (c .before .before .before .before .before .before .before .before .before .before .before .before .before .before .before .before .before .pre .0 .allowed) _ (c .before .before .before .before .before .before .before .before .before .m .ensures)) .0
+part-links-end : tie.Need-part-links-end
+part-links-end c = omega (arith, c .before .before .before .before .before .link-entries .ensures, links-room (c .before .before .before .before .before .before .before .before .before .before .before .before .before .before .before .before .before .before .args .d) (c .before .before .before .before .before .before .before .before .before .before .before .before .before .before .before .before .before .before .pre .0 .allowed) (c .before .before .before .before .before .before .before .before .before .before .order .result) (c .before .before .before .before .before .before .before .before .before .before .order .ensures .0))
 
-slice-aggregate-correct-in-3 : tie.Need-slice-aggregate-correct-in-3
-slice-aggregate-correct-in-3 c = sym (lent _ 4096 (c .before .before .before .before .before .before .before .field-entries .result) (c .before .before .before .before .before .before .before .field-entries .ensures) (field-room _ (c .before .before .before .before .before .before .before .before .before .before .before .before .before .before .before .before .before .before .pre .0 .allowed) _ (c .before .before .before .before .before .before .before .before .before .before .m .ensures)) .1)
-
-array-borrow-prefix-sums : tie.Need-array-borrow-prefix-sums
-array-borrow-prefix-sums c = lent _ 512 (c .before .before .before .before .before .before .sum-entries .result) (c .before .before .before .before .before .before .sum-entries .ensures) (sums-room _ (c .before .before .before .before .before .before .before .before .before .before .before .before .before .before .before .before .before .before .pre .0 .allowed) _ (c .before .before .before .before .before .before .before .before .before .before .before .size .ensures)) .0
-
-slice-aggregate-correct-in-4 : tie.Need-slice-aggregate-correct-in-4
-slice-aggregate-correct-in-4 c = sym (lent _ 512 (c .before .before .before .before .before .before .before .sum-entries .result) (c .before .before .before .before .before .before .before .sum-entries .ensures) (sums-room _ (c .before .before .before .before .before .before .before .before .before .before .before .before .before .before .before .before .before .before .before .pre .0 .allowed) _ (c .before .before .before .before .before .before .before .before .before .before .before .before .size .ensures)) .1)
-
-correct-in-requires : tie.Need-correct-in-requires
-correct-in-requires c κs =
+fill-links-requires : tie.Need-fill-links-requires
+fill-links-requires c κs =
     let p = c .before .before .before .before .before .before .before .before .before .before .before .before .before .before .before .before .before .before .before .pre in
-    let n = c .before .before .before .before .before .before .before .before .before .before .before .before .before .n .ensures .0 in
-    let M = c .before .before .before .before .before .before .before .before .before .before .before .before .size .ensures in
-    let m = c .before .before .before .before .before .before .before .before .before .before .before .m .ensures in (
-      p .0,
-      p .1,
-      p .2,
-      lent _ 1024 (c .before .before .before .before .before .before .before .before .before .before .position-entries .result) (c .before .before .before .before .before .before .before .before .before .before .position-entries .ensures) (positions-room _ (p .0 .allowed) _ n) .1 ∙ n,
-      lent _ 1152 (c .before .before .before .before .before .before .before .before .before .syndrome-entries .result) (c .before .before .before .before .before .before .before .before .before .syndrome-entries .ensures) (syndromes-room _ (p .0 .allowed) _ n) .1 ∙ ap (λ (z : ℕ). z + 128) n,
-      lent _ 4096 (c .before .before .before .before .before .before .before .before .field-entries .result) (c .before .before .before .before .before .before .before .before .field-entries .ensures) (field-room _ (p .0 .allowed) _ m) .1 ∙ field-is _ (p .0 .allowed) _ m,
-      lent _ 512 (c .before .before .before .before .before .before .before .sum-entries .result) (c .before .before .before .before .before .before .before .sum-entries .ensures) (sums-room _ (p .0 .allowed) _ M) .1 ∙ M,
+    let a = c .before .before .before .before .before .before .before .before .before .before .before .before .before .before .before .before .before .before .before .args in
+    let ll = length-take-le (4 * c .before .before .before .before .before .before .before .before .before .before .before .order .result - 0) (c .before .before .before .before .before .before .link-entries .result) (omega (arith, c .before .before .before .before .before .before .link-entries .ensures, links-room (a .d) (p .0 .allowed) (c .before .before .before .before .before .before .before .before .before .before .before .order .result) (c .before .before .before .before .before .before .before .before .before .before .before .order .ensures .0))) in
+    (p .0 .allowed, p .0 .lists, omega (arith, ll, c .before .before .before .before .before .before .before .before .before .before .before .order .ensures .0))
+
+part-fill-kept-end : tie.Need-part-fill-kept-end
+part-fill-kept-end c =
+    let p = c .before .before .before .before .before .before .before .before .before .before .before .before .before .before .before .before .before .before .before .before .before .before .before .before .pre in
+    let a = c .before .before .before .before .before .before .before .before .before .before .before .before .before .before .before .before .before .before .before .before .before .before .before .before .args in
+    let due = 2 * c .before .before .before .before .before .before .before .before .before .before .before .before .before .before .before .n .result + 128 in
+    let T = c .before .before .before .before .before .before .before .before .fill-tables .last .1 .0 in
+    let lT : length T ≡ due = c .before .before .before .before .before .before .before .before .fill-tables .ensures .long ∙ omega (arith, c .before .before .before .before .before .before .before .before .before .before .before .before .before .before .before .n .ensures .0) in
+    part-fits T _ _ lT
+
+fill-kept-requires : tie.Need-fill-kept-requires
+fill-kept-requires c κs =
+    let p = c .before .before .before .before .before .before .before .before .before .before .before .before .before .before .before .before .before .before .before .before .before .before .before .before .before .before .pre in
+    let a = c .before .before .before .before .before .before .before .before .before .before .before .before .before .before .before .before .before .before .before .before .before .before .before .before .before .before .args in
+    let due = 2 * c .before .before .before .before .before .before .before .before .before .before .before .before .before .before .before .before .before .n .result + 128 in
+    let T = c .before .before .before .before .before .before .before .before .before .before .fill-tables .last .1 .0 in
+    let lT : length T ≡ due = c .before .before .before .before .before .before .before .before .before .before .fill-tables .ensures .long ∙ omega (arith, c .before .before .before .before .before .before .before .before .before .before .before .before .before .before .before .before .before .n .ensures .0) in
+    let T' = drop (due - 0) (c .before .before .before .before .before .before .before .before .before .before .before .before .before .before .before .table-entries .result) in
+    let e = part-is T T' due lT in
+    let P = powers-of (a .d) (c .before .before .before .before .before .before .before .before .before .before .fill-tables .ensures) in
+    subst (λ (z : Line). Received (z .d) (z .blocks) (a .own .now) (a .parity .now) (a .info .now) (a .red .now)
+    × Powers (paramsOf (z .d)) (take (wordLength (paramsOf (z .d))) (take (due - 0) (drop 0 (T ++ T')))) × (wordLength (paramsOf (z .d)) ≤ length (take (due - 0) (drop 0 (T ++ T'))))
+    × (length (a .work .now) ≡ orderOf (z .d) + 4 * wordCount (paramsOf (z .d)) (z .blocks)))
+    (sym (c .before .before .before .before .before .before .before .before .before .before .before .before .before .before .before .before .before .before .before .before .first-line .ensures))
+    (p .0, rw e P, rw e (omega (arith, c .before .before .before .before .before .before .before .before .before .before .fill-tables .ensures .long)), omega (arith, p .1))
+
+mul-correct-lines : tie.Need-mul-correct-lines
+mul-correct-lines c = omega (arith, links-room (c .before .before .before .before .before .before .before .before .before .before .before .before .before .before .before .before .before .before .before .before .before .before .before .before .before .before .before .before .before .args .d) (c .before .before .before .before .before .before .before .before .before .before .before .before .before .before .before .before .before .before .before .before .before .before .before .before .before .before .before .before .before .pre .0 .allowed) (c .before .before .before .before .before .before .before .before .before .before .before .before .before .before .before .before .before .before .before .before .before .order .result) (c .before .before .before .before .before .before .before .before .before .before .before .before .before .before .before .before .before .before .before .before .before .order .ensures .0))
+
+part-correct-lines-end : tie.Need-part-correct-lines-end
+part-correct-lines-end c =
+    let p = c .before .before .before .before .before .before .before .before .before .before .before .before .before .before .before .before .before .before .before .before .before .before .before .before .before .before .before .before .before .before .pre in
+    let a = c .before .before .before .before .before .before .before .before .before .before .before .before .before .before .before .before .before .before .before .before .before .before .before .before .before .before .before .before .before .before .args in
+    part-fits (c .before .before .before .before .before .before .before .before .before .before .fill-links .last .1 .1 .1 .0) _ _ (links-long (c .before .before .before .before .before .before .before .before .before .before .fill-links .ensures .0) ∙ omega (arith, c .before .before .before .before .before .before .before .before .before .before .before .before .before .before .before .before .before .before .before .before .before .before .order .ensures .0))
+
+part-correct-lines-end-2 : tie.Need-part-correct-lines-end-2
+part-correct-lines-end-2 c =
+    let p = c .before .before .before .before .before .before .before .before .before .before .before .before .before .before .before .before .before .before .before .before .before .before .before .before .before .before .before .before .before .before .before .before .pre in
+    let a = c .before .before .before .before .before .before .before .before .before .before .before .before .before .before .before .before .before .before .before .before .before .before .before .before .before .before .before .before .before .before .before .before .args in
+    let due = 2 * c .before .before .before .before .before .before .before .before .before .before .before .before .before .before .before .before .before .before .before .before .before .before .before .n .result + 128 in
+    let T = c .before .before .before .before .before .before .before .before .before .before .before .before .before .before .before .before .fill-tables .last .1 .0 in
+    let lT : length T ≡ due = c .before .before .before .before .before .before .before .before .before .before .before .before .before .before .before .before .fill-tables .ensures .long ∙ omega (arith, c .before .before .before .before .before .before .before .before .before .before .before .before .before .before .before .before .before .before .before .before .before .before .before .n .ensures .0) in
+    part-fits T _ _ lT
+
+mul-correct-lines-2 : tie.Need-mul-correct-lines-2
+mul-correct-lines-2 c = omega (arith, field-room (c .before .before .before .before .before .before .before .before .before .before .before .before .before .before .before .before .before .before .before .before .before .before .before .before .before .before .before .before .before .before .before .before .before .args .d) (c .before .before .before .before .before .before .before .before .before .before .before .before .before .before .before .before .before .before .before .before .before .before .before .before .before .before .before .before .before .before .before .before .before .pre .0 .allowed) (c .before .before .before .before .before .before .before .before .before .before .before .before .before .before .before .before .before .before .before .before .before .before .before .m .result) (c .before .before .before .before .before .before .before .before .before .before .before .before .before .before .before .before .before .before .before .before .before .before .before .m .ensures))
+
+part-correct-lines-end-3 : tie.Need-part-correct-lines-end-3
+part-correct-lines-end-3 c =
+    let p = c .before .before .before .before .before .before .before .before .before .before .before .before .before .before .before .before .before .before .before .before .before .before .before .before .before .before .before .before .before .before .before .before .before .before .pre in
+    let a = c .before .before .before .before .before .before .before .before .before .before .before .before .before .before .before .before .before .before .before .before .before .before .before .before .before .before .before .before .before .before .before .before .before .before .args in
+    let lf = length-take-le (4 * ((1 * 2 ^ c .before .before .before .before .before .before .before .before .before .before .before .before .before .before .before .before .before .before .before .before .before .before .before .before .m .result) % 2 ^ 64) - 0) (c .before .before .before .before .before .before .before .before .before .before .before .before .before .before .before .before .before .before .before .before .before .before .field-entries .result) (omega (arith, c .before .before .before .before .before .before .before .before .before .before .before .before .before .before .before .before .before .before .before .before .before .before .field-entries .ensures, field-room (a .d) (p .0 .allowed) (c .before .before .before .before .before .before .before .before .before .before .before .before .before .before .before .before .before .before .before .before .before .before .before .before .m .result) (c .before .before .before .before .before .before .before .before .before .before .before .before .before .before .before .before .before .before .before .before .before .before .before .before .m .ensures))) in
+    part-fits (c .before .before .before .before .before .before .before .before .before .before .before .before .before .before .before .before .before .before .fill-tables .last .1 .1 .0) _ _ (c .before .before .before .before .before .before .before .before .before .before .before .before .before .before .before .before .field2 .given ∙ lf ∙ omega arith)
+
+sub-correct-lines-4 : tie.Need-sub-correct-lines-4
+sub-correct-lines-4 c = omega (arith, c .before .before .before .before .before .before .before .before .before .before .before .before .before .before .before .before .before .before .before .before .before .before .before .before .before .before .before .before .before .order .ensures .0, c .before .before .before .before .before .before .before .before .before .before .before .before .before .before .before .before .before .before .before .before .before .before .before .before .before .before .before .before .before .before .before .before .before .before .before .before .before .pre .1)
+
+part-correct-lines-start-4 : tie.Need-part-correct-lines-start-4
+part-correct-lines-start-4 c = omega (arith, c .before .before .before .before .before .before .before .before .before .before .before .before .before .before .before .before .before .before .before .before .before .before .before .before .before .before .before .before .before .order .ensures .0, c .before .before .before .before .before .before .before .before .before .before .before .before .before .before .before .before .before .before .before .before .before .before .before .before .before .before .before .before .before .before .before .before .before .before .before .before .before .pre .1)
+
+part-correct-lines-end-4 : tie.Need-part-correct-lines-end-4
+part-correct-lines-end-4 c = omega (arith, c .before .before .before .before .before .before .before .before .before .before .fill-kept .ensures .0)
+
+correct-lines-requires : tie.Need-correct-lines-requires
+correct-lines-requires c κs =
+    let p = c .before .before .before .before .before .before .before .before .before .before .before .before .before .before .before .before .before .before .before .before .before .before .before .before .before .before .before .before .before .before .before .before .before .before .before .before .before .before .pre in
+    let a = c .before .before .before .before .before .before .before .before .before .before .before .before .before .before .before .before .before .before .before .before .before .before .before .before .before .before .before .before .before .before .before .before .before .before .before .before .before .before .args in
+    let due = 2 * c .before .before .before .before .before .before .before .before .before .before .before .before .before .before .before .before .before .before .before .before .before .before .before .before .before .before .before .before .before .n .result + 128 in
+    let T = c .before .before .before .before .before .before .before .before .before .before .before .before .before .before .before .before .before .before .before .before .before .before .fill-tables .last .1 .0 in
+    let lT : length T ≡ due = c .before .before .before .before .before .before .before .before .before .before .before .before .before .before .before .before .before .before .before .before .before .before .fill-tables .ensures .long ∙ omega (arith, c .before .before .before .before .before .before .before .before .before .before .before .before .before .before .before .before .before .before .before .before .before .before .before .before .before .before .before .before .before .n .ensures .0) in
+    let lf = length-take-le (4 * ((1 * 2 ^ c .before .before .before .before .before .before .before .before .before .before .before .before .before .before .before .before .before .before .before .before .before .before .before .before .before .before .before .before .m .result) % 2 ^ 64) - 0) (c .before .before .before .before .before .before .before .before .before .before .before .before .before .before .before .before .before .before .before .before .before .before .before .before .before .before .field-entries .result) (omega (arith, c .before .before .before .before .before .before .before .before .before .before .before .before .before .before .before .before .before .before .before .before .before .before .before .before .before .before .field-entries .ensures, field-room (a .d) (p .0 .allowed) (c .before .before .before .before .before .before .before .before .before .before .before .before .before .before .before .before .before .before .before .before .before .before .before .before .before .before .before .before .m .result) (c .before .before .before .before .before .before .before .before .before .before .before .before .before .before .before .before .before .before .before .before .before .before .before .before .before .before .before .before .m .ensures))) in
+    let F = c .before .before .before .before .before .before .before .before .before .before .before .before .before .before .before .before .before .before .before .before .before .before .fill-tables .last .1 .1 .0 in
+    let K = c .before .before .before .before .before .before .before .before .before .before .before .before .before .before .before .before .before .before .fill-links .last .1 .1 .1 .0 in
+    let W = c .before .before .before .before .before .before .before .before .before .before .before .fill-kept .last .1 .1 .1 .1 .1 .1 .0 in
+    let f = 4 * ((1 * 2 ^ c .before .before .before .before .before .before .before .before .before .before .before .before .before .before .before .before .before .before .before .before .before .before .before .before .before .before .before .before .m .result) % 2 ^ 64) in
+    let k = 4 * c .before .before .before .before .before .before .before .before .before .before .before .before .before .before .before .before .before .before .before .before .before .before .before .before .before .before .before .before .before .before .order .result in
+    let lF : length F ≡ f = c .before .before .before .before .before .before .before .before .before .before .before .before .before .before .before .before .before .before .before .before .field2 .given ∙ lf ∙ omega arith in
+    let lK : length K ≡ k = links-long (c .before .before .before .before .before .before .before .before .before .before .before .before .before .before .before .before .before .before .fill-links .ensures .0) ∙ omega (arith, c .before .before .before .before .before .before .before .before .before .before .before .before .before .before .before .before .before .before .before .before .before .before .before .before .before .before .before .before .before .before .order .ensures .0) in
+    let lW : length W ≡ orderOf (a .d) + 4 * wordCount (paramsOf (a .d)) (a .blocks) = c .before .before .before .before .before .before .before .before .before .before .before .fill-kept .ensures .0 ∙ omega (arith, p .1) in
+    let first : Line = record { d = a .d; blocks = a .blocks; k = 0 } in
+    let R : LineReady first K T F = record { fits = first-fits (a .d) (p .0); linked = c .before .before .before .before .before .before .before .before .before .before .before .before .before .before .before .before .before .before .fill-links .ensures .0; word-tables = c .before .before .before .before .before .before .before .before .before .before .before .before .before .before .before .before .before .before .before .before .before .before .fill-tables .ensures } in
+    let H = subst (λ (z : Line). Filled z (a .own .now) (a .parity .now) (frameOf (a .info .now) (a .red .now)) (drop (orderOf (z .d)) W) (wordCount (paramsOf (z .d)) (z .blocks)))
+    (c .before .before .before .before .before .before .before .before .before .before .before .before .before .before .before .before .before .before .before .before .before .before .before .before .before .before .before .before .before .before .before .before .first-line .ensures) (c .before .before .before .before .before .before .before .before .before .before .before .fill-kept .ensures .1) in
+    let K' = drop (k - 0) (c .before .before .before .before .before .before .before .before .before .before .before .before .before .before .before .before .before .before .before .before .before .before .before .before .before .link-entries .result) in
+    subst (λ (z : Line). LineReady z (take (k - 0) (drop 0 (K ++ K'))) (take (due - 0) (drop 0 (T ++ drop (due - 0) (c .before .before .before .before .before .before .before .before .before .before .before .before .before .before .before .before .before .before .before .before .before .before .before .before .before .before .before .table-entries .result)))) (take (f - 0) (drop 0 (F ++ drop (f - 0) (c .before .before .before .before .before .before .before .before .before .before .before .before .before .before .before .before .before .before .before .before .before .before .before .before .before .before .field-entries .result))))
+    × (z .k ≡ 0) × (c .before .before .before .before .before .before .before .before .before .before .before .before .before .before .before .before .before .before .before .before .before .before .before .before .before .before .before .before .before .before .before .rounds-allowed .result ≤ most-rounds)
+    × FrameKept (z .d) (z .blocks) (take (k - 0) (drop 0 (K ++ K'))) (a .info .now) (a .red .now) (take (length (a .work .now) - c .before .before .before .before .before .before .before .before .before .before .before .before .before .before .before .before .before .before .before .before .before .before .before .before .before .before .before .before .before .before .order .result) (drop (c .before .before .before .before .before .before .before .before .before .before .before .before .before .before .before .before .before .before .before .before .before .before .before .before .before .before .before .before .before .before .order .result) W)))
+    (sym (c .before .before .before .before .before .before .before .before .before .before .before .before .before .before .before .before .before .before .before .before .before .before .before .before .before .before .before .before .before .before .before .before .first-line .ensures)) (
+      ready-lent first K K' T (drop (due - 0) (c .before .before .before .before .before .before .before .before .before .before .before .before .before .before .before .before .before .before .before .before .before .before .before .before .before .before .before .table-entries .result)) F (drop (f - 0) (c .before .before .before .before .before .before .before .before .before .before .before .before .before .before .before .before .before .before .before .before .before .before .before .before .before .before .field-entries .result)) k due f lK lT lF R,
+      refl,
+      c .before .before .before .before .before .before .before .before .before .before .before .before .before .before .before .before .before .before .before .before .before .before .before .before .before .before .before .before .before .before .before .rounds-allowed .ensures .1,
+      kept-lent first (a .own .now) (a .parity .now) K K' (a .info .now) (a .red .now) W k (c .before .before .before .before .before .before .before .before .before .before .before .before .before .before .before .before .before .before .before .before .before .before .before .before .before .before .before .before .before .before .order .result) (length (a .work .now)) lK (c .before .before .before .before .before .before .before .before .before .before .before .before .before .before .before .before .before .before .before .before .before .before .before .before .before .before .before .before .before .before .order .ensures .0) (sym (c .before .before .before .before .before .before .before .before .before .before .before .fill-kept .ensures .0)) lW (p .0 .allowed) (p .0 .frame) (c .before .before .before .before .before .before .before .before .before .before .before .before .before .before .before .before .before .before .fill-links .ensures .1) H,
     )
+
+same-length-3 : tie.Need-same-length-3
+same-length-3 c =
+    let p = c .before .before .before .before .before .before .before .before .before .before .before .before .before .before .before .before .before .before .before .before .before .before .before .before .before .before .before .before .before .before .before .before .before .before .before .before .before .before .before .before .before .before .before .before .before .pre in
+    let a = c .before .before .before .before .before .before .before .before .before .before .before .before .before .before .before .before .before .before .before .before .before .before .before .before .before .before .before .before .before .before .before .before .before .before .before .before .before .before .before .before .before .before .before .before .before .args in
+    behind-same (c .before .before .before .before .before .before .before .before .before .before .before .before .before .before .before .before .before .before .fill-kept .last .1 .1 .1 .1 .1 .1 .0) (c .before .before .before .before .before .before .correct-lines .last .1 .1 .1 .1 .1 .1 .1 .0) (c .before .before .before .before .before .before .before .before .before .before .before .before .before .before .before .before .before .before .before .before .before .before .before .before .before .before .before .before .before .before .before .before .before .before .before .before .before .order .result) (length (a .work .now)) (sym (c .before .before .before .before .before .before .before .before .before .before .before .before .before .before .before .before .before .before .fill-kept .ensures .0))
+    (omega (arith, c .before .before .before .before .before .before .before .before .before .before .before .before .before .before .before .before .before .before .before .before .before .before .before .before .before .before .before .before .before .before .before .before .before .before .before .before .before .order .ensures .0, p .1)) (c .before .before .before .before .before .before .correct-lines .ensures .2)
+
+returns : tie.Need-returns
+returns c =
+    let p = c .before .before .before .before .before .before .before .before .before .before .before .before .before .before .before .before .before .before .before .before .before .before .before .before .before .before .before .before .before .before .before .before .before .before .before .before .before .before .before .before .before .before .before .before .before .pre in
+    let a = c .before .before .before .before .before .before .before .before .before .before .before .before .before .before .before .before .before .before .before .before .before .before .before .before .before .before .before .before .before .before .before .before .before .before .before .before .before .before .before .before .before .before .before .before .before .args in
+    let K = c .before .before .before .before .before .before .before .before .before .before .before .before .before .before .before .before .before .before .before .before .before .before .before .before .before .fill-links .last .1 .1 .1 .0 in
+    let k = 4 * c .before .before .before .before .before .before .before .before .before .before .before .before .before .before .before .before .before .before .before .before .before .before .before .before .before .before .before .before .before .before .before .before .before .before .before .before .before .order .result in
+    let lK : length K ≡ k = links-long (c .before .before .before .before .before .before .before .before .before .before .before .before .before .before .before .before .before .before .before .before .before .before .before .before .before .fill-links .ensures .0) ∙ omega (arith, c .before .before .before .before .before .before .before .before .before .before .before .before .before .before .before .before .before .before .before .before .before .before .before .before .before .before .before .before .before .before .before .before .before .before .before .before .before .order .ensures .0) in
+    let K' = drop (k - 0) (c .before .before .before .before .before .before .before .before .before .before .before .before .before .before .before .before .before .before .before .before .before .before .before .before .before .before .before .before .before .before .before .before .link-entries .result) in
+    let g = frameOf (c .before .before .before .before .before .before .correct-lines .last .1 .1 .1 .1 .1 .0) (c .before .before .before .before .before .before .correct-lines .last .1 .1 .1 .1 .1 .1 .0) in
+    let f = frameOf (a .info .now) (a .red .now) in
+    let made-counts = c .before .before .before .before .before .before .correct-lines .result in
+    let l = take (k - 0) (drop 0 (K ++ K')) in
+    let made = subst (λ (z : Line). (record { frame = g; rounds = made-counts .rounds; flips = made-counts .flips } ≡ runRounds (paramsOf (z .d)) (words (paramsOf (z .d)) (listsIn (z .d) l) (z .blocks)) (c .before .before .before .before .before .before .before .before .before .before .before .before .before .before .before .before .before .before .before .before .before .before .before .before .before .before .before .before .before .before .before .before .before .before .before .before .before .before .rounds-allowed .result) f)
+    × (made-counts .outside ≡ outside (paramsOf (z .d)) (listsIn (z .d) l) (z .blocks) g)) (c .before .before .before .before .before .before .before .before .before .before .before .before .before .before .before .before .before .before .before .before .before .before .before .before .before .before .before .before .before .before .before .before .before .before .before .before .before .before .before .first-line .ensures) (c .before .before .before .before .before .before .correct-lines .ensures .0, c .before .before .before .before .before .before .correct-lines .ensures .1) in
+    corrected-is (paramsOf (a .d)) (listsOf (a .d) (a .own .now) (a .parity .now)) (listsIn (a .d) l) (a .blocks) (a .rounds) (c .before .before .before .before .before .before .before .before .before .before .before .before .before .before .before .before .before .before .before .before .before .before .before .before .before .before .before .before .before .before .before .before .before .before .before .before .before .before .rounds-allowed .result) f g made-counts
+    (ap (listsIn (a .d)) (part-is K K' k lK) ∙ c .before .before .before .before .before .before .before .before .before .before .before .before .before .before .before .before .before .before .before .before .before .before .before .before .before .fill-links .ensures .1) (c .before .before .before .before .before .before .before .before .before .before .before .before .before .before .before .before .before .before .before .before .before .before .before .before .before .before .before .before .before .before .before .before .before .before .before .before .before .before .rounds-allowed .ensures .0) (made .0) (made .1)
 
 pub correct-frame-spec : {M : Type 1} → statement M
 correct-frame-spec =
     tie.close
-    (tie.spec (λ c κs. search needs) (λ c κs. search needs) (λ c κs. search needs) (λ c. search needs) (λ c κs. search needs) (λ c κs. search needs)
-    (λ c κs. search needs) (λ c κs. search needs) array-borrow-prefix-positions slice-aggregate-correct-in (λ c. search needs)
-    array-borrow-prefix-syndromes slice-aggregate-correct-in-2 mul-field array-borrow-prefix-field slice-aggregate-correct-in-3
-    array-borrow-prefix-sums slice-aggregate-correct-in-4 correct-in-requires (λ c. search needs) (λ c. search needs) (λ c. search needs)
-    (λ c. search needs))
+    (tie.spec (λ c κs. search needs) (λ c κs. search needs) (λ c κs. search needs) (λ c κs. search needs) (λ c. search needs) (λ c. search needs)
+    (λ c κs. search needs) (λ c. search needs) (λ c κs. search needs) (λ c κs. search needs) (λ c κs. search needs) (λ c. search needs)
+    (λ c. search needs) part-tables-end mul-fill-tables (λ c. search needs) (λ c. search needs) part-field-end fill-tables-requires mul-fill-links
+    (λ c. search needs) (λ c. search needs) part-links-end fill-links-requires (λ c. search needs) (λ c. search needs) part-fill-kept-end
+    fill-kept-requires mul-correct-lines (λ c. search needs) (λ c. search needs) part-correct-lines-end (λ c. search needs) (λ c. search needs)
+    part-correct-lines-end-2 mul-correct-lines-2 (λ c. search needs) (λ c. search needs) part-correct-lines-end-3 sub-correct-lines-4
+    part-correct-lines-start-4 part-correct-lines-end-4 correct-lines-requires (λ c. search needs) (λ c. search needs) same-length-3 returns)

@@ -1,4 +1,0 @@
-pub mod Flips
-pub mod Places
-pub mod Word
-pub mod Passes

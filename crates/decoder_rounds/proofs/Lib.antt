@@ -1,3 +1,0 @@
-pub mod Filled
-pub mod Groups
-pub mod Limit
