@@ -186,7 +186,7 @@ fn rows_of_k(case: &mut Case) {
     ] {
         let mut lent = Lent::new(&kit, 2, bits_of(blocks), bits_of(group));
         lent.rounds = rounds;
-        let found = decode(&lent.received(), rounds, 4);
+        let found = decode(&lent.received(), rounds, lent.decoder_work);
         case.same(group, Ok((bits_of(after), bits_of(kept), counts)), found);
         case.all(&lent);
     }
