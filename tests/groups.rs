@@ -959,7 +959,7 @@ fn load_rows(case: &mut Case) {
     let wrong = sent.iter().zip(lent.info.iter().chain(&lent.red)).filter(|(a, b)| a != b).count();
     case.same("wrong bits", 34, wrong);
     case.same("words outside before", Ok(58), check_words(&lent.received(), lent.word_work));
-    case.same("what the decoder counts", Ok((2, 34, 0)), decode(&lent.received(), 0, lent.word_work).map(|(_, _, counts)| counts));
+    case.same("what the decoder counts", Ok((2, 34, 0)), decode(&lent.received(), 0, lent.decoder_work).map(|(_, _, counts)| counts));
     let (info, red) = case.decode(&lent);
     case.check("the frame is restored", [info, red].concat() == sent);
 }
