@@ -11,7 +11,7 @@ use design::Check;
 
 // Makes the redundancy of a frame of `blocks` blocks from its information, one bit a byte, under the kit: rules 1 to 4 and 6 to 10, with the table's
 // number and place of the first that refuses. What the redundancy held is never read, and a refused call leaves it as it was. The working bytes
-// are as many as the inverse's. The work is that of the kit checker, and for each group one step for each byte of the inverse.
+// are as many as the inverse's. The work is that of the kit checker, and for every 64 groups one step for each byte of the inverse.
 pub fn encode(
     m: u64,
     t: u64,

@@ -48,7 +48,7 @@ fn check_frames(
 // Makes the redundancy of `frames` frames of `blocks` blocks each from their information, one bit a byte, under one kit: rules 1 to 4, 17 and 6 to 10, with
 // the table's number and place of the first that refuses. `info` and `red` are those of `encoder::encode` joined, frame after frame, and each frame's
 // redundancy is what that call makes of it alone. What the redundancy held is never read, and a refused call leaves all of it as it was. The working
-// bytes are as many as the inverse's. The work is that of the kit checker, once, and for each group one step for each byte of the inverse.
+// bytes are as many as the inverse's. The work is that of the kit checker, once, and for every 64 groups one step for each byte of the inverse.
 pub fn encode_batch(
     m: u64,
     t: u64,

@@ -1,10 +1,14 @@
 -- Laws of the groups of a frame.
---   groupFrom-length   a group has 2 M r bits
---   groups-are         the groups are the redundancy of the frame's definition
+--   groupFrom-length                 a group has 2 M r bits
+--   startAt-length, startAt-bits     so have Q and P for Y = 0
+--   groupAt-length, solved-at        and what is made of them, which is the group
+--   stretch-made                     the groups of a stretch
+--   groups-by-frames                 groups numbered through all frames are the groups of each
+--   groups-are                       the groups are the redundancy of the frame's definition
 -- Assumes nothing.
-use mathlib.Core.Path.{_≡_, ap₂, _∙_}
+use mathlib.Core.Path.{_≡_, ap, ap₂, _∙_}
 use mathlib.Core.List.{List}
-use Prim.Native.Nat.{ℕ, _+_, _*_, _<_}
+use Prim.Native.Nat.{ℕ, _+_, _*_, _/_, _%_, _<_}
 use native.Mathlib.Omega.{arith}
 use lib.ListN.{length, getD, length-append}
 use Rattle.bch.specs.Polynomial.{Bits}
@@ -12,15 +16,19 @@ use Rattle.staircase.specs.Lists.{tabulate, concat}
 use Rattle.staircase.specs.Design.{Params, Interleavers, order}
 use Rattle.staircase.specs.System.{Contents, preimage, groupRedundancy, redundancy}
 use Rattle.staircase.specs.Frame.{groups, blockContents}
+use Rattle.staircase.specs.Batch.{frameAt}
 use Rattle.staircase.specs.Demand2.{Permutes}
 use Rattle.staircase.proofs.System.{Proper}
 use Rattle.staircase.proofs.Tabulate.{tabulate-length, concat-same}
+use Rattle.staircase.proofs.Batch.{joined-frame}
 use Rattle.staircase.proofs.Redundancy.{block-binary}
 use Rattle.words_blocks.specs.Blocks.{sent, blockBytes, sentBit, Powers}
 use Rattle.words_blocks.proofs.Blocks.{sent-odd, block-is, odd-is}
-use Rattle.encoder_frame.specs.Group.{yBit, pBit, groupOf}
+use Rattle.encoder_frame.specs.Group.{yBit, pBit, groupOf, solvedOf, GroupTables}
+use Rattle.encoder_frame.specs.Groups.{groupFrom, frameFrom, startFrom, startAt, groupAt}
 use Rattle.encoder_frame.proofs.GroupMade.{group-is}
-use Rattle.encoder_frame.specs.Groups.{groupFrom}
+use Rattle.encoder_frame.proofs.Joined.{concat-grid}
+use Rattle.encoder_frame.proofs.Solved.{startOf-length, startOf-bits, solved-group}
 
 groupOf-length : (positions preimages inverse : List ℕ) (size r : ℕ) (before odd even : Contents) → length (groupOf positions preimages inverse size r before odd even) ≡ 2 * (size * r)
 unfolding groupOf
@@ -34,6 +42,45 @@ unfolding groupFrom
 groupFrom-length positions preimages inverse size r L info i =
     groupOf-length positions preimages inverse size r (sentBit (sent L (2 * i)) (blockBytes L (size * size) info (2 * i)))
     (λ k. getD (blockBytes L (size * size) info (2 * i + 1)) k 0) (sentBit (sent L (2 * i + 2)) (blockBytes L (size * size) info (2 * i + 2)))
+
+-- ---- groups of all frames
+
+module _ (positions : List ℕ) (size r L : ℕ) (info : List ℕ) (q : ℕ) where
+  pub startAt-length : length (startAt positions size r L info q) ≡ 2 * (size * r)
+  unfolding startAt startFrom
+  startAt-length = startOf-length positions size r _ _ _
+
+  pub startAt-bits : Bits (startAt positions size r L info q)
+  unfolding startAt startFrom
+  startAt-bits = startOf-bits positions size r _ _ _
+
+  module _ (preimages inverse : List ℕ) where
+    pub groupAt-length : length (groupAt positions preimages inverse size r L info q) ≡ 2 * (size * r)
+    unfolding groupAt
+    groupAt-length = groupFrom-length positions preimages inverse size r L (frameAt (L * (size * size)) info (q / groups L)) (q % groups L)
+
+    pub solved-at : GroupTables size r positions preimages inverse
+        → solvedOf positions preimages inverse size r (startAt positions size r L info q) ≡ groupAt positions preimages inverse size r L info q
+    unfolding startAt startFrom groupAt groupFrom
+    solved-at T = solved-group positions size r _ _ _ preimages inverse (T .words .some-columns) (T .words .some-rows) (T .within)
+
+-- the groups of a stretch, from Q and P for Y = 0
+pub stretch-made : (positions preimages inverse : List ℕ) (size r L : ℕ) (info : List ℕ) (first count : ℕ) → GroupTables size r positions preimages inverse
+    → (start out : List ℕ) → start ≡ concat count (λ g. startAt positions size r L info (first + g))
+    → out ≡ concat count (λ g. solvedOf positions preimages inverse size r (frameAt (2 * (size * r)) start g))
+    → out ≡ concat count (λ g. groupAt positions preimages inverse size r L info (first + g))
+stretch-made positions preimages inverse size r L info first count T start out started solved =
+    solved ∙ concat-same count (λ g. solvedOf positions preimages inverse size r (frameAt (2 * (size * r)) start g)) (λ g. groupAt positions preimages inverse size r L info (first + g))
+    (λ g h. ap (solvedOf positions preimages inverse size r)
+    (ap (λ (t : List ℕ). frameAt (2 * (size * r)) t g) started
+    ∙ joined-frame count (2 * (size * r)) (λ g. startAt positions size r L info (first + g)) (λ g. startAt-length positions size r L info (first + g)) g h)
+    ∙ solved-at positions size r L info (first + g) preimages inverse T)
+
+pub groups-by-frames : (positions preimages inverse : List ℕ) (size r L n : ℕ) (info : List ℕ)
+    → concat (n * groups L) (groupAt positions preimages inverse size r L info) ≡ concat n (frameFrom positions preimages inverse size r L info)
+unfolding groupAt frameFrom
+groups-by-frames positions preimages inverse size r L n info =
+    concat-grid n (groups L) (λ f. groupFrom positions preimages inverse size r L (frameAt (L * (size * size)) info f))
 
 -- ---- the redundancy of the frame
 

@@ -1,35 +1,97 @@
 -- What a group is lent of a frame that is ready, and what it makes of it.
---   lent-from    the slices of a group are as `make_group` asks
---   group-from   and its redundancy is that of the group
+--   odd-fits, even-fits, before-fits   its blocks are as the sums ask
+--   start-made                         Q and P for Y = 0, when both halves are back
+--   digits-made                        the digits of sums that are lent as a part
+--   frame-of                           of frames that are ready each is
+--   part-of                            a frame's stretch of the information as it is lent
+--   group-number                       the frame of a group, and its number there
+--   start-at                           Q and P of a group of all frames' groups
 -- Assumes nothing.
-use mathlib.Core.Path.{_≡_, sym, _∙_, subst}
+use mathlib.Core.Path.{_≡_, sym, ap, ap₂, _∙_, subst}
 use mathlib.Core.Bool.{Bool}
-use mathlib.Core.List.{List}
-use Prim.Native.Nat.{ℕ, _+_, _*_, _<_}
-use lib.ListN.{length, getD}
+use mathlib.Core.List.{List, _++_}
+use Prim.Native.Nat.{ℕ, zero, suc, _+_, _-_, _*_, _/_, _%_, _^_, _<_}
+use native.Mathlib.Nat.{add-sub-cancel-left, mod-lt, div-lt-iff-lt-mul, mul-zero}
+use native.Mathlib.Omega.{arith}
+use lib.ListN.{length, getD, take, drop, length-drop}
 use Rattle.bch.specs.Polynomial.{Bits}
+use Rattle.staircase.specs.Lists.{tabulate}
 use Rattle.staircase.specs.Frame.{groups}
-use Rattle.words_blocks.specs.Blocks.{sent, blockBytes, sentBit}
+use Rattle.staircase.specs.Batch.{frameAt}
+use Rattle.staircase.proofs.Batch.{frame-length, frame-bits}
+use Rattle.staircase.proofs.Fill.{front-last}
+use Rattle.staircase.proofs.Tabulate.{tabulate-length, tabulate-at, tabulate-same}
+use Rattle.words_positions.proofs.Parts.{part-is}
+use Rattle.words_blocks.specs.Blocks.{sent, blockBytes, sentBit, Sent}
 use Rattle.words_blocks.proofs.Blocks.{sent-odd, block-fits}
-use Rattle.encoder_frame.specs.Group.{groupOf, GroupTables, Lent}
-use Rattle.encoder_frame.specs.Groups.{groupFrom, FrameReady}
+use Rattle.encoder_solution.specs.Bits.{remainderDigit}
+use Rattle.encoder_frame.specs.Group.{rowDigit, columnDigit, startOf}
+use Rattle.encoder_frame.specs.Groups.{startFrom, startAt, FrameReady, FramesReady}
 
-module _ (L size r : ℕ) (info positions preimages inverse : List ℕ) (i : ℕ) (odd even before : List ℕ) (has-even has-before : Bool)
+module _ (L size r : ℕ) (info positions : List ℕ) (i : ℕ) (odd even before : List ℕ) (has-even has-before : Bool)
     (eo : odd ≡ blockBytes L (size * size) info (2 * i + 1)) (ee : even ≡ blockBytes L (size * size) info (2 * i + 2))
     (eb : before ≡ blockBytes L (size * size) info (2 * i)) (se : has-even ≡ sent L (2 * i + 2)) (sb : has-before ≡ sent L (2 * i)) where
-  pub lent-from : FrameReady L size r info positions preimages inverse → i < groups L → (out : List ℕ) → length out ≡ 2 * (size * r)
-      → GroupTables size r positions preimages inverse × Lent size r odd has-even even has-before before out
-  lent-from R h out long = (
-    R .tables,
-    record {
-      odd-block = subst (λ (x : List ℕ). (length x ≡ size * size) × Bits x) (sym eo) (block-fits L (size * size) info (2 * i + 1) (R .blocks) (sent-odd L i h) (R .bits));
-      even-block = λ e. subst (λ (x : List ℕ). (length x ≡ size * size) × Bits x) (sym ee) (block-fits L (size * size) info (2 * i + 2) (R .blocks) (sym se ∙ e) (R .bits));
-      before-block = λ e. subst (λ (x : List ℕ). (length x ≡ size * size) × Bits x) (sym eb) (block-fits L (size * size) info (2 * i) (R .blocks) (sym sb ∙ e) (R .bits));
-      room = long;
-    },
-  )
+  module _ (R : FrameReady L size r info positions) where
+    pub odd-fits : i < groups L → (length odd ≡ size * size) × Bits odd
+    odd-fits h = subst (λ (x : List ℕ). (length x ≡ size * size) × Bits x) (sym eo) (block-fits L (size * size) info (2 * i + 1) (R .blocks) (sent-odd L i h) (R .bits))
 
-  pub group-from : (out : List ℕ) → out ≡ groupOf positions preimages inverse size r (sentBit has-before before) (λ k. getD odd k 0) (sentBit has-even even)
-      → out ≡ groupFrom positions preimages inverse size r L info i
-  unfolding groupFrom
-  group-from out made = made ∙ rw (eo, ee, eb, se, sb)
+    pub even-fits : Sent has-even even (size * size)
+    even-fits e = subst (λ (x : List ℕ). (length x ≡ size * size) × Bits x) (sym ee) (block-fits L (size * size) info (2 * i + 2) (R .blocks) (sym se ∙ e) (R .bits))
+
+    pub before-fits : Sent has-before before (size * size)
+    before-fits e = subst (λ (x : List ℕ). (length x ≡ size * size) × Bits x) (sym eb) (block-fits L (size * size) info (2 * i) (R .blocks) (sym sb ∙ e) (R .bits))
+
+  pub start-made : (old qs ps : List ℕ) → length old ≡ 2 * (size * r)
+      → qs ≡ tabulate (size * r) (rowDigit positions size r (sentBit has-before before) (λ k. getD odd k 0))
+      → ps ≡ tabulate (size * r) (columnDigit positions size r (λ k. getD odd k 0) (sentBit has-even even))
+      → take (size * r) (qs ++ drop (size * r - 0) old) ++ (ps ++ drop (2 * (size * r) - size * r) (drop (size * r) (qs ++ drop (size * r - 0) old)))
+      ≡ startFrom positions size r L info i
+  unfolding startFrom startOf
+  start-made old qs ps room by-rows by-columns =
+      let n : ℕ = size * r in
+      front-last qs (drop (n - 0) old) ps n (2 * n - n)
+      (ap length by-rows ∙ tabulate-length n (rowDigit positions size r (sentBit has-before before) (λ k. getD odd k 0))) (omega (arith, length-drop (n - 0) old))
+      ∙ ap₂ _++_ by-rows by-columns ∙ rw (eo, ee, eb, se, sb)
+
+-- the digits of sums that are lent as a part
+pub digits-made : (sums rest out : List ℕ) (f : ℕ → ℕ) (size r : ℕ) → 0 < size → sums ≡ tabulate size f
+    → out ≡ tabulate (size * r) (λ q. getD (take (size - 0) (drop 0 (sums ++ rest))) (q % size) 0 / 2 ^ (r - 1 - q / size) % 2)
+    → out ≡ tabulate (size * r) (λ q. remainderDigit (f (q % size)) r (q / size))
+digits-made sums rest out f size r pos e made =
+    made ∙ tabulate-same (size * r) (λ q. getD (take (size - 0) (drop 0 (sums ++ rest))) (q % size) 0 / 2 ^ (r - 1 - q / size) % 2) (λ q. remainderDigit (f (q % size)) r (q / size))
+    (λ q h. ap (λ (x : ℕ). remainderDigit x r (q / size))
+    (ap (λ (t : List ℕ). getD t (q % size) 0) (part-is sums rest size (ap length e ∙ tabulate-length size f) ∙ e) ∙ tabulate-at size f 0 (q % size) (mod-lt q pos)))
+
+-- ---- of all frames
+
+-- a frame's information as it is lent
+pub part-of : (info : List ℕ) (f long : ℕ) → take (f * long + long - f * long) (drop (f * long) info) ≡ frameAt long info f
+part-of info f long = ap (λ (k : ℕ). take k (drop (f * long) info)) (add-sub-cancel-left (f * long) long)
+
+pub frame-of : {L n size r : ℕ} {info positions : List ℕ} → FramesReady L n size r info positions
+    → (f : ℕ) → f < n → FrameReady L size r (frameAt (L * (size * size)) info f) positions
+frame-of {L} {n} {size} {r} {info} R f h =
+    record {
+      few-blocks = R .few-blocks;
+      tables = R .tables;
+      blocks = frame-length (L * (size * size)) info n (R .blocks) f h;
+      bits = frame-bits (L * (size * size)) info (R .bits) f;
+    }
+
+pub record GroupNumber (n m q : ℕ) : Type 0 where
+  pub some : 0 < m
+  pub frame : q / m < n
+  pub group : q % m < m
+
+pub group-number : (n m q : ℕ) → q < n * m → GroupNumber n m q
+group-number n zero q h = absurd (omega (arith, mul-zero n))
+group-number n (suc m) q h =
+    let pos : 0 < suc m = omega arith in record { some = pos; frame = div-lt-iff-lt-mul pos .1 h; group = mod-lt q pos }
+
+pub start-at : (positions : List ℕ) (size r L : ℕ) (info : List ℕ) (q : ℕ) {count : ℕ} {out : List ℕ} → count ≡ groups L
+    → (let long : ℕ = L * (size * size) in out ≡ startFrom positions size r L (take (q / count * long + long - q / count * long) (drop (q / count * long) info)) (q % count))
+    → out ≡ startAt positions size r L info q
+unfolding startAt
+start-at positions size r L info q {count} e made =
+    made ∙ ap (λ (x : List ℕ). startFrom positions size r L x (q % count)) (part-of info (q / count) (L * (size * size)))
+    ∙ ap (λ (m : ℕ). startFrom positions size r L (frameAt (L * (size * size)) info (q / m)) (q % m)) e

@@ -1,5 +1,8 @@
+pub mod Constants
+pub mod Finish
 pub mod FrameGroups
 pub mod GroupMade
-pub mod Halves
+pub mod Joined
 pub mod Lending
+pub mod Solved
 pub mod WholeFrame

@@ -1,18 +1,14 @@
 -- Frames whose arguments have passed all rules: their table, their places and their redundancy.
---   part-of        a frame's stretch of the information as it is lent
---   frame-of       of frames that are ready each is
---   frame-made     what is made of it
---   frameFrom-length   a frame's redundancy has a stretch for each group
 --   red-long       the redundancy has a stretch for each group of each frame
 --   frames-ready   the slices are as the loop over the frames asks
 --   frames-made    what the loop makes is the redundancy of the definition
 -- Assumes nothing.
 use mathlib.Core.Path.{_≡_, sym, ap, _∙_, subst, subst⁻¹}
 use mathlib.Core.List.{List}
-use Prim.Native.Nat.{ℕ, _+_, _-_, _*_, _<_}
-use native.Mathlib.Nat.{add-sub-cancel-left}
+use Prim.Native.Nat.{ℕ, _-_, _*_, _<_}
+use native.Mathlib.Nat.{mul-assoc}
 use native.Mathlib.Omega.{arith}
-use lib.ListN.{length, getD, take, drop}
+use lib.ListN.{length, getD}
 use Rattle.bch.specs.Powers.{PositionPowers}
 use Rattle.staircase.specs.Lists.{concat}
 use Rattle.staircase.specs.Design.{wordLength}
@@ -20,50 +16,23 @@ use Rattle.staircase.specs.System.{preimage, redundancy}
 use Rattle.staircase.specs.Frame.{groups}
 use Rattle.staircase.specs.Rules.{entries}
 use Rattle.staircase.specs.Batch.{frameAt, batchRedundancy}
-use Rattle.staircase.proofs.Tabulate.{concat-length, concat-same}
+use Rattle.staircase.proofs.Tabulate.{concat-same}
 use Rattle.staircase.proofs.System.{Proper}
 use Rattle.staircase.proofs.Permutation.{preimage-sent}
 use Rattle.staircase.proofs.Batch.{frame-length, frame-bits}
 use Rattle.design.specs.declared.Design.{Design}
 use Rattle.design.specs.Sizes.{paramsOf, orderOf, listsOf}
 use Rattle.design.proofs.Allowed.{proper-of, r-small}
-use Rattle.encoder_frame.specs.Groups.{groupFrom, frameFrom, FrameReady, FramesReady, Encodable}
-use Rattle.encoder_frame.proofs.FrameGroups.{groupFrom-length, groups-are}
-
--- a frame's information as it is lent
-pub part-of : (info : List ℕ) (f long : ℕ) → take (f * long + long - f * long) (drop (f * long) info) ≡ frameAt long info f
-part-of info f long = ap (λ (k : ℕ). take k (drop (f * long) info)) (add-sub-cancel-left (f * long) long)
-
-pub frame-of : {L n size r : ℕ} {info positions preimages inverse : List ℕ} → FramesReady L n size r info positions preimages inverse
-    → (f : ℕ) → f < n → FrameReady L size r (frameAt (L * (size * size)) info f) positions preimages inverse
-frame-of {L} {n} {size} {r} {info} R f h =
-    record {
-      few-blocks = R .few-blocks;
-      tables = R .tables;
-      blocks = frame-length (L * (size * size)) info n (R .blocks) f h;
-      bits = frame-bits (L * (size * size)) info (R .bits) f;
-    }
-
-pub frameFrom-length : (positions preimages inverse : List ℕ) (size r L : ℕ) (info : List ℕ) (f : ℕ)
-    → length (frameFrom positions preimages inverse size r L info f) ≡ groups L * (2 * (size * r))
-unfolding frameFrom
-frameFrom-length positions preimages inverse size r L info f =
-    let part : List ℕ = frameAt (L * (size * size)) info f in
-    concat-length (groups L) (2 * (size * r)) (groupFrom positions preimages inverse size r L part) (groupFrom-length positions preimages inverse size r L part)
-
-pub frame-made : (positions preimages inverse : List ℕ) (size r L : ℕ) (info : List ℕ) (f : ℕ) {out : List ℕ}
-    → (let long : ℕ = L * (size * size) in out ≡ concat (groups L) (groupFrom positions preimages inverse size r L (take (f * long + long - f * long) (drop (f * long) info))))
-    → out ≡ frameFrom positions preimages inverse size r L info f
-unfolding frameFrom
-frame-made positions preimages inverse size r L info f made =
-    made ∙ ap (λ (x : List ℕ). concat (groups L) (groupFrom positions preimages inverse size r L x)) (part-of info f (L * (size * size)))
+use Rattle.encoder_frame.specs.Group.{WordTables, GroupTables}
+use Rattle.encoder_frame.specs.Groups.{frameFrom, groupAt, FramesReady, Encodable}
+use Rattle.encoder_frame.proofs.FrameGroups.{groups-are, groups-by-frames}
 
 module _ {d : Design} {L n : ℕ} {parity inverse info red : List ℕ} (h : Encodable d L n parity inverse info red) {r : ℕ} (er : r ≡ d .m * d .t) where
   ok : Proper (paramsOf d)
   ok = proper-of d (h .allowed)
 
-  pub red-long : length red ≡ n * (groups L * (2 * (d .size * r)))
-  red-long = h .redLength ∙ ap (λ (k : ℕ). n * (groups L * (2 * (d .size * k)))) (sym er)
+  pub red-long : length red ≡ n * groups L * (2 * (d .size * r))
+  red-long = h .redLength ∙ ap (λ (k : ℕ). n * (groups L * (2 * (d .size * k)))) (sym er) ∙ sym (mul-assoc n (groups L) (2 * (d .size * r)))
 
   -- the table and the places as they are lent, and as they were filled
   module _ {o : ℕ} (eo : o ≡ orderOf d) {positions filled preimages sent : List ℕ} (is-positions : positions ≡ filled) (is-preimages : preimages ≡ sent)
@@ -77,36 +46,33 @@ module _ {d : Design} {L n : ℕ} {parity inverse info red : List ℕ} (h : Enco
     within : (q : ℕ) → q < orderOf d → getD preimages q 0 < orderOf d
     within q l = subst⁻¹ (λ (x : ℕ). x < orderOf d) (places q l) (preimage-sent (entries (orderOf d) parity) (orderOf d) (h .parityPermutes) q l .0)
 
-    ready : FramesReady L n (d .size) (d .m * d .t) info positions preimages inverse
+    ready : FramesReady L n (d .size) (d .m * d .t) info positions × GroupTables (d .size) (d .m * d .t) positions preimages inverse
     ready =
+        let words : WordTables (d .size) (d .m * d .t) positions =
         record {
-          few-blocks = h .few-blocks;
-          few-frames = h .few-frames;
-          tables =
-              record {
-                some-columns = h .allowed .M-low;
-                few-columns = omega (arith, h .allowed .M-high);
-                some-rows = ok .rpos;
-                few-rows = omega (arith, r-small d (h .allowed));
-                small = h .allowed .order-high;
-                powers = ap length is-positions ∙ long;
-                places = ap length is-preimages ∙ wide ∙ eo;
-                within = within;
-                packed = h .inverseLength;
-              };
-          blocks = h .infoLength;
-          bits = h .bits;
-        }
+          some-columns = h .allowed .M-low;
+          few-columns = omega (arith, h .allowed .M-high);
+          some-rows = ok .rpos;
+          few-rows = omega (arith, r-small d (h .allowed));
+          small = h .allowed .order-high;
+          powers = ap length is-positions ∙ long;
+        } in (
+          record { few-blocks = h .few-blocks; few-frames = h .few-frames; tables = words; blocks = h .infoLength; bits = h .bits },
+          record { words = words; places = ap length is-preimages ∙ wide ∙ eo; within = within; packed = h .inverseLength },
+        )
 
-    pub frames-ready : FramesReady L n (d .size) r info positions preimages inverse
-    frames-ready = subst⁻¹ (λ (k : ℕ). FramesReady L n (d .size) k info positions preimages inverse) er ready
+    pub frames-ready : FramesReady L n (d .size) r info positions
+    frames-ready = subst⁻¹ (λ (k : ℕ). FramesReady L n (d .size) k info positions) er (ready .0)
 
-    pub frames-made : PositionPowers ((paramsOf d) .g) (d .m * d .t) filled → {out : List ℕ} → out ≡ concat n (frameFrom positions preimages inverse (d .size) r L info)
+    pub tables-ready : GroupTables (d .size) r positions preimages inverse
+    tables-ready = subst⁻¹ (λ (k : ℕ). GroupTables (d .size) k positions preimages inverse) er (ready .1)
+
+    pub frames-made : PositionPowers ((paramsOf d) .g) (d .m * d .t) filled → {out : List ℕ} → out ≡ concat (n * groups L) (groupAt positions preimages inverse (d .size) r L info)
         → (own : List ℕ) → out ≡ batchRedundancy (paramsOf d) (listsOf d own parity) inverse L n info
     unfolding frameFrom batchRedundancy
     frames-made powers made own =
         let part : ℕ → List ℕ = frameAt (L * (d .size * d .size)) info in
-        made ∙ ap (λ (k : ℕ). concat n (frameFrom positions preimages inverse (d .size) k L info)) er
+        made ∙ groups-by-frames positions preimages inverse (d .size) r L n info ∙ ap (λ (k : ℕ). concat n (frameFrom positions preimages inverse (d .size) k L info)) er
         ∙ concat-same n (frameFrom positions preimages inverse (d .size) (d .m * d .t) L info) (λ f. redundancy (paramsOf d) (listsOf d own parity) inverse L (part f))
         (λ f l. groups-are (paramsOf d) ok (listsOf d own parity) (h .parityPermutes) positions preimages inverse
         (record { long = ap length is-positions ∙ long; powers = subst⁻¹ (PositionPowers ((paramsOf d) .g) (d .m * d .t)) is-positions powers }) places L (part f)

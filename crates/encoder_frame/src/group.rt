@@ -1,118 +1,118 @@
-// Makes the redundancy of one group: Y, with which all words of the group can be codewords, and P, with which they are.
-//   make_group(..)   the group
+// One group of a frame, before and after its system is solved.
+//   Sizes              the sizes that all groups of a call share
+//   start_group(..)    Q and P as they would be for Y = 0
+//   finish_group(..)   Y from its solution, and P with what Y adds
 //
-// Its steps: the crate `words_blocks` sums the blocks of the words, and the crate `encoder_solution` packs the constant of the group's system, makes
-// Y, the inverse times the constant, and makes P from the remainders of its words.
-//
-// The remainder of a word is a sum of entries of a table of powers of x, one for each of its ones (crate `bch_remainders`). Column words and row
-// words are summed block by block, without Y at first. P are the digits of the column remainders once those of Y are added.
+// The remainder of a word is a sum of entries of a table of powers of x, one for each of its ones (crate `bch_remainders`), and P and Q are the digits
+// of remainders. A sum's digits are the sums of the digits, so P for Y = 0 is all that has to be kept of the blocks while the systems of other groups are
+// made, and it stands where P will stand.
 ghost use mathlib.Core.Path.{_≡_};
-ghost use mathlib.Core.List.{_++_};
 ghost use Prim.Native.Nat.{_*_, _≤_, _<_};
 ghost use lib.ListN.{length, getD};
+ghost use Rattle.bch.specs.Polynomial.{Bits};
 ghost use Rattle.staircase.specs.Lists.{tabulate};
 ghost use Rattle.staircase.specs.Design.{most-order};
-ghost use Rattle.staircase.specs.System.{rowBytes};
-ghost use Rattle.words_blocks.specs.Blocks.{sentBit};
-ghost use Rattle.encoder_solution.specs.Bits.{productBit};
-ghost use Rattle.encoder_frame.specs.Group.{productP, groupOf, GroupTables, Lent};
+ghost use Rattle.staircase.specs.Frame.{groups};
+ghost use Rattle.words_blocks.specs.Blocks.{sentBit, Sent};
+ghost use Rattle.encoder_frame.specs.Group.{rowDigit, columnDigit, finishedOf, WordTables};
+ghost use Rattle.encoder_frame.specs.Groups.{startFrom, FrameReady};
 
-// Makes Y and P in `out` from the packed constant and the remainders of the blocks of the column words, to which it adds those of Y.
-fn group_bits(
-    inverse: &[u8],
-    c: &[u8],
-    part: &[u32],
-    size: usize,
-    r: usize,
-    columns: &mut [u32],
-    out: &mut [u8],
-)
-    requires { ⌜ (length (now inverse) ≡ size * r * rowBytes (size * r)) × (length (now c) ≡ rowBytes (size * r)) × (length (now part) ≡ r)
-        × (length (now columns) ≡ size) × (length (now out) ≡ 2 * (size * r)) × (0 < size) × (0 < r) × (r ≤ 32) × (size * r ≤ most-order) ⌝ }
-    ensures { λ u. ⌜ now (out .exit) ≡ tabulate (size * r) (productBit (now (inverse .entry)) (now (c .entry)) size r)
-        ++ tabulate (size * r) (productP (now (inverse .entry)) (now (c .entry)) (now (columns .entry)) (now (part .entry)) size r) ⌝ }
-{
-    let n = size * r;
-    encoder_solution::y_bits(inverse, c, size, r, &mut out[0..n]);
-    bch_remainders::add_rows(&mut columns[..], &out[0..n], part);
-    encoder_solution::p_bits(&columns[..], size, r, &mut out[n..2 * n]);
+// The block size, the parity bits of a word, the blocks of a frame and the frames of a batch.
+pub struct Sizes {
+    pub size: usize,
+    pub r: usize,
+    pub blocks: usize,
+    pub frames: usize,
 }
 
-// `make_group` with its working entries lent: `columns` and `rows` for the remainders of the words, `c` for the packed constant.
-fn group_in(
-    odd: &[u8],
-    even: &[u8],
-    has_even: bool,
+// Makes Q in `out` for Y = 0, from the block before the odd one, where that is sent, and the odd one.
+fn start_rows(
     before: &[u8],
     has_before: bool,
-    positions: &[u32],
-    preimages: &[u16],
-    inverse: &[u8],
-    size: usize,
-    r: usize,
-    columns: &mut [u32],
-    rows: &mut [u32],
-    c: &mut [u8],
-    out: &mut [u8],
-)
-    requires { ⌜ GroupTables size r (now positions) (now preimages) (now inverse) × Lent size r (now odd) «has_even» (now even) «has_before» (now before) (now out)
-        × (length (now columns) ≡ size) × (length (now rows) ≡ size) × (length (now c) ≡ rowBytes (size * r)) ⌝ }
-    ensures { λ u. ⌜ now (out .exit) ≡ groupOf (now (positions .entry)) (now (preimages .entry)) (now (inverse .entry)) size r
-        (sentBit «has_before» (now (before .entry))) (λ k. getD (now (odd .entry)) k 0) (sentBit «has_even» (now (even .entry))) ⌝ }
-{
-    words_blocks::column_sums(odd, even, has_even, positions, &mut columns[..]);
-    words_blocks::row_sums(before, has_before, odd, positions, &mut rows[..]);
-    encoder_solution::constant_bits(&columns[..], &rows[..], preimages, size, r, &mut c[..]);
-    group_bits(
-        inverse,
-        &c[..],
-        &positions[2 * size..2 * size + r],
-        size,
-        r,
-        columns,
-        out,
-    );
-}
-
-// Makes a group's redundancy in the lent `out`: Y, then P. Lent to read are the odd block, the even one and the one before the odd (`has_even` and
-// `has_before` say whether these two are sent; one that is not may be any slice), the table of the powers of x that the positions of a word carry,
-// the place of Q that the parity list sends to each place of P, and the packed inverse. One step for each byte of the inverse, (size × r)² / 8 of
-// them, and 4 × size² steps for the blocks.
-pub fn make_group(
     odd: &[u8],
-    even: &[u8],
-    has_even: bool,
-    before: &[u8],
-    has_before: bool,
     positions: &[u32],
-    preimages: &[u16],
-    inverse: &[u8],
     size: usize,
     r: usize,
     out: &mut [u8],
 )
-    requires { ⌜ GroupTables size r (now positions) (now preimages) (now inverse) × Lent size r (now odd) «has_even» (now even) «has_before» (now before) (now out) ⌝ }
-    ensures { λ u. ⌜ now (out .exit) ≡ groupOf (now (positions .entry)) (now (preimages .entry)) (now (inverse .entry)) size r
-        (sentBit «has_before» (now (before .entry))) (λ k. getD (now (odd .entry)) k 0) (sentBit «has_even» (now (even .entry))) ⌝ }
+    requires { ⌜ WordTables size r (now positions) × (length (now odd) ≡ size * size) × Bits (now odd) × Sent «has_before» (now before) (size * size)
+        × (length (now out) ≡ size * r) ⌝ }
+    ensures { λ u. ⌜ now (out .exit) ≡ tabulate (size * r)
+        (rowDigit (now (positions .entry)) size r (sentBit «has_before» (now (before .entry))) (λ k. getD (now (odd .entry)) k 0)) ⌝ }
 {
-    let w = (size * r + 7) / 8;
-    let mut columns = [0u32; 512];
     let mut rows = [0u32; 512];
-    let mut c = [0u8; 512];
-    group_in(
+    words_blocks::row_sums(before, has_before, odd, positions, &mut rows[0..size]);
+    encoder_solution::p_bits(&rows[0..size], size, r, out);
+}
+
+// Makes P in `out` for Y = 0, from the odd block and the even one, where that is sent.
+fn start_columns(
+    odd: &[u8],
+    even: &[u8],
+    has_even: bool,
+    positions: &[u32],
+    size: usize,
+    r: usize,
+    out: &mut [u8],
+)
+    requires { ⌜ WordTables size r (now positions) × (length (now odd) ≡ size * size) × Bits (now odd) × Sent «has_even» (now even) (size * size)
+        × (length (now out) ≡ size * r) ⌝ }
+    ensures { λ u. ⌜ now (out .exit) ≡ tabulate (size * r)
+        (columnDigit (now (positions .entry)) size r (λ k. getD (now (odd .entry)) k 0) (sentBit «has_even» (now (even .entry)))) ⌝ }
+{
+    let mut columns = [0u32; 512];
+    words_blocks::column_sums(odd, even, has_even, positions, &mut columns[0..size]);
+    encoder_solution::p_bits(&columns[0..size], size, r, out);
+}
+
+// Makes Q and P of the group that i groups of the frame precede in the lent `out`, as they would be for Y = 0, Q first. Lent to read are the frame's
+// information and the table of the powers of x that the positions of a word carry. 4 × size² steps for the blocks.
+pub fn start_group(info: &[u8], sizes: Sizes, i: usize, positions: &[u32], out: &mut [u8])
+    requires { ⌜ FrameReady (sizes .blocks) (sizes .size) (sizes .r) (now info) (now positions) × (i < groups (sizes .blocks))
+        × (length (now out) ≡ 2 * (sizes .size * sizes .r)) ⌝ }
+    ensures { λ u. ⌜ now (out .exit) ≡ startFrom (now (positions .entry)) (sizes .size) (sizes .r) (sizes .blocks) (now (info .entry)) i ⌝ }
+{
+    let size = sizes.size;
+    let blocks = sizes.blocks;
+    let n = size * sizes.r;
+    let area = size * size;
+    let before = words_blocks::block_of(info, area, blocks, 2 * i);
+    let odd = words_blocks::block_of(info, area, blocks, 2 * i + 1);
+    let even = words_blocks::block_of(info, area, blocks, 2 * i + 2);
+    let has_before = words_blocks::is_sent(blocks, 2 * i);
+    let has_even = words_blocks::is_sent(blocks, 2 * i + 2);
+    start_rows(
+        before,
+        has_before,
+        odd,
+        positions,
+        size,
+        sizes.r,
+        &mut out[0..n],
+    );
+    start_columns(
         odd,
         even,
         has_even,
-        before,
-        has_before,
         positions,
-        preimages,
-        inverse,
         size,
-        r,
-        &mut columns[0..size],
-        &mut rows[0..size],
-        &mut c[0..w],
-        out,
+        sizes.r,
+        &mut out[n..2 * n],
     );
+}
+
+// Makes Y and P of a group in the lent `out`, whose second half has P as it would be for Y = 0. Lent to read are the words of the solutions, of which bit
+// g is the group's, and the powers of x that the bits of Y carry. A few steps for each bit of Y.
+pub fn finish_group(words: &[u64], g: usize, part: &[u32], size: usize, r: usize, out: &mut [u8])
+    requires { ⌜ (length (now words) ≡ size * r) × (g < 64) × (length (now part) ≡ r) × (length (now out) ≡ 2 * (size * r)) × Bits (now out)
+        × (0 < size) × (size ≤ 512) × (0 < r) × (r ≤ 32) × (size * r ≤ most-order) ⌝ }
+    ensures { λ u. ⌜ now (out .exit) ≡ finishedOf (now (words .entry)) g (now (part .entry)) size r (now (out .entry)) ⌝ }
+{
+    let n = size * r;
+    let mut columns = [0u32; 512];
+    let mut bits = [0u8; 4096];
+    encoder_solution::y_bits(words, g, &mut out[0..n]);
+    bch_remainders::add_rows(&mut columns[0..size], &out[0..n], part);
+    encoder_solution::p_bits(&columns[0..size], size, r, &mut bits[0..n]);
+    encoder_solution::add_bits(&bits[0..n], &mut out[n..2 * n]);
 }

@@ -1,123 +1,68 @@
-// Makes the redundancy of frames, group by group.
+// Makes the redundancy of frames, whose groups are numbered through all of them, by stretches of up to 64 groups.
 //   make_redundancy(..)   of frames of one length, joined, whose arguments have passed all rules
 //
 // A group needs three blocks, which are parts of the lent information, and its redundancy is written through a lent part of the redundancy: nothing
-// of the frame is copied. The table of powers of x and the places that the parity list brings are made once for all groups of all frames.
+// of the frame is copied. The table of powers of x and the places that the parity list brings are made once for all groups of all frames. The groups of
+// a stretch are solved by one product with the inverse (module `stretch`), whether they are of one frame or of several.
 mod group;
+mod stretch;
 
 ghost use mathlib.Core.Path.{_≡_};
 ghost use mathlib.Core.List.{List};
-ghost use Prim.Native.Nat.{ℕ, _*_, _<_};
+ghost use Prim.Native.Nat.{ℕ, _+_, _*_, _≤_, _<_};
 ghost use lib.ListN.{length};
 ghost use Rattle.staircase.specs.Lists.{concat};
 ghost use Rattle.staircase.specs.Frame.{groups};
 ghost use Rattle.staircase.specs.Batch.{batchRedundancy};
 ghost use Rattle.design.specs.Sizes.{paramsOf, listsOf};
-ghost use Rattle.encoder_frame.specs.Groups.{groupFrom, frameFrom, FrameReady, FramesReady, Encodable};
+ghost use Rattle.encoder_frame.specs.Group.{GroupTables};
+ghost use Rattle.encoder_frame.specs.Groups.{groupAt, FramesReady, Encodable};
 use design::Design;
+use group::Sizes;
 
-// Makes the redundancy of the group that i groups precede.
-fn group_at(
-    info: &[u8],
-    blocks: usize,
-    i: usize,
-    positions: &[u32],
-    preimages: &[u16],
-    inverse: &[u8],
-    size: usize,
-    r: usize,
-    out: &mut [u8],
-)
-    requires { ⌜ FrameReady blocks size r (now info) (now positions) (now preimages) (now inverse) × (i < groups blocks) × (length (now out) ≡ 2 * (size * r)) ⌝ }
-    ensures { λ u. ⌜ now (out .exit) ≡ groupFrom (now (positions .entry)) (now (preimages .entry)) (now (inverse .entry)) size r blocks (now (info .entry)) i ⌝ }
+// The groups of a stretch that begins at group `first` of `count`: 64, or those that are left.
+fn groups_left(count: usize, first: usize) -> usize
+    requires { ⌜ first < count ⌝ }
+    ensures { λ n. ⌜ (first + n ≤ count) × (0 < n) × (n ≤ 64) ⌝ }
 {
-    let area = size * size;
-    let before = words_blocks::block_of(info, area, blocks, 2 * i);
-    let odd = words_blocks::block_of(info, area, blocks, 2 * i + 1);
-    let even = words_blocks::block_of(info, area, blocks, 2 * i + 2);
-    let has_before = words_blocks::is_sent(blocks, 2 * i);
-    let has_even = words_blocks::is_sent(blocks, 2 * i + 2);
-    group::make_group(
-        odd,
-        even,
-        has_even,
-        before,
-        has_before,
-        positions,
-        preimages,
-        inverse,
-        size,
-        r,
-        out,
-    );
-}
-
-// Makes the redundancy of all groups, one after the other.
-fn make_groups(
-    info: &[u8],
-    blocks: usize,
-    positions: &[u32],
-    preimages: &[u16],
-    inverse: &[u8],
-    size: usize,
-    r: usize,
-    red: &mut [u8],
-)
-    requires { ⌜ FrameReady blocks size r (now info) (now positions) (now preimages) (now inverse) × (length (now red) ≡ groups blocks * (2 * (size * r))) ⌝ }
-    ensures { λ u. ⌜ now (red .exit)
-        ≡ concat (groups blocks) (groupFrom (now (positions .entry)) (now (preimages .entry)) (now (inverse .entry)) size r blocks (now (info .entry))) ⌝ }
-{
-    let w = 2 * (size * r);
-    let count = design::group_count(blocks as u64) as usize;
-    for i in 0..count {
-        let from = i * w;
-        group_at(
-            info,
-            blocks,
-            i,
-            positions,
-            preimages,
-            inverse,
-            size,
-            r,
-            &mut red[from..from + w],
-        );
+    if count - first < 64 {
+        return count - first;
     }
+    64
 }
 
-// Makes the redundancy of all frames, one after the other, each from its own stretch of the information and into its own of the redundancy.
-fn make_frames(
+// Makes the redundancy of all groups of all frames, stretch by stretch.
+fn make_stretches(
     info: &[u8],
-    blocks: usize,
-    frames: usize,
+    sizes: Sizes,
     positions: &[u32],
     preimages: &[u16],
     inverse: &[u8],
-    size: usize,
-    r: usize,
     red: &mut [u8],
 )
-    requires { ⌜ FramesReady blocks frames size r (now info) (now positions) (now preimages) (now inverse)
-        × (length (now red) ≡ frames * (groups blocks * (2 * (size * r)))) ⌝ }
-    ensures { λ u. ⌜ now (red .exit)
-        ≡ concat frames (frameFrom (now (positions .entry)) (now (preimages .entry)) (now (inverse .entry)) size r blocks (now (info .entry))) ⌝ }
+    requires { ⌜ FramesReady (sizes .blocks) (sizes .frames) (sizes .size) (sizes .r) (now info) (now positions)
+        × GroupTables (sizes .size) (sizes .r) (now positions) (now preimages) (now inverse)
+        × (length (now red) ≡ sizes .frames * groups (sizes .blocks) * (2 * (sizes .size * sizes .r))) ⌝ }
+    ensures { λ u. ⌜ now (red .exit) ≡ concat (sizes .frames * groups (sizes .blocks)) (groupAt (now (positions .entry)) (now (preimages .entry)) (now (inverse .entry))
+        (sizes .size) (sizes .r) (sizes .blocks) (now (info .entry))) ⌝ }
 {
-    let area = blocks * (size * size);
-    let count = design::group_count(blocks as u64) as usize;
-    let w = count * (2 * (size * r));
-    for f in 0..frames {
-        let from = f * area;
-        let to = f * w;
-        make_groups(
-            &info[from..from + area],
-            blocks,
+    let w = 2 * (sizes.size * sizes.r);
+    let count = sizes.frames * design::group_count(sizes.blocks as u64) as usize;
+    let mut first: usize = 0;
+    while first < count {
+        let n = groups_left(count, first);
+        let from = first * w;
+        stretch::make_stretch(
+            info,
+            sizes,
+            first,
+            n,
             positions,
             preimages,
             inverse,
-            size,
-            r,
-            &mut red[to..to + w],
+            &mut red[from..from + n * w],
         );
+        first = first + n;
     }
 }
 
@@ -137,22 +82,23 @@ pub fn make_redundancy(
         → now (red .exit) ≡ batchRedundancy (paramsOf d) (listsOf d own (now (parity .entry))) (now (inverse .entry)) blocks frames (now (info .entry))) ⌝ }
 {
     let n = d.order();
-    let r = d.r();
     let bits = d.n();
-    let size = d.size();
+    let sizes = Sizes {
+        size: d.size(),
+        r: d.r(),
+        blocks,
+        frames,
+    };
     let mut positions = [0u32; 1024];
     words_positions::fill_table(d, &mut positions[0..bits]);
     let mut preimages = [0u16; 4096];
     kit_system::fill_preimages(parity, n, &mut preimages[0..n]);
-    make_frames(
+    make_stretches(
         info,
-        blocks,
-        frames,
+        sizes,
         &positions[0..bits],
         &preimages[0..n],
         inverse,
-        size,
-        r,
         red,
     );
 }

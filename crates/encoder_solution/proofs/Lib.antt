@@ -1,2 +1,3 @@
-pub mod Packed
+pub mod Solution
 pub mod Stack
+pub mod Words

@@ -1,31 +1,29 @@
-// The system of a group, A y + c: its constant, its solution and the parity after it, bit by bit.
-//   constant_bits(..)   packs the constant c
-//   y_bits(..)       makes Y, the inverse times the constant
-//   p_bits(..)     makes P, or Q, from the remainders of its words
+// The systems of up to 64 groups, A y + c, with the inverse W that all share: their constants, the solutions y = W c and the parities after them.
+//   p_bits(..)         makes P, or Q, from the remainders of its words
+//   add_constant(..)   brings the constant of a group into its bit of one word for each place
+//   solve(..)          makes the words of the constants those of the solutions
+//   y_bits(..)         makes Y of a group from its bit of the words
+//   add_bits(..)       adds what Y adds to P
 //
 // The digits of the remainders of a group's words without Y are P and Q as they would be for Y = 0, and the constant is the one plus the other where
 // the parity list brings it. So y = W c, with W the inverse of A that the kit has.
 //
-// An entry of W c is the parity of the ones of a row of W masked by c. W has (size × r)² bits and is read once for each group, which is most of the
-// work: its rows are taken in the order in which they stand, so that memory is read from front to back, and the bits are scattered into Y instead.
-// Q is spread into bytes before c is packed, which spares a division for each entry.
+// W has (size × r)² bits and is most of what is read, so it is read once for 64 groups (module `product`): bit g of a word belongs to group g. Words are
+// in the order of places, as Y and P are, so that bits go in and come out side by side and without a division; `solve` brings them into the order of the
+// stack and back, once for all groups.
+mod product;
+
 ghost use mathlib.Core.Path.{_≡_};
+ghost use mathlib.Core.Bool.{cond};
 ghost use Prim.Native.Nat.{ℕ, _+_, _-_, _*_, _/_, _%_, _^_, _≤_, _<_};
-ghost use lib.ListN.{length, getD, drop};
+ghost use lib.Dec.{eqb};
+ghost use lib.ListN.{length, getD};
 ghost use Rattle.bch.specs.Polynomial.{Bits};
-ghost use Rattle.staircase.specs.Lists.{bitSum, sumBits, tabulate};
+ghost use Rattle.staircase.specs.Lists.{bitSum, tabulate};
 ghost use Rattle.staircase.specs.Design.{most-order};
 ghost use Rattle.staircase.specs.System.{rowBytes};
-ghost use Rattle.matrix.specs.Packed.{packedBit};
-ghost use Rattle.encoder_solution.specs.Bits.{remainderDigit, Packed, constantBit, productBit};
-
-// Bit a of the r digits of a remainder x, the highest first.
-fn digit_of(x: u32, r: usize, a: usize) -> u8
-    requires { ⌜ (a < r) × (r ≤ 32) ⌝ }
-    ensures { λ v. ⌜ (v ≡ x / 2 ^ (r - 1 - a) % 2) × (v < 2) ⌝ }
-{
-    ((x >> (r - 1 - a)) % 2) as u8
-}
+ghost use Rattle.encoder_solution.specs.Bits.{placeConstant};
+ghost use Rattle.encoder_solution.specs.Words.{solutionWord};
 
 // Makes `out` digit `shift` of each entry of `columns`.
 fn digits(columns: &[u32], shift: usize, out: &mut [u8])
@@ -49,113 +47,96 @@ pub fn p_bits(columns: &[u32], size: usize, r: usize, out: &mut [u8])
     }
 }
 
-// Entry k of the constant, from the remainders of the column words and from Q, a byte for each bit.
-fn constant_entry(
-    columns: &[u32],
-    q: &[u8],
-    preimages: &[u16],
-    size: usize,
-    r: usize,
-    k: usize,
-) -> u8
-    requires { ⌜ (length (now columns) ≡ size) × (length (now q) ≡ size * r) × Bits (now q) × (length (now preimages) ≡ size * r) × (0 < r) × (r ≤ 32)
-        × (size * r ≤ most-order) × (k < size * r) × (getD (now preimages) (k % r * size + k / r) 0 < size * r) ⌝ }
-    ensures { λ v. ⌜ (v ≡ bitSum (remainderDigit (getD (now (columns .entry)) (k / r) 0) r (k % r))
-        (getD (now (q .entry)) (getD (now (preimages .entry)) (k % r * size + k / r) 0) 0)) × (v < 2) ⌝ }
+// The bit of the constant at place q, from Q and P for Y = 0.
+fn constant_at(bits: &[u8], preimages: &[u16], q: usize) -> u64
+    requires { ⌜ (length (now bits) ≡ 2 * length (now preimages)) × Bits (now bits) × (q < length (now preimages))
+        × (getD (now preimages) q 0 < length (now preimages)) ⌝ }
+    ensures { λ v. ⌜ (v ≡ placeConstant (now (bits .entry)) (now (preimages .entry)) (length (now (preimages .entry))) q) × (v < 2) ⌝ }
 {
-    let a = k % r;
-    let b = k / r;
-    let p = preimages[a * size + b] as usize;
-    (digit_of(columns[b], r, a) + q[p]) % 2
+    let p = preimages[q] as usize;
+    ((bits[preimages.len() + q] + bits[p]) % 2) as u64
 }
 
-// `constant_bits` with a working byte lent for each bit of Q.
-fn constant_in(
-    columns: &[u32],
-    rows: &[u32],
-    preimages: &[u16],
+// Adds the constant of a group to bit g of the lent words, one for each place. Lent to read are Q and P of the group as they would be for Y = 0, Q
+// first, and the place of Q that the parity list sends to each place of P. A few steps for each place.
+pub fn add_constant(bits: &[u8], preimages: &[u16], g: usize, words: &mut [u64])
+    requires { ⌜ (length (now preimages) ≡ length (now words)) × (length (now bits) ≡ 2 * length (now words)) × Bits (now bits) × (g < 64)
+        × ((q : ℕ) → q < length (now words) → getD (now preimages) q 0 < length (now words)) ⌝ }
+    ensures { λ u. ⌜ (length (now (words .exit)) ≡ length (now (words .entry)))
+        × ((q j : ℕ) → q < length (now (words .entry)) → getD (now (words .exit)) q 0 / 2 ^ j % 2 ≡ bitSum (getD (now (words .entry)) q 0 / 2 ^ j % 2)
+        (cond (eqb g j) (placeConstant (now (bits .entry)) (now (preimages .entry)) (length (now (words .entry))) q) 0)) ⌝ }
+{
+    for q in 0..words.len() {
+        words[q] = words[q] ^ (constant_at(bits, preimages, q) << g);
+    }
+}
+
+// Makes `to` the transposed matrix of `from`: m rows of n entries become n rows of m.
+fn transpose(from: &[u64], n: usize, m: usize, to: &mut [u64])
+    requires { ⌜ (length (now from) ≡ n * m) × (length (now to) ≡ n * m) × (0 < m) ⌝ }
+    ensures { λ u. ⌜ now (to .exit) ≡ tabulate (n * m) (λ k. getD (now (from .entry)) (k % m * n + k / m) 0) ⌝ }
+{
+    for k in 0..to.len() {
+        to[k] = from[k % m * n + k / m];
+    }
+}
+
+// `solve` with its working words lent: `constants` for those of the stack, 0 behind it, and `products`, 0 at first.
+fn solve_in(
+    inverse: &[u8],
     size: usize,
     r: usize,
-    q: &mut [u8],
-    c: &mut [u8],
+    constants: &mut [u64],
+    products: &mut [u64],
+    words: &mut [u64],
 )
-    requires { ⌜ (length (now columns) ≡ size) × (length (now rows) ≡ size) × (length (now preimages) ≡ size * r) × (length (now q) ≡ size * r)
-        × (length (now c) ≡ rowBytes (size * r))
-        × (0 < size) × (0 < r) × (r ≤ 32) × (size * r ≤ most-order) × ((p : ℕ) → p < size * r → getD (now preimages) p 0 < size * r) ⌝ }
-    ensures { λ u. ⌜ (length (now (c .exit)) ≡ length (now (c .entry)))
-        × Packed (size * r) (now (c .exit)) (constantBit (now (columns .entry)) (now (rows .entry)) (now (preimages .entry)) size r) ⌝ }
+    requires { ⌜ (length (now inverse) ≡ size * r * rowBytes (size * r)) × (length (now words) ≡ size * r) × (0 < size) × (0 < r) × (size * r ≤ most-order)
+        × (length (now constants) ≡ 8 * rowBytes (size * r)) × ((k : ℕ) → getD (now constants) k 0 ≡ 0)
+        × (length (now products) ≡ size * r) × ((k : ℕ) → getD (now products) k 0 ≡ 0) ⌝ }
+    ensures { λ u. ⌜ now (words .exit) ≡ tabulate (size * r) (solutionWord (now (inverse .entry)) (now (words .entry)) size r) ⌝ }
 {
-    p_bits(rows, size, r, q);
-    matrix::clear(c);
-    for k in 0..size * r {
-        matrix::add_bit(c, k, constant_entry(columns, q, preimages, size, r, k));
+    let n = size * r;
+    transpose(&words[..], size, r, &mut constants[0..n]);
+    product::multiply(inverse, (n + 7) / 8, &constants[..], products);
+    transpose(&products[..], r, size, words);
+}
+
+// Multiplies the constants of up to 64 groups by the inverse: bit g of the lent words, one for each place, is the constant of group g before and its
+// solution Y afterwards. One step for each byte of the inverse, for all groups.
+pub fn solve(inverse: &[u8], size: usize, r: usize, words: &mut [u64])
+    requires { ⌜ (length (now inverse) ≡ size * r * rowBytes (size * r)) × (length (now words) ≡ size * r) × (0 < size) × (0 < r) × (size * r ≤ most-order) ⌝ }
+    ensures { λ u. ⌜ now (words .exit) ≡ tabulate (size * r) (solutionWord (now (inverse .entry)) (now (words .entry)) size r) ⌝ }
+{
+    let n = size * r;
+    let padded = (n + 7) / 8 * 8;
+    let mut constants = [0u64; 4096];
+    let mut products = [0u64; 4096];
+    solve_in(
+        inverse,
+        size,
+        r,
+        &mut constants[0..padded],
+        &mut products[0..n],
+        words,
+    );
+}
+
+// Makes Y of a group in the lent `out` from bit g of the words, one for each place.
+pub fn y_bits(words: &[u64], g: usize, out: &mut [u8])
+    requires { ⌜ (length (now out) ≡ length (now words)) × (g < 64) ⌝ }
+    ensures { λ u. ⌜ now (out .exit) ≡ tabulate (length (now (words .entry))) (λ q. getD (now (words .entry)) q 0 / 2 ^ g % 2) ⌝ }
+{
+    for q in 0..out.len() {
+        out[q] = ((words[q] >> g) % 2) as u8;
     }
 }
 
-// Packs the constant of a group's system into the lent `c`: bit k is entry k of the stack, spare bits are 0. Lent are the remainders of the group's
-// column words and row words without Y, and the place of Q that the parity list sends to each place of P. A few steps for each of the size × r
-// entries.
-pub fn constant_bits(
-    columns: &[u32],
-    rows: &[u32],
-    preimages: &[u16],
-    size: usize,
-    r: usize,
-    c: &mut [u8],
-)
-    requires { ⌜ (length (now columns) ≡ size) × (length (now rows) ≡ size) × (length (now preimages) ≡ size * r) × (length (now c) ≡ rowBytes (size * r))
-        × (0 < size) × (0 < r) × (r ≤ 32) × (size * r ≤ most-order) × ((p : ℕ) → p < size * r → getD (now preimages) p 0 < size * r) ⌝ }
-    ensures { λ u. ⌜ (length (now (c .exit)) ≡ length (now (c .entry)))
-        × Packed (size * r) (now (c .exit)) (constantBit (now (columns .entry)) (now (rows .entry)) (now (preimages .entry)) size r) ⌝ }
+// Adds the lent bits to those of `out`, place by place.
+pub fn add_bits(bits: &[u8], out: &mut [u8])
+    requires { ⌜ (length (now bits) ≡ length (now out)) × Bits (now bits) × Bits (now out) ⌝ }
+    ensures { λ u. ⌜ now (out .exit) ≡ tabulate (length (now (out .entry))) (λ q. bitSum (getD (now (out .entry)) q 0) (getD (now (bits .entry)) q 0)) ⌝ }
 {
-    let mut q = [0u8; 4096];
-    constant_in(columns, rows, preimages, size, r, &mut q[0..size * r], c);
-}
-
-// Makes `to` the bytes of `from`.
-fn copy(from: &[u8], to: &mut [u8])
-    requires { ⌜ length (now to) ≡ length (now from) ⌝ }
-    ensures { λ u. ⌜ now (to .exit) ≡ now (from .entry) ⌝ }
-{
-    for i in 0..from.len() {
-        to[i] = from[i];
+    for q in 0..out.len() {
+        out[q] = (out[q] + bits[q]) % 2;
     }
-}
-
-// 1 where the row of w bytes from `from` on shares an odd number of ones with the constant, whose bytes behind the first w are 0. Where the inverse has as
-// many bytes left as the constant, what follows the row is masked away with it: a loop over a number of bytes that is a multiple of 32 has no rest.
-fn row_odd(inverse: &[u8], from: usize, w: usize, c: &[u8]) -> u8
-    requires { ⌜ (from + w ≤ length (now inverse)) × (w ≤ length (now c)) × ((k : ℕ) → 8 * w ≤ k → packedBit (now c) k ≡ 0) ⌝ }
-    ensures { λ v. ⌜ v ≡ sumBits (8 * w) (λ k. packedBit (drop from (now (inverse .entry))) k * packedBit (now (c .entry)) k) ⌝ }
-{
-    let p = c.len();
-    if inverse.len() - from < p {
-        return matrix::shared_odd(&inverse[from..from + w], &c[0..w]);
-    }
-    matrix::shared_odd(&inverse[from..from + p], c)
-}
-
-// `y_bits` by a constant that zeros follow, as many that its bytes are a multiple of 32.
-fn y_rows(inverse: &[u8], c: &[u8], w: usize, size: usize, r: usize, out: &mut [u8])
-    requires { ⌜ (length (now inverse) ≡ size * r * rowBytes (size * r)) × (w ≡ rowBytes (size * r)) × (w ≤ length (now c)) × ((k : ℕ) → 8 * w ≤ k → packedBit (now c) k ≡ 0)
-        × (length (now out) ≡ size * r) × (0 < size) × (0 < r) × (size * r ≤ most-order) ⌝ }
-    ensures { λ u. ⌜ now (out .exit) ≡ tabulate (size * r) (productBit (now (inverse .entry)) (now (c .entry)) size r) ⌝ }
-{
-    for e in 0..out.len() {
-        out[e % r * size + e / r] = row_odd(inverse, e * w, w, c);
-    }
-}
-
-// Makes Y in the lent `out`: the lent inverse times the lent constant, both packed, each bit at its place in Y. One step for each byte of the
-// inverse.
-pub fn y_bits(inverse: &[u8], c: &[u8], size: usize, r: usize, out: &mut [u8])
-    requires { ⌜ (length (now inverse) ≡ size * r * rowBytes (size * r)) × (length (now c) ≡ rowBytes (size * r)) × (length (now out) ≡ size * r)
-        × (0 < size) × (0 < r) × (size * r ≤ most-order) ⌝ }
-    ensures { λ u. ⌜ now (out .exit) ≡ tabulate (size * r) (productBit (now (inverse .entry)) (now (c .entry)) size r) ⌝ }
-{
-    let w = c.len();
-    let whole = (w + 31) / 32 * 32;
-    let mut padded = [0u8; 512];
-    copy(c, &mut padded[0..w]);
-    y_rows(inverse, &padded[0..whole], w, size, r, out);
 }

@@ -2,7 +2,7 @@
 --   bit x r       bit r of x, the lowest first
 --   bit-lt, bit-zero, bit-above   a bit is 0 or 1; the bits of 0; the bits past a number's end
 --   bit-xor, bit-mask, bit-shr, bit-shl, bit-low   the bits of an exclusive or, of a mask, of a number moved down or up, of the low bits alone
---   bit-added     the bits of a byte to which a bit is added at a place
+--   bit-added     the bits of a number of w bits to which a bit is added at a place
 --   odd-xor       an exclusive or has an odd number of ones where just one of the two has
 --   odd-and       the ones of a mask, counted modulo 2 bit by bit
 -- Assumes nothing.
@@ -96,10 +96,10 @@ one-shl v s r h = shl-all v s r ∙ go (ℕ-discrete s r)
         rw (eq-eqb s r i, le-ltb r s (omega arith), z) (low-bit v ∙ mod-eq-of-lt h)
     go (no d) = past d (ltb r s) refl ∙ ap (λ (z : Bool). cond z v 0) (sym (ne-eqb s r d))
 
-pub bit-added : (x v s r : ℕ) → v < 2 → s < 8 → bit (bitXor x (v * 2 ^ s % 2 ^ 8)) r ≡ bitSum (bit x r) (cond (eqb s r) v 0)
-bit-added x v s r h l =
-    bit-xor x (v * 2 ^ s % 2 ^ 8) r
-    ∙ ap (bitSum (bit x r)) (ap (λ (z : ℕ). bit z r) (shl-exact 1 s 8 h (omega arith)) ∙ one-shl v s r h)
+pub bit-added : (w x v s r : ℕ) → v < 2 → s < w → bit (bitXor x (v * 2 ^ s % 2 ^ w)) r ≡ bitSum (bit x r) (cond (eqb s r) v 0)
+bit-added w x v s r h l =
+    bit-xor x (v * 2 ^ s % 2 ^ w) r
+    ∙ ap (bitSum (bit x r)) (ap (λ (z : ℕ). bit z r) (shl-exact 1 s w h (omega arith)) ∙ one-shl v s r h)
 
 -- ---- the parity of the ones
 

@@ -60,7 +60,7 @@ packedBit-add row k v in-row small j =
     set-each (λ (q z : ℕ). j / 8 ≡ q → bit z (j % 8) ≡ bitSum (bit (getD row q 0) (j % 8)) (cond (eqb k j) v 0)) row (k / 8)
     (bitXor (getD row (k / 8) 0) (v * 2 ^ (k % 8) % 2 ^ 8)) in-row
     (λ e.
-    bit-added (getD row (k / 8) 0) v (k % 8) (j % 8) small (mod-lt k (omega arith))
+    bit-added 8 (getD row (k / 8) 0) v (k % 8) (j % 8) small (mod-lt k (omega arith))
     ∙ ap (λ (z : Bool). bitSum (bit (getD row (k / 8) 0) (j % 8)) (cond z v 0)) (eqb-iff (k % 8) (j % 8) k j (λ q. omega arith) (ap (λ (z : ℕ). z % 8))))
     (λ q d e.
     sym (ap (λ (z : Bool). bitSum (bit (getD row q 0) (j % 8)) (cond z v 0)) (ne-eqb k j (λ i. d (omega arith)))

@@ -2,7 +2,6 @@
 //   clear, add_bit   make a packed row
 //   mask_rows        a row of a product, from a packed row and planes
 //   first_wrong      the first entry of such a row that is not the identity's
-//   shared_odd       one entry, from a packed row and a packed column
 //
 // "An entry of a product is 1 exactly when a row and a column share an odd number of ones": the ones of masked bytes. The masked bytes are added
 // by exclusive or and the ones of the sum are counted once, which leaves the parity as it is and costs a fraction of a count at each byte.
@@ -171,18 +170,4 @@ pub fn first_wrong(acc: &[u8], e: usize) -> usize
         return search_wrong(acc, e);
     }
     acc.len()
-}
-
-// 1 where two packed rows share an odd number of ones, else 0: an entry of a product. The work grows with their bytes.
-pub fn shared_odd(a: &[u8], b: &[u8]) -> u8
-    requires { ⌜ length (now a) ≡ length (now b) ⌝ }
-    ensures { λ r. ⌜
-        r ≡ sumBits (8 * length (now (a .entry))) (λ k. packedBit (now (a .entry)) k * packedBit (now (b .entry)) k)
-        ⌝ }
-{
-    let mut acc: u8 = 0;
-    for i in 0..a.len() {
-        acc = acc ^ (a[i] & b[i]);
-    }
-    (u8::count_ones(acc) % 2) as u8
 }

@@ -29,7 +29,7 @@ use Rattle.matrix_elimination.proofs.PartBack.{back, back-length, back-
 one-at : (s r : ℕ) → s < 8 → digit (1 * 2 ^ s % 2 ^ 8) r ≡ identity s r
 one-at s r l =
     ap (λ (z : ℕ). digit z r) (sym (xor-zero-l (1 * 2 ^ s % 2 ^ 8)))
-    ∙ bit-added 0 1 s r (omega arith) l
+    ∙ bit-added 8 0 1 s r (omega arith) l
     ∙ ap (λ (z : ℕ). bitSum z (identity s r)) (bit-zero r) ∙ zero-bitSum (identity s r) (identity-bit s r)
 
 -- a row has w bytes, a half of it rb; from place s on k bytes were lent and came back as ys

@@ -3,13 +3,14 @@
 use native.Mathlib.Omega.{arith}
 use borrow.Author.Needs.{needs}
 use mathlib.Core.Path.{_≡_, _∙_, subst⁻¹}
-use Prim.Native.Nat.{ℕ}
-use lib.ListN.{length, getD}
+use mathlib.Core.List.{List}
+use Prim.Native.Nat.{ℕ, _-_}
+use lib.ListN.{length, getD, drop, replicate}
 use Rattle.staircase.specs.Rules.{entries}
 use Rattle.staircase.specs.Demand2.{Permutes}
 use Rattle.words_positions.proofs.Parts.{part-fits, part-is}
 use Rattle.design.proofs.Allowed.{bits-small}
-use Rattle.encoder_frame.proofs.WholeFrame.{red-long, frames-ready, frames-made}
+use Rattle.encoder_frame.proofs.WholeFrame.{red-long, frames-ready, tables-ready, frames-made}
 use Rattle.encoder_frame.proofs.make_redundancy.Statement.{statement}
 use Rattle.encoder_frame.proofs.make_redundancy.Tie as tie
 
@@ -26,24 +27,37 @@ fill-preimages-requires c κs =
       subst⁻¹ (λ (k : ℕ). Permutes k (λ p. getD (entries k (s .args .parity .now)) p 0)) (order .ensures .0) (s .pre .parityPermutes),
     )
 
-part-make-frames-end : tie.Need-part-make-frames-end
-part-make-frames-end c =
+part-make-stretches-end : tie.Need-part-make-stretches-end
+part-make-stretches-end c =
     let x = c .before .before .before .before .before .fill-table in
-    let all : length (x .last .1 .0) ≡ c .before .before .before .before .before .before .before .before .n .result = omega arith in
+    let all : length (x .last .1 .0) ≡ c .before .before .before .before .before .before .before .before .before .n .result = omega arith in
     part-fits (x .last .1 .0) _ _ all
 
-part-make-frames-end-2 : tie.Need-part-make-frames-end-2
-part-make-frames-end-2 c = let f = c .before .before .before .before .fill-preimages in part-fits (f .last .1 .1 .0) _ _ (f .ensures .0)
+part-make-stretches-end-2 : tie.Need-part-make-stretches-end-2
+part-make-stretches-end-2 c = let f = c .before .before .before .before .fill-preimages in part-fits (f .last .1 .1 .0) _ _ (f .ensures .0)
 
-make-frames-requires : tie.Need-make-frames-requires
-make-frames-requires c κs =
-    let h = c .before .before .before .before .before .before .before .before .before .before .before .before .before .before .before .before .before .before .before .pre in
-    let r = c .before .before .before .before .before .before .before .before .before .before .before .before .before .r .ensures .0 in
+make-stretches-requires : tie.Need-make-stretches-requires
+make-stretches-requires c κs =
+    let h =
+    c .before .before .before .before .before .before .before .before .before .before .before .before .before .before .before .before .before .before .before .pre in
+    let r = c .before .before .before .before .before .before .before .before .before .before .before .r .ensures .0 in
     let x = c .before .before .before .before .before .before .before .before .before .fill-table in
     let f = c .before .before .before .before .before .before .fill-preimages in
-    let all : length (x .last .1 .0) ≡ c .before .before .before .before .before .before .before .before .before .before .before .before .n .result = omega arith in
-    rw (c .before .before .before .before .before .before .before .before .before .before .before .size .ensures) (
-      frames-ready h r (c .before .before .before .before .before .before .before .before .before .before .before .before .before .before .order .ensures .0) (part-is (x .last .1 .0) _ _ all) (part-is (f .last .1 .1 .0) _ _ (f .ensures .0)) (all ∙ c .before .before .before .before .before .before .before .before .before .before .before .before .n .ensures .0) (f .ensures .0) (f .ensures .1),
+    let all : length (x .last .1 .0) ≡
+    c .before .before .before .before .before .before .before .before .before .before .before .before .before .n .result = omega arith in
+    let n = c .before .before .before .before .before .before .before .before .before .before .before .before .before .before .order .result in
+    let rest : List ℕ = drop (n - 0) (replicate 4096 0) in
+    rw (c .before .before .before .before .before .before .before .before .before .before .before .before .size .ensures) (
+      frames-ready h r
+          (c .before .before .before .before .before .before .before .before .before .before .before .before .before .before .order .ensures .0)
+          (part-is (x .last .1 .0) _ _ all) (part-is (f .last .1 .1 .0) rest n (f .ensures .0)) (all ∙
+          c .before .before .before .before .before .before .before .before .before .before .before .before .before .n .ensures .0) (f .ensures .0)
+          (f .ensures .1),
+      tables-ready h r
+          (c .before .before .before .before .before .before .before .before .before .before .before .before .before .before .order .ensures .0)
+          (part-is (x .last .1 .0) _ _ all) (part-is (f .last .1 .1 .0) rest n (f .ensures .0)) (all ∙
+          c .before .before .before .before .before .before .before .before .before .before .before .before .before .n .ensures .0) (f .ensures .0)
+          (f .ensures .1),
       red-long h r,
     )
 
@@ -51,14 +65,21 @@ returns : tie.Need-returns
 returns c =
     let x = c .before .before .before .before .before .before .before .before .before .before .before .before .fill-table in
     let f = c .before .before .before .before .before .before .before .before .before .fill-preimages in
-    let all : length (x .last .1 .0) ≡ c .before .before .before .before .before .before .before .before .before .before .before .before .before .before .before .n .result = omega arith in
-    frames-made (c .before .before .before .before .before .before .before .before .before .before .before .before .before .before .before .before .before .before .before .before .before .before .pre) (c .before .before .before .before .before .before .before .before .before .before .before .before .before .before .before .before .r .ensures .0) (c .before .before .before .before .before .before .before .before .before .before .before .before .before .before .before .before .before .order .ensures .0) (part-is (x .last .1 .0) _ _ all) (part-is (f .last .1 .1 .0) _ _ (f .ensures .0))
-    (all ∙ c .before .before .before .before .before .before .before .before .before .before .before .before .before .before .before .n .ensures .0) (f .ensures .0) (f .ensures .1) (x .ensures .0) (rw (c .before .before .before .before .before .before .before .before .before .before .before .before .before .before .size .ensures) at (c .before .before .make-frames .ensures))
+    let all : length (x .last .1 .0) ≡
+    c .before .before .before .before .before .before .before .before .before .before .before .before .before .before .before .before .n .result =
+    omega arith in
+    frames-made
+    (c .before .before .before .before .before .before .before .before .before .before .before .before .before .before .before .before .before .before .before .before .before .before .pre) (c .before .before .before .before .before .before .before .before .before .before .before .before .before .before .r .ensures .0) (c .before .before .before .before .before .before .before .before .before .before .before .before .before .before .before .before .before .order .ensures .0) (part-is (x .last .1 .0) _ _ all) (part-is (f .last .1 .1 .0) _ _ (f .ensures .0))
+    (all ∙
+    c .before .before .before .before .before .before .before .before .before .before .before .before .before .before .before .before .n .ensures .0)
+    (f .ensures .0) (f .ensures .1) (x .ensures .0) (rw
+    (c .before .before .before .before .before .before .before .before .before .before .before .before .before .before .before .size .ensures) at
+    (c .before .before .make-stretches .ensures))
 
 pub make-redundancy-spec : {M : Type 1} → statement M
 make-redundancy-spec =
     tie.close
     (tie.spec (λ c κs. search needs) (λ c κs. search needs) (λ c κs. search needs) (λ c κs. search needs) (λ c. search needs) (λ c. search needs)
     part-positions-end (λ c κs. search needs) (λ c. search needs) (λ c. search needs) (λ c. search needs) fill-preimages-requires (λ c. search needs)
-    (λ c. search needs) part-make-frames-end (λ c. search needs) (λ c. search needs) part-make-frames-end-2 make-frames-requires (λ c. search needs)
-    returns)
+    (λ c. search needs) part-make-stretches-end (λ c. search needs) (λ c. search needs) part-make-stretches-end-2 make-stretches-requires (λ c. search
+    needs) returns)

@@ -79,7 +79,8 @@ loop-again c =
       omega arith,
       omega arith,
       filled-stretch f (a .out .now) (l .out) (row .last .1 .1 .0) (l .a * a .size) (a .size) (l .inv .3)
-          (digit-row (a .columns .now) (row .last .1 .1 .0) (a .size) (a .r) (l .a) (c .before .before .before .before .before .before .before .before .pre .0) (row .ensures))
+          (digit-row (a .columns .now) (row .last .1 .1 .0) (a .size) (a .r) (l .a)
+          (c .before .before .before .before .before .before .before .before .pre .0) (row .ensures))
           ∙ ap (filled f (a .out .now)) next,
     )
 

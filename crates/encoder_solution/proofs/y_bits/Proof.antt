@@ -1,52 +1,36 @@
--- The constant is copied to the front of zeros, which add nothing to a product.
+-- The loop's invariant: the bits before `q` are filled. The measure is the number of bits left.
 -- Assumes nothing.
-use mathlib.Core.Path.{refl, ap, _∙_}
-use mathlib.Core.List.{List, _++_}
-use Prim.Native.Nat.{ℕ, _+_, _-_, _*_, _/_}
+use mathlib.Core.Path.{_≡_, _∙_}
+use Prim.Native.Nat.{_-_, _/_, _%_, _^_, _≤_}
 use native.Mathlib.Omega.{arith}
-use lib.ListN.{length, take, drop, replicate}
-use Rattle.staircase.specs.Lists.{tabulate}
-use Rattle.staircase.proofs.Tabulate.{tabulate-same}
-use Rattle.encoder_solution.specs.Bits.{productBit}
-use Rattle.encoder_solution.proofs.Packed.{padded-zero, padded-fits, padded-long, product-padded}
-use borrow.Author.Needs.{needs}
+use lib.ListN.{length, getD, length-set}
+use Rattle.staircase.proofs.Fill.{filled, filled-none, filled-more, filled-all}
 use Rattle.encoder_solution.proofs.y_bits.Statement.{statement}
 use Rattle.encoder_solution.proofs.y_bits.Tie as tie
 
-part-y-rows-end : tie.Need-part-y-rows-end
-part-y-rows-end c =
-    let y = c .before .before .copy in
-    padded-fits (y .last .1 .0) (replicate 512 0) (length (c .before .before .before .before .before .before .before .args .c .now)) (ap length (y .ensures)) refl (omega arith)
+abbrev Inv-loop : tie.InvT-loop
+Inv-loop words g out₀ q₀ q-end out q =
+    (q-end ≡ length words) × (q ≤ length words) × (length out ≡ length words) × (length out₀ ≡ length words) × (out ≡ filled (λ k. getD words k 0 / 2 ^
+    g % 2) out₀ q)
 
-y-rows-requires : tie.Need-y-rows-requires
-y-rows-requires c κs =
-    let s = c .before .before .before .before .before .before .before .before .before in
-    let w = length (s .args .c .now) in
-    let y = c .before .before .before .before .copy in
-    let is = ap length (y .ensures) in (
-      s .pre .0,
-      s .pre .1,
-      padded-long (y .last .1 .0) (replicate 512 0) w is refl (omega arith),
-      λ k h. padded-zero (y .last .1 .0) (w - 0) 512 ((w + 31) / 32 * 32 - 0) k (omega (arith, is)),
-      s .pre .2,
-      s .pre .3,
-      s .pre .4,
-      s .pre .5,
-    )
+abbrev μ-loop : tie.MeasureT-loop
+μ-loop words g out₀ q₀ q-end out q = length words - q
 
-returns : tie.Need-returns
+loop-holds : tie.Need-loop-holds Inv-loop μ-loop
+loop-holds c = (omega arith, omega arith, omega arith, omega arith, filled-none _ _)
+
+loop-again : tie.Need-loop-again Inv-loop μ-loop
+loop-again c =
+    let l = c .before .before .loop in
+    (omega arith, omega arith, simp length-set (omega arith), omega arith, rw (l .inv .4) (filled-more _ _ _ (omega arith)))
+
+returns : tie.Need-returns Inv-loop μ-loop
 returns c =
-    let s = c .before .before .before .before .before .before .before .before .before .before .before .before in
-    let a = s .args in
-    let w = length (a .c .now) in
-    let y = c .before .before .before .before .before .before .before .copy in
-    c .before .before .y-rows .ensures
-    ∙ ap (λ (x : List ℕ). tabulate (a .size * a .r) (productBit (a .inverse .now) (take ((w + 31) / 32 * 32 - 0) (x ++ drop (w - 0) (replicate 512 0))) (a .size) (a .r))) (y .ensures)
-    ∙ tabulate-same (a .size * a .r) _ (productBit (a .inverse .now) (a .c .now) (a .size) (a .r))
-    (λ q h. product-padded (a .inverse .now) (a .c .now) (a .size) (a .r) (w - 0) 512 ((w + 31) / 32 * 32 - 0) (s .pre .1) (omega arith) q)
+    let l = c .before .loop in
+    l .inv .4 ∙ filled-all _ _ _ _ (omega arith) (l .inv .3)
 
 pub y-bits-spec : {M : Type 1} → statement M
 y-bits-spec =
     tie.close
-    (tie.spec (λ c. search needs) (λ c. search needs) (λ c. search needs) (λ c. search needs) (λ c. search needs) (λ c κs. search needs) (λ c. search needs)
-    (λ c. search needs) part-y-rows-end y-rows-requires (λ c. search needs) returns)
+    (tie.spec Inv-loop μ-loop loop-holds (λ c. omega arith) (λ c. omega arith) (λ c. omega arith) (λ c. omega arith) (λ c. omega arith) (λ c. omega
+    arith) (λ c. omega arith) loop-again (λ c. omega arith) returns)
