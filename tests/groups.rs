@@ -10,6 +10,7 @@ pub const GROUPS: &[Group] = &[
     ("published", || 21, published),
     ("rows-of-k", || 1, rows_of_k),
     ("self", || designs(400).len(), reference_alone),
+    ("reads", || 6 * designs(400).len(), reads),
     ("nearest", || 4, nearest),
     ("dependent", || 400, dependent),
     ("design", || 13 * 5, design_rules),
@@ -300,6 +301,35 @@ fn reference_alone(case: &mut Case) {
     let read = read_kit(kit_text(kit).as_bytes(), kit.own.len(), kit.parity.len(), kit.inverse.len());
     let (_, back) = read.unwrap();
     case.check("kit text", back.own == kit.own && back.parity == kit.parity && back.inverse == kit.inverse);
+}
+
+/// The reference's check of each word: its reads are counted, and are "n, less M where the word has an unsent block", of each sent bit of the
+/// word one and of no other bit any. B0 is in the row words of group 1, the block after the last of an odd number in the column words of the
+/// last group. Over all words each bit is read twice, but once in the last block of an even number. (The library's reads are watched by reads.c.)
+fn reads(case: &mut Case) {
+    let all = designs(400);
+    let d = all[case.index % all.len()];
+    let blocks = 1 + case.index / all.len();
+    let shape = Shape::new(d, blocks, case.rng.permutation(d.order()), case.rng.permutation(d.order()));
+    let bits = info_len(&d, blocks) + red_len(&d, blocks);
+    let frame = case.rng.bits(bits);
+    let mut total = vec![0; bits];
+    for (w, word) in shape.words().iter().enumerate() {
+        let mut counted = vec![0; bits];
+        check_word(&shape, word, |place| {
+            counted[place] += 1;
+            frame[place]
+        });
+        let (group, column) = (1 + w / (2 * d.side()), w / d.side() % 2 == 1);
+        let unsent = if column { 2 * group > blocks } else { group == 1 };
+        let right = if unsent { d.n() - d.side() } else { d.n() };
+        case.same("reads of a word", right, counted.iter().sum::<usize>());
+        case.check("each sent bit once, no other", (0..bits).all(|place| counted[place] == word.contains(&Some(place)) as usize));
+        total.iter_mut().zip(counted).for_each(|(sum, more)| *sum += more);
+    }
+    let once = if blocks % 2 == 0 { info_len(&d, blocks - 1)..info_len(&d, blocks) } else { 0..0 };
+    let wrong = (0..bits).find(|place| total[*place] != 2 - once.contains(place) as usize);
+    case.same("a bit with another number of reads", None, wrong);
 }
 
 /// The reference's decoder of a word beside the sentence itself: all codewords of a short code are made,

@@ -1,8 +1,8 @@
-//! Document 01 and document 02's U1, U3, U5 and U9 written a second time, from their text alone: small, literal and slow.
+//! Document 01 and document 02's U1, U2, U3, U5 and U9 written a second time, from their text alone: small, literal and slow.
 //! It shares nothing with the library. Everything that they define is a function here:
 //!
 //! - `design`, `powers`, `minimal`, `generator`, `remainder`: rules 1 to 3 and BCH words
-//! - `Shape`: where each bit of each word of a frame stands
+//! - `Shape`, `check_word`, `words_outside`: where each bit of each word of a frame stands; words that are checked
 //! - `sums`, `system`, `check_kit`: A y + c, A, and the verdict on a kit
 //! - `first_dependent`, `inverse`, `make_inverse`: rule 14's column, W by elimination, and the maker
 //! - `turned`, `spread_lists`: spread lists
@@ -265,9 +265,14 @@ fn read<'a>(word: &'a [Option<usize>], frame: &'a [u8]) -> impl Iterator<Item = 
     word.iter().map(|bit| bit.map_or(0, |place| frame[place]))
 }
 
+/// The check of a word, its remainder: "let the check read each of its sent bits once and no other bit". `load` reads a bit of the frame.
+pub fn check_word(shape: &Shape, word: &[Option<usize>], mut load: impl FnMut(usize) -> u8) -> u64 {
+    remainder(word.iter().map(|bit| bit.map_or(0, |place| load(place))), shape.g)
+}
+
 /// "The word checker counts the words outside the code": those that the generator doesn't divide.
 pub fn words_outside(shape: &Shape, frame: &[u8]) -> u64 {
-    shape.words().iter().filter(|word| remainder(read(word, frame), shape.g) != 0).count() as u64
+    shape.words().iter().filter(|word| check_word(shape, word, |place| frame[place]) != 0).count() as u64
 }
 
 // ---------------------------------------------------------------- System and kit
@@ -770,7 +775,7 @@ fn mend(shape: &Shape, frame: &mut [u8], rounds: u64) -> Counts {
     loop {
         let before = turned;
         for word in &words {
-            let Some(changes) = patterns.changes(remainder(read(word, frame), shape.g)) else { continue };
+            let Some(changes) = patterns.changes(check_word(shape, word, |place| frame[place])) else { continue };
             let Some(sent) = changes.iter().map(|&j| word[j]).collect::<Option<Vec<usize>>>() else { continue };
             for place in sent {
                 frame[place] = 1 - frame[place];

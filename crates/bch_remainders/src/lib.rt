@@ -1,8 +1,10 @@
 // Remainders of words by a generator, from a table of powers of x.
 //   generator_of(m, t)                the generator of the code over field m that corrects t errors
 //   fill_positions(g, r, top, table)  entry j of the table is the power of x that position j of a word carries, modulo g
-//   dot(bits, part)                   the sum of the entries of `part` at the ones of `bits`
-//   add_rows(acc, block, part)        `dot` for every column of a block at once, row by row
+//   masked(b, x)                      x or 0, by a bit
+//   dot(bits, part)                   the sum of the entries of `part` at the ones of `bits`, and how many bits it has read
+//   read_rows(acc, block, part)       `dot` for every column of a block at once, row by row; how many bits of each column it has read
+//   add_rows(acc, block, part)        the same without the number
 //   clear(acc)                        makes every entry 0
 //
 // The remainder of a word is a sum of powers of x modulo the generator, one for each of its ones (`remainder-powers` of the crate `bch`).
@@ -10,13 +12,20 @@
 // exclusive ors, with no division, and parts of a word that stand in several buffers are added one after the other. The words that run
 // across the rows of a block are added row by row, in the order in which the block stands in memory.
 //
-// The hot loops have no jump at a bit (`masked`).
+// The hot loops have no jump at a bit (`masked`). Reads of bits are counted where they are made: once a bit in `dot`, and once a row in `read_rows`,
+// where each row gives every column one bit.
 ghost use mathlib.Core.Path.{_≡_};
 ghost use Prim.Native.Nat.{ℕ, _+_, _*_, _/_, _^_, _≤_, _<_};
 ghost use lib.ListN.{length, getD, replicate};
 ghost use Rattle.bch.specs.Polynomial.{_⊕_, timesX, Bits};
 ghost use Rattle.bch.specs.Code.{generator};
 ghost use Rattle.bch.specs.Powers.{xorSum, PositionPowers};
+
+// A sum of entries, and how many bits were read for it.
+pub struct Reading {
+    pub sum: u32,
+    pub reads: usize,
+}
 
 // The generators for t = 1, 2, 3, of m = 4, then 5, .., 10. Three of them, for (4, 2), (4, 3) and (5, 3), belong to no design.
 const GENERATORS: [u32; 21] = [
@@ -76,23 +85,29 @@ pub fn fill_positions(g: u32, r: usize, top: u32, table: &mut [u32])
 }
 
 // The bit b times x, with no jump: the bit spread over 32 is the mask.
-fn masked(b: u8, x: u32) -> u32
+pub fn masked(b: u8, x: u32) -> u32
     requires { ⌜ b < 2 ⌝ }
     ensures { λ a. ⌜ a ≡ b * x ⌝ }
 {
     (b as u32) * 4294967295 & x
 }
 
-// The sum of the entries of `part` at the ones of `bits`, both lent to read. One step for each bit.
-pub fn dot(bits: &[u8], part: &[u32]) -> u32
+// The sum of the entries of `part` at the ones of `bits`, both lent to read, and the number of bits, each of which is read once. One step for each bit.
+pub fn dot(bits: &[u8], part: &[u32]) -> Reading
     requires { ⌜ (length (now bits) ≡ length (now part)) × Bits (now bits) ⌝ }
-    ensures { λ a. ⌜ a ≡ xorSum (length (now (bits .entry))) (λ j. getD (now (bits .entry)) j 0 * getD (now (part .entry)) j 0) ⌝ }
+    ensures { λ a. ⌜ (a .sum ≡ xorSum (length (now (bits .entry))) (λ j. getD (now (bits .entry)) j 0 * getD (now (part .entry)) j 0))
+        × (a .reads ≡ length (now (bits .entry))) ⌝ }
 {
     let mut acc: u32 = 0;
+    let mut reads: usize = 0;
     for j in 0..bits.len() {
         acc = acc ^ masked(bits[j], part[j]);
+        reads += 1;
     }
-    acc
+    Reading {
+        sum: acc,
+        reads: reads,
+    }
 }
 
 // Adds x to the lent entries of `acc` at the ones of `bits`. One step for each bit.
@@ -107,18 +122,33 @@ fn add_bits(acc: &mut [u32], bits: &[u8], x: u32)
 }
 
 // Adds to each of the lent entries of `acc` the entries of `part` at the ones of its column of `block`. The block has a row for each entry
-// of `part`, one after the other, and a column for each entry of `acc`. One step for each bit of the block.
+// of `part`, one after the other, and a column for each entry of `acc`. Answers how many bits of each column it has read, one for each row. One step
+// for each bit of the block.
+pub fn read_rows(acc: &mut [u32], block: &[u8], part: &[u32]) -> usize
+    requires { ⌜ (length (now block) ≡ length (now part) * length (now acc)) × Bits (now block) ⌝ }
+    ensures { λ n. ⌜ (length (now (acc .exit)) ≡ length (now (acc .entry)))
+        × ((a : ℕ) → a < length (now (acc .entry)) → getD (now (acc .exit)) a 0 ≡ getD (now (acc .entry)) a 0
+        ⊕ xorSum (length (now (part .entry))) (λ j. getD (now (block .entry)) (j * length (now (acc .entry)) + a) 0 * getD (now (part .entry)) j 0))
+        × (n ≡ length (now (part .entry))) ⌝ }
+{
+    let w = acc.len();
+    let mut reads: usize = 0;
+    for j in 0..part.len() {
+        let from = j * w;
+        add_bits(acc, &block[from..from + w], part[j]);
+        reads += 1;
+    }
+    reads
+}
+
+// The same, for whoever does not ask how many bits were read.
 pub fn add_rows(acc: &mut [u32], block: &[u8], part: &[u32])
     requires { ⌜ (length (now block) ≡ length (now part) * length (now acc)) × Bits (now block) ⌝ }
     ensures { λ r. ⌜ (length (now (acc .exit)) ≡ length (now (acc .entry)))
         × ((a : ℕ) → a < length (now (acc .entry)) → getD (now (acc .exit)) a 0 ≡ getD (now (acc .entry)) a 0
         ⊕ xorSum (length (now (part .entry))) (λ j. getD (now (block .entry)) (j * length (now (acc .entry)) + a) 0 * getD (now (part .entry)) j 0)) ⌝ }
 {
-    let w = acc.len();
-    for j in 0..part.len() {
-        let from = j * w;
-        add_bits(acc, &block[from..from + w], part[j]);
-    }
+    read_rows(acc, block, part);
 }
 
 // Makes every entry of the lent `acc` 0. One step for each entry.

@@ -22,6 +22,7 @@ use Rattle.design.specs.Sizes.{paramsOf, listsOf}
 use Rattle.design.proofs.Answers.{check-refused, check-passed, made-params, refused-design, made-design}
 use Rattle.rules.specs.Lengths.{lengthsOf, decoderDue, frameRules}
 use Rattle.rules.proofs.Chain.{decoder-rules, received-bytes}
+use Rattle.words.specs.Checks.{receivedRules}
 use Rattle.decoder.specs.declared.Decoding.{Decoding}
 use Rattle.decoder.specs.Answers.{copyRules, correctedOf, correctedFrame, refusedFrame}
 
@@ -49,7 +50,7 @@ module _ (m t M L k : ℕ) (own parity info red : List ℕ) (work : ℕ) where
   rules s = copyRules s L k own parity info red work
 
   whole : (designRules m t M then copyRules (params m t M) L k own parity info red work) ≡ decodeVerdict m t M L k own parity info red work
-  unfolding decodeVerdict copyRules
+  unfolding decodeVerdict copyRules receivedRules
   whole =
       ap (λ (z : Verdict). designRules m t M then z)
       (ap (λ (z : Verdict). frameRules (params m t M) L k (lengthsOf own parity [] info red work) (decoderDue (params m t M) L) then z)

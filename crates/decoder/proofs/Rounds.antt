@@ -2,14 +2,15 @@
 --   first-fits, powers-of   the first line, and the powers of x in the tables
 --   ready-lent, kept-lent   the tables and the kept numbers, each in the part of its buffer that is lent
 --   behind-same             the working bytes keep their length
+--   behind-left             what stands behind the first of them is what came back
 --   corrected-is            rounds, flips and words outside as the result
 -- Assumes nothing.
 use mathlib.Core.Path.{_≡_, ap, ap₂, _∙_, subst, subst⁻¹}
-use mathlib.Core.List.{List, _++_}
+use mathlib.Core.List.{List, _++_, append-nil}
 use Prim.Native.Nat.{ℕ, _+_, _-_, _*_, _≤_}
 use native.Mathlib.Omega.{arith}
-use lib.ListN.{length, take, drop, length-append, length-drop}
-use lib.Seq.{length-take-le}
+use lib.ListN.{length, take, drop, length-append, length-drop, drop-of-length-le}
+use lib.Seq.{length-take-le, drop-at}
 use Rattle.staircase.specs.Design.{Params, Interleavers, wordLength}
 use Rattle.staircase.specs.Frame.{Frame, frameOf, words, outside}
 use Rattle.staircase.specs.Decoder.{Decoded, runRounds, roundsAllowed, decoded}
@@ -22,8 +23,9 @@ use Rattle.design.specs.Sizes.{paramsOf, orderOf, listsOf}
 use Rattle.rules.specs.Received.{FrameFits, Received}
 use Rattle.words_blocks.specs.Blocks.{Powers}
 use Rattle.words_positions.proofs.Parts.{part-is}
-use Rattle.decoder_lines.specs.declared.Line.{Line}
-use Rattle.decoder_lines.specs.Links.{listsIn, LineFits}
+use Rattle.words_lines.specs.declared.Line.{Line}
+use Rattle.words_lines.specs.Lines.{LineFits}
+use Rattle.decoder_lines.specs.Links.{listsIn}
 use Rattle.decoder_words.specs.Ready.{WordTables, LineReady, FrameKept}
 use Rattle.decoder_words.proofs.Tables.{rest-part}
 use Rattle.decoder_frame.specs.Filled.{Filled}
@@ -74,6 +76,11 @@ behind-same W B n all e h l =
       l,
       e,
     )
+
+pub behind-left : (W B : List ℕ) (n all o : ℕ) → n ≡ o → all ≡ length W → n ≤ all → drop o (take n W ++ (B ++ drop (all - n) (drop n W))) ≡ B
+behind-left W B n all o en ea h =
+    drop-at (take n W) (B ++ drop (all - n) (drop n W)) o (length-take-le n W (omega (arith, ea)) ∙ en)
+    ∙ ap (λ (t : List ℕ). B ++ t) (drop-of-length-le (drop n W) {i = all - n} (omega (arith, length-drop n W, ea))) ∙ append-nil B
 
 pub corrected-is : (s : Params) (l l' : Interleavers) (L k n : ℕ) (f g : Frame) (c : Counts) → l' ≡ l → n ≡ roundsAllowed k
     → record { frame = g; rounds = c .rounds; flips = c .flips } ≡ runRounds s (words s l' L) n f → c .outside ≡ outside s l' L g

@@ -4,23 +4,22 @@
 --   correctedFrame   the result for a frame that no rule refuses
 --   refusedFrame     the result for one that is refused
 -- Assumes nothing.
-use mathlib.Core.List.{List, []}
+use mathlib.Core.List.{List}
 use Prim.Native.Nat.{ℕ}
 use Rattle.staircase.specs.Design.{Params, Interleavers}
 use Rattle.staircase.specs.Frame.{Frame, outside}
 use Rattle.staircase.specs.Decoder.{Decoded, decoded}
-use Rattle.staircase.specs.Rules.{Verdict, _then_, interleavers}
+use Rattle.staircase.specs.Rules.{Verdict}
 use Rattle.staircase.specs.Rules.Verdict.{accepted}
 use Rattle.staircase.specs.Calls.{Corrected, correctedBy}
 use Rattle.design.specs.Answers.{refusalVerdict}
-use Rattle.rules.specs.Lengths.{lengthsOf, decoderDue, frameRules}
-use Rattle.rules.specs.Bytes.{byteRules}
+use Rattle.rules.specs.Lengths.{decoderDue}
+use Rattle.words.specs.Checks.{receivedRules}
 use Rattle.decoder.specs.declared.Decoding.{Decoding}
 use Rattle.decoder.specs.declared.Decoding.the-variants as decoding
 
 unfoldable pub copyRules : Params → ℕ → ℕ → List ℕ → List ℕ → List ℕ → List ℕ → ℕ → Verdict
-copyRules s L k self parity info red work =
-    frameRules s L k (lengthsOf self parity [] info red work) (decoderDue s L) then byteRules s (interleavers s self parity) [] info red
+copyRules s L k self parity info red work = receivedRules s L k (decoderDue s L) self parity info red work
 
 -- "The result: rounds made .., bits turned .., words outside the code at the end"; a refused call counts nothing
 unfoldable pub correctedOf : Decoding → Frame → Corrected

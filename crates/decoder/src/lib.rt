@@ -18,12 +18,12 @@ ghost use Rattle.decoder_words.specs.Ready.{LineReady, FrameKept};
 ghost use Rattle.decoder_frame.specs.Filled.{Filled};
 ghost use Rattle.decoder.specs.Answers.{copyRules, correctedOf, correctedFrame, refusedFrame};
 ghost use Rattle.decoder.specs.declared.Decoding.the-variants as Decoding;
-use decoder_lines::Line;
 use design::Check;
 use design::Design;
 use design::Designed;
 use design::Refusal;
-use rules::Lengths;
+use words::Asked;
+use words_lines::Line;
 
 // What decoding a frame has done: rounds made, bits flipped, words outside the code at the end.
 pub struct Counts {
@@ -59,17 +59,6 @@ fn link_entries() -> [u16; 16384]
     [0; 16384]
 }
 
-// The first line of a frame.
-fn first_line(d: Design, blocks: usize) -> Line
-    ensures { λ z. ⌜ z ≡ record { d = d; blocks = blocks; k = 0 } ⌝ }
-{
-    Line {
-        d: d,
-        blocks: blocks,
-        k: 0,
-    }
-}
-
 // Runs the rounds over a frame whose numbers are filled behind the first n working bytes, and counts.
 fn correct_lines(
     line: Line,
@@ -98,7 +87,7 @@ fn correct_lines(
     }
 }
 
-// Fills the kept numbers of a frame, with all tables of the design lent.
+// Fills the kept numbers of a frame, behind the working bytes for the entries of a list, with all tables of the design lent.
 fn fill_kept(
     line: Line,
     own: &[u8],
@@ -116,7 +105,17 @@ fn fill_kept(
         (drop (orderOf (line .d)) (now (work .exit))) (wordCount (paramsOf (line .d)) (line .blocks)) ⌝ }
 {
     let bits = line.d.n();
-    decoder_frame::fill_numbers(line, own, parity, info, red, &tables[0..bits], work);
+    let n = line.d.order();
+    let all = work.len();
+    decoder_frame::fill_numbers(
+        line,
+        own,
+        parity,
+        info,
+        red,
+        &tables[0..bits],
+        &mut work[n..all],
+    );
 }
 
 // Corrects a received frame whose arguments have passed all rules, and counts.
@@ -135,7 +134,7 @@ fn correct_frame(
     ensures { λ a. ⌜ correctedOf (Decoding.Decoded a) (frameOf (now (info .exit)) (now (red .exit)))
         ≡ correctedFrame (paramsOf d) (listsOf d (now (own .entry)) (now (parity .entry))) blocks rounds (frameOf (now (info .entry)) (now (red .entry))) ⌝ }
 {
-    let line = first_line(d, blocks);
+    let line = words_lines::first_line(d, blocks);
     let limit = decoder_frame::rounds_allowed(rounds);
     let n = d.order();
     let all = work.len();
@@ -182,20 +181,12 @@ fn check_copy(
     ensures { λ a. ⌜ verdictOf a ≡ copyRules (paramsOf d) blocks rounds (now (own .entry)) (now (parity .entry)) (now (info .entry)) (now (red .entry))
         (length (now (work .entry))) ⌝ }
 {
-    let have = Lengths {
-        own: own.len(),
-        parity: parity.len(),
-        inverse: 0,
-        info: info.len(),
-        red: red.len(),
-        work: work.len(),
+    let asked = Asked {
+        blocks: blocks,
+        rounds: rounds,
+        due: rules::decoder_due(d, blocks),
     };
-    let lengths = rules::check_frame(d, blocks, rounds, have, rules::decoder_due(d, blocks));
-    let Check::Passed = lengths else {
-        return lengths;
-    };
-    let n = d.order();
-    rules::check_bytes(d, own, parity, &own[..0], info, red, &mut work[0..n])
+    words::check_received(d, asked, own, parity, info, red, work)
 }
 
 // A refused check as the decoder's answer; for calls that end in a decoding.

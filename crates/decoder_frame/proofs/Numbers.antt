@@ -1,72 +1,46 @@
 -- The kept numbers of a frame, filled, and counted.
---   row-sums, column-sums    the remainders of a line's words
 --   put-more                 one number more
 --   line-filled, line-stored a line more
 --   filled-keeps             the remainders of all words, as kept numbers
 --   kept-outside             the words outside the code are those whose number is not 0
 -- Assumes nothing.
-use mathlib.Core.Path.{_≡_, refl, sym, ap, ap₂, _∙_, subst, subst⁻¹}
-use mathlib.Core.Bool.{Bool, true, cond, true≢false}
+use mathlib.Core.Path.{_≡_, refl, sym, ap, ap₂, _∙_, subst}
+use mathlib.Core.Bool.{true, cond, true≢false}
 use mathlib.Core.Logic.{_≢_}
 use mathlib.Core.List.{List, [], _∷_, _++_}
-use Prim.Native.Nat.{ℕ, zero, suc, _+_, _-_, _*_, _/_, _%_, _^_, _≤_, _<_}
+use Prim.Native.Nat.{ℕ, zero, suc, _+_, _-_, _*_, _%_, _^_, _≤_, _<_}
 use native.Mathlib.Nat.{mod-eq-of-lt, add-zero}
 use native.Mathlib.Decide.{decLt, ℕ-discrete}
 use native.Mathlib.Omega.{arith}
 use lib.Dec.{eqb, leb}
 use lib.Pow.{pow-mono}
-use lib.ListN.{length, getD, take, drop, length-drop}
-use lib.Seq.{take-all, drop-at}
-use borrow.Author.Tests.{eq-eqb, ne-eqb, lt-leb}
+use lib.ListN.{length, getD, take, drop}
+use borrow.Author.Tests.{lt-leb}
 use Rattle.bch.specs.Polynomial.{remainder}
 use Rattle.bch.specs.Code.{isCodeword}
 use Rattle.bch.proofs.Word.{remainder-below}
 use Rattle.staircase.specs.Lists.{tabulate}
 use Rattle.staircase.specs.Design.{Params, Interleavers}
-use Rattle.staircase.specs.Frame.{Frame, Site, frameOf, read, rowSites, columnSites, outsideEach, outsideAmong, outside}
-use Rattle.staircase.specs.Lines.{lineSites, wordCount, frameWord}
+use Rattle.staircase.specs.Frame.{Frame, Site, frameOf, read, outsideEach, outsideAmong, outside}
+use Rattle.staircase.specs.Lines.{wordCount, frameWord}
 use Rattle.staircase.proofs.Tabulate.{tabulate-length, tabulate-at, tabulate-last}
 use Rattle.staircase.proofs.Flip.{read-bits}
-use Rattle.staircase.proofs.Fill.{front-last}
 use Rattle.staircase.proofs.Outside.{outside-append}
 use Rattle.staircase.proofs.Lines.{words-numbered}
 use Rattle.staircase.proofs.KeptFrame.{word-number}
 use Rattle.design.specs.declared.Design.{Design}
 use Rattle.design.specs.Answers.{Allowed}
-use Rattle.design.specs.Sizes.{paramsOf, orderOf, listsOf}
+use Rattle.design.specs.Sizes.{paramsOf, listsOf}
 use Rattle.design.proofs.Allowed.{proper-of, r-small}
 use Rattle.rules.specs.Received.{FrameFits}
 use Rattle.words_positions.proofs.Parts.{part-is}
-use Rattle.words.specs.Words.{rowRemainders, columnRemainders}
 use Rattle.decoder_kept.specs.Numbers.{keptAt, numberAt, OnlyAt, nonzeroNumbers}
-use Rattle.decoder_lines.specs.declared.Line.{Line}
+use Rattle.words_lines.specs.declared.Line.{Line}
+use Rattle.words_lines.specs.Lines.{lineRemainder}
 use Rattle.decoder_lines.specs.Links.{listsIn}
 use Rattle.decoder_words.specs.Ready.{FrameKept}
 use Rattle.decoder_words.proofs.Flips.{received}
-use Rattle.decoder_frame.specs.Filled.{lineRemainder, Filled, PutFrom}
-
--- ---- the remainders of a line
-
-module _ (line : Line) (own parity : List ℕ) (f : Frame) where
-  abbrev s : Params
-  s = paramsOf (line .d)
-
-  abbrev l : Interleavers
-  l = listsOf (line .d) own parity
-
-  pub row-sums : {u : List ℕ} → line .k % 2 ≡ 0 → u ≡ rowRemainders (paramsOf (line .d)) (listsOf (line .d) own parity) (line .blocks) f (line .k / 2)
-      → u ≡ tabulate (line .d .size) (lineRemainder line own parity f)
-  unfolding rowRemainders lineSites
-  row-sums e h =
-      h ∙ ap (λ (z : Bool). tabulate (s .M) (λ a. remainder (s .g) (s .r) (read f (cond z (rowSites s l (line .blocks) (line .k / 2) a) (columnSites s (line .blocks) (line .k / 2) a)))))
-      (sym (eq-eqb (line .k % 2) 0 e))
-
-  pub column-sums : {u : List ℕ} → line .k % 2 ≢ 0 → u ≡ columnRemainders (paramsOf (line .d)) (line .blocks) f (line .k / 2)
-      → u ≡ tabulate (line .d .size) (lineRemainder line own parity f)
-  unfolding columnRemainders lineSites
-  column-sums e h =
-      h ∙ ap (λ (z : Bool). tabulate (s .M) (λ a. remainder (s .g) (s .r) (read f (cond z (rowSites s l (line .blocks) (line .k / 2) a) (columnSites s (line .blocks) (line .k / 2) a)))))
-      (sym (ne-eqb (line .k % 2) 0 e))
+use Rattle.decoder_frame.specs.Filled.{Filled, PutFrom}
 
 -- ---- a line's numbers
 
@@ -111,33 +85,13 @@ line-filled line own parity f {sums} {b} {a} {from} ef es P F w hw = go (decLt w
         (sym (word-number (paramsOf (line .d)) (listsOf (line .d) own parity) (line .blocks) (line .k) j hj))
         ∙ ap right num
 
--- the numbers stand behind n working bytes: these were lent and came back as W, then the numbers as B
-pub line-stored : (line : Line) (own parity : List ℕ) (f : Frame) (S E W work B : List ℕ) (n size all from : ℕ) → n ≡ orderOf (line .d) → size ≡ line .d .size
-    → all ≡ length work → n ≤ all → length W ≡ n → from ≡ line .k * line .d .size → S ≡ tabulate (line .d .size) (lineRemainder line own parity f)
-    → PutFrom (take (size - 0) (drop 0 (S ++ E))) from (take (all - n) (drop n (W ++ drop (n - 0) work))) B
-    → Filled line own parity f (drop (orderOf (line .d)) work) (line .k * line .d .size)
-    → Filled line own parity f (drop (orderOf (line .d)) (take n (W ++ drop (n - 0) work) ++ (B ++ drop (all - n) (drop n (W ++ drop (n - 0) work)))))
-    (line .k * line .d .size + line .d .size)
-line-stored line own parity f S E W work B n size all from en em ea le lw ef es P F =
-    subst⁻¹ (λ (b : List ℕ). Filled line own parity f b (line .k * line .d .size + line .d .size)) left
-    (line-filled line own parity f ef es
-    (subst (λ (u : List ℕ). PutFrom S from u B) lent (subst (λ (u : List ℕ). PutFrom u from (take (all - n) (drop n (W ++ drop (n - 0) work))) B) (part-is S E size ls) P)) F)
-  where
-    ls : length S ≡ size
-    ls = ap length es ∙ tabulate-length (line .d .size) (lineRemainder line own parity f) ∙ sym em
-
-    same : n - 0 ≡ orderOf (line .d)
-    same = omega (arith, en)
-
-    lent : take (all - n) (drop n (W ++ drop (n - 0) work)) ≡ drop (orderOf (line .d)) work
-    lent =
-        ap (take (all - n)) (drop-at W (drop (n - 0) work) n lw) ∙ take-all (all - n) (drop (n - 0) work) (omega (arith, length-drop (n - 0) work, ea))
-        ∙ ap (λ (k : ℕ). drop k work) same
-
-    left : drop (orderOf (line .d)) (take n (W ++ drop (n - 0) work) ++ (B ++ drop (all - n) (drop n (W ++ drop (n - 0) work)))) ≡ B
-    left =
-        ap (drop (orderOf (line .d))) (front-last W (drop (n - 0) work) B n (all - n) lw (omega (arith, length-drop (n - 0) work, ea)))
-        ∙ drop-at W B (orderOf (line .d)) (lw ∙ en)
+-- the remainders are the first `size` entries of a local array, S and then E
+pub line-stored : (line : Line) (own parity : List ℕ) (f : Frame) (S E b a : List ℕ) (size from : ℕ) → size ≡ line .d .size → from ≡ line .k * line .d .size
+    → S ≡ tabulate (line .d .size) (lineRemainder line own parity f) → PutFrom (take (size - 0) (drop 0 (S ++ E))) from b a
+    → Filled line own parity f b (line .k * line .d .size) → Filled line own parity f a (line .k * line .d .size + line .d .size)
+line-stored line own parity f S E b a size from em ef es P F =
+    let long : length S ≡ size = ap length es ∙ tabulate-length (line .d .size) (lineRemainder line own parity f) ∙ sym em in
+    line-filled line own parity f ef es (subst (λ (u : List ℕ). PutFrom u from b a) (part-is S E size long) P) F
 
 -- ---- all numbers
 

@@ -1,7 +1,6 @@
 -- The kept numbers of a frame, as they are filled: steps of the decoder, which no promise names.
---   lineRemainder   the remainder of word a of a line
---   Filled          the first n numbers are the remainders of the frame's words
---   PutFrom         the entries of a list are the numbers from one on, and all others are as they were
+--   Filled    the first n numbers are the remainders of the frame's words
+--   PutFrom   the entries of a list are the numbers from one on, and all others are as they were
 -- Assumes nothing.
 use mathlib.Core.Path.{_≡_}
 use mathlib.Core.List.{List}
@@ -9,14 +8,10 @@ use Prim.Native.Nat.{ℕ, _+_, _<_}
 use lib.ListN.{length, getD}
 use Rattle.bch.specs.Polynomial.{remainder}
 use Rattle.staircase.specs.Frame.{Frame, read}
-use Rattle.staircase.specs.Lines.{lineSites, frameWord}
+use Rattle.staircase.specs.Lines.{frameWord}
 use Rattle.design.specs.Sizes.{paramsOf, listsOf}
 use Rattle.decoder_kept.specs.Numbers.{keptAt}
-use Rattle.decoder_lines.specs.declared.Line.{Line}
-
-abbrev pub lineRemainder : Line → List ℕ → List ℕ → Frame → ℕ → ℕ
-lineRemainder line own parity f a =
-    remainder (paramsOf (line .d) .g) (paramsOf (line .d) .r) (read f (lineSites (paramsOf (line .d)) (listsOf (line .d) own parity) (line .blocks) (line .k) a))
+use Rattle.words_lines.specs.declared.Line.{Line}
 
 abbrev pub Filled : Line → List ℕ → List ℕ → Frame → List ℕ → ℕ → Type 0
 Filled line own parity f numbers n =

@@ -10,22 +10,22 @@
 ghost use mathlib.Core.Path.{_≡_};
 ghost use Prim.Native.Nat.{_+_, _*_, _^_, _≤_};
 ghost use lib.ListN.{length, take, drop};
-ghost use Rattle.staircase.specs.Lists.{tabulate};
 ghost use Rattle.staircase.specs.Design.{most-rounds, wordLength};
 ghost use Rattle.staircase.specs.Frame.{frameOf, words};
 ghost use Rattle.staircase.specs.Decoder.{runRounds, roundsAllowed};
 ghost use Rattle.staircase.specs.Lines.{wordCount};
 ghost use Rattle.design.specs.Answers.{Allowed};
-ghost use Rattle.design.specs.Sizes.{paramsOf, orderOf};
+ghost use Rattle.design.specs.Sizes.{paramsOf};
 ghost use Rattle.rules.specs.Received.{Received};
 ghost use Rattle.bch.specs.Locator.{FieldTables, SyndromeTable};
 ghost use Rattle.words.specs.Words.{WordTable};
 ghost use Rattle.decoder_locator.specs.Located.{SumTable};
-ghost use Rattle.decoder_lines.specs.Links.{listsIn, LineFits};
+ghost use Rattle.words_lines.specs.Lines.{LineFits};
+ghost use Rattle.decoder_lines.specs.Links.{listsIn};
 ghost use Rattle.decoder_words.specs.Ready.{WordTables, LineReady, FrameKept};
-ghost use Rattle.decoder_frame.specs.Filled.{lineRemainder, Filled, PutFrom};
-use decoder_lines::Line;
+ghost use Rattle.decoder_frame.specs.Filled.{Filled, PutFrom};
 use design::Design;
+use words_lines::Line;
 
 // "0 stands for 7"
 const DEFAULT_ROUNDS: usize = 7;
@@ -72,52 +72,6 @@ pub fn rounds_allowed(rounds: u64) -> usize
     rounds as usize
 }
 
-// Makes `sums` the remainders of the words of a line.
-fn line_remainders(
-    line: Line,
-    own: &[u8],
-    parity: &[u8],
-    info: &[u8],
-    red: &[u8],
-    positions: &[u32],
-    work: &mut [u8],
-    sums: &mut [u32],
-)
-    requires { ⌜ Received (line .d) (line .blocks) (now own) (now parity) (now info) (now red) × LineFits line × WordTable (line .d) (now positions)
-        × (length (now work) ≡ orderOf (line .d)) × (length (now sums) ≡ line .d .size) ⌝ }
-    ensures { λ u. ⌜ (now (sums .exit) ≡ tabulate (line .d .size)
-        (lineRemainder line (now (own .entry)) (now (parity .entry)) (frameOf (now (info .entry)) (now (red .entry)))))
-        × (length (now (work .exit)) ≡ length (now (work .entry))) ⌝ }
-{
-    let i = line.k / 2;
-    if line.k % 2 == 0 {
-        words::row_remainders(
-            line.d,
-            line.blocks,
-            i,
-            own,
-            parity,
-            info,
-            red,
-            positions,
-            work,
-            sums,
-        );
-        return;
-    }
-    words::column_remainders(
-        line.d,
-        line.blocks,
-        i,
-        own,
-        parity,
-        info,
-        red,
-        positions,
-        sums,
-    );
-}
-
 // Makes the numbers from `from` on those of the lent list, without marks.
 fn put_numbers(sums: &[u32], from: usize, numbers: &mut [u8])
     requires { ⌜ (4 * (from + length (now sums)) ≤ length (now numbers)) × (length (now numbers) ≤ 16777216) ⌝ }
@@ -135,7 +89,7 @@ fn sum_entries() -> [u32; 512]
     [0; 512]
 }
 
-// Fills the kept numbers of a line, those of the lines before it being filled. They stand behind the working bytes for the entries of a list.
+// Fills the kept numbers of a line, those of the lines before it being filled.
 fn fill_line(
     line: Line,
     own: &[u8],
@@ -143,35 +97,23 @@ fn fill_line(
     info: &[u8],
     red: &[u8],
     positions: &[u32],
-    work: &mut [u8],
+    numbers: &mut [u8],
 )
     requires { ⌜ Received (line .d) (line .blocks) (now own) (now parity) (now info) (now red) × LineFits line × WordTable (line .d) (now positions)
-        × (length (now work) ≡ orderOf (line .d) + 4 * wordCount (paramsOf (line .d)) (line .blocks))
-        × Filled line (now own) (now parity) (frameOf (now info) (now red)) (drop (orderOf (line .d)) (now work)) (line .k * line .d .size) ⌝ }
-    ensures { λ u. ⌜ (length (now (work .exit)) ≡ length (now (work .entry)))
+        × (length (now numbers) ≡ 4 * wordCount (paramsOf (line .d)) (line .blocks))
+        × Filled line (now own) (now parity) (frameOf (now info) (now red)) (now numbers) (line .k * line .d .size) ⌝ }
+    ensures { λ u. ⌜ (length (now (numbers .exit)) ≡ length (now (numbers .entry)))
         × Filled line (now (own .entry)) (now (parity .entry)) (frameOf (now (info .entry)) (now (red .entry)))
-        (drop (orderOf (line .d)) (now (work .exit))) (line .k * line .d .size + line .d .size) ⌝ }
+        (now (numbers .exit)) (line .k * line .d .size + line .d .size) ⌝ }
 {
-    let n = line.d.order();
     let size = line.d.size();
-    let all = work.len();
     let from = decoder_lines::word_number(line, 0);
     let mut sums = sum_entries();
-    line_remainders(
-        line,
-        own,
-        parity,
-        info,
-        red,
-        positions,
-        &mut work[0..n],
-        &mut sums[0..size],
-    );
-    put_numbers(&sums[0..size], from, &mut work[n..all]);
+    words::line_remainders(line, own, parity, info, red, positions, &mut sums[0..size]);
+    put_numbers(&sums[0..size], from, numbers);
 }
 
-// Fills the kept numbers of all words of a frame. They stand behind the working bytes for the entries of a list. One step for each bit of the words.
-// The line is any of the frame.
+// Fills the kept numbers of all words of a frame. One step for each bit of the words. The line is any of the frame.
 pub fn fill_numbers(
     line: Line,
     own: &[u8],
@@ -179,18 +121,18 @@ pub fn fill_numbers(
     info: &[u8],
     red: &[u8],
     positions: &[u32],
-    work: &mut [u8],
+    numbers: &mut [u8],
 )
     requires { ⌜ Received (line .d) (line .blocks) (now own) (now parity) (now info) (now red) × WordTable (line .d) (now positions)
-        × (length (now work) ≡ orderOf (line .d) + 4 * wordCount (paramsOf (line .d)) (line .blocks)) ⌝ }
-    ensures { λ u. ⌜ (length (now (work .exit)) ≡ length (now (work .entry)))
+        × (length (now numbers) ≡ 4 * wordCount (paramsOf (line .d)) (line .blocks)) ⌝ }
+    ensures { λ u. ⌜ (length (now (numbers .exit)) ≡ length (now (numbers .entry)))
         × Filled line (now (own .entry)) (now (parity .entry)) (frameOf (now (info .entry)) (now (red .entry)))
-        (drop (orderOf (line .d)) (now (work .exit))) (wordCount (paramsOf (line .d)) (line .blocks)) ⌝ }
+        (now (numbers .exit)) (wordCount (paramsOf (line .d)) (line .blocks)) ⌝ }
 {
-    let lines = decoder_lines::line_count(line.blocks);
+    let lines = words_lines::line_count(line.blocks);
     for k in 0..lines {
-        let here = decoder_lines::line_at(line, k);
-        fill_line(here, own, parity, info, red, positions, work);
+        let here = words_lines::line_at(line, k);
+        fill_line(here, own, parity, info, red, positions, numbers);
     }
 }
 
@@ -212,7 +154,7 @@ pub fn run_rounds(
         (frameOf (now (info .entry)) (now (red .entry))))
         × FrameKept (line .d) (line .blocks) (now (links .entry)) (now (info .exit)) (now (red .exit)) (now (numbers .exit)) ⌝ }
 {
-    let lines = decoder_lines::line_count(line.blocks);
+    let lines = words_lines::line_count(line.blocks);
     let mut flips = 0;
     for k in 0..limit {
         let more = decoder_words::correct_lines(

@@ -33,9 +33,10 @@ use Rattle.design.specs.Sizes.{paramsOf, orderOf}
 use Rattle.design.proofs.Allowed.{proper-of, r-small}
 use Rattle.words_blocks.specs.Blocks.{Powers}
 use Rattle.decoder_kept.specs.Numbers.{keptAt, numberAt, markedAt, OnlyAt}
-use Rattle.decoder_lines.specs.declared.Line.{Line}
+use Rattle.words_lines.specs.declared.Line.{Line}
 use Rattle.decoder_lines.specs.declared.WordBit.{WordBit}
-use Rattle.decoder_lines.specs.Links.{listsIn, LinksFit, LineFits, incidenceOf, Crossed}
+use Rattle.words_lines.specs.Lines.{LineFits}
+use Rattle.decoder_lines.specs.Links.{listsIn, LinksFit, incidenceOf, Crossed}
 use Rattle.decoder_lines.proofs.Places.{red-below}
 use Rattle.decoder_lines.proofs.Links.{link-row, link-column}
 

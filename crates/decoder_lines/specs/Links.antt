@@ -2,7 +2,6 @@
 --   linkOf             entry q of the table of links
 --   listsIn            the two lists that a table holds
 --   LinksFit           a table of links, of lists that are permutations
---   LineFits           a line of a frame under an allowed design
 --   incidenceOf        a position of a word, from code's answer
 --   keptOf             the kept numbers and marks
 --   Crossed            the crossing word's number has got its power and lost its mark, and no other has changed
@@ -11,22 +10,19 @@ use mathlib.Core.Path.{_≡_}
 use mathlib.Core.Bool.{true, false, cond}
 use mathlib.Core.Logic.{_≢_}
 use mathlib.Core.List.{List}
-use Prim.Native.Nat.{ℕ, _+_, _-_, _*_, _≤_, _<_}
+use Prim.Native.Nat.{ℕ, _+_, _-_, _*_, _<_}
 use lib.Dec.{ltb}
 use lib.ListN.{length, getD}
 use Rattle.bch.specs.Polynomial.{_⊕_}
 use Rattle.bch.specs.Powers.{powerMod}
 use Rattle.staircase.specs.Lists.{tabulate}
-use Rattle.staircase.specs.Design.{Params, Interleavers, order, wordLength, most-blocks}
-use Rattle.staircase.specs.Frame.{groups}
+use Rattle.staircase.specs.Design.{Params, Interleavers, order, wordLength}
 use Rattle.staircase.specs.Demand2.{Permutes}
 use Rattle.staircase.specs.Kept.{Kept}
 use Rattle.staircase.specs.Lines.{Incidence, incidence, partner}
 use Rattle.design.specs.declared.Design.{Design}
-use Rattle.design.specs.Answers.{Allowed}
 use Rattle.design.specs.Sizes.{paramsOf, orderOf}
 use Rattle.decoder_kept.specs.Numbers.{numberAt, markedAt}
-use Rattle.decoder_lines.specs.declared.Line.{Line}
 use Rattle.decoder_lines.specs.declared.WordBit.{WordBit}
 
 -- from X and then Q to Y and then P, and behind that the way back
@@ -43,11 +39,6 @@ pub record LinksFit (d : Design) (links : List ℕ) : Type 0 where
   pub entries : links ≡ tabulate (4 * orderOf d) (linkOf (paramsOf d) (listsIn d links))
   pub self : Permutes (orderOf d) (λ p. getD (listsIn d links .self) p 0)
   pub parity : Permutes (orderOf d) (λ p. getD (listsIn d links .parity) p 0)
-
-pub record LineFits (line : Line) : Type 0 where
-  pub allowed : Allowed (line .d)
-  pub few-blocks : line .blocks ≤ most-blocks
-  pub within : line .k < 2 * groups (line .blocks)
 
 abbrev pub incidenceOf : WordBit → Incidence
 incidenceOf b = incidence (b .line) (b .word) (b .position)

@@ -1,7 +1,5 @@
 // The lines of a frame: where the bits of their words stand, and the other word that has a bit.
 //   fill_links      the table of links, from the two lists
-//   line_at         another line of the same frame
-//   line_count      the lines of a frame
 //   site_at         where a position of a word stands in the buffers of a frame
 //   crossing_word   the other word that has the bit at a position of a word, and the position
 //   add_power       adds the power of that position to the word's kept number, and takes its mark away
@@ -23,16 +21,11 @@ ghost use Rattle.design.specs.Answers.{Allowed};
 ghost use Rattle.design.specs.Sizes.{paramsOf, orderOf, listsOf};
 ghost use Rattle.rules.specs.Received.{ListsFit};
 ghost use Rattle.words_blocks.specs.Blocks.{Powers};
+ghost use Rattle.words_lines.specs.Lines.{LineFits};
 ghost use Rattle.decoder_lines.specs.Sites.{sitesOf, Inside};
-ghost use Rattle.decoder_lines.specs.Links.{listsIn, LinksFit, LineFits, incidenceOf, Crossed};
+ghost use Rattle.decoder_lines.specs.Links.{listsIn, LinksFit, incidenceOf, Crossed};
 use design::Design;
-
-// A line of a frame of `blocks` blocks: line 2i has the row words of a group, line 2i + 1 its column words.
-pub struct Line {
-    pub d: Design,
-    pub blocks: usize,
-    pub k: usize,
-}
+use words_lines::Line;
 
 // A position of a word of a line.
 pub struct WordBit {
@@ -69,26 +62,6 @@ fn place(row: usize, width: usize, column: usize) -> usize
     ensures { λ a. ⌜ (a ≡ row * width + column) × (a ≤ 8389632) ⌝ }
 {
     row * width + column
-}
-
-// Another line of the same frame.
-pub fn line_at(line: Line, k: usize) -> Line
-    ensures { λ z. ⌜ z ≡ record { d = line .d; blocks = line .blocks; k = k } ⌝ }
-{
-    let d = line.d;
-    Line {
-        d: d,
-        blocks: line.blocks,
-        k: k,
-    }
-}
-
-// The lines of a frame, two for each group.
-pub fn line_count(blocks: usize) -> usize
-    requires { ⌜ blocks ≤ most-blocks ⌝ }
-    ensures { λ n. ⌜ (n ≡ 2 * groups blocks) × (n ≤ 4098) ⌝ }
-{
-    blocks + blocks % 2
 }
 
 // The number of word a of a line, among all words of the frame.
@@ -253,7 +226,7 @@ pub fn add_power(
 {
     let c = crossing_word(line, links, a, p);
     let d = line.d;
-    if c.line < line_count(line.blocks) {
+    if c.line < words_lines::line_count(line.blocks) {
         let w = place(c.line, d.size(), c.word);
         let at = c.position;
         decoder_kept::add(numbers, w, positions[at]);

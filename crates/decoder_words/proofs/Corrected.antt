@@ -38,8 +38,9 @@ use Rattle.decoder_locator.specs.declared.Located.{Located}
 use Rattle.decoder_locator.specs.declared.Located.the-variants.{Nowhere, One, Two, Three}
 use Rattle.decoder_locator.specs.Located.{positionsOf}
 use Rattle.decoder_kept.specs.Numbers.{keptAt, numberAt, markedAt, OnlyAt}
-use Rattle.decoder_lines.specs.declared.Line.{Line}
-use Rattle.decoder_lines.specs.Links.{listsIn, LinksFit, LineFits, keptOf, Crossed}
+use Rattle.words_lines.specs.declared.Line.{Line}
+use Rattle.words_lines.specs.Lines.{LineFits}
+use Rattle.decoder_lines.specs.Links.{listsIn, LinksFit, keptOf, Crossed}
 use Rattle.decoder_words.specs.Sites.{Below}
 use Rattle.decoder_words.specs.Ready.{FrameKept, lineWord, correctionAt, KeptBut, SentAt, CrossedAll}
 use Rattle.decoder_words.proofs.Flips.{received}

@@ -17,7 +17,7 @@ use Rattle.staircase.specs.Decoder.{correction, flipAll, Progress, correctWord,
 use Rattle.staircase.proofs.Tabulate.{tabulate-length, concat-last}
 use Rattle.staircase.proofs.Bounds.{small-product}
 use Rattle.staircase.proofs.Rounds.{correctWords-append, correctWords-from, correctWords-last, correctWords-few}
-use Rattle.decoder_lines.specs.declared.Line.{Line}
+use Rattle.words_lines.specs.declared.Line.{Line}
 use Rattle.decoder_words.specs.Ready.{LineReady}
 
 module _ (s : Params) (W : ℕ → List Site) (f : Frame) where

@@ -36,7 +36,7 @@ use Rattle.decoder_locator.proofs.ErrorPositions.{errorPositions-located}
 use Rattle.decoder_lines.specs.declared.BitSite.{BitSite}
 use Rattle.decoder_lines.specs.declared.BitSite.the-variants.{Absent, Unsent, Info, Red}
 use Rattle.decoder_words.specs.declared.Spots.{Spots}
-use Rattle.decoder_lines.specs.declared.Line.{Line}
+use Rattle.words_lines.specs.declared.Line.{Line}
 use Rattle.decoder_lines.specs.Sites.{Inside}
 use Rattle.decoder_lines.specs.Links.{listsIn}
 use Rattle.decoder_words.specs.Sites.{AllInside, Below}

@@ -22,8 +22,9 @@ use Rattle.design.specs.declared.Design.{Design}
 use Rattle.design.specs.Sizes.{paramsOf}
 use Rattle.rules.specs.Received.{FrameFits}
 use Rattle.decoder_locator.specs.Located.{LocatorTables}
-use Rattle.decoder_lines.specs.declared.Line.{Line}
-use Rattle.decoder_lines.specs.Links.{listsIn, LinksFit, LineFits, keptOf, Crossed}
+use Rattle.words_lines.specs.declared.Line.{Line}
+use Rattle.words_lines.specs.Lines.{LineFits}
+use Rattle.decoder_lines.specs.Links.{listsIn, LinksFit, keptOf, Crossed}
 
 pub record WordTables (d : Design) (tables field : List ℕ) : Type 0 where
   pub long : length tables ≡ wordLength (paramsOf d) + (wordLength (paramsOf d) + 128)

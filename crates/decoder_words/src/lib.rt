@@ -23,14 +23,15 @@ ghost use Rattle.design.specs.Sizes.{paramsOf, orderOf};
 ghost use Rattle.rules.specs.Received.{FrameFits};
 ghost use Rattle.words_blocks.specs.Blocks.{Powers};
 ghost use Rattle.decoder_lines.specs.Sites.{sitesOf, Inside};
-ghost use Rattle.decoder_lines.specs.Links.{listsIn, LinksFit, LineFits};
+ghost use Rattle.words_lines.specs.Lines.{LineFits};
+ghost use Rattle.decoder_lines.specs.Links.{listsIn, LinksFit};
 ghost use Rattle.decoder_locator.specs.Located.{positionsOf, located};
 ghost use Rattle.decoder_words.specs.Sites.{listed, AllInside, Below};
 ghost use Rattle.decoder_words.specs.Ready.{WordTables, LineReady, FrameKept, lineWord, correctionAt, SentAt, CrossedAll};
 use decoder_lines::BitSite;
-use decoder_lines::Line;
 use decoder_locator::Located;
 use design::Design;
+use words_lines::Line;
 
 // Where at most three bits of a word stand, and how many there are.
 struct Spots {
@@ -329,7 +330,7 @@ pub fn correct_lines(
 {
     let mut flips = 0;
     for i in 0..count {
-        let here = decoder_lines::line_at(line, line.k + i);
+        let here = words_lines::line_at(line, line.k + i);
         let more = correct_line(here, links, tables, field, info, red, numbers);
         flips += more;
     }

@@ -32,6 +32,7 @@ pub mod CorrectedWord
 pub mod Weight
 pub mod Kept
 pub mod Lines
+pub mod Readings
 pub mod Crossing
 pub mod KeptFrame
 pub mod Rules

@@ -8,6 +8,7 @@ pub mod Solvable
 pub mod Decoder
 pub mod Kept
 pub mod Lines
+pub mod Readings
 pub mod Rules
 pub mod Calls
 pub mod Maker

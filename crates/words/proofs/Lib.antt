@@ -1,5 +1,5 @@
 pub mod Remainders
 pub mod Columns
-pub mod Groups
+pub mod Lines
 pub mod Count
 pub mod WordsCall

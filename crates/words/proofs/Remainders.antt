@@ -1,10 +1,11 @@
--- The remainder of a word of a group as sums of entries of the table of powers of x, one for each of its four stretches.
---   word-sum            a word of M, M, r and r bits
---   row-is, column-is   a row word and a column word of a frame
+-- The remainder of a word of a line as sums of entries of the table of powers of x, one for each of its four stretches.
+--   word-sum   a word of M, M, r and r bits
+--   line-is    a word of a line
 -- Assumes nothing.
-use mathlib.Core.Path.{_≡_, refl, sym, ap, ap₂, _∙_}
+use mathlib.Core.Path.{_≡_, refl, sym, ap, ap₂, _∙_, subst}
+use mathlib.Core.Bool.{Bool, true, false, not}
 use mathlib.Core.List.{List, _++_}
-use Prim.Native.Nat.{ℕ, suc, _+_, _-_, _*_, _<_}
+use Prim.Native.Nat.{ℕ, suc, _+_, _-_, _*_, _/_, _<_}
 use native.Mathlib.Nat.{zero-add}
 use native.Mathlib.Omega.{arith}
 use lib.Arith.{digits-lt}
@@ -18,14 +19,17 @@ use Rattle.staircase.specs.Lists.{tabulate}
 use Rattle.staircase.specs.Design.{Params, Interleavers, wordLength, order}
 use Rattle.staircase.specs.Word.{rowWord, rowInfo, columnWord, columnInfo}
 use Rattle.staircase.specs.System.{Contents}
-use Rattle.staircase.specs.Frame.{rowSites, columnSites, read, blockContents, frameOf}
+use Rattle.staircase.specs.Frame.{Site, rowSites, columnSites, read, blockContents, frameOf}
+use Rattle.staircase.specs.Lines.{even, lineSites}
 use Rattle.staircase.specs.Demand2.{Permutes}
 use Rattle.staircase.proofs.System.{Proper}
 use Rattle.staircase.proofs.Tabulate.{Binary, tabulate-length, tabulate-at, tabulate-bits}
 use Rattle.staircase.proofs.Redundancy.{block-binary, read-row, read-column}
-use Rattle.words_blocks.specs.Blocks.{partSum, columnSum, rowSum, Powers}
+use Rattle.staircase.proofs.Lines.{even-twice, odd-twice, line-ind, line-row, line-column}
+use Rattle.words_blocks.specs.Blocks.{partSum, bitPlace, blockSum, Powers}
 use Rattle.words_blocks.proofs.Sums.{part-same}
 use Rattle.words_blocks.proofs.BlockRemainders.{SameBlock}
+use Rattle.words.specs.Words.{redPlace}
 
 -- ---- sums over a word, by any weights of its positions
 
@@ -98,36 +102,57 @@ module _ (s : Params) (positions : List ℕ) (P : Powers s positions) where
       ∙ sym (ap (remainder (s .g) (s .r)) e ∙ word-sum f h k p hf hh hk hp)
 
   module _ (l : Interleavers) (L : ℕ) (ok : Proper s) (ps : Permutes (order s) (λ p. getD (l .self) p 0)) (pp : Permutes (order s) (λ p. getD (l .parity) p 0))
-      (info red : List ℕ) (hi : Bits info) (hr : Bits red) (i a : ℕ) (ha : a < s .M) where
-    abbrev y : Contents
-    y q = getD red (i * (2 * order s) + q) 0
+      (info red : List ℕ) (hi : Bits info) (hr : Bits red) (a : ℕ) (ha : a < s .M) where
+    abbrev y : ℕ → Contents
+    y i q = getD red (i * (2 * order s) + q) 0
 
-    abbrev p : Contents
-    p q = getD red (i * (2 * order s) + order s + q) 0
+    abbrev p : ℕ → Contents
+    p i q = getD red (i * (2 * order s) + order s + q) 0
 
-    pub row-is : (b o : Contents) → SameBlock s b (blockContents s L info (2 * i)) → SameBlock s o (blockContents s L info (2 * i + 1))
-        → rowSum positions (s .M) b o a ⊕ partSum positions (2 * s .M) (s .r) (λ j. getD red (i * (2 * order s) + getD (l .self) (j * s .M + a) 0) 0)
-        ⊕ partSum positions (2 * s .M + s .r) (s .r) (λ j. getD red (i * (2 * order s) + order s + getD (l .parity) (j * s .M + a) 0) 0)
-        ≡ remainder (s .g) (s .r) (read (frameOf info red) (rowSites s l L i a))
-    unfolding rowWord rowInfo rowSum
-    row-is b o sb so =
+    -- the sums over the four stretches of word a of a line of group i, whose words are row words or not
+    abbrev stretches : Bool → ℕ → Contents → Contents → ℕ
+    stretches rows i b o =
+        blockSum (not rows) positions (s .M) b o a ⊕ partSum positions (2 * s .M) (s .r) (λ j. y i (redPlace rows (l .self) (j * s .M + a)))
+        ⊕ partSum positions (2 * s .M + s .r) (s .r) (λ j. p i (redPlace rows (l .parity) (j * s .M + a)))
+
+    row-is : (i : ℕ) (b o : Contents) → SameBlock s b (blockContents s L info (2 * i)) → SameBlock s o (blockContents s L info (2 * i + 1))
+        → stretches true i b o ≡ remainder (s .g) (s .r) (read (frameOf info red) (rowSites s l L i a))
+    unfolding rowWord rowInfo blockSum bitPlace redPlace
+    row-is i b o sb so =
         word-is (read (frameOf info red) (rowSites s l L i a)) (λ j. b (a * s .M + j)) (λ j. o (a * s .M + j))
         (λ j. blockContents s L info (2 * i) (a * s .M + j)) (λ j. blockContents s L info (2 * i + 1) (a * s .M + j))
-        (λ j. y (getD (l .self) (j * s .M + a) 0)) (λ j. p (getD (l .parity) (j * s .M + a) 0))
+        (λ j. y i (getD (l .self) (j * s .M + a) 0)) (λ j. p i (getD (l .parity) (j * s .M + a) 0))
         (λ j. block-binary s L info hi (2 * i) (a * s .M + j)) (λ j. block-binary s L info hi (2 * i + 1) (a * s .M + j))
         (λ j. hr (i * (2 * order s) + getD (l .self) (j * s .M + a) 0)) (λ j. hr (i * (2 * order s) + order s + getD (l .parity) (j * s .M + a) 0))
-        (read-row s l L ok ps pp info red i a ha y p (λ k m. refl) (λ k m. refl))
+        (read-row s l L ok ps pp info red i a ha (y i) (p i) (λ k m. refl) (λ k m. refl))
         (λ j m. sb (a * s .M + j) (digits-lt ha m)) (λ j m. so (a * s .M + j) (digits-lt ha m))
 
-    pub column-is : (o e : Contents) → SameBlock s o (blockContents s L info (2 * i + 1)) → SameBlock s e (blockContents s L info (2 * i + 2))
-        → columnSum positions (s .M) o e a ⊕ partSum positions (2 * s .M) (s .r) (λ j. getD red (i * (2 * order s) + (j * s .M + a)) 0)
-        ⊕ partSum positions (2 * s .M + s .r) (s .r) (λ j. getD red (i * (2 * order s) + order s + (j * s .M + a)) 0)
-        ≡ remainder (s .g) (s .r) (read (frameOf info red) (columnSites s L i a))
-    unfolding columnWord columnInfo columnSum
-    column-is o e so se =
+    column-is : (i : ℕ) (o e : Contents) → SameBlock s o (blockContents s L info (2 * i + 1)) → SameBlock s e (blockContents s L info (2 * i + 2))
+        → stretches false i o e ≡ remainder (s .g) (s .r) (read (frameOf info red) (columnSites s L i a))
+    unfolding columnWord columnInfo blockSum bitPlace redPlace
+    column-is i o e so se =
         word-is (read (frameOf info red) (columnSites s L i a)) (λ j. o (j * s .M + a)) (λ j. e (j * s .M + a))
-        (λ j. blockContents s L info (2 * i + 1) (j * s .M + a)) (λ j. blockContents s L info (2 * i + 2) (j * s .M + a)) (λ j. y (j * s .M + a)) (λ j. p (j * s .M + a))
+        (λ j. blockContents s L info (2 * i + 1) (j * s .M + a)) (λ j. blockContents s L info (2 * i + 2) (j * s .M + a)) (λ j. y i (j * s .M + a)) (λ j. p i (j * s .M + a))
         (λ j. block-binary s L info hi (2 * i + 1) (j * s .M + a)) (λ j. block-binary s L info hi (2 * i + 2) (j * s .M + a))
         (λ j. hr (i * (2 * order s) + (j * s .M + a))) (λ j. hr (i * (2 * order s) + order s + (j * s .M + a)))
-        (read-column s l L ok ps pp info red i a ha y p (λ k m. refl) (λ k m. refl))
+        (read-column s l L ok ps pp info red i a ha (y i) (p i) (λ k m. refl) (λ k m. refl))
         (λ j m. so (j * s .M + a) (digits-lt m ha)) (λ j m. se (j * s .M + a) (digits-lt m ha))
+
+    pub line-is : (k : ℕ) (b o : Contents) → SameBlock s b (blockContents s L info k) → SameBlock s o (blockContents s L info (k + 1))
+        → blockSum (not (even k)) positions (s .M) b o a
+        ⊕ partSum positions (2 * s .M) (s .r) (λ j. getD red (k / 2 * (2 * order s) + redPlace (even k) (l .self) (j * s .M + a)) 0)
+        ⊕ partSum positions (2 * s .M + s .r) (s .r) (λ j. getD red (k / 2 * (2 * order s) + order s + redPlace (even k) (l .parity) (j * s .M + a)) 0)
+        ≡ remainder (s .g) (s .r) (read (frameOf info red) (lineSites s l L k a))
+    line-is =
+        line-ind
+        (λ (k : ℕ). (b o : Contents) → SameBlock s b (blockContents s L info k) → SameBlock s o (blockContents s L info (k + 1))
+        → stretches (even k) (k / 2) b o ≡ remainder (s .g) (s .r) (read (frameOf info red) (lineSites s l L k a)))
+        (λ i b o sb so.
+        let h : 2 * i / 2 ≡ i = omega arith in
+        ap₂ (λ (z : Bool) (j : ℕ). stretches z j b o) (even-twice i) h ∙ row-is i b o sb so
+        ∙ ap (λ (w : List Site). remainder (s .g) (s .r) (read (frameOf info red) w)) (sym (line-row s l L i a)))
+        (λ i b o sb so.
+        let h : (2 * i + 1) / 2 ≡ i = omega arith in
+        let e : 2 * i + 1 + 1 ≡ 2 * i + 2 = omega arith in
+        ap₂ (λ (z : Bool) (j : ℕ). stretches z j b o) (odd-twice i) h ∙ column-is i b o sb (subst (λ (n : ℕ). SameBlock s o (blockContents s L info n)) e so)
+        ∙ ap (λ (w : List Site). remainder (s .g) (s .r) (read (frameOf info red) w)) (sym (line-column s l L i a)))

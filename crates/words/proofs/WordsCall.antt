@@ -1,13 +1,15 @@
 -- The word checker's verdict step by step, and its answer.
+--   lists-asked                                what is asked of the lists
+--   received-due                               the rules with the lengths that are due where rule 4 accepts the number of blocks
 --   received-flat                              the rules on a received frame, one after another
 --   counted-refused                            a refusal as an answer
 --   words-design, words-frame, words-counted   the call's answer at each of its ends
 -- Assumes nothing.
-use mathlib.Core.Path.{_≡_, refl, sym, ap, ap₂, _∙_}
+use mathlib.Core.Path.{_≡_, refl, sym, ap, ap₂, _∙_, subst⁻¹}
 use mathlib.Core.Logic.{_≢_}
 use mathlib.Core.List.{List, []}
-use Prim.Native.Nat.{ℕ}
-use Rattle.staircase.specs.Design.{Params, params}
+use Prim.Native.Nat.{ℕ, _*_, _≤_}
+use Rattle.staircase.specs.Design.{Params, params, most-blocks}
 use Rattle.staircase.specs.Frame.{outside, frameOf}
 use Rattle.staircase.specs.Rules.{Verdict, _then_, designRules, countRule, roundsRule, lengthRule, listLengths, frameLengths, wordWork, interleavers, listRule, frameBits}
 use Rattle.staircase.specs.Rules.Verdict.{accepted, refused}
@@ -20,21 +22,34 @@ use Rattle.design.specs.declared.Designed.{Designed}
 use Rattle.design.specs.declared.Designed.the-variants as designed
 use Rattle.design.specs.Answers.{verdictOf, designVerdict, DesignIs}
 use Rattle.design.proofs.Answers.{check-refused, check-passed, made-params, refused-design, made-design}
-use Rattle.design.specs.Sizes.{paramsOf, listsOf}
+use Rattle.design.specs.Sizes.{paramsOf, orderOf, listsOf}
+use Rattle.rules.specs.declared.lengths.Lengths.{Lengths}
 use Rattle.words.specs.declared.WordCount.{WordCount}
 use Rattle.words.specs.declared.WordCount.the-variants as count
-use Rattle.rules.specs.Lengths.{lengthsOf, listsDue, frameRules}
-use Rattle.rules.proofs.Chain.{received-rules, received-bytes}
+use Rattle.rules.specs.Lengths.{lengthsOf, listsWith, listsDue, frameRules}
+use Rattle.rules.specs.Bytes.{byteRules}
+use Rattle.rules.proofs.Chain.{due-where, received-rules, received-bytes}
 use Rattle.words.specs.Checks.{receivedRules, countedOf}
 
 -- ---- the rules
+
+pub lists-asked : (d : Design) (work : ℕ) {due : Lengths} → due ≡ listsWith (paramsOf d) work → orderOf d ≤ work
+    → (due .own ≡ 2 * orderOf d) × (due .parity ≡ 2 * orderOf d) × (due .inverse ≡ 0) × (orderOf d ≤ due .work)
+lists-asked d work e h =
+    subst⁻¹ (λ (x : Lengths). (x .own ≡ 2 * orderOf d) × (x .parity ≡ 2 * orderOf d) × (x .inverse ≡ 0) × (orderOf d ≤ x .work)) e (refl, refl, refl, h)
+
+pub received-due : (s : Params) (L k : ℕ) (own parity info red : List ℕ) (work : ℕ) (other : Lengths) {due : Lengths} {v : Verdict} → (L ≤ most-blocks → due ≡ other)
+    → v ≡ receivedRules s L k due own parity info red work → v ≡ receivedRules s L k other own parity info red work
+unfolding receivedRules
+received-due s L k own parity info red work other {due} same h =
+    h ∙ ap (λ (z : Verdict). z then byteRules s (interleavers s own parity) [] info red) (due-where s L k (lengthsOf own parity [] info red work) due other same)
 
 module _ (m t M L k : ℕ) (own parity info red : List ℕ) (work : ℕ) where
   abbrev s : Params
   s = params m t M
 
   -- as the rules of the decoder's call
-  pub received-flat : receivedRules s L k own parity info red work
+  pub received-flat : receivedRules s L k (listsDue s) own parity info red work
       ≡ (countRule L then roundsRule k then listLengths s own parity then frameLengths s L info red then lengthRule 6 work (wordWork s)
       then listRule s (interleavers s own parity) then frameBits info red)
   unfolding receivedRules
@@ -66,9 +81,9 @@ module _ (m t M L : ℕ) (own parity info red : List ℕ) (work : ℕ) where
   refused-call c x k other e = k ∙ by-refused (verdictOf x) number other ∙ ap (λ (v : Verdict). countedBy v number) e
 
   abbrev rules : Params → Verdict
-  rules s = receivedRules s L 0 own parity info red work
+  rules s = receivedRules s L 0 (listsDue s) own parity info red work
 
-  whole : (designRules m t M then receivedRules (params m t M) L 0 own parity info red work) ≡ wordsVerdict m t M L own parity info red work
+  whole : (designRules m t M then receivedRules (params m t M) L 0 (listsDue (params m t M)) own parity info red work) ≡ wordsVerdict m t M L own parity info red work
   unfolding wordsVerdict roundsRule
   whole = ap (λ (z : Verdict). designRules m t M then z) (received-flat m t M L 0 own parity info red work)
 
@@ -77,7 +92,7 @@ module _ (m t M L : ℕ) (own parity info red : List ℕ) (work : ℕ) where
         → countedOf c ≡ wordsCall m t M L own parity info red work
     words-design c x r k g e = let q = refused-design m t M rules a n x g e in refused-call c x k (q .0) (q .1 ∙ whole)
 
-    module _ (i : DesignIs a m t M) (d : Design) (g : a ≡ designed.Made d) (x : Check) (e : verdictOf x ≡ receivedRules (paramsOf d) L 0 own parity info red work) where
+    module _ (i : DesignIs a m t M) (d : Design) (g : a ≡ designed.Made d) (x : Check) (e : verdictOf x ≡ receivedRules (paramsOf d) L 0 (listsDue (paramsOf d)) own parity info red work) where
       verdict-is : verdictOf x ≡ wordsVerdict m t M L own parity info red work
       verdict-is = made-design m t M rules a n x i g e ∙ whole
 

@@ -1,53 +1,44 @@
--- The words of a frame as it is received, by their remainders.
---   rowRemainders, columnRemainders    the remainders of a group's row words and of its column words
---   nonzeros                           how many entries of a list are not 0
---   groupWords                         the words of a group
---   blockRows, blockColumns            those of their blocks alone, by the table of powers of x
---   WordTable                          the table has the powers of x that the positions of a word carry
---   BlocksLent                         what is asked of the information and of the table for the blocks
---   Sends list n                       a list of n entries, each below n
+-- The words of a frame as it is received, by their remainders: steps of the code, which no promise names.
+--   nonzeros      how many entries of a list are not 0
+--   lineBlocks    the remainders of the two blocks of a line's words, by the table of powers of x
+--   entryAt       entry p of a list, from its bytes
+--   redPlace      where the bit at a place of X or Q, or of Y or P, stands in Y or P
+--   WordTable     the table has the powers of x that the positions of a word carry
+--   BlocksLent    what is asked of the information and of the table for the blocks
+--   Sends list n  a list of n entries, each below n
 -- Assumes nothing.
 use mathlib.Core.Path.{_≡_}
-use mathlib.Core.Bool.{cond}
-use mathlib.Core.List.{List, [], _∷_, _++_}
+use mathlib.Core.Bool.{Bool, not, cond}
+use mathlib.Core.List.{List, [], _∷_}
 use Prim.Native.Nat.{ℕ, _+_, _*_, _≤_, _<_}
 use lib.Dec.{eqb}
 use lib.ListN.{length, getD}
-use Rattle.bch.specs.Polynomial.{Bits, remainder}
+use Rattle.bch.specs.Polynomial.{Bits}
 use Rattle.staircase.specs.Lists.{tabulate}
-use Rattle.staircase.specs.Design.{Params, Interleavers, most-blocks}
-use Rattle.staircase.specs.Frame.{Frame, Site, rowSites, columnSites, read}
+use Rattle.staircase.specs.Design.{most-blocks}
+use Rattle.staircase.specs.Lines.{even}
 use Rattle.staircase.specs.Rules.{entries}
 use Rattle.design.specs.declared.Design.{Design}
 use Rattle.design.specs.Sizes.{paramsOf}
-use Rattle.words_blocks.specs.Blocks.{sent, blockBytes, sentBit, columnSum, rowSum, Powers}
+use Rattle.words_blocks.specs.Blocks.{sent, blockBytes, sentBit, blockSum, Powers}
 
 -- "A codeword is a word that the generator divides": a word is outside the code where its remainder is not 0
-unfoldable pub rowRemainders : Params → Interleavers → ℕ → Frame → ℕ → List ℕ
-rowRemainders s l L f i = tabulate (s .M) (λ a. remainder (s .g) (s .r) (read f (rowSites s l L i a)))
-
-unfoldable pub columnRemainders : Params → ℕ → Frame → ℕ → List ℕ
-columnRemainders s L f i = tabulate (s .M) (λ a. remainder (s .g) (s .r) (read f (columnSites s L i a)))
-
 unfoldable pub nonzeros : List ℕ → ℕ
 nonzeros [] = 0
 nonzeros (x ∷ l) = cond (eqb x 0) 0 1 + nonzeros l
 
--- "in each the row words 0 to M-1, then the column words"
-abbrev pub groupWords : Params → Interleavers → ℕ → ℕ → List (List Site)
-groupWords s l L i = tabulate (s .M) (rowSites s l L i) ++ tabulate (s .M) (columnSites s L i)
-
--- row a of B(2i-2) and of B(2i-1)
-unfoldable pub blockRows : List ℕ → ℕ → ℕ → List ℕ → ℕ → List ℕ
-blockRows positions size L info i =
+-- row a of block k and of block k + 1 for an even line, column a for an odd one
+unfoldable pub lineBlocks : List ℕ → ℕ → ℕ → List ℕ → ℕ → List ℕ
+lineBlocks positions size L info k =
     tabulate size
-    (rowSum positions size (sentBit (sent L (2 * i)) (blockBytes L (size * size) info (2 * i))) (λ k. getD (blockBytes L (size * size) info (2 * i + 1)) k 0))
+    (blockSum (not (even k)) positions size (sentBit (sent L k) (blockBytes L (size * size) info k)) (sentBit (sent L (k + 1)) (blockBytes L (size * size) info (k + 1))))
 
--- column a of B(2i-1) and of B(2i)
-unfoldable pub blockColumns : List ℕ → ℕ → ℕ → List ℕ → ℕ → List ℕ
-blockColumns positions size L info i =
-    tabulate size
-    (columnSum positions size (λ k. getD (blockBytes L (size * size) info (2 * i + 1)) k 0) (sentBit (sent L (2 * i + 2)) (blockBytes L (size * size) info (2 * i + 2))))
+abbrev pub entryAt : List ℕ → ℕ → ℕ
+entryAt list p = getD list (2 * p) 0 + 256 * getD list (2 * p + 1) 0
+
+-- row words have X and Q, which the lists send to Y and P; column words have Y and P
+unfoldable pub redPlace : Bool → List ℕ → ℕ → ℕ
+redPlace rows list q = cond rows (getD list q 0) q
 
 abbrev pub WordTable : Design → List ℕ → Type 0
 WordTable d positions = Powers (paramsOf d) positions

@@ -1,35 +1,42 @@
 // The words of a frame as it is received: their remainders, and how many are outside the code.
-//   row_remainders, column_remainders   the remainders of all row words and of all column words of a group
-//   count_nonzero                       how many of some remainders are not 0
-//   count_outside                       how many words of a frame are outside the code
-//   check_received                      rules 6, 7 and 10 for a frame and its lists
-//   check_words                         the word checker: rules 1 to 4, 6, 7 and 10, then the count
+//   line_remainders   the remainders of all words of a line, and how many bits of each word were read
+//   count_nonzero     how many of some remainders are not 0
+//   count_outside     how many words of a frame are outside the code
+//   check_received    rules 4 to 7 and 10 for a frame and its lists
+//   check_words       the word checker: rules 1 to 4, 6, 7 and 10, then the count
 //
 // The remainder of a word is a sum of entries of a table of powers of x, one for each of its ones (crate `bch_remainders`), and a word is in the code
-// where its remainder is 0. All words of a group are summed at once, part by part: the blocks (crate `words_blocks`), then X and Q or Y and P. Y and
-// P stand in the redundancy row by row, a row for each position and a column for each word. X and Q have the same form once they are spread into the
-// working bytes: byte b × M + a is row a, column b, and stands in Y or P where the list sends it. Nothing of the frame is changed.
+// where its remainder is 0. All words of a line are summed at once, part by part: the two blocks (crate `words_blocks`), then X and Q or Y and P. Y and
+// P stand in the redundancy row by row, a row for each position and a column for each word. X and Q have the same form: byte b × M + a is row a,
+// column b, and is read in Y or P where the list sends it. Nothing of the frame is changed or copied.
+//
+// Each sent bit of a word is read once for its remainder and no other bit is. The reads are counted in the loops that make them: once a bit in
+// `bch_remainders::dot`, once a row in `bch_remainders::read_rows` and in `add_listed`, where a row has one bit of each word.
 ghost use mathlib.Core.Path.{_≡_};
 ghost use mathlib.Core.Bool.{cond};
-ghost use Prim.Native.Nat.{_+_, _*_, _≤_, _<_};
+ghost use Prim.Native.Nat.{ℕ, _+_, _*_, _≤_, _<_};
 ghost use lib.Dec.{eqb};
 ghost use lib.ListN.{length, getD};
-ghost use Rattle.bch.specs.Polynomial.{Bits};
+ghost use Rattle.bch.specs.Polynomial.{_⊕_, Bits};
 ghost use Rattle.staircase.specs.Lists.{tabulate};
-ghost use Rattle.staircase.specs.Frame.{groups, outsideAmong, outside, frameOf};
+ghost use Rattle.staircase.specs.Frame.{groups, outside, frameOf};
+ghost use Rattle.staircase.specs.Lines.{lineSites};
+ghost use Rattle.staircase.specs.Readings.{sentAmong, readsOf};
 ghost use Rattle.staircase.specs.Rules.{entries};
 ghost use Rattle.staircase.specs.Calls.{countedBy, wordsCall};
 ghost use Rattle.design.specs.Answers.{verdictOf, Allowed};
-ghost use Rattle.design.specs.Sizes.{paramsOf, orderOf, listsOf};
+ghost use Rattle.design.specs.Sizes.{paramsOf, listsOf};
 ghost use Rattle.rules.specs.Received.{Received};
-ghost use Rattle.words_blocks.specs.Blocks.{PartAdded};
-ghost use Rattle.words.specs.Words.{rowRemainders, columnRemainders, nonzeros, groupWords, blockRows, blockColumns, WordTable, BlocksLent, Sends};
-ghost use Rattle.words.specs.Checks.{receivedRules, countedOf};
+ghost use Rattle.words_blocks.specs.Blocks.{sent, blockReads, PartAdded};
+ghost use Rattle.words_lines.specs.Lines.{LineFits, lineRemainder};
+ghost use Rattle.words.specs.Words.{nonzeros, lineBlocks, entryAt, redPlace, WordTable, BlocksLent, Sends};
+ghost use Rattle.words.specs.Checks.{receivedRules, ListsAsked, countedOf};
 use design::Check;
 use design::Design;
 use design::Designed;
 use design::Refusal;
 use rules::Lengths;
+use words_lines::Line;
 
 // The answer of the word checker: the number of words outside the code, or a refusal.
 pub enum WordCount {
@@ -37,30 +44,65 @@ pub enum WordCount {
     Refused(Refusal),
 }
 
-// Makes byte p of `out` the byte of `bits`, counted from byte `at` on, to which the list sends place p. One step for each byte.
-fn gather(list: &[u8], bits: &[u8], at: usize, out: &mut [u8])
-    requires { ⌜ Sends (now list) (length (now out)) × (at + length (now out) ≤ length (now bits)) ⌝ }
-    ensures { λ u. ⌜ now (out .exit) ≡ tabulate (length (now (out .entry)))
-        (λ p. getD (now (bits .entry)) (at + getD (entries (length (now (out .entry))) (now (list .entry))) p 0) 0) ⌝ }
+// What a call is asked for: a frame of so many blocks, so many rounds, and lists and working bytes of the lengths that are due.
+pub struct Asked {
+    pub blocks: u64,
+    pub rounds: u64,
+    pub due: Lengths,
+}
+
+// Makes `sums` the remainders of the two blocks of a line's words. Answers how many bits of each word it has read.
+fn line_blocks(line: Line, info: &[u8], positions: &[u32], sums: &mut [u32]) -> usize
+    requires { ⌜ BlocksLent (line .blocks) (length (now sums)) (now info) (now positions) × (line .k < 2 * groups (line .blocks)) ⌝ }
+    ensures { λ n. ⌜ (now (sums .exit) ≡ lineBlocks (now (positions .entry)) (length (now (sums .entry))) (line .blocks) (now (info .entry)) (line .k))
+        × (n ≡ blockReads (sent (line .blocks) (line .k)) (length (now (sums .entry))) + blockReads (sent (line .blocks) (line .k + 1)) (length (now (sums .entry)))) ⌝ }
 {
-    for p in 0..out.len() {
-        let e = rules::entry(list, p);
-        out[p] = bits[at + e];
-    }
+    let area = sums.len() * sums.len();
+    let k = line.k;
+    let first = words_blocks::block_of(info, area, line.blocks, k);
+    let second = words_blocks::block_of(info, area, line.blocks, k + 1);
+    let has_first = words_blocks::is_sent(line.blocks, k);
+    let has_second = words_blocks::is_sent(line.blocks, k + 1);
+    let rows = k % 2 == 0;
+    words_blocks::block_sums(first, has_first, second, has_second, !rows, positions, sums)
 }
 
 // Adds to each of `sums` the r entries of the table from entry `from` on, at the ones of its column of r rows that stand in `bits` from byte `at`
-// on. A row has a column for each of `sums`.
-fn add_columns(sums: &mut [u32], bits: &[u8], at: usize, positions: &[u32], from: usize, r: usize)
+// on. A row has a column for each of `sums`. Answers how many bits it has read for each sum.
+fn add_columns(
+    sums: &mut [u32],
+    bits: &[u8],
+    at: usize,
+    positions: &[u32],
+    from: usize,
+    r: usize,
+) -> usize
     requires { ⌜ (at + r * length (now sums) ≤ length (now bits)) × Bits (now bits) × (from + r ≤ length (now positions)) ⌝ }
-    ensures { λ u. ⌜ PartAdded (now (positions .entry)) from r (λ w a j. getD (now (bits .entry)) (at + (j * w + a)) 0) (now (sums .entry)) (now (sums .exit)) ⌝ }
+    ensures { λ n. ⌜ PartAdded (now (positions .entry)) from r (λ w a j. getD (now (bits .entry)) (at + (j * w + a)) 0) (now (sums .entry)) (now (sums .exit))
+        × (n ≡ r) ⌝ }
 {
     let n = r * sums.len();
-    bch_remainders::add_rows(sums, &bits[at..at + n], &positions[from..from + r]);
+    bch_remainders::read_rows(sums, &bits[at..at + n], &positions[from..from + r])
 }
 
-// The same for columns of X, which the self list makes of Y's bytes; or of Q, by the parity list from P's.
-fn add_spread(
+// Adds x to each of `sums` at the ones of a row of X or of Q: bit a of it is the byte of `bits`, counted from byte `at` on, to which the list sends
+// place p + a. One step for each sum.
+fn add_listed_row(sums: &mut [u32], list: &[u8], p: usize, bits: &[u8], at: usize, x: u32)
+    requires { ⌜ (2 * (p + length (now sums)) ≤ length (now list)) × Bits (now bits)
+        × ((a : ℕ) → a < length (now sums) → at + entryAt (now list) (p + a) < length (now bits)) ⌝ }
+    ensures { λ u. ⌜ (length (now (sums .exit)) ≡ length (now (sums .entry)))
+        × ((a : ℕ) → a < length (now (sums .entry)) → getD (now (sums .exit)) a 0
+        ≡ getD (now (sums .entry)) a 0 ⊕ getD (now (bits .entry)) (at + entryAt (now (list .entry)) (p + a)) 0 * x) ⌝ }
+{
+    for a in 0..sums.len() {
+        let e = rules::entry(list, p + a);
+        sums[a] = sums[a] ^ bch_remainders::masked(bits[at + e], x);
+    }
+}
+
+// As `add_columns`, for columns of X, which the self list makes of Y's bytes, or of Q, by the parity list from P's. Answers how many bits it has read
+// for each sum, one for each row.
+fn add_listed(
     sums: &mut [u32],
     list: &[u8],
     bits: &[u8],
@@ -68,94 +110,75 @@ fn add_spread(
     positions: &[u32],
     from: usize,
     r: usize,
-    work: &mut [u8],
-)
-    requires { ⌜ Sends (now list) (length (now work)) × (length (now work) ≡ r * length (now sums)) × (at + length (now work) ≤ length (now bits))
-        × Bits (now bits) × (from + r ≤ length (now positions)) ⌝ }
-    ensures { λ u. ⌜ PartAdded (now (positions .entry)) from r
-        (λ w a j. getD (now (bits .entry)) (at + getD (entries (length (now (work .entry))) (now (list .entry))) (j * w + a) 0) 0)
-        (now (sums .entry)) (now (sums .exit)) ⌝ }
+) -> usize
+    requires { ⌜ Sends (now list) (r * length (now sums)) × (at + r * length (now sums) ≤ length (now bits)) × Bits (now bits)
+        × (from + r ≤ length (now positions)) ⌝ }
+    ensures { λ n. ⌜ PartAdded (now (positions .entry)) from r
+        (λ w a j. getD (now (bits .entry)) (at + getD (entries (r * w) (now (list .entry))) (j * w + a) 0) 0) (now (sums .entry)) (now (sums .exit))
+        × (n ≡ r) ⌝ }
 {
-    gather(list, bits, at, work);
-    add_columns(sums, work, 0, positions, from, r);
+    let w = sums.len();
+    let mut reads: usize = 0;
+    for j in 0..r {
+        add_listed_row(sums, list, j * w, bits, at, positions[from + j]);
+        reads += 1;
+    }
+    reads
 }
 
-// Makes `rows` the remainders of the blocks of a group's row words.
-fn block_rows(info: &[u8], blocks: usize, i: usize, positions: &[u32], rows: &mut [u32])
-    requires { ⌜ BlocksLent blocks (length (now rows)) (now info) (now positions) × (i < groups blocks) ⌝ }
-    ensures { λ u. ⌜ now (rows .exit) ≡ blockRows (now (positions .entry)) (length (now (rows .entry))) blocks (now (info .entry)) i ⌝ }
+// Adds what a stretch of the redundancy gives to the remainders of a line's words: X or Q by its list for row words, Y or P as it stands for column
+// words. Answers how many bits of each word it has read.
+fn add_stretch(
+    sums: &mut [u32],
+    rows: bool,
+    list: &[u8],
+    red: &[u8],
+    at: usize,
+    positions: &[u32],
+    from: usize,
+    r: usize,
+) -> usize
+    requires { ⌜ Sends (now list) (r * length (now sums)) × (at + r * length (now sums) ≤ length (now red)) × Bits (now red)
+        × (from + r ≤ length (now positions)) ⌝ }
+    ensures { λ n. ⌜ PartAdded (now (positions .entry)) from r
+        (λ w a j. getD (now (red .entry)) (at + redPlace rows (entries (r * w) (now (list .entry))) (j * w + a)) 0) (now (sums .entry)) (now (sums .exit))
+        × (n ≡ r) ⌝ }
 {
-    let area = rows.len() * rows.len();
-    let before = words_blocks::block_of(info, area, blocks, 2 * i);
-    let odd = words_blocks::block_of(info, area, blocks, 2 * i + 1);
-    let has_before = words_blocks::is_sent(blocks, 2 * i);
-    words_blocks::row_sums(before, has_before, odd, positions, rows);
+    if rows {
+        return add_listed(sums, list, red, at, positions, from, r);
+    }
+    add_columns(sums, red, at, positions, from, r)
 }
 
-// Makes `columns` the remainders of the blocks of a group's column words.
-fn block_columns(info: &[u8], blocks: usize, i: usize, positions: &[u32], columns: &mut [u32])
-    requires { ⌜ BlocksLent blocks (length (now columns)) (now info) (now positions) × (i < groups blocks) ⌝ }
-    ensures { λ u. ⌜ now (columns .exit) ≡ blockColumns (now (positions .entry)) (length (now (columns .entry))) blocks (now (info .entry)) i ⌝ }
-{
-    let area = columns.len() * columns.len();
-    let odd = words_blocks::block_of(info, area, blocks, 2 * i + 1);
-    let even = words_blocks::block_of(info, area, blocks, 2 * i + 2);
-    let has_even = words_blocks::is_sent(blocks, 2 * i + 2);
-    words_blocks::column_sums(odd, even, has_even, positions, columns);
-}
-
-// Makes `rows` the remainders of the row words of the group that i groups precede. The working bytes are one for each entry of a list, and free
-// afterwards. One step for each bit of the group's row words.
-pub fn row_remainders(
-    d: Design,
-    blocks: usize,
-    i: usize,
+// Makes `sums` the remainders of the words of a line. Answers how many bits of each word it has read, which is how many of them are sent. One step for
+// each of these bits.
+pub fn line_remainders(
+    line: Line,
     own: &[u8],
     parity: &[u8],
     info: &[u8],
     red: &[u8],
     positions: &[u32],
-    work: &mut [u8],
-    rows: &mut [u32],
-)
-    requires { ⌜ Received d blocks (now own) (now parity) (now info) (now red) × (i < groups blocks) × WordTable d (now positions)
-        × (length (now work) ≡ orderOf d) × (length (now rows) ≡ d .size) ⌝ }
-    ensures { λ u. ⌜ (now (rows .exit)
-        ≡ rowRemainders (paramsOf d) (listsOf d (now (own .entry)) (now (parity .entry))) blocks (frameOf (now (info .entry)) (now (red .entry))) i)
-        × (length (now (work .exit)) ≡ length (now (work .entry))) ⌝ }
+    sums: &mut [u32],
+) -> usize
+    requires { ⌜ Received (line .d) (line .blocks) (now own) (now parity) (now info) (now red) × LineFits line × WordTable (line .d) (now positions)
+        × (length (now sums) ≡ line .d .size) ⌝ }
+    ensures { λ n. ⌜ (now (sums .exit) ≡ tabulate (line .d .size)
+        (lineRemainder line (now (own .entry)) (now (parity .entry)) (frameOf (now (info .entry)) (now (red .entry)))))
+        × ((a : ℕ) → a < line .d .size
+        → n ≡ sentAmong (lineSites (paramsOf (line .d)) (listsOf (line .d) (now (own .entry)) (now (parity .entry))) (line .blocks) (line .k) a))
+        × (n ≡ readsOf (paramsOf (line .d)) (line .blocks) (line .k)) ⌝ }
 {
-    let r = d.r();
-    let n = work.len();
-    let y = i * (2 * n);
-    let x = 2 * d.size();
-    block_rows(info, blocks, i, positions, rows);
-    add_spread(rows, own, red, y, positions, x, r, work);
-    add_spread(rows, parity, red, y + n, positions, x + r, r, work);
-}
-
-// Makes `columns` the remainders of the column words of the group that i groups precede. One step for each bit of the group's column words.
-pub fn column_remainders(
-    d: Design,
-    blocks: usize,
-    i: usize,
-    own: &[u8],
-    parity: &[u8],
-    info: &[u8],
-    red: &[u8],
-    positions: &[u32],
-    columns: &mut [u32],
-)
-    requires { ⌜ Received d blocks (now own) (now parity) (now info) (now red) × (i < groups blocks) × WordTable d (now positions)
-        × (length (now columns) ≡ d .size) ⌝ }
-    ensures { λ u. ⌜ now (columns .exit) ≡ columnRemainders (paramsOf d) blocks (frameOf (now (info .entry)) (now (red .entry))) i ⌝ }
-{
+    let d = line.d;
     let r = d.r();
     let n = d.order();
-    let y = i * (2 * n);
+    let y = line.k / 2 * (2 * n);
     let x = 2 * d.size();
-    block_columns(info, blocks, i, positions, columns);
-    add_columns(columns, red, y, positions, x, r);
-    add_columns(columns, red, y + n, positions, x + r, r);
+    let rows = line.k % 2 == 0;
+    let blocks = line_blocks(line, info, positions, sums);
+    let first = add_stretch(sums, rows, own, red, y, positions, x, r);
+    let second = add_stretch(sums, rows, parity, red, y + n, positions, x + r, r);
+    blocks + first + second
 }
 
 // 1 where x is not 0.
@@ -179,100 +202,64 @@ pub fn count_nonzero(list: &[u32]) -> u64
     n
 }
 
-// How many words of the group that i groups precede are outside the code. `sums` are working entries, one for each row word.
-fn group_outside(
-    d: Design,
-    blocks: usize,
-    i: usize,
+// `count_outside` with its working entries lent, one for each word of a line.
+fn count_lines(
+    line: Line,
     own: &[u8],
     parity: &[u8],
     info: &[u8],
     red: &[u8],
     positions: &[u32],
-    work: &mut [u8],
     sums: &mut [u32],
 ) -> u64
-    requires { ⌜ Received d blocks (now own) (now parity) (now info) (now red) × (i < groups blocks) × WordTable d (now positions)
-        × (length (now work) ≡ orderOf d) × (length (now sums) ≡ d .size) ⌝ }
-    ensures { λ a. ⌜ (a ≡ outsideAmong (paramsOf d) (frameOf (now (info .entry)) (now (red .entry)))
-        (groupWords (paramsOf d) (listsOf d (now (own .entry)) (now (parity .entry))) blocks i)) × (a ≤ 1000) ⌝ }
+    requires { ⌜ Received (line .d) (line .blocks) (now own) (now parity) (now info) (now red) × WordTable (line .d) (now positions)
+        × (length (now sums) ≡ line .d .size) ⌝ }
+    ensures { λ a. ⌜ a ≡ outside (paramsOf (line .d)) (listsOf (line .d) (now (own .entry)) (now (parity .entry))) (line .blocks)
+        (frameOf (now (info .entry)) (now (red .entry))) ⌝ }
 {
-    row_remainders(d, blocks, i, own, parity, info, red, positions, work, sums);
-    let rows = count_nonzero(sums);
-    column_remainders(d, blocks, i, own, parity, info, red, positions, sums);
-    rows + count_nonzero(sums)
-}
-
-// `count_outside` with its working entries lent.
-fn count_groups(
-    d: Design,
-    blocks: usize,
-    own: &[u8],
-    parity: &[u8],
-    info: &[u8],
-    red: &[u8],
-    positions: &[u32],
-    work: &mut [u8],
-    sums: &mut [u32],
-) -> u64
-    requires { ⌜ Received d blocks (now own) (now parity) (now info) (now red) × WordTable d (now positions)
-        × (length (now work) ≡ orderOf d) × (length (now sums) ≡ d .size) ⌝ }
-    ensures { λ a. ⌜ a
-        ≡ outside (paramsOf d) (listsOf d (now (own .entry)) (now (parity .entry))) blocks (frameOf (now (info .entry)) (now (red .entry))) ⌝ }
-{
-    let count = design::group_count(blocks as u64) as usize;
+    let lines = words_lines::line_count(line.blocks);
     let mut total: u64 = 0;
-    for i in 0..count {
-        total = total + group_outside(d, blocks, i, own, parity, info, red, positions, work, sums);
+    for k in 0..lines {
+        let here = words_lines::line_at(line, k);
+        line_remainders(here, own, parity, info, red, positions, sums);
+        total = total + count_nonzero(sums);
     }
     total
 }
 
-// How many words of a frame of `blocks` blocks are outside the code. Lent to read are the lists, the frame and the table of the powers of x that
-// the positions of a word carry; the working bytes are one for each entry of a list, and free afterwards. One step for each bit of the words.
+// How many words of a frame are outside the code; the line is any of the frame. Lent to read are the lists, the frame and the table of the powers of
+// x that the positions of a word carry. One step for each bit of the words.
 pub fn count_outside(
-    d: Design,
-    blocks: usize,
+    line: Line,
     own: &[u8],
     parity: &[u8],
     info: &[u8],
     red: &[u8],
     positions: &[u32],
-    work: &mut [u8],
 ) -> u64
-    requires { ⌜ Received d blocks (now own) (now parity) (now info) (now red) × WordTable d (now positions) × (length (now work) ≡ orderOf d) ⌝ }
-    ensures { λ a. ⌜ a
-        ≡ outside (paramsOf d) (listsOf d (now (own .entry)) (now (parity .entry))) blocks (frameOf (now (info .entry)) (now (red .entry))) ⌝ }
+    requires { ⌜ Received (line .d) (line .blocks) (now own) (now parity) (now info) (now red) × WordTable (line .d) (now positions) ⌝ }
+    ensures { λ a. ⌜ a ≡ outside (paramsOf (line .d)) (listsOf (line .d) (now (own .entry)) (now (parity .entry))) (line .blocks)
+        (frameOf (now (info .entry)) (now (red .entry))) ⌝ }
 {
-    let size = d.size();
+    let size = line.d.size();
     let mut sums = [0u32; 512];
-    count_groups(
-        d,
-        blocks,
-        own,
-        parity,
-        info,
-        red,
-        positions,
-        work,
-        &mut sums[0..size],
-    )
+    count_lines(line, own, parity, info, red, positions, &mut sums[0..size])
 }
 
-// Rules 4 to 7 and 10, for a received frame of an allowed design. The working bytes are one for each entry of a list.
+// Rules 4 to 7 and 10, for a received frame of an allowed design. Of the working bytes, whose length is judged as it is asked, one is used for each
+// entry of a list.
 pub fn check_received(
     d: Design,
-    blocks: u64,
-    rounds: u64,
+    asked: Asked,
     own: &[u8],
     parity: &[u8],
     info: &[u8],
     red: &[u8],
     work: &mut [u8],
 ) -> Check
-    requires { ⌜ Allowed d ⌝ }
-    ensures { λ a. ⌜ verdictOf a ≡ receivedRules (paramsOf d) blocks rounds (now (own .entry)) (now (parity .entry)) (now (info .entry)) (now (red .entry))
-        (length (now (work .entry))) ⌝ }
+    requires { ⌜ Allowed d × ListsAsked d asked ⌝ }
+    ensures { λ a. ⌜ verdictOf a ≡ receivedRules (paramsOf d) (asked .blocks) (asked .rounds) (asked .due) (now (own .entry)) (now (parity .entry))
+        (now (info .entry)) (now (red .entry)) (length (now (work .entry))) ⌝ }
 {
     let have = Lengths {
         own: own.len(),
@@ -282,11 +269,12 @@ pub fn check_received(
         red: red.len(),
         work: work.len(),
     };
-    let lengths = rules::check_frame(d, blocks, rounds, have, rules::lists_due(d));
+    let lengths = rules::check_frame(d, asked.blocks, asked.rounds, have, asked.due);
     let Check::Passed = lengths else {
         return lengths;
     };
-    rules::check_bytes(d, own, parity, &own[..0], info, red, work)
+    let n = d.order();
+    rules::check_bytes(d, own, parity, &own[..0], info, red, &mut work[0..n])
 }
 
 // How many words of a frame are outside the code, once all rules have passed.
@@ -297,16 +285,16 @@ fn count_received(
     parity: &[u8],
     info: &[u8],
     red: &[u8],
-    work: &mut [u8],
 ) -> u64
-    requires { ⌜ Received d blocks (now own) (now parity) (now info) (now red) × (length (now work) ≡ orderOf d) ⌝ }
+    requires { ⌜ Received d blocks (now own) (now parity) (now info) (now red) ⌝ }
     ensures { λ a. ⌜ a
         ≡ outside (paramsOf d) (listsOf d (now (own .entry)) (now (parity .entry))) blocks (frameOf (now (info .entry)) (now (red .entry))) ⌝ }
 {
+    let line = words_lines::first_line(d, blocks);
     let bits = d.n();
     let mut positions = [0u32; 1024];
     words_positions::fill_table(d, &mut positions[0..bits]);
-    count_outside(d, blocks, own, parity, info, red, &positions[0..bits], work)
+    count_outside(line, own, parity, info, red, &positions[0..bits])
 }
 
 // A refused check as the word checker's answer.
@@ -340,9 +328,14 @@ pub fn check_words(
     let Designed::Made(d) = designed else {
         return refused_count(design::design_check(designed));
     };
-    let received = check_received(d, blocks, 0, own, parity, info, red, work);
+    let asked = Asked {
+        blocks: blocks,
+        rounds: 0,
+        due: rules::lists_due(d),
+    };
+    let received = check_received(d, asked, own, parity, info, red, work);
     let Check::Passed = received else {
         return refused_count(received);
     };
-    WordCount::Counted(count_received(d, blocks as usize, own, parity, info, red, work))
+    WordCount::Counted(count_received(d, blocks as usize, own, parity, info, red))
 }

@@ -6,6 +6,9 @@
 --   Adds, adds-part       a sum added for each word, by a part that is lent, and by the table
 --   added-twice           two sums added for each word
 --   unsent-added, column-added, row-added   the sums over a block that may not be sent
+--   unread, read-whole    how many bits of a block are read for a word
+--   read-few              no more than it has columns
+--   read-each             as many for each word as there are words
 --   blocks-added          the two blocks of a group's words, from 0
 -- Assumes nothing.
 use mathlib.Core.Path.{_≡_, refl, sym, ap, ap₂, _∙_}
@@ -13,6 +16,7 @@ use mathlib.Core.Bool.{Bool, true, false, cond}
 use mathlib.Core.List.{List, _∷_}
 use Prim.Native.Nat.{ℕ, zero, suc, _+_, _-_, _*_, _≤_, _<_}
 use native.Mathlib.Nat.{zero-mul}
+use native.Mathlib.Decide.{decLt}
 use native.Mathlib.Omega.{arith}
 use lib.ListN.{length, getD, take, drop, replicate, length-drop, length-replicate}
 use lib.Seq.{length-take-le, getD-take, getD-drop, ext-getD}
@@ -24,7 +28,7 @@ use Rattle.staircase.specs.Lists.{tabulate}
 use Rattle.staircase.specs.System.{Contents}
 use Rattle.staircase.proofs.Tabulate.{tabulate-length, tabulate-at, tabulate-same}
 use Rattle.bch_remainders.proofs.Rows.{row-length, row-at}
-use Rattle.words_blocks.specs.Blocks.{sentBit, partSum, bitPlace, blockSum, PartAdded}
+use Rattle.words_blocks.specs.Blocks.{sentBit, blockReads, partSum, bitPlace, blockSum, PartAdded}
 
 module _ (block part : List ℕ) (from : ℕ) (inside : from + length part ≤ length block) where
   abbrev row : List ℕ
@@ -147,6 +151,33 @@ module _ (sent column : Bool) (block positions old : List ℕ) (from : ℕ) wher
         adds-part positions from (length old) inside (λ w v a j. getD block (a * v + j) 0) bits old new
         (λ a j h l. sent-bit sent block e (a * length old + j)
         ∙ ap (λ (z : Bool). sentBit sent block (cond z (j * length old + a) (a * length old + j))) (sym is)) added
+
+-- ---- the bits that are read
+
+module _ (sent : Bool) (size : ℕ) where
+  pub unread : sent ≡ false → 0 ≡ blockReads sent size
+  unfolding blockReads
+  unread e = sym (ap (λ (z : Bool). cond z size 0) e)
+
+  pub read-whole : {n : ℕ} → sent ≡ true → n ≡ size → n ≡ blockReads sent size
+  unfolding blockReads
+  read-whole e h = h ∙ sym (ap (λ (z : Bool). cond z size 0) e)
+
+  pub read-few : blockReads sent size ≤ size
+  unfolding blockReads
+  read-few = go sent
+    where
+      go : (z : Bool) → cond z size 0 ≤ size
+      go true = omega arith
+      go false = omega arith
+
+-- the number of words is that of the bits of each
+pub read-each : (n words : ℕ) → ((a : ℕ) → a < words → n ≡ words) → n ≤ words → n ≡ words
+read-each n words each few = go (decLt 0 words)
+  where
+    go : Dec (0 < words) → n ≡ words
+    go (yes h) = each 0 h
+    go (no h) = omega arith
 
 zeros-are : (n : ℕ) → _≡_ {A = List ℕ} (replicate n 0) (tabulate n (λ k. 0))
 unfolding tabulate

@@ -3,6 +3,7 @@
 --   sent L b                   block b of a frame of L blocks is sent
 --   blockBytes L area info b   its bytes; none where it is not sent
 --   sentBit, Sent              a bit of a block that may not be sent; what is asked of such a block
+--   blockReads                 how many bits of such a block a word reads
 --   partSum                    the sum of a part of the table at the ones of some bits
 --   columnSum, rowSum          the remainder of the blocks of column word a, of row word a
 --   bitPlace, blockSum         the place of a word's bit in a block, and both sums by whether it is a column word
@@ -35,6 +36,10 @@ sentBit sent block k = cond sent (getD block k 0) 0
 -- a block that is sent has `area` bits; one that is not may be any slice
 abbrev pub Sent : Bool → List ℕ → ℕ → Type 0
 Sent sent block area = sent ≡ true → (length block ≡ area) × Bits block
+
+-- as many as it has columns
+unfoldable pub blockReads : Bool → ℕ → ℕ
+blockReads sent size = cond sent size 0
 
 -- the sum of w entries of the table, from entry `from` on, at the ones of b
 unfoldable pub partSum : List ℕ → ℕ → ℕ → (ℕ → ℕ) → ℕ

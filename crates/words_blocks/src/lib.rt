@@ -1,18 +1,19 @@
 // The blocks of a frame as parts of the lent information, and the remainders of the blocks of a group's words.
 //   is_sent(blocks, b)        whether block b of a frame is sent
 //   block_of(info, ..)        its bytes
-//   column_sums, row_sums     the remainders of the blocks of a group's column words and row words
+//   block_sums                the remainders of the two blocks of a line's words, and how many bits of each word were read
+//   column_sums, row_sums     the same for a group's column words and row words, without the number
 //
 // The remainder of a word is a sum of entries of a table of powers of x, one for each of its ones (crate `bch_remainders`), and a word's blocks are
 // its first 2 × size positions. Column words run across the rows of a block and are added row by row, row words lie in a row each; a block that is
-// not sent adds nothing.
+// not sent adds nothing and is not read. The bits that are read of a word are counted where they are read, in the loops of `bch_remainders`.
 ghost use mathlib.Core.Path.{_≡_};
 ghost use Prim.Native.Nat.{ℕ, _+_, _*_, _≤_, _<_};
 ghost use lib.ListN.{length, getD};
 ghost use Rattle.bch.specs.Polynomial.{_⊕_, Bits};
 ghost use Rattle.bch.specs.Powers.{xorSum};
 ghost use Rattle.staircase.specs.Lists.{tabulate};
-ghost use Rattle.words_blocks.specs.Blocks.{sent, blockBytes, sentBit, Sent, columnSum, rowSum, bitPlace, blockSum, PartAdded};
+ghost use Rattle.words_blocks.specs.Blocks.{sent, blockBytes, sentBit, Sent, blockReads, columnSum, rowSum, bitPlace, blockSum, PartAdded};
 
 // Whether block b of a frame of `blocks` blocks is sent.
 pub fn is_sent(blocks: usize, b: usize) -> bool
@@ -38,22 +39,27 @@ pub fn block_of(info: &[u8], area: usize, blocks: usize, b: usize) -> &[u8]
 }
 
 // Adds to each of the lent entries of `acc` the entries of `part` at the ones of its row of `block`. The block has a row for each entry of `acc`,
-// one after the other, and a column for each entry of `part`. One step for each bit of the block.
-fn add_dots(acc: &mut [u32], block: &[u8], part: &[u32])
+// one after the other, and a column for each entry of `part`. Answers how many bits of each row it has read. One step for each bit of the block.
+fn add_dots(acc: &mut [u32], block: &[u8], part: &[u32]) -> usize
     requires { ⌜ (length (now block) ≡ length (now acc) * length (now part)) × Bits (now block) ⌝ }
-    ensures { λ u. ⌜ (length (now (acc .exit)) ≡ length (now (acc .entry)))
+    ensures { λ n. ⌜ (length (now (acc .exit)) ≡ length (now (acc .entry)))
         × ((a : ℕ) → a < length (now (acc .entry)) → getD (now (acc .exit)) a 0 ≡ getD (now (acc .entry)) a 0
-        ⊕ xorSum (length (now (part .entry))) (λ j. getD (now (block .entry)) (a * length (now (part .entry)) + j) 0 * getD (now (part .entry)) j 0)) ⌝ }
+        ⊕ xorSum (length (now (part .entry))) (λ j. getD (now (block .entry)) (a * length (now (part .entry)) + j) 0 * getD (now (part .entry)) j 0))
+        × ((a : ℕ) → a < length (now (acc .entry)) → n ≡ length (now (part .entry))) × (n ≤ length (now (part .entry))) ⌝ }
 {
     let w = part.len();
+    let mut reads: usize = 0;
     for a in 0..acc.len() {
         let from = a * w;
-        acc[a] = acc[a] ^ bch_remainders::dot(&block[from..from + w], part);
+        let row = bch_remainders::dot(&block[from..from + w], part);
+        acc[a] = acc[a] ^ row.sum;
+        reads = row.reads;
     }
+    reads
 }
 
 // Adds to each of `sums` the entries of the table from entry `from` on, as many as there are sums, at the ones of its column of a block where
-// `column` is true, else of its row. A block that is not sent adds nothing.
+// `column` is true, else of its row. A block that is not sent adds nothing. Answers how many bits it has read for each sum.
 fn add_block(
     sums: &mut [u32],
     block: &[u8],
@@ -61,24 +67,25 @@ fn add_block(
     column: bool,
     positions: &[u32],
     from: usize,
-)
+) -> usize
     requires { ⌜ Sent sent (now block) (length (now sums) * length (now sums)) × (from + length (now sums) ≤ length (now positions)) ⌝ }
-    ensures { λ u. ⌜ PartAdded (now (positions .entry)) from (length (now (sums .entry)))
-        (λ w a j. sentBit sent (now (block .entry)) (bitPlace column w a j)) (now (sums .entry)) (now (sums .exit)) ⌝ }
+    ensures { λ n. ⌜ PartAdded (now (positions .entry)) from (length (now (sums .entry)))
+        (λ w a j. sentBit sent (now (block .entry)) (bitPlace column w a j)) (now (sums .entry)) (now (sums .exit))
+        × (n ≡ blockReads sent (length (now (sums .entry)))) ⌝ }
 {
     if !sent {
-        return;
+        return 0;
     }
     let part = &positions[from..from + sums.len()];
     if column {
-        bch_remainders::add_rows(sums, block, part);
-        return;
+        return bch_remainders::read_rows(sums, block, part);
     }
-    add_dots(sums, block, part);
+    add_dots(sums, block, part)
 }
 
-// Makes `sums` the remainders of the two blocks of a group's column words where `column` is true, else of its row words.
-fn block_sums(
+// Makes `sums` the remainders of the two blocks of a group's column words where `column` is true, else of its row words. Answers how many bits it has
+// read for each word.
+pub fn block_sums(
     first: &[u8],
     has_first: bool,
     second: &[u8],
@@ -86,15 +93,17 @@ fn block_sums(
     column: bool,
     positions: &[u32],
     sums: &mut [u32],
-)
+) -> usize
     requires { ⌜ Sent «has_first» (now first) (length (now sums) * length (now sums)) × Sent «has_second» (now second) (length (now sums) * length (now sums))
         × (2 * length (now sums) ≤ length (now positions)) ⌝ }
-    ensures { λ u. ⌜ now (sums .exit) ≡ tabulate (length (now (sums .entry)))
-        (blockSum column (now (positions .entry)) (length (now (sums .entry))) (sentBit «has_first» (now (first .entry))) (sentBit «has_second» (now (second .entry)))) ⌝ }
+    ensures { λ n. ⌜ (now (sums .exit) ≡ tabulate (length (now (sums .entry)))
+        (blockSum column (now (positions .entry)) (length (now (sums .entry))) (sentBit «has_first» (now (first .entry))) (sentBit «has_second» (now (second .entry)))))
+        × (n ≡ blockReads «has_first» (length (now (sums .entry))) + blockReads «has_second» (length (now (sums .entry)))) ⌝ }
 {
     bch_remainders::clear(sums);
-    add_block(sums, first, has_first, column, positions, 0);
-    add_block(sums, second, has_second, column, positions, sums.len());
+    let one = add_block(sums, first, has_first, column, positions, 0);
+    let two = add_block(sums, second, has_second, column, positions, sums.len());
+    one + two
 }
 
 // Makes `columns` the remainders of the blocks of a group's column words.

@@ -15,7 +15,7 @@ use Rattle.design.specs.Sizes.{paramsOf, orderOf, listsOf}
 use Rattle.rules.specs.Received.{Received}
 use Rattle.words_blocks.specs.Blocks.{Powers}
 use Rattle.words_positions.proofs.Parts.{part-fits, part-is}
-use Rattle.decoder_lines.specs.declared.Line.{Line}
+use Rattle.words_lines.specs.declared.Line.{Line}
 use Rattle.decoder_lines.specs.Links.{listsIn}
 use Rattle.decoder_lines.proofs.Links.{links-long}
 use Rattle.decoder_words.specs.Ready.{LineReady, FrameKept}

@@ -4,6 +4,7 @@ use mathlib.Core.Path.{sym, _∙_}
 use lib.ListN.{length}
 use Rattle.design.proofs.Answers.{check-passed, made-allowed}
 use Rattle.rules.proofs.Accepted.{decoder-received, decoder-work, decoder-rounds}
+use Rattle.words.specs.Checks.{receivedRules}
 use Rattle.decoder.specs.Answers.{copyRules}
 use Rattle.decoder.proofs.DecodeCall.{decode-design, decode-frame, decode-done}
 use borrow.Author.Needs.{needs}
@@ -25,7 +26,7 @@ returns-2 c =
     decode-frame (a .m) (a .t) (a .size) (a .blocks) (a .rounds) (a .own .now) (a .parity .now) (a .info .now) (a .red .now) (length (a .work .now)) (c .before .before .before .before .before .before .before .before .before .before .before .before .new .result) (c .before .before .before .before .before .before .before .before .before .before .before .before .new .ensures .0) (c .before .before .before .before .before .before .before .before .before .before .before .before .new .ensures .1) _ (c .before .before .before .before .before .before .before .before .before .before .designed .given .1) (c .before .before .before .before .before .check-copy .result) (c .before .before .before .before .before .check-copy .ensures) (c .refused-frame2 .result) _ (c .refused-frame2 .ensures) (c .before .enum-told3 .given .1)
 
 correct-frame-requires : tie.Need-correct-frame-requires
-unfolding copyRules
+unfolding copyRules receivedRules
 correct-frame-requires c κs =
     let a = c .before .before .before .before .before .before .before .before .before .before .before .before .before .before .before .before .before .before .before .before .args in
     let e = sym (c .before .before .before .before .before .before .before .check-copy .ensures) ∙ check-passed (c .before .before .before .enum-told2 .given .1) in

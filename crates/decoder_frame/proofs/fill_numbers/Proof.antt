@@ -5,26 +5,26 @@ use Prim.Native.Nat.{ℕ, _+_, _-_, _*_, _≤_}
 use native.Mathlib.Nat.{suc-mul}
 use native.Mathlib.Numerals.{add-one}
 use native.Mathlib.Omega.{arith}
-use lib.ListN.{length, drop}
+use lib.ListN.{length}
 use Rattle.staircase.specs.Frame.{frameOf, groups}
 use Rattle.staircase.specs.Lines.{wordCount}
-use Rattle.design.specs.Sizes.{paramsOf, orderOf}
+use Rattle.design.specs.Sizes.{paramsOf}
 use Rattle.rules.specs.Received.{Received}
 use Rattle.words.specs.Words.{WordTable}
-use Rattle.decoder_lines.specs.declared.Line.{Line}
-use Rattle.decoder_lines.specs.Links.{LineFits}
+use Rattle.words_lines.specs.declared.Line.{Line}
+use Rattle.words_lines.specs.Lines.{LineFits}
 use Rattle.decoder_frame.specs.Filled.{Filled}
 use borrow.Author.Needs.{needs}
 use Rattle.decoder_frame.proofs.fill_numbers.Statement.{statement}
 use Rattle.decoder_frame.proofs.fill_numbers.Tie as tie
 
 abbrev Inv-loop : tie.InvT-loop
-Inv-loop line own parity info red positions work₀ lines k₀ work k =
-    (lines ≡ 2 * groups (line .blocks)) × (k ≤ lines) × (length work ≡ length work₀)
-    × Filled line own parity (frameOf info red) (drop (orderOf (line .d)) work) (k * line .d .size)
+Inv-loop line own parity info red positions numbers₀ lines k₀ numbers k =
+    (lines ≡ 2 * groups (line .blocks)) × (k ≤ lines) × (length numbers ≡ length numbers₀)
+    × Filled line own parity (frameOf info red) numbers (k * line .d .size)
 
 abbrev μ-loop : tie.MeasureT-loop
-μ-loop line own parity info red positions work₀ lines k₀ work k = lines - k
+μ-loop line own parity info red positions numbers₀ lines k₀ numbers k = lines - k
 
 line-count-requires : tie.Need-line-count-requires Inv-loop μ-loop
 line-count-requires c κs = c .before .before .before .before .before .before .pre .0 .few-blocks
@@ -40,8 +40,8 @@ fill-line-requires c κs =
     let fits : LineFits (record { d = a .line .d; blocks = a .line .blocks; k = l .k }) =
     record { allowed = p .0 .allowed; few-blocks = p .0 .few-blocks; within = omega (arith, c .before .before .loop-test .taken, l .inv .0) } in
     subst (λ (z : Line). Received (z .d) (z .blocks) (a .own .now) (a .parity .now) (a .info .now) (a .red .now) × LineFits z × WordTable (z .d) (a .positions .now)
-    × (length (l .work) ≡ orderOf (z .d) + 4 * wordCount (paramsOf (z .d)) (z .blocks))
-    × Filled z (a .own .now) (a .parity .now) (frameOf (a .info .now) (a .red .now)) (drop (orderOf (z .d)) (l .work)) (z .k * z .d .size))
+    × (length (l .numbers) ≡ 4 * wordCount (paramsOf (z .d)) (z .blocks))
+    × Filled z (a .own .now) (a .parity .now) (frameOf (a .info .now) (a .red .now)) (l .numbers) (z .k * z .d .size))
     (sym (c .before .line-at .ensures)) (p .0, fits, p .1, l .inv .2 ∙ p .2, l .inv .3)
 
 add-k : tie.Need-add-k Inv-loop μ-loop
@@ -57,12 +57,12 @@ loop-again c =
     let w = c .before .before .fill-line .last .1 .1 .1 .1 .1 .1 .0 in
     let M = a .line .d .size in
     let e : l .k * M + M ≡ (l .k + 1) * M = sym (ap (λ (n : ℕ). n * M) (add-one (l .k)) ∙ suc-mul (l .k) M) in
-    let F = subst (λ (z : Line). Filled z (a .own .now) (a .parity .now) (frameOf (a .info .now) (a .red .now)) (drop (orderOf (z .d)) w) (z .k * z .d .size + z .d .size))
+    let F = subst (λ (z : Line). Filled z (a .own .now) (a .parity .now) (frameOf (a .info .now) (a .red .now)) w (z .k * z .d .size + z .d .size))
     (c .before .before .before .before .line-at .ensures) (c .before .before .fill-line .ensures .1) in (
       l .inv .0,
       omega (arith, c .before .before .before .before .before .loop-test .taken),
       c .before .before .fill-line .ensures .0 ∙ l .inv .2,
-      subst (λ (n : ℕ). Filled (a .line) (a .own .now) (a .parity .now) (frameOf (a .info .now) (a .red .now)) (drop (orderOf (a .line .d)) w) n) e F,
+      subst (λ (n : ℕ). Filled (a .line) (a .own .now) (a .parity .now) (frameOf (a .info .now) (a .red .now)) w n) e F,
     )
 
 same-length : tie.Need-same-length Inv-loop μ-loop
@@ -73,7 +73,7 @@ returns c =
     let a = c .before .before .before .before .before .before .before .before .before .args in
     let l = c .before .loop in
     let e : l .k ≡ 2 * groups (a .line .blocks) = omega (arith, c .loop-test .left, l .inv .0, l .inv .1) in
-    (l .inv .2, subst (λ (n : ℕ). Filled (a .line) (a .own .now) (a .parity .now) (frameOf (a .info .now) (a .red .now)) (drop (orderOf (a .line .d)) (l .work)) (n * a .line .d .size)) e (l .inv .3))
+    (l .inv .2, subst (λ (n : ℕ). Filled (a .line) (a .own .now) (a .parity .now) (frameOf (a .info .now) (a .red .now)) (l .numbers) (n * a .line .d .size)) e (l .inv .3))
 
 pub fill-numbers-spec : {M : Type 1} → statement M
 fill-numbers-spec =

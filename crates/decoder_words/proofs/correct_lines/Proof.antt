@@ -9,7 +9,7 @@ use Rattle.staircase.specs.Frame.{Site, frameOf, groups}
 use Rattle.staircase.specs.Decoder.{Progress, round}
 use Rattle.staircase.specs.Lines.{lineSites}
 use Rattle.design.specs.Sizes.{paramsOf}
-use Rattle.decoder_lines.specs.declared.Line.{Line}
+use Rattle.words_lines.specs.declared.Line.{Line}
 use Rattle.decoder_lines.specs.Links.{listsIn}
 use Rattle.decoder_words.specs.Ready.{LineReady, FrameKept, lineWord}
 use Rattle.decoder_words.proofs.Passes.{lines-none, lines-next, ready-at}

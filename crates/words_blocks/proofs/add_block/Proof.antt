@@ -1,21 +1,23 @@
--- A block that is not sent adds nothing; one that is sent adds what `add_rows` or `add_dots` does.
+-- A block that is not sent adds nothing; one that is sent adds what `read_rows` or `add_dots` does.
 -- Assumes nothing.
 use borrow.Author.Needs.{needs}
-use mathlib.Core.Path.{refl}
+use mathlib.Core.Path.{refl, _∙_}
+use native.Mathlib.Omega.{arith}
 use lib.ListN.{length}
 use borrow.Author.Tests.{not-true, not-false}
 use Rattle.bch_remainders.proofs.Rows.{row-length}
-use Rattle.words_blocks.proofs.Sums.{square, unsent-added, column-added, row-added}
+use Rattle.words_blocks.proofs.Sums.{square, unsent-added, column-added, row-added, unread, read-whole, read-each}
 use Rattle.words_blocks.proofs.add_block.Statement.{statement}
 use Rattle.words_blocks.proofs.add_block.Tie as tie
 
 returns : tie.Need-returns
 returns c =
     let a = c .before .before .before .before .args in
-    unsent-added (a .sent) (a .column) (a .block .now) (a .positions .now) (a .sums .now) (a .from) (not-true (a .sent) (c .if1 .taken))
+    let e = not-true (a .sent) (c .if1 .taken) in
+    (unsent-added (a .sent) (a .column) (a .block .now) (a .positions .now) (a .sums .now) (a .from) e, unread (a .sent) (length (a .sums .now)) e)
 
-add-rows-requires : tie.Need-add-rows-requires
-add-rows-requires c κs =
+read-rows-requires : tie.Need-read-rows-requires
+read-rows-requires c κs =
     let s = c .before .before .before .before .before .before .before in
     let a = s .args in
     let n = length (a .sums .now) in
@@ -26,9 +28,13 @@ returns-2 : tie.Need-returns-2
 returns-2 c =
     let s = c .before .before .before .before .before .before .before .before .before .before in
     let a = s .args in
-    let added = c .before .before .add-rows in
-    column-added (a .sent) (a .column) (a .block .now) (a .positions .now) (a .sums .now) (a .from) (added .last .0) (s .pre .1)
-    (not-false (a .sent) (c .before .before .before .before .before .before .if1 .left)) (c .before .before .before .before .if2 .taken) (added .ensures)
+    let added = c .before .before .read-rows in
+    let n = length (a .sums .now) in
+    let e = not-false (a .sent) (c .before .before .before .before .before .before .if1 .left) in (
+      column-added (a .sent) (a .column) (a .block .now) (a .positions .now) (a .sums .now) (a .from) (added .last .0) (s .pre .1) e
+          (c .before .before .before .before .if2 .taken) (added .ensures .0, added .ensures .1),
+      read-whole (a .sent) n e (added .ensures .2 ∙ row-length (a .positions .now) (a .from) n (s .pre .1)),
+    )
 
 add-dots-requires : tie.Need-add-dots-requires
 add-dots-requires c κs =
@@ -43,11 +49,16 @@ returns-3 c =
     let s = c .before .before .before .before .before .before .before .before .before .before in
     let a = s .args in
     let added = c .before .before .add-dots in
-    row-added (a .sent) (a .column) (a .block .now) (a .positions .now) (a .sums .now) (a .from) (added .last .0) (s .pre .1)
-    (not-false (a .sent) (c .before .before .before .before .before .before .if1 .left)) (c .before .before .before .before .if2 .left) (added .ensures)
+    let n = length (a .sums .now) in
+    let e = not-false (a .sent) (c .before .before .before .before .before .before .if1 .left) in
+    let long = row-length (a .positions .now) (a .from) n (s .pre .1) in (
+      row-added (a .sent) (a .column) (a .block .now) (a .positions .now) (a .sums .now) (a .from) (added .last .0) (s .pre .1) e
+          (c .before .before .before .before .if2 .left) (added .ensures .0, added .ensures .1),
+      read-whole (a .sent) n e (read-each (added .result) n (λ k h. added .ensures .2 k h ∙ long) (omega (arith, added .ensures .3, long))),
+    )
 
 pub add-block-spec : {M : Type 1} → statement M
 add-block-spec =
     tie.close
-    (tie.spec returns (λ c. search needs) (λ c. search needs) (λ c. search needs) (λ c. search needs) (λ c. search needs) add-rows-requires
+    (tie.spec returns (λ c. search needs) (λ c. search needs) (λ c. search needs) (λ c. search needs) (λ c. search needs) read-rows-requires
     (λ c. search needs) returns-2 add-dots-requires (λ c. search needs) returns-3)

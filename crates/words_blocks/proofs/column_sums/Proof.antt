@@ -7,7 +7,7 @@ use Rattle.words_blocks.proofs.column_sums.Tie as tie
 
 returns : tie.Need-returns
 unfolding sentBit columnSum bitPlace blockSum
-returns c = c .before .before .block-sums .ensures
+returns c = c .before .before .block-sums .ensures .0
 
 pub column-sums-spec : {M : Type 1} → statement M
 column-sums-spec =

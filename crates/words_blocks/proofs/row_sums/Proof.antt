@@ -7,7 +7,7 @@ use Rattle.words_blocks.proofs.row_sums.Tie as tie
 
 returns : tie.Need-returns
 unfolding sentBit rowSum bitPlace blockSum
-returns c = c .before .before .block-sums .ensures
+returns c = c .before .before .block-sums .ensures .0
 
 pub row-sums-spec : {M : Type 1} → statement M
 row-sums-spec =
