@@ -161,12 +161,12 @@ static int time_frame(unsigned m, unsigned t, unsigned M, unsigned L, unsigned t
 {
     size_t list = 2 * (size_t)s->size, info = (size_t)L * M * M, red = (L + 1) / 2 * list;
     uint8_t *received = lend(info + red), *mine = lend(info + red), *other = lend(info + red);
-    size_t working = s->size + 8 * (size_t)M * ((L + 1) / 2);
+    size_t working = s->size + 8 * (size_t)M * ((L + 1) / 2) + info + red;
     uint8_t *work = lend(working);
     plain_frame lent = { self, parity, other, other + info, list, list, info, red };
     int (*const decoder[2])(unsigned, unsigned, unsigned, unsigned, unsigned, const plain_frame *, uint64_t *, uint64_t *) = { plain_decode, strong_decode };
     double words[2] = { 1e9, 1e9 }, decode[RATES][3];           /* plain, ours; plain, strong, ours */
-    uint64_t counts[RATES][3], place, outside, words_answer[2], decode_answer[4], load_answer[2];
+    uint64_t counts[RATES][PLAIN_COUNTS], place, outside, words_answer[2], decode_answer[1 + PLAIN_COUNTS], load_answer[2];
     int differ = 0;
     for (unsigned e = 0; e < RATES; e++) {
         decode[e][0] = decode[e][1] = decode[e][2] = 1e9;
@@ -177,7 +177,8 @@ static int time_frame(unsigned m, unsigned t, unsigned M, unsigned L, unsigned t
             double a = now();
             differ |= bauchleton_check_words(m, t, M, L, self, list, parity, list, mine, info, mine + info, red, work, s->size, words_answer, 2) != 0;
             double b = now();
-            differ |= bauchleton_decode(m, t, M, L, 0, self, list, parity, list, mine, info, mine + info, red, work, working, decode_answer, 4) != 0;
+            differ |= bauchleton_decode(m, t, M, L, 0, self, list, parity, list, mine, info, mine + info, red, work, working, decode_answer,
+                                        1 + PLAIN_COUNTS) != 0;
             double c = now();
             words[1] = least(words[1], b - a);
             decode[e][2] = least(decode[e][2], c - b);
@@ -197,9 +198,9 @@ static int time_frame(unsigned m, unsigned t, unsigned M, unsigned L, unsigned t
     }
     printf("  blocks %u: words outside %.0f us, plain %.0f us, ratio %.2f\n", L, words[1] * 1e6, words[0] * 1e6, words[1] / words[0]);
     for (unsigned e = 0; e < RATES; e++)
-        printf("    decoding at %.1g (%u rounds, %u turned, %u outside) %.0f us, plain %.0f us, ratio %.2f, strong %.0f us, ratio %.2f\n", error_limit[e] / 65536.0,
-               (unsigned)counts[e][0], (unsigned)counts[e][1], (unsigned)counts[e][2], decode[e][2] * 1e6, decode[e][0] * 1e6,
-               decode[e][2] / decode[e][0], decode[e][1] * 1e6, decode[e][2] / decode[e][1]);
+        printf("    decoding at %.1g (%u rounds, %u turned, %u outside, %u stuck) %.0f us, plain %.0f us, ratio %.2f, strong %.0f us, ratio %.2f\n",
+               error_limit[e] / 65536.0, (unsigned)counts[e][0], (unsigned)counts[e][1], (unsigned)counts[e][2], (unsigned)counts[e][3],
+               decode[e][2] * 1e6, decode[e][0] * 1e6, decode[e][2] / decode[e][0], decode[e][1] * 1e6, decode[e][2] / decode[e][1]);
     free(received), free(mine), free(other), free(work);
     return differ;
 }

@@ -825,6 +825,8 @@ typedef struct {
     word_sums w;
     unsigned L;
     uint8_t *info, *red;
+    const plain_frame *lent;
+    const uint8_t *copy;                /* of the frame as it was lent, information before redundancy; null until a bit is to be turned */
     uint16_t self[MAX_SIZE], parity[MAX_SIZE];          /* entry a * r + b: the byte of Y or P that is row a, column b of X or Q */
     uint32_t rem[MAX_M];                /* of a group's row words or column words */
 } words;
@@ -836,6 +838,8 @@ static void make_words(words *f, unsigned m, unsigned t, unsigned M, unsigned L,
     f->L = L;
     f->info = lent->info;
     f->red = lent->red;
+    f->lent = lent;
+    f->copy = NULL;
     for (unsigned b = 0; b < f->c.r; b++)
         for (unsigned a = 0; a < M; a++) {
             f->self[a * f->c.r + b] = entry(lent->self, b * M + a);
@@ -970,7 +974,40 @@ static const uint8_t *column_bit(const words *f, const group *g, unsigned a, uns
     return g->P + (j - f->c.k) * M + a;
 }
 
-/* Turns the bits unless one is unsent; returns the number turned. */
+/* Copies the frame before its first turn. The room is kept from call to call, as a host's working bytes are, so that no call pays for fresh pages. */
+static void keep_copy(words *f)
+{
+    static _Thread_local uint8_t *copy;
+    static _Thread_local size_t room;
+    size_t info = f->lent->info_length, red = f->lent->red_length;
+    if (f->copy)
+        return;
+    if (room < info + red) {
+        free(copy);
+        room = info + red;
+        copy = zeroed(room, 1);
+    }
+    memcpy(copy, f->info, info);
+    memcpy(copy + info, f->red, red);
+    f->copy = copy;
+}
+
+static uint64_t differing(const uint8_t *bits, const uint8_t *others, size_t length)
+{
+    uint64_t count = 0;
+    for (size_t i = 0; i < length; i++)
+        count += bits[i] ^ others[i];
+    return count;
+}
+
+/* The number of bits in which the frame differs from the one that was lent. */
+static uint64_t changed_bits(const words *f)
+{
+    size_t info = f->lent->info_length, red = f->lent->red_length;
+    return f->copy ? differing(f->info, f->copy, info) + differing(f->red, f->copy + info, red) : 0;
+}
+
+/* Turns the bits unless one is unsent; returns the number turned, 0 of a stuck word. */
 static unsigned turn(const uint8_t *bits[], unsigned count)
 {
     for (unsigned i = 0; i < count; i++)
@@ -981,9 +1018,9 @@ static unsigned turn(const uint8_t *bits[], unsigned count)
     return count;
 }
 
-/* Mends the words whose remainders were taken; counts the bits turned and the words that were outside the code. */
-static void mend_words(const words *f, const locator *l, const group *g, const uint8_t *(*bit)(const words *, const group *, unsigned, unsigned),
-                       uint64_t *turned, uint64_t *outside)
+/* Mends the words whose remainders were taken; counts the bits turned and the stuck words. */
+static void mend_words(words *f, const locator *l, const group *g, const uint8_t *(*bit)(const words *, const group *, unsigned, unsigned),
+                       uint64_t *turned, uint64_t *stuck)
 {
     unsigned position[MAX_T];
     const uint8_t *bits[MAX_T];
@@ -992,26 +1029,30 @@ static void mend_words(const words *f, const locator *l, const group *g, const u
             unsigned count = locate(&f->c, l, f->rem[a], position);
             for (unsigned i = 0; i < count; i++)
                 bits[i] = bit(f, g, a, position[i]);
-            *turned += turn(bits, count);
-            ++*outside;
+            if (count)
+                keep_copy(f);
+            count = turn(bits, count);
+            *turned += count;
+            *stuck += count == 0;
         }
 }
 
 /* Row words share no bit with one another, nor do column words, so each kind's remainders are taken before the first of them is mended. */
-static void mend_group(words *f, const locator *l, const group *g, uint64_t *turned, uint64_t *outside)
+static void mend_group(words *f, const locator *l, const group *g, uint64_t *turned, uint64_t *stuck)
 {
     row_remainders(f, g);
-    mend_words(f, l, g, row_bit, turned, outside);
+    mend_words(f, l, g, row_bit, turned, stuck);
     column_remainders(f, g);
-    mend_words(f, l, g, column_bit, turned, outside);
+    mend_words(f, l, g, column_bit, turned, stuck);
 }
 
-int plain_decode(unsigned m, unsigned t, unsigned M, unsigned L, unsigned rounds, const plain_frame *lent, uint64_t counts[3], uint64_t *place)
+int plain_decode(unsigned m, unsigned t, unsigned M, unsigned L, unsigned rounds, const plain_frame *lent, uint64_t counts[PLAIN_COUNTS],
+                 uint64_t *place)
 {
     words f;
     locator l;
     uint64_t turned;
-    memset(counts, 0, 3 * sizeof *counts);
+    memset(counts, 0, PLAIN_COUNTS * sizeof *counts);
     int rule = judge_frame(m, t, M, L, rounds, lent, place);
     if (rule)
         return rule;
@@ -1020,15 +1061,14 @@ int plain_decode(unsigned m, unsigned t, unsigned M, unsigned L, unsigned rounds
     if (rounds == 0)
         rounds = DEFAULT_ROUNDS;
     do {
-        turned = counts[2] = 0;
+        turned = counts[3] = 0;
         for (unsigned i = 1; i <= groups(L); i++) {
             group g = get_group(&f.c, L, f.info, f.red, i);
-            mend_group(&f, &l, &g, &turned, &counts[2]);
+            mend_group(&f, &l, &g, &turned, &counts[3]);
         }
         counts[0]++;
-        counts[1] += turned;
     } while (turned && counts[0] < rounds);
-    if (turned)                         /* an idle round has just met them all */
-        counts[2] = count_outside(&f);
+    counts[1] = changed_bits(&f);
+    counts[2] = turned ? count_outside(&f) : counts[3];         /* in an idle round the words outside are the stuck ones */
     return 0;
 }

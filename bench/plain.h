@@ -46,10 +46,14 @@ typedef struct {
 /* Rules 1 to 4, 6, 7 and 10: 0 and the number of words outside the code, or the rule's number, its place and no words. Changes no bit. */
 int plain_words(unsigned m, unsigned t, unsigned M, unsigned L, const plain_frame *lent, uint64_t *outside, uint64_t *place);
 
-/* Rules 1 to 7 and 10: 0, or the rule's number and its place. Mends info and red by the document's rounds (0 stands for 7); counts: rounds made,
-   bits turned, words outside at the end, all 0 if refused. A group's remainders are taken anew in each round, about n / 8 steps a word; the errors
-   of a word are then found in a fixed number of steps. */
-int plain_decode(unsigned m, unsigned t, unsigned M, unsigned L, unsigned rounds, const plain_frame *lent, uint64_t counts[3], uint64_t *place);
+/* What a decoder counts: rounds made, bits in which the mended frame differs from the copy, words outside at the end, stuck words of the last round. */
+enum { PLAIN_COUNTS = 4 };
+
+/* Rules 1 to 7 and 10: 0, or the rule's number and its place. Mends info and red by the document's rounds (0 stands for 7); the counts are all 0 if
+   refused. A frame is copied, a byte a bit, before its first turn, and compared at the end. A group's remainders are taken anew in each round, about n / 8 steps a word; the errors of a word are then found in a fixed number of
+   steps. */
+int plain_decode(unsigned m, unsigned t, unsigned M, unsigned L, unsigned rounds, const plain_frame *lent, uint64_t counts[PLAIN_COUNTS],
+                 uint64_t *place);
 
 /* The first byte above 1, or the length. */
 size_t plain_first_bad_bit(const uint8_t *bytes, size_t length);

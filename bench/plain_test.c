@@ -142,7 +142,8 @@ static int ref_search(const ref *d, uint32_t rem, unsigned from, unsigned count,
     return 0;
 }
 
-static unsigned ref_mend(const ref *d, uint8_t *frame, const long *at)
+/* Mends a word: the number of bits turned, 0 of a clean word, or -1 of a stuck one. */
+static int ref_mend(const ref *d, uint8_t *frame, const long *at)
 {
     uint32_t rem = ref_word_remainder(d, frame, at);
     unsigned position[3];
@@ -150,12 +151,12 @@ static unsigned ref_mend(const ref *d, uint8_t *frame, const long *at)
         if (ref_search(d, rem, 0, count, position)) {
             for (unsigned i = 0; i < count; i++)
                 if (at[position[i]] < 0)
-                    return 0;
+                    return -1;
             for (unsigned i = 0; i < count; i++)
                 frame[at[position[i]]] ^= 1;
             return count;
         }
-    return 0;
+    return -1;
 }
 
 static uint64_t ref_outside(const ref *d, unsigned L, const uint8_t *frame)
@@ -171,23 +172,37 @@ static uint64_t ref_outside(const ref *d, unsigned L, const uint8_t *frame)
     return outside;
 }
 
-static void ref_decode(const ref *d, unsigned L, unsigned rounds, uint8_t *frame, uint64_t counts[3])
+static unsigned turned_back;           /* decodes in which a bit was turned and turned back */
+
+static void ref_decode(const ref *d, unsigned L, unsigned rounds, uint8_t *frame, uint64_t counts[PLAIN_COUNTS])
 {
     long at[1023];
+    size_t length = (size_t)L * d->M * d->M + (size_t)(L + 1) / 2 * 2 * d->N;
+    uint8_t *copy = get(length);
+    uint64_t all_turns = 0;
+    memcpy(copy, frame, length);
     counts[0] = counts[1] = 0;
     for (unsigned left = rounds ? rounds : 7; left > 0; left--) {
-        uint64_t before = counts[1];
+        unsigned turns = 0;
+        counts[3] = 0;
         for (unsigned group = 1; group <= (L + 1) / 2; group++)
             for (int is_column = 0; is_column < 2; is_column++)
                 for (unsigned a = 0; a < d->M; a++) {
                     ref_word(d, L, group, is_column, a, at);
-                    counts[1] += ref_mend(d, frame, at);
+                    int mended = ref_mend(d, frame, at);
+                    counts[3] += mended < 0;
+                    turns += mended < 0 ? 0 : mended;
                 }
         counts[0]++;
-        if (counts[1] == before)
+        all_turns += turns;
+        if (turns == 0)
             break;
     }
+    for (size_t bit = 0; bit < length; bit++)
+        counts[1] += frame[bit] != copy[bit];
     counts[2] = ref_outside(d, L, frame);
+    free(copy);
+    turned_back += all_turns > counts[1];
 }
 
 /* A, one bit a byte: each column is the sum that a single one in Y gives between zero blocks. */
@@ -269,7 +284,7 @@ static int64_t outside(const ref *d, unsigned L, uint8_t *frame)
     return plain_words(d->m, d->t, d->M, L, &lent, &words, &place) ? -1 : (int64_t)words;
 }
 
-static int decode(const ref *d, unsigned L, unsigned rounds, uint8_t *frame, uint64_t counts[3])
+static int decode(const ref *d, unsigned L, unsigned rounds, uint8_t *frame, uint64_t counts[PLAIN_COUNTS])
 {
     plain_frame lent = lend(d, L, frame);
     uint64_t place;
@@ -277,9 +292,9 @@ static int decode(const ref *d, unsigned L, unsigned rounds, uint8_t *frame, uin
 }
 
 /* Whether the decoder leaves this frame and these counts. */
-static int decodes(const ref *d, unsigned L, unsigned rounds, uint8_t *frame, const uint8_t *after, size_t length, const uint64_t want[3])
+static int decodes(const ref *d, unsigned L, unsigned rounds, uint8_t *frame, const uint8_t *after, size_t length, const uint64_t want[PLAIN_COUNTS])
 {
-    uint64_t counts[3];
+    uint64_t counts[PLAIN_COUNTS];
     return decode(d, L, rounds, frame, counts) == 0 && memcmp(frame, after, length) == 0 && memcmp(counts, want, sizeof counts) == 0;
 }
 
@@ -309,13 +324,13 @@ static int K_encodes(const char *blocks, const char *groups)
 }
 
 /* Frames are blocks, a bar, groups. */
-static int K_decodes(const char *before, unsigned rounds, const char *after, unsigned made, unsigned turned, unsigned words)
+static int K_decodes(const char *before, unsigned rounds, const char *after, unsigned made, unsigned turned, unsigned words, unsigned stuck)
 {
     ref d = ref_design(4, 1, 1, K_self, K_parity);
     uint8_t frame[64], want[64];
     unsigned L = strcspn(before, "|"), length = from_text(before, frame);
     from_text(after, want);
-    return decodes(&d, L, rounds, frame, want, length, (uint64_t[]){ made, turned, words });
+    return decodes(&d, L, rounds, frame, want, length, (uint64_t[]){ made, turned, words, stuck });
 }
 
 static int refused(unsigned m, unsigned t, unsigned M, int rule, uint64_t at)
@@ -351,9 +366,9 @@ static void test_rows(void)
     wrong[3] = 0xA;
     CHECK(plain_check_kit(4, 1, 1, K_self, K_parity, wrong, &place) == 9 && place == 7);
 
-    CHECK(K_decodes("01|0001 0111", 0, "01|0001 0110", 2, 1, 0));
-    CHECK(K_decodes("01|0001 0111", 1, "01|0001 0110", 1, 1, 0));
-    CHECK(K_decodes("00|0000 0101", 0, "01|0000 0101", 2, 1, 1));
+    CHECK(K_decodes("01|0001 0111", 0, "01|0001 0110", 2, 1, 0, 0));
+    CHECK(K_decodes("01|0001 0111", 1, "01|0001 0110", 1, 1, 0, 0));
+    CHECK(K_decodes("00|0000 0101", 0, "01|0000 0101", 2, 1, 1, 1));
 
     CHECK(refused(4, 1, 3, 0, 0) && refused(4, 1, 4, 2, 16) && refused(10, 2, 204, 0, 0) && refused(10, 2, 205, 3, 4100));
     CHECK(refused(3, 0, 0, 1, 1) && refused(11, 9, 9, 1, 1) && refused(4, 0, 0, 1, 2) && refused(10, 4, 0, 1, 2));
@@ -388,7 +403,7 @@ static void test_second_kit(void)
 
     from_text("1000|11111001 10100110", frame);
     from_text("1010|11111101 10100110", out);
-    CHECK(decodes(&d, 1, 1, frame, out, 20, (uint64_t[]){ 1, 2, 1 }));
+    CHECK(decodes(&d, 1, 1, frame, out, 20, (uint64_t[]){ 1, 2, 1, 1 }));
     group_done("a kit with M = 2", start);
 }
 
@@ -592,7 +607,7 @@ static void round_trip(unsigned m, unsigned t, unsigned M, unsigned L, kit k, ui
                 load[owner[bit][i] - 1]++;
     }
     CHECK(outside(&d, L, copy) == (int64_t)ref_outside(&d, L, copy));
-    CHECK(decodes(&d, L, 0, copy, frame, length, (uint64_t[]){ wrong ? 2 : 1, wrong, 0 }));
+    CHECK(decodes(&d, L, 0, copy, frame, length, (uint64_t[]){ wrong ? 2 : 1, wrong, 0, 0 }));
     free(frame);
     free(copy);
     free(load);
@@ -622,7 +637,7 @@ static void brute_force(const ref *d, const uint8_t *inverse, unsigned L, unsign
 {
     size_t info_length = (size_t)L * d->M * d->M, length = info_length + (size_t)(L + 1) / 2 * 2 * d->N;
     uint8_t *mine = get(length), *other = get(length);
-    uint64_t want[3];
+    uint64_t want[PLAIN_COUNTS];
     if (inverse) {
         random_bits(mine, info_length, state);
         plain_encode(d->m, d->t, d->M, L, d->self, d->parity, inverse, mine, mine + info_length);
@@ -679,6 +694,7 @@ static void test_brute_force(void)
     for (unsigned L = 1; L <= 3; L++)
         brute_force(&d, k.inverse, L, 1, 12, &state);
     free_kit(k);
+    CHECK(turned_back > 1000);
     group_done("decoder against brute force", start);
 }
 
@@ -770,12 +786,12 @@ static void test_refusals(void)
 /* Both calls refuse with this rule and place, count nothing and leave the frame; only the decoder knows rule 5. */
 static int frame_refused(unsigned m, unsigned t, unsigned M, unsigned L, unsigned rounds, const plain_frame *lent, int rule, uint64_t at)
 {
-    uint64_t words = 1, place = 0, counts[3] = { 1, 1, 1 };
+    uint64_t words = 1, place = 0, counts[PLAIN_COUNTS] = { 1, 1, 1, 1 };
     uint8_t info[2], red[8];
     memcpy(info, lent->info, sizeof info);
     memcpy(red, lent->red, sizeof red);
     int by_words = rule == 5 || (plain_words(m, t, M, L, lent, &words, &place) == rule && place == at && words == 0);
-    return by_words && plain_decode(m, t, M, L, rounds, lent, counts, &place) == rule && place == at && !counts[0] && !counts[1] && !counts[2]
+    return by_words && plain_decode(m, t, M, L, rounds, lent, counts, &place) == rule && place == at && !counts[0] && !counts[1] && !counts[2] && !counts[3]
         && memcmp(info, lent->info, sizeof info) == 0 && memcmp(red, lent->red, sizeof red) == 0;
 }
 
@@ -789,7 +805,7 @@ static void test_frame_refusals(void)
     memcpy(self, K_self, 8);
     memcpy(parity, K_parity, 8);
 
-    CHECK(outside(&d, 4096, longest) == 0 && decodes(&d, 4096, 64, longest, longest, 1, (uint64_t[]){ 1, 0, 0 }));
+    CHECK(outside(&d, 4096, longest) == 0 && decodes(&d, 4096, 64, longest, longest, 1, (uint64_t[]){ 1, 0, 0, 0 }));
     free(longest);
     red[7] = 255;
     CHECK(frame_refused(4, 1, 1, 2, 0, &lent, 10, 9));

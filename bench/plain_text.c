@@ -303,7 +303,7 @@ size_t plain_frame_output(const uint8_t *kit, size_t kit_length, const uint8_t *
     return end - out;
 }
 
-static int decode(inputs *in, uint64_t counts[3], uint64_t *place)
+static int decode(inputs *in, uint64_t counts[PLAIN_COUNTS], uint64_t *place)
 {
     size_t list = 2 * (size_t)in->k.s.size, info = (size_t)in->L * in->k.M * in->k.M;
     plain_frame lent = { in->k.self, in->k.parity, in->info, in->red, list, list, info, red_length(in) };
@@ -313,7 +313,7 @@ static int decode(inputs *in, uint64_t counts[3], uint64_t *place)
 size_t plain_mend_output(const uint8_t *kit, size_t kit_length, const uint8_t *text, size_t text_length, uint8_t *out)
 {
     inputs in = { 0 };
-    uint64_t counts[3], place;
+    uint64_t counts[PLAIN_COUNTS], place;
     uint8_t *end;
     int rule = read_inputs(kit, kit_length, text, text_length, 1, &in, &place);
     if (!rule)

@@ -178,8 +178,8 @@ static void turn_in_column(keeper *k, const group *g, uint32_t *rows, unsigned a
     }
 }
 
-/* Mends the row words or the column words of group i; returns the number of bits turned. */
-static unsigned mend_kept(keeper *k, unsigned i, int column)
+/* Mends the row words or the column words of group i and counts the stuck ones; returns the number of bits turned. */
+static unsigned mend_kept(keeper *k, unsigned i, int column, uint64_t *stuck_words)
 {
     const code *c = &k->f.c;
     unsigned M = c->M, turned = 0, position[MAX_T], last = i == groups(k->f.L);
@@ -187,16 +187,22 @@ static unsigned mend_kept(keeper *k, unsigned i, int column)
     group g = get_group(c, k->f.L, k->f.info, k->f.red, i);
     unsigned unsent = column ? g.even ? c->n : M : g.before ? c->n : 0;         /* the first of M positions that are not sent, or n */
     for (unsigned a = 0; a < M; a++) {
-        if (word[a] == 0 || word[a] >= stuck)
+        if (word[a] == 0)
             continue;
+        if (word[a] >= stuck) {
+            ++*stuck_words;
+            continue;
+        }
         unsigned count = locate(c, &k->l, word[a], position), kept = count;
         for (unsigned e = 0; e < count; e++)
             if (position[e] - unsent < M)
                 kept = 0;
         if (!kept) {
             word[a] |= stuck;
+            ++*stuck_words;
             continue;
         }
+        keep_copy(&k->f);
         word[a] = 0;
         turned += count;
         for (unsigned e = 0; e < count; e++)
@@ -208,11 +214,12 @@ static unsigned mend_kept(keeper *k, unsigned i, int column)
     return turned;
 }
 
-int strong_decode(unsigned m, unsigned t, unsigned M, unsigned L, unsigned rounds, const plain_frame *lent, uint64_t counts[3], uint64_t *place)
+int strong_decode(unsigned m, unsigned t, unsigned M, unsigned L, unsigned rounds, const plain_frame *lent, uint64_t counts[PLAIN_COUNTS],
+                  uint64_t *place)
 {
     keeper k;
     uint64_t turned;
-    memset(counts, 0, 3 * sizeof *counts);
+    memset(counts, 0, PLAIN_COUNTS * sizeof *counts);
     int rule = judge_frame(m, t, M, L, rounds, lent, place);
     if (rule)
         return rule;
@@ -220,14 +227,14 @@ int strong_decode(unsigned m, unsigned t, unsigned M, unsigned L, unsigned round
     if (rounds == 0)
         rounds = DEFAULT_ROUNDS;
     do {
-        turned = 0;
+        turned = counts[3] = 0;
         for (unsigned i = 1; i <= groups(L); i++) {
-            turned += mend_kept(&k, i, 0);
-            turned += mend_kept(&k, i, 1);
+            turned += mend_kept(&k, i, 0, &counts[3]);
+            turned += mend_kept(&k, i, 1, &counts[3]);
         }
         counts[0]++;
-        counts[1] += turned;
     } while (turned && counts[0] < rounds);
+    counts[1] = changed_bits(&k.f);
     for (size_t w = 0; w < 2 * (size_t)M * groups(L); w++)
         counts[2] += k.kept[w] != 0;
     free(k.kept);

@@ -12,6 +12,7 @@ int strong_check_kit(unsigned m, unsigned t, unsigned M, const uint8_t *self, co
 
 /* As plain_decode. Each turned bit is added to the remainder of the other word that has it; words in the code, and words that were found stuck and
    have not changed since, are passed over. All tables are made within the call, and 4 bytes kept for each of the frame's words. */
-int strong_decode(unsigned m, unsigned t, unsigned M, unsigned L, unsigned rounds, const plain_frame *lent, uint64_t counts[3], uint64_t *place);
+int strong_decode(unsigned m, unsigned t, unsigned M, unsigned L, unsigned rounds, const plain_frame *lent, uint64_t counts[PLAIN_COUNTS],
+                  uint64_t *place);
 
 #endif

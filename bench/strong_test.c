@@ -150,12 +150,12 @@ static void test_kits(void)
 
 /* ---- Frames ---- */
 
-static unsigned left_outside, several_rounds;
+static unsigned left_outside, several_rounds, fewer_stuck, more_stuck;         /* stuck in the last round beside outside at the end */
 
 static void same_decoding(const kit *k, unsigned L, unsigned rounds, const plain_frame *lent)
 {
     uint8_t *info = get(lent->info_length), *red = get(lent->red_length);
-    uint64_t counts[3] = { 7, 7, 7 }, want[3] = { 9, 9, 9 }, place = 77, want_place = 77;
+    uint64_t counts[PLAIN_COUNTS] = { 7, 7, 7, 7 }, want[PLAIN_COUNTS] = { 9, 9, 9, 9 }, place = 77, want_place = 77;
     plain_frame other = *lent;
     other.info = info;
     other.red = red;
@@ -168,6 +168,8 @@ static void same_decoding(const kit *k, unsigned L, unsigned rounds, const plain
     rules_seen[wanted]++;
     left_outside += want[2] > 0;
     several_rounds += want[0] > 2;
+    fewer_stuck += want[3] < want[2];
+    more_stuck += want[3] > want[2];
     free(info);
     free(red);
 }
@@ -224,7 +226,7 @@ static void test_frames(void)
                         free_kit(k);
                     }
         }
-    CHECK(left_outside > 1000 && several_rounds > 1000);
+    CHECK(left_outside > 1000 && several_rounds > 1000 && fewer_stuck > 1000 && more_stuck > 100);
     group_done("frames");
 }
 

@@ -59,14 +59,31 @@ uint64_t bauchleton_check_words(uint64_t m, uint64_t t, uint64_t size, uint64_t 
                                 const uint8_t *parity, size_t parity_length, const uint8_t *info, size_t info_length, const uint8_t *red,
                                 size_t red_length, uint8_t *work, size_t work_length, uint64_t *answer, size_t answer_length);
 
-/* Corrects information and redundancy in place. answer, 4 entries: place, rounds made, bits turned, words outside the code at the end */
+/* Corrects information and redundancy in place. A word of the last round is stuck where no codeword lies within t changes of it, or where that codeword
+   would change an unsent block. Where the last round turned no bit, the stuck words are the words outside; else they may be more or fewer.
+   answer, 5 entries: place, rounds made, bits in which the corrected frame differs from the received one (a bit turned and turned back is none),
+   words outside the code at the end, stuck words of the last round made */
 uint64_t bauchleton_decode(uint64_t m, uint64_t t, uint64_t size, uint64_t blocks, uint64_t rounds, const uint8_t *self, size_t self_length,
                            const uint8_t *parity, size_t parity_length, uint8_t *info, size_t info_length, uint8_t *red, size_t red_length,
                            uint8_t *work, size_t work_length, uint64_t *answer, size_t answer_length);
 
+/* As bauchleton_decode, and adds to six totals: frames, sent bits, bits that differ (the third entry of answer), rounds, words outside, stuck words.
+   Begin with six zeros. A refused call changes no total. Beside the decoder's rules: a tally of other than 6 entries is rule 6 at 9, after the working
+   bytes; a total above 2^62 on entry is rule 16, after 10, with the first such total's position, from 1, as its place.
+   answer, 5 entries: as bauchleton_decode */
+uint64_t bauchleton_decode_tallied(uint64_t m, uint64_t t, uint64_t size, uint64_t blocks, uint64_t rounds, const uint8_t *self,
+                                   size_t self_length, const uint8_t *parity, size_t parity_length, uint8_t *info, size_t info_length,
+                                   uint8_t *red, size_t red_length, uint8_t *work, size_t work_length, uint64_t *tally,
+                                   size_t tally_length, uint64_t *answer, size_t answer_length);
+
+/* The six totals of a tally, any numbers, and the share of the third in the second as two numbers with no common factor: 0 and 1 where the second,
+   the sent bits, is 0. A tally of other than 6 entries is rule 6 at 9.
+   answer, 9 entries: place, the six totals, the share's top and bottom */
+uint64_t bauchleton_report(const uint64_t *tally, size_t tally_length, uint64_t *answer, size_t answer_length);
+
 /* Encodes, turns the bits whose byte in a pattern is not 0, and decodes in place. Rules 1 to 10 rise, but for 10 before 9, and nothing is
    written before all have passed.
-   answer, 4 entries: place, rounds made, bits turned, words outside the code at the end */
+   answer, 5 entries: as bauchleton_decode */
 uint64_t bauchleton_loopback(uint64_t m, uint64_t t, uint64_t size, uint64_t blocks, uint64_t rounds, const uint8_t *self, size_t self_length,
                              const uint8_t *parity, size_t parity_length, const uint8_t *inverse, size_t inverse_length,
                              const uint8_t *info_errors, size_t info_errors_length, const uint8_t *red_errors, size_t red_errors_length,

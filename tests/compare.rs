@@ -5,7 +5,8 @@
 //!
 //! Without GROUP (or with `all`) every group runs. A failing case is printed with its group, seed and
 //! index; these three as arguments run it alone. A line for each group ends with how often each number was
-//! the right answer. The last line counts compared calls and checks.
+//! the right answer, and with how often the group met what it is for; one that never meets it has failed. The last line
+//! counts compared calls and checks.
 
 mod host;
 mod reference;
@@ -201,7 +202,8 @@ struct Lent {
 impl Lent {
     /// A kit with buffers of the right lengths for L blocks.
     fn new(kit: &Kit, blocks: usize, info: Vec<u8>, red: Vec<u8>) -> Lent {
-        let order = (kit.m * kit.t * kit.size) as usize;
+        let (order, side, groups) = ((kit.m * kit.t * kit.size) as usize, kit.size as usize, (blocks + 1) / 2);
+        let frame_work = 8 * side * groups + blocks * side * side + groups * 2 * order;
         Lent {
             m: kit.m,
             t: kit.t,
@@ -217,14 +219,19 @@ impl Lent {
             kit_work: order * ((order + 7) / 8),
             make_work: (2 * order + 512) * ((order + 7) / 8),
             word_work: order,
-            decoder_work: order + 8 * kit.size as usize * ((blocks + 1) / 2),
-            loopback_work: order * ((order + 7) / 8) + 8 * kit.size as usize * ((blocks + 1) / 2),
+            decoder_work: order + frame_work,
+            loopback_work: order * ((order + 7) / 8) + frame_work,
             info_errors: vec![],
             red_errors: vec![],
         }
     }
     fn design(&self) -> (u64, u64, u64) {
         (self.m, self.t, self.size)
+    }
+    /// Turns a bit, counted through the information and on through the redundancy.
+    fn turn(&mut self, place: usize) {
+        let at = place.checked_sub(self.info.len());
+        at.map_or_else(|| self.info[place] ^= 1, |at| self.red[at] ^= 1);
     }
     fn kit(&self) -> Kit {
         Kit {
@@ -265,6 +272,11 @@ fn answered<T>(result: &Answer<T>, told: impl Fn(&T) -> Vec<u64>, entries: usize
     }
 }
 
+/// What decoder and loopback tell.
+fn counted((_, _, counts): &(Vec<u8>, Vec<u8>, Counts)) -> Vec<u64> {
+    vec![counts.rounds, counts.turned, counts.outside, counts.stuck]
+}
+
 /// The number of the rule that a printed refusal names, else 0.
 fn refused(printed: &str) -> u64 {
     let numbers = printed.strip_prefix("refused place\n").unwrap_or("0 0");
@@ -283,9 +295,14 @@ struct Case<'a> {
     answer_extra: isize,
     /// how often each rule's number (0: none) was the right answer
     numbers: BTreeMap<u64, u64>,
+    /// how often the cases met what is named
+    met: BTreeMap<&'static str, u64>,
 }
 
 impl Case<'_> {
+    fn meets(&mut self, what: &'static str, holds: bool) {
+        *self.met.entry(what).or_default() += holds as u64;
+    }
     fn fail(&mut self, what: String) {
         self.failed += 1;
         if self.context.printed.fetch_add(1, Relaxed) < 20 {
@@ -392,7 +409,7 @@ impl Case<'_> {
     /// The answer is what the decoder leaves in information and redundancy, by the reference.
     fn decode(&mut self, l: &Lent) -> (Vec<u8>, Vec<u8>) {
         let result = decode(&l.received(), l.rounds, l.decoder_work);
-        let (number, told) = answered(&result, |(_, _, (rounds, turned, outside))| vec![*rounds, *turned, *outside], 4);
+        let (number, told) = answered(&result, counted, 5);
         let (info, red) = result.map_or((l.info.clone(), l.red.clone()), |(info, red, _)| (info, red));
         let buffers = vec![l.own.clone(), l.parity.clone(), info.clone(), red.clone()];
         let lent: [&[u8]; 4] = [&l.own, &l.parity, &l.info, &l.red];
@@ -402,10 +419,48 @@ impl Case<'_> {
         });
         (info, red)
     }
+    /// The answer is the tally afterwards, by the reference, and the counts of an accepted call.
+    fn decode_tallied(&mut self, l: &Lent, tally: &[u64]) -> (Vec<u64>, Answer<Counts>) {
+        let result = decode_tallied(&l.received(), l.rounds, l.decoder_work, tally);
+        let (number, told) = answered(&result, |(decoded, _)| counted(decoded), 5);
+        let (info, red) = result.as_ref().map_or((l.info.clone(), l.red.clone()), |((info, red, _), _)| (info.clone(), red.clone()));
+        let left = result.as_ref().map_or(tally.to_vec(), |(_, after)| after.to_vec());
+        let buffers = vec![l.own.clone(), l.parity.clone(), info, red];
+        let lent: [&[u8]; 4] = [&l.own, &l.parity, &l.info, &l.red];
+        let guarded = |totals: &[u64]| [&[0xEEEE][..], totals, &[0xEEEE][..]].concat();
+        let mut totals = guarded(tally);
+        self.call("decode_tallied", &lent, l.decoder_work, Expected { number, told, buffers }, |b, w, a| {
+            let [own, parity, info, red] = b else { unreachable!() };
+            let end = totals.len() - 1;
+            host::decode_tallied(l.design(), l.blocks, l.rounds, own, parity, info, red, w, &mut totals[1..end], a)
+        });
+        self.same("the tally after decode_tallied", guarded(&left), totals);
+        (left, result.map(|((_, _, counts), _)| counts))
+    }
+    /// The answer is the share, by the reference.
+    fn report(&mut self, tally: &[u64]) -> Answer<(u64, u64)> {
+        let result = report(tally);
+        let (number, told) = answered(&result, |(totals, top, bottom)| [&totals[..], &[*top, *bottom]].concat(), 9);
+        self.call("report", &[], 0, Expected { number, told, buffers: vec![] }, |_, _, a| host::report(tally, a));
+        result.map(|(_, top, bottom)| (top, bottom))
+    }
+    /// A tally: empty, of numbers of any size up to 2^62, with some totals above, or of another length.
+    fn some_tally(&mut self) -> Vec<u64> {
+        let mut tally: Vec<u64> = (0..6).map(|_| self.rng.next() >> (2 + self.rng.below(62))).collect();
+        match self.rng.below(8) {
+            0 => tally.fill(0),
+            1 => tally.fill(1 << 62),
+            2 => tally[self.rng.below(6)] = (1 << 62) + 1,
+            3 => tally.iter_mut().for_each(|total| *total <<= self.rng.below(4)),
+            4 => tally.resize(self.rng.pick(&[0, 1, 5, 7, 12]), self.rng.next()),
+            _ => {}
+        }
+        tally
+    }
     fn loopback(&mut self, l: &Lent) {
         let result =
             loopback(&l.kit(), l.blocks, l.rounds, (&l.info_errors, &l.red_errors), &l.info, l.red.len(), l.loopback_work);
-        let (number, told) = answered(&result, |(_, _, (rounds, turned, outside))| vec![*rounds, *turned, *outside], 4);
+        let (number, told) = answered(&result, counted, 5);
         let (info, red) = result.map_or((l.info.clone(), l.red.clone()), |(info, red, _)| (info, red));
         let same = [&l.own, &l.parity, &l.inverse, &l.info_errors, &l.red_errors];
         let buffers = same.iter().map(|b| b.to_vec()).chain([info, red]).collect();
@@ -475,12 +530,14 @@ impl Case<'_> {
         let length = self.rng.pick(&[1, 7, 1 << 20, u64::MAX]);
         self.load_run(l, place, length);
     }
-    /// The five calls that are lent lists, showing the first block and the last group, and the test load.
+    /// The six calls that are lent lists, showing the first block and the last group, and the test load.
     fn all(&mut self, l: &Lent) {
         self.check_kit(l);
         self.encode(l);
         self.check_words(l);
         self.decode(l);
+        let tally = self.some_tally();
+        drop(self.decode_tallied(l, &tally));
         self.loopback(l);
         self.show(l, 0, 1, l.info.len());
         self.show(l, 1, (l.blocks / 2).max(1), l.red.len());
@@ -720,34 +777,42 @@ impl Case<'_> {
 // ---------------------------------------------------------------- The run
 
 mod groups;
+mod tally;
 
-/// How many comparisons of a group held and failed, and how often each rule's number was the right answer.
-type Counts = (u64, u64, BTreeMap<u64, u64>);
+/// How many comparisons of a group held and failed, how often each rule's number was the right answer, and what the cases met.
+#[derive(Default)]
+struct Outcome {
+    passed: u64,
+    failed: u64,
+    numbers: BTreeMap<u64, u64>,
+    met: BTreeMap<&'static str, u64>,
+}
 
 /// Runs the cases of a group, a thread for each processor: each takes the next case that is left.
-fn run_group(context: &Context, group: &'static str, run: fn(&mut Case), cases: Range<usize>) -> Counts {
+fn run_group(context: &Context, group: &'static str, run: fn(&mut Case), cases: Range<usize>) -> Outcome {
     let next = AtomicUsize::new(cases.start);
     let work = |thread: usize| {
-        let mut counts: Counts = Default::default();
+        let mut outcome = Outcome::default();
         loop {
             let index = next.fetch_add(1, Relaxed);
             if index >= cases.end {
-                return counts;
+                return outcome;
             }
             let rng = Rng::new(&[hash(group), context.seed, index as u64]);
-            let numbers = std::mem::take(&mut counts.2);
-            let mut case = Case { context, group, index, thread, rng, passed: 0, failed: 0, answer_extra: 0, numbers };
+            let Outcome { passed, failed, numbers, met } = outcome;
+            let mut case = Case { context, group, index, thread, rng, passed, failed, answer_extra: 0, numbers, met };
             run(&mut case);
-            counts = (counts.0 + case.passed, counts.1 + case.failed, case.numbers);
+            outcome = Outcome { passed: case.passed, failed: case.failed, numbers: case.numbers, met: case.met };
         }
     };
     std::thread::scope(|scope| {
         let work = &work;
         let processors = std::thread::available_parallelism().map_or(1, |n| n.get());
         let threads: Vec<_> = (0..processors).map(|thread| scope.spawn(move || work(thread))).collect();
-        threads.into_iter().map(|thread| thread.join().unwrap()).fold(Counts::default(), |mut all, counts| {
-            counts.2.into_iter().for_each(|(number, count)| *all.2.entry(number).or_default() += count);
-            (all.0 + counts.0, all.1 + counts.1, all.2)
+        threads.into_iter().map(|thread| thread.join().unwrap()).fold(Outcome::default(), |mut all, outcome| {
+            outcome.numbers.into_iter().for_each(|(number, count)| *all.numbers.entry(number).or_default() += count);
+            outcome.met.into_iter().for_each(|(what, count)| *all.met.entry(what).or_default() += count);
+            Outcome { passed: all.passed + outcome.passed, failed: all.failed + outcome.failed, ..all }
         })
     })
 }
@@ -772,9 +837,17 @@ fn main() {
         let start = std::time::Instant::now();
         context.printed.store(0, Relaxed);
         let cases = index.map_or(0..count(), |index| index..index + 1);
-        let (good, bad, numbers) = run_group(&context, group, run, cases.clone());
+        let mut outcome = run_group(&context, group, run, cases.clone());
+        if index.is_none() {
+            for (what, _) in outcome.met.iter().filter(|(_, &count)| count == 0) {
+                println!("FAILED {group} {seed}: no case met: {what}");
+                outcome.failed += 1;
+            }
+        }
+        let Outcome { passed: good, failed: bad, numbers, met } = outcome;
         let seconds = start.elapsed().as_secs_f64();
-        println!("{group}: {} cases, {good} passed, {bad} failed, {seconds:.1} s; numbers {numbers:?}", cases.len());
+        let met = if met.is_empty() { String::new() } else { format!("; met {met:?}") };
+        println!("{group}: {} cases, {good} passed, {bad} failed, {seconds:.1} s; numbers {numbers:?}{met}", cases.len());
         (passed, failed) = (passed + good, failed + bad);
     }
     drop(std::fs::remove_dir_all(&context.folder));

@@ -57,7 +57,7 @@ def example(m, t, M, lists, information, wrong):
     frame.load(turn(frame.information() + frame.redundancy(), wrong))
     yield "received.txt", block_text(frame) + group_text(frame)
     counts = decode(frame, 0)
-    yield "mended.txt", block_text(frame) + group_text(frame) + table("rounds turned outside", [counts])
+    yield "mended.txt", block_text(frame) + group_text(frame) + table("rounds turned outside", [counts[:3]])
 
 
 def examples():

@@ -24,8 +24,14 @@ pub const GROUPS: &[Group] = &[
     ("batches", || FRAMES.len() * designs(60).len(), batches),
     ("received", || 14 * designs(4096).len(), received_frames),
     ("rounds", || 200, rounds),
+    ("second-kit", || 1, rows_of_second_kit),
+    ("noise", || 12 * designs(60).len(), noise),
     ("show", || 2 * designs(60).len(), showing),
     ("loopback", || 8 * designs(60).len(), loopbacks),
+    ("tally-rows", || 1, tally::rows),
+    ("tally", || 200, tally::lists_of_decodes),
+    ("tally-full", || 6, tally::full),
+    ("report", || 64, tally::reports),
     ("load-rows", || 1, load_rows),
     ("load", || 4 * designs(400).len(), loads),
     ("makers", || LISTS * designs(400).len(), makers),
@@ -117,6 +123,11 @@ fn bits_of(text: &str) -> Vec<u8> {
     text.bytes().filter(|byte| *byte != b' ').map(|byte| byte - b'0').collect()
 }
 
+/// Rounds, turned, outside, stuck.
+fn counts_of((rounds, turned, outside, stuck): (u64, u64, u64, u64)) -> Counts {
+    Counts { rounds, turned, outside, stuck }
+}
+
 /// "Rows to check under K", each against the numbers of document 01.
 fn rows_of_k(case: &mut Case) {
     let kit = kit_k();
@@ -181,14 +192,14 @@ fn rows_of_k(case: &mut Case) {
         case.all(&Lent::new(wrong, 2, bytes.to_vec(), vec![0; 8]));
     }
     for (blocks, group, rounds, after, kept, counts) in [
-        ("01", "0001 0111", 0, "01", "0001 0110", (2, 1, 0)),
-        ("01", "0001 0111", 1, "01", "0001 0110", (1, 1, 0)),
-        ("00", "0000 0101", 0, "01", "0000 0101", (2, 1, 1)),
+        ("01", "0001 0111", 0, "01", "0001 0110", (2, 1, 0, 0)),
+        ("01", "0001 0111", 1, "01", "0001 0110", (1, 1, 0, 0)),
+        ("00", "0000 0101", 0, "01", "0000 0101", (2, 1, 1, 1)),
     ] {
         let mut lent = Lent::new(&kit, 2, bits_of(blocks), bits_of(group));
         lent.rounds = rounds;
         let found = decode(&lent.received(), rounds, lent.decoder_work);
-        case.same(group, Ok((bits_of(after), bits_of(kept), counts)), found);
+        case.same(group, Ok((bits_of(after), bits_of(kept), counts_of(counts))), found);
         case.all(&lent);
     }
     case.check("m 4, t 1, M 3", design(4, 1, 3).is_ok());
@@ -559,8 +570,12 @@ fn lengths(case: &mut Case) {
     std::mem::swap(&mut lent.kit_work, &mut lent.word_work);
     std::mem::swap(&mut lent.loopback_work, &mut lent.decoder_work);
     case.all(&lent);
-    // the working lengths without the words' numbers
+    // the working lengths without the words' numbers and the copy, without the copy, and without its redundancy
     case.all(&Lent { decoder_work: right.word_work, loopback_work: right.kit_work, ..right.clone() });
+    for less in [right.info.len() + right.red.len(), right.red.len(), right.info.len()] {
+        let (decoder_work, loopback_work) = (right.decoder_work - less, right.loopback_work - less);
+        case.all(&Lent { decoder_work, loopback_work, ..right.clone() });
+    }
     case.make_inverse(&Lent { make_work: right.kit_work, ..right.clone() });
 }
 
@@ -867,6 +882,70 @@ fn rounds(case: &mut Case) {
     }
 }
 
+/// A kit with M 2 whose lists are not their own inverses, and two copies. In the first a right bit is turned in round 1 and turned back in round 2. In the
+/// second, row word 0 would need a bit of B0 and column word 0 one of the block after the last; from round 2 on column word 0 turns
+/// a bit that row word 1 turns back, so that no word is stuck in the last round and one is outside after it.
+fn rows_of_second_kit(case: &mut Case) {
+    let (own, parity) = (list_bytes(&[5, 3, 4, 1, 7, 2, 6, 0]), list_bytes(&[0, 5, 7, 3, 2, 1, 6, 4]));
+    let mut kit = Kit { m: 4, t: 1, size: 2, own, parity, inverse: vec![0; 8] };
+    kit.inverse = make_inverse(&kit, design(4, 1, 2).unwrap().make_work()).unwrap();
+    for (info, places, rounds, counts, turned, restored) in [
+        ("1010 0010 1100", [0, 6, 27], 0, (3, 3, 0, 0), 5, true),
+        ("1010", [0, 11, 14], 0, (7, 3, 1, 0), 13, false),
+        ("1010", [0, 11, 14], 1, (1, 1, 2, 2), 1, false),
+        ("1010", [0, 11, 14], 2, (2, 3, 1, 0), 3, false),
+        ("1010", [0, 11, 14], 64, (64, 3, 1, 0), 127, false),
+    ] {
+        let info = bits_of(info);
+        let blocks = info.len() / 4;
+        let red = encode(&kit, blocks as u64, &info, groups(blocks) * 16, 8).unwrap();
+        let sent = [info.clone(), red.clone()].concat();
+        let mut lent = Lent { rounds, ..Lent::new(&kit, blocks, info, red) };
+        for place in places {
+            lent.turn(place);
+        }
+        let told = decode(&lent.received(), rounds, lent.decoder_work).map(|(_, _, counts)| counts);
+        case.same("what the decoder counts", Ok(counts_of(counts)), told);
+        case.same("turns", Ok(turned), turns(&lent.received(), rounds, lent.decoder_work).map(|all| all.turns));
+        let (info, red) = case.decode(&lent);
+        case.same("restored", restored, [info, red].concat() == sent);
+    }
+}
+
+/// Frames above the threshold, decoded with few and with many rounds: the words stuck in the last round beside those outside at the end, and
+/// the bits that differ beside the turns. "That number may differ from the words outside at the end, since a later word may free an
+/// earlier one": where the last round turned no bit, it may not. "a bit turned and turned back should not count": the turns are as
+/// many and an even number more.
+fn noise(case: &mut Case) {
+    let all = designs(60);
+    let good = case.context.kit(all[case.index % all.len()]);
+    let blocks = 1 + case.rng.below(7);
+    let sent = case.frame(&good, blocks);
+    for rounds in [1, 2, 3, 0, 64] {
+        let mut lent = Lent { rounds, ..sent.clone() };
+        let odds = 3 + case.rng.below(30) as u64;
+        case.turn_bits(&mut lent, odds);
+        let (_, _, counts) = decode(&lent.received(), rounds, lent.decoder_work).unwrap();
+        let all = turns(&lent.received(), rounds, lent.decoder_work).unwrap();
+        case.check("turns come in pairs", all.turns >= counts.turned && (all.turns - counts.turned) % 2 == 0);
+        case.meets("frames", true);
+        case.meets("bits turned back", all.turns > counts.turned);
+        case.meets("a round that turned bits, left the frame as it was and was not the last", all.undone_rounds > 0);
+        case.meets("fewer stuck than outside", counts.stuck < counts.outside);
+        case.meets("more stuck than outside", counts.stuck > counts.outside);
+        case.meets("all rounds made, as many stuck as outside, not 0", counts.rounds == allowed(rounds) && counts.stuck == counts.outside && counts.stuck > 0);
+        case.meets("an idle last round, some stuck", counts.rounds < allowed(rounds) && counts.stuck > 0);
+        if counts.rounds < allowed(rounds) {
+            case.same("stuck in an idle round", counts.outside, counts.stuck);
+        }
+        case.decode(&lent);
+        // the same frame by the loopback
+        let pattern = |right: &[u8], wrong: &[u8]| right.iter().zip(wrong).map(|(a, b)| a ^ b).collect::<Vec<u8>>();
+        let (info_errors, red_errors) = (pattern(&sent.info, &lent.info), pattern(&sent.red, &lent.red));
+        case.loopback(&Lent { rounds, info_errors, red_errors, ..sent.clone() });
+    }
+}
+
 // ---------------------------------------------------------------- Showing, loopback, answers
 
 /// Every block and group and those around, into buffers of several lengths; wrong lengths; other kinds.
@@ -989,9 +1068,14 @@ fn load_rows(case: &mut Case) {
     let wrong = sent.iter().zip(lent.info.iter().chain(&lent.red)).filter(|(a, b)| a != b).count();
     case.same("wrong bits", 34, wrong);
     case.same("words outside before", Ok(58), check_words(&lent.received(), lent.word_work));
-    case.same("what the decoder counts", Ok((2, 34, 0)), decode(&lent.received(), 0, lent.decoder_work).map(|(_, _, counts)| counts));
+    let counts = decode(&lent.received(), 0, lent.decoder_work).map(|(_, _, counts)| counts);
+    case.same("what the decoder counts", Ok(counts_of((2, 34, 0, 0))), counts);
     let (info, red) = case.decode(&lent);
     case.check("the frame is restored", [info, red].concat() == sent);
+    let (tally, _) = case.decode_tallied(&lent, &[0; 6]);
+    case.same("the tally", vec![1, 2375, 34, 2, 0, 0], tally.clone());
+    let share = case.report(&tally);
+    case.same("the share", Ok((34, 2375)), share);
 }
 
 /// Every mode under many designs: seeds and limits at their edges, each turned back by a second call; runs in either buffer, across the border of the two, at the end, past it,
@@ -1065,6 +1149,8 @@ fn answers(case: &mut Case) {
         }
         case.all(&lent);
         case.all(&wrong);
+        let tally = case.some_tally();
+        let _ = case.report(&tally);
         case.make_and_write(&lent);
         case.make_and_write(&equal);
         case.make_and_write(&Lent { size: 0, ..lent.clone() });
@@ -1175,7 +1261,7 @@ fn made_kit(case: &mut Case, good: &Good) {
     let (d, blocks) = (good.d, 1 + case.rng.below(3));
     let mut lent = case.to_encode(good, blocks);
     lent.inverse.fill(0xAA);
-    let (mut answer, mut counts) = ([1], [1; 4]);
+    let (mut answer, mut counts) = ([1], [1; 5]);
     let (d3, mut work) = (lent.design(), vec![0; lent.make_work]);
     let number = host::make_inverse(d3, &lent.own, &lent.parity, &mut lent.inverse, &mut work, &mut answer);
     case.same("made", (0, [0]), (number, answer));
@@ -1188,13 +1274,12 @@ fn made_kit(case: &mut Case, good: &Good) {
     let sent = lent.clone();
     let shape = Shape::new(d, blocks, entries(&lent.own), entries(&lent.parity));
     for place in within(&mut case.rng, &shape, 50) {
-        let at = place.checked_sub(lent.info.len());
-        at.map_or_else(|| lent.info[place] ^= 1, |at| lent.red[at] ^= 1);
+        lent.turn(place);
     }
     work.resize(lent.decoder_work, 0);
     let number =
         host::decode(d3, lent.blocks, 0, &lent.own, &lent.parity, &mut lent.info, &mut lent.red, &mut work, &mut counts);
-    case.same("decoded, none outside", (0, 0, 0), (number, counts[0], counts[3]));
+    case.same("decoded, none outside, none stuck", (0, 0, 0, 0), (number, counts[0], counts[3], counts[4]));
     case.check("recovered", lent.info == sent.info && lent.red == sent.red);
 }
 
@@ -1626,7 +1711,7 @@ fn lines(case: &mut Case) {
         block_line(numbers[0], &own),
         group_line(numbers[0], &own, &parity),
         refusal_lines(numbers[0], numbers[1]),
-        count_lines((numbers[0], numbers[1], numbers[2])),
+        count_lines(numbers[0], numbers[1], numbers[2]),
     ];
     for (which, text) in texts.into_iter().enumerate() {
         let end = at + text.len();
@@ -1698,8 +1783,7 @@ fn some_text(case: &mut Case, mend: bool, good: &Good, blocks: usize) -> String 
         1 => {
             let shape = Shape::new(d, blocks, entries(&lent.own), entries(&lent.parity));
             for place in within(&mut case.rng, &shape, 20) {
-                let at = place.checked_sub(lent.info.len());
-                at.map_or_else(|| lent.info[place] ^= 1, |at| lent.red[at] ^= 1);
+                lent.turn(place);
             }
         }
         2 => (lent.info, lent.red) = (case.rng.bits(lent.info.len()), case.rng.bits(lent.red.len())),
@@ -1999,8 +2083,7 @@ fn large(case: &mut Case) {
             let shape = Shape::new(d, blocks, entries(&lent.own), entries(&lent.parity));
             let sent = lent.clone();
             for place in within(&mut case.rng, &shape, 200) {
-                let at = place.checked_sub(lent.info.len());
-                at.map_or_else(|| lent.info[place] ^= 1, |at| lent.red[at] ^= 1);
+                lent.turn(place);
             }
             case.check_words(&sent);
             case.check_words(&lent);

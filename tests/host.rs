@@ -45,6 +45,11 @@ extern "C" {
         m: u64, t: u64, size: u64, blocks: u64, rounds: u64, o: In, ol: usize, p: In, pl: usize, i: Out, il: usize,
         r: Out, rl: usize, w: Out, wl: usize, a: Told, al: usize,
     ) -> u64;
+    fn bauchleton_decode_tallied(
+        m: u64, t: u64, size: u64, blocks: u64, rounds: u64, o: In, ol: usize, p: In, pl: usize, i: Out, il: usize,
+        r: Out, rl: usize, w: Out, wl: usize, y: Told, yl: usize, a: Told, al: usize,
+    ) -> u64;
+    fn bauchleton_report(y: *const u64, yl: usize, a: Told, al: usize) -> u64;
     fn bauchleton_loopback(
         m: u64, t: u64, size: u64, blocks: u64, rounds: u64, o: In, ol: usize, p: In, pl: usize, v: In, vl: usize,
         ie: In, iel: usize, re: In, rel: usize, i: Out, il: usize, r: Out, rl: usize, w: Out, wl: usize, a: Told, al: usize,
@@ -128,6 +133,21 @@ pub fn decode(
     let ((o, ol), (p, pl)) = (lend!(own), lend!(parity));
     let ((i, il), (r, rl), (w, wl), (a, al)) = (lend_mut!(info), lend_mut!(red), lend_mut!(work), lend_mut!(answer));
     unsafe { bauchleton_decode(m, t, size, blocks, rounds, o, ol, p, pl, i, il, r, rl, w, wl, a, al) }
+}
+
+#[allow(clippy::too_many_arguments)]
+pub fn decode_tallied(
+    (m, t, size): (u64, u64, u64), blocks: u64, rounds: u64, own: &[u8], parity: &[u8], info: &mut [u8], red: &mut [u8],
+    work: &mut [u8], tally: &mut [u64], answer: &mut [u64],
+) -> u64 {
+    let ((o, ol), (p, pl), (y, yl)) = (lend!(own), lend!(parity), lend_mut!(tally));
+    let ((i, il), (r, rl), (w, wl), (a, al)) = (lend_mut!(info), lend_mut!(red), lend_mut!(work), lend_mut!(answer));
+    unsafe { bauchleton_decode_tallied(m, t, size, blocks, rounds, o, ol, p, pl, i, il, r, rl, w, wl, y, yl, a, al) }
+}
+
+pub fn report(tally: &[u64], answer: &mut [u64]) -> u64 {
+    let ((y, yl), (a, al)) = (lend!(tally), lend_mut!(answer));
+    unsafe { bauchleton_report(y, yl, a, al) }
 }
 
 #[allow(clippy::too_many_arguments)]

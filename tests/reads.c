@@ -41,7 +41,7 @@ static void *get(size_t bytes) {
 static lent make(unsigned m, unsigned t, unsigned M, unsigned L) {
     unsigned order = m * t * M, groups = (L + 1) / 2;
     lent l = {.m = m, .t = t, .M = M, .L = L, .list = 2 * order, .info = (size_t)L * M * M, .red = (size_t)groups * 2 * order, .words_work = order};
-    l.decoder_work = order + 8 * (size_t)M * groups;
+    l.decoder_work = order + 8 * (size_t)M * groups + l.info + l.red;
     l.self = get(l.list);
     l.parity = get(l.list);
     l.frame = get(l.info + l.red);
@@ -54,10 +54,10 @@ static lent make(unsigned m, unsigned t, unsigned M, unsigned L) {
 }
 
 static uint64_t call(const lent *l, int decoder) {
-    uint64_t answer[4];
+    uint64_t answer[5];
     if (decoder)
         return bauchleton_decode(l->m, l->t, l->M, l->L, 0, l->self, l->list, l->parity, l->list, l->frame, l->info, l->frame + l->info, l->red, l->work,
-                                 l->decoder_work, answer, 4);
+                                 l->decoder_work, answer, 5);
     return bauchleton_check_words(l->m, l->t, l->M, l->L, l->self, l->list, l->parity, l->list, l->frame, l->info, l->frame + l->info, l->red, l->work,
                                   l->words_work, answer, 2);
 }

@@ -1,4 +1,4 @@
-//! Document 01 and document 02's U1, U2, U3, U5 and U9 written a second time, from their text alone: small, literal and slow.
+//! Document 01 and document 02's U1 to U3 and U5 to U9 written a second time, from their text alone: small, literal and slow.
 //! It shares nothing with the library. Everything that they define is a function here:
 //!
 //! - `design`, `powers`, `minimal`, `generator`, `remainder`: rules 1 to 3 and BCH words
@@ -6,7 +6,9 @@
 //! - `sums`, `system`, `check_kit`: A y + c, A, and the verdict on a kit
 //! - `first_dependent`, `inverse`, `make_inverse`: rule 14's column, W by elimination, and the maker
 //! - `turned`, `spread_lists`: spread lists
+//! - `Verdict`, `mend_word`, `Counts`, `mend`, `turns`: what mending a word tells, rounds, and what they count
 //! - `encode`, `encode_batch`, `check_words`, `decode`, `show`, `loopback`: the calls
+//! - `Tally`, `decode_tallied`, `greatest_common`, `report`: the tally and its report
 //! - `Generator`, `load_fill`, `load_errors`, `load_run`: the test load
 //! - `read_kit`, `read_blocks`, `read_frame`: the texts and the place of rules 11 and 12
 //! - `kit_text`, `kit_text_length`, `write_kit`: kit text, its length, and the writer
@@ -67,17 +69,17 @@ impl Design {
     pub fn word_work(&self) -> usize {
         self.order()
     }
-    /// bytes for a number of four bytes for each of the 2 M words of each group, which decoder and loopback want beside the others
-    pub fn number_work(&self, blocks: usize) -> usize {
-        4 * 2 * self.side() * groups(blocks)
+    /// what decoder and loopback want beside the others: a number of four bytes for each of the 2 M words of each group, and the copy
+    pub fn frame_work(&self, blocks: usize) -> usize {
+        4 * 2 * self.side() * groups(blocks) + info_len(self, blocks) + red_len(self, blocks)
     }
     /// working bytes of the decoder
     pub fn decoder_work(&self, blocks: usize) -> usize {
-        self.word_work() + self.number_work(blocks)
+        self.word_work() + self.frame_work(blocks)
     }
     /// working bytes of the loopback
     pub fn loopback_work(&self, blocks: usize) -> usize {
-        self.kit_work() + self.number_work(blocks)
+        self.kit_work() + self.frame_work(blocks)
     }
 }
 
@@ -680,9 +682,10 @@ pub struct Received {
     pub red: Vec<u8>,
 }
 
-/// Rules 1 to 4, 5 (for a call with rounds), 6, 7 and 10. The answer is the shape and the frame.
+/// Rules 1 to 4, 5 (for a call with rounds), 6, 7 and 10. `others` are the slices of rule 6 after the redundancy: place, length and
+/// right length. The answer is the shape and the frame.
 fn received(
-    lent: &Received, rounds: u64, work: usize, due: impl Fn(&Design, usize) -> usize,
+    lent: &Received, rounds: u64, others: impl Fn(&Design, usize) -> Vec<(u64, usize, usize)>,
 ) -> Answer<(Shape, Vec<u8>)> {
     let d = design(lent.m, lent.t, lent.size)?;
     let blocks = block_count(lent.blocks)?;
@@ -694,8 +697,8 @@ fn received(
         (2, lent.parity.len(), 2 * d.order()),
         (4, lent.info.len(), info_len(&d, blocks)),
         (5, lent.red.len(), red_len(&d, blocks)),
-        (6, work, due(&d, blocks)),
     ])?;
+    lengths(&others(&d, blocks))?;
     let (own, parity) = permutations(&d, &lent.own, &lent.parity)?;
     let frame = [&lent.info[..], &lent.red[..]].concat();
     bits(frame.iter().copied())?;
@@ -704,7 +707,7 @@ fn received(
 
 /// The word checker: rules 1 to 4, 6, 7 and 10. The answer is the number of words outside the code.
 pub fn check_words(lent: &Received, work: usize) -> Answer<u64> {
-    let (shape, frame) = received(lent, 0, work, |d, _| d.word_work())?;
+    let (shape, frame) = received(lent, 0, |d, _| vec![(6, work, d.word_work())])?;
     Ok(words_outside(&shape, &frame))
 }
 
@@ -752,39 +755,98 @@ impl Patterns {
     }
 }
 
-/// What a decode tells: rounds made, bits turned, words outside at the end.
-pub type Counts = (u64, u64, u64);
+/// "Mending a word now tells one of three: clean (already a codeword), mended with the number of bits, or stuck."
+#[derive(Clone, Copy, PartialEq, Debug)]
+pub enum Verdict {
+    Clean,
+    Mended(u64),
+    Stuck,
+}
+
+impl Verdict {
+    fn bits(&self) -> u64 {
+        match self {
+            Verdict::Mended(bits) => *bits,
+            _ => 0,
+        }
+    }
+}
+
+/// What a decode tells: "rounds made (the idle last one counted)", "the number of sent bits in which the mended frame differs
+/// from the copy", "words outside the code at the end", and "the number of stuck verdicts in the last round made".
+#[derive(Clone, Copy, PartialEq, Debug)]
+pub struct Counts {
+    pub rounds: u64,
+    pub turned: u64,
+    pub outside: u64,
+    pub stuck: u64,
+}
+
+/// What the rounds did beside that, which no call tells: turns, "also a turn back", and rounds that turned bits, left the frame
+/// as it was and were not the last.
+#[derive(Clone, Copy, PartialEq, Debug, Default)]
+pub struct Turns {
+    pub turns: u64,
+    pub undone_rounds: u64,
+}
+
+/// The number of bits in which two frames differ.
+fn differing(frame: &[u8], other: &[u8]) -> u64 {
+    frame.iter().zip(other).filter(|(a, b)| a != b).count() as u64
+}
 
 /// The decoder: rules 1 to 7 and 10. The answer is the mended information and redundancy, and counts.
 pub fn decode(lent: &Received, rounds: u64, work: usize) -> Answer<(Vec<u8>, Vec<u8>, Counts)> {
-    let (shape, mut frame) = received(lent, rounds, work, |d, blocks| d.decoder_work(blocks))?;
-    let counts = mend(&shape, &mut frame, rounds);
+    let (shape, mut frame) = received(lent, rounds, |d, blocks| vec![(6, work, d.decoder_work(blocks))])?;
+    let (counts, _) = mend(&shape, &mut frame, rounds);
     let red = frame.split_off(lent.info.len());
     Ok((frame, red, counts))
 }
 
-/// "A round takes groups 1 to G, in each the row words 0 to M-1, then the column words. Mending a word: if
-/// a codeword lies within t changes and touches no bit of an unsent block, the word becomes it [..];
-/// otherwise it stays. Rounds end after one that turns no bit, or when all are made." A redundancy
-/// bit is kept once, so a turn reaches both of its words.
-fn mend(shape: &Shape, frame: &mut [u8], rounds: u64) -> Counts {
+/// What the rounds of an accepted decode do beside what it tells.
+pub fn turns(lent: &Received, rounds: u64, work: usize) -> Answer<Turns> {
+    let (shape, mut frame) = received(lent, rounds, |d, blocks| vec![(6, work, d.decoder_work(blocks))])?;
+    Ok(mend(&shape, &mut frame, rounds).1)
+}
+
+/// "Mending a word: if a codeword lies within t changes and touches no bit of an unsent block, the word becomes it [..];
+/// otherwise it stays." A redundancy bit is kept once, so a turn reaches both of its words.
+fn mend_word(shape: &Shape, patterns: &Patterns, word: &Word, frame: &mut [u8]) -> Verdict {
+    let rest = check_word(shape, word, |place| frame[place]);
+    if rest == 0 {
+        return Verdict::Clean;
+    }
+    let Some(changes) = patterns.changes(rest) else { return Verdict::Stuck };
+    let Some(sent) = changes.iter().map(|&j| word[j]).collect::<Option<Vec<usize>>>() else { return Verdict::Stuck };
+    for &place in &sent {
+        frame[place] = 1 - frame[place];
+    }
+    Verdict::Mended(sent.len() as u64)
+}
+
+/// The number of rounds that a number stands for: "0 stands for 7".
+pub fn allowed(rounds: u64) -> u64 {
+    if rounds == 0 { 7 } else { rounds }
+}
+
+/// "A round takes groups 1 to G, in each the row words 0 to M-1, then the column words. [..] Rounds end after one that turns
+/// no bit, or when all are made": also after document 02, by turns and not by the bits in which the frame differs.
+fn mend(shape: &Shape, frame: &mut [u8], rounds: u64) -> (Counts, Turns) {
     let patterns = Patterns::new(&shape.d, shape.g);
     let words = shape.words();
-    let allowed = if rounds == 0 { 7 } else { rounds };
-    let (mut made, mut turned) = (0, 0);
+    let copy = frame.to_vec();
+    let (mut made, mut all) = (0, Turns::default());
     loop {
-        let before = turned;
-        for word in &words {
-            let Some(changes) = patterns.changes(check_word(shape, word, |place| frame[place])) else { continue };
-            let Some(sent) = changes.iter().map(|&j| word[j]).collect::<Option<Vec<usize>>>() else { continue };
-            for place in sent {
-                frame[place] = 1 - frame[place];
-                turned += 1;
-            }
-        }
+        let before = frame.to_vec();
+        let verdicts: Vec<Verdict> = words.iter().map(|word| mend_word(shape, &patterns, word, frame)).collect();
+        let turns: u64 = verdicts.iter().map(Verdict::bits).sum();
         made += 1;
-        if turned == before || made == allowed {
-            return (made, turned, words_outside(shape, frame));
+        all.turns += turns;
+        all.undone_rounds += (turns > 0 && before == frame && made < allowed(rounds)) as u64;
+        if turns == 0 || made == allowed(rounds) {
+            let stuck = verdicts.iter().filter(|&&verdict| verdict == Verdict::Stuck).count() as u64;
+            let counts = Counts { rounds: made, turned: differing(&copy, frame), outside: words_outside(shape, frame), stuck };
+            return (counts, all);
         }
     }
 }
@@ -829,6 +891,64 @@ pub fn show<'a>(design3: (u64, u64, u64), blocks: u64, kind: u64, number: u64, i
     lengths(&[(4, info.len(), info_len(&d, blocks)), (5, red.len(), red_len(&d, blocks))])?;
     let (buffer, stretch) = if kind == 0 { (info, d.side() * d.side()) } else { (red, 2 * d.order()) };
     Ok(&buffer[(number as usize - 1) * stretch..number as usize * stretch])
+}
+
+// ---------------------------------------------------------------- The tally
+
+/// "frames, sent bits, bits turned, rounds, words outside, stuck words"
+pub type Tally = [u64; 6];
+
+/// Place 9 of rule 6, the last slice: a tally of other than six totals.
+fn totals(tally: &[u64]) -> Answer<Tally> {
+    tally.try_into().map_err(|_| (6, 9))
+}
+
+/// "16 full, after 10, when on entry some total is above 2^62; the place is the first such total's position in the order above,
+/// from 1"
+fn room(tally: &Tally) -> Answer<()> {
+    match tally.iter().position(|&total| total > 1 << 62) {
+        Some(at) => Err((16, at as u64 + 1)),
+        None => Ok(()),
+    }
+}
+
+/// "A tally is lent to each decode and brought up to date there": the decoder's rules, with the tally as rule 6's last slice, and 16. The
+/// answer is the decoder's, and the tally afterwards; "a refused decode changes no total".
+pub fn decode_tallied(
+    lent: &Received, rounds: u64, work: usize, tally: &[u64],
+) -> Answer<((Vec<u8>, Vec<u8>, Counts), Tally)> {
+    received(lent, rounds, |d, blocks| vec![(6, work, d.decoder_work(blocks)), (9, tally.len(), 6)])?;
+    let mut tally = totals(tally)?;
+    room(&tally)?;
+    let decoded = decode(lent, rounds, work)?;
+    let bits = lent.info.len() + lent.red.len();
+    let counts = decoded.2;
+    let added = [1, bits as u64, counts.turned, counts.rounds, counts.outside, counts.stuck];
+    tally.iter_mut().zip(added).for_each(|(total, more)| *total += more);
+    Ok((decoded, tally))
+}
+
+/// The greatest common divisor of two numbers, one of them not 0: halving what is even, and taking the smaller odd number from the greater.
+pub fn greatest_common(mut a: u64, mut b: u64) -> u64 {
+    let twos = (a | b).trailing_zeros();
+    while a > 0 && b > 0 {
+        a >>= a.trailing_zeros();
+        b >>= b.trailing_zeros();
+        (a, b) = if a > b { (a - b, b) } else { (a, b - a) };
+    }
+    let odd = (a | b) >> (a | b).trailing_zeros();
+    odd << twos
+}
+
+/// "a report: each total, and the share of turned bits as two whole numbers with no common factor (0 and 1 for no sent bits)"
+pub fn report(tally: &[u64]) -> Answer<(Tally, u64, u64)> {
+    let tally = totals(tally)?;
+    let [_, bits, turned, ..] = tally;
+    if bits == 0 {
+        return Ok((tally, 0, 1));
+    }
+    let factor = greatest_common(turned, bits);
+    Ok((tally, turned / factor, bits / factor))
 }
 
 // ---------------------------------------------------------------- The test load
@@ -1097,8 +1217,8 @@ pub fn refusal_lines(rule: u64, place: u64) -> String {
 }
 
 /// "`rounds turned outside` and the three numbers"
-pub fn count_lines(counts: Counts) -> String {
-    format!("rounds turned outside\n{} {} {}\n", counts.0, counts.1, counts.2)
+pub fn count_lines(rounds: u64, turned: u64, outside: u64) -> String {
+    format!("rounds turned outside\n{rounds} {turned} {outside}\n")
 }
 
 pub fn block_text(d: &Design, info: &[u8]) -> String {
@@ -1180,12 +1300,13 @@ fn frame_program(kit: &[u8], text: &[u8]) -> Answer<String> {
     Ok(group_text(&d, &red))
 }
 
+/// "The old three numbers read as before, and `mend` prints only those."
 fn mend_program(kit: &[u8], text: &[u8]) -> Answer<String> {
     let (d, kit) = program_kit(kit, text)?;
     let (blocks, info, red) = scan_frame(d.m, d.t, d.size, text)?;
     let lent = Received { m: d.m, t: d.t, size: d.size, blocks, own: kit.own, parity: kit.parity, info, red };
     let (info, red, counts) = decode(&lent, 0, d.decoder_work(blocks as usize))?;
-    Ok(block_text(&d, &info) + &group_text(&d, &red) + &count_lines(counts))
+    Ok(block_text(&d, &info) + &group_text(&d, &red) + &count_lines(counts.rounds, counts.turned, counts.outside))
 }
 
 /// `makekit`: rule 13 for the list text, 11 (two lines, then rules 1 to 3, then the rest), rule 13 for the kit text that

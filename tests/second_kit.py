@@ -1,4 +1,4 @@
-"""Document 01 read literally: the values of crates/staircase/specs/SecondKit.antt.
+"""Document 01 read literally, with document 02's stuck words and line errors: the values of crates/staircase/specs/SecondKit.antt.
 
 Blocks, X, Q, Y and P are matrices, lists of rows. Y and P are made as document 01 says: a list is applied to X or Q, and the outcome is
 transposed. A is read off one unit vector after the other, W is found by elimination, and a word is corrected by trying all changes.
@@ -236,22 +236,32 @@ def correction(design, bits, unsent):
     return () if any(j in unsent for j in positions) else positions
 
 
+def is_stuck(design, bits, unsent):
+    """Document 02, "Clean, mended or stuck": no codeword, and no codeword within t changes that touches sent bits only."""
+    positions = design.changes(bits)
+    return positions is None or any(j in unsent for j in positions)
+
+
 def decode(frame, rounds):
-    """Rounds made, bits turned, words outside the code at the end."""
-    turned = 0
+    """Rounds made, sent bits in which the frame differs from the copy, words outside the code at the end, stuck words of the last round made."""
+    copy = frame.information() + frame.redundancy()
+    turns = 0
     for made in range(1, (rounds or 7) + 1):
-        earlier = turned
+        earlier = turns
+        stuck = 0
         for i in frame.groups:
             for read, write, unsent in ((frame.rows, frame.set_rows, frame.unsent_in_rows(i)),
                                         (frame.columns, frame.set_columns, frame.unsent_in_columns(i))):
                 for a in range(frame.design.M):
                     bits = word(read(i), a)
+                    stuck += is_stuck(frame.design, bits, unsent)
                     positions = correction(frame.design, bits, unsent)
                     write(i, with_word(read(i), a, turn(bits, positions)))
-                    turned += len(positions)
-        if turned == earlier:
+                    turns += len(positions)
+        if turns == earlier:
             break
-    return made, turned, frame.outside()
+    turned = sum(a != b for a, b in zip(copy, frame.information() + frame.redundancy()))
+    return made, turned, frame.outside(), stuck
 
 
 # ---- Document 01's rows under K
@@ -271,9 +281,9 @@ def same_rows_under_k():
     assert frame.redundancy() == [0, 0, 0, 1] + [0, 1, 1, 0] + [0, 0, 0, 1] + [0, 0, 1, 1]
 
     frame = Frame(design, lists, 2)
-    for received, rounds, result, left in (([0, 1] + [0, 0, 0, 1, 0, 1, 1, 1], 0, (2, 1, 0), [0, 1] + [0, 0, 0, 1, 0, 1, 1, 0]),
-                                           ([0, 1] + [0, 0, 0, 1, 0, 1, 1, 1], 1, (1, 1, 0), [0, 1] + [0, 0, 0, 1, 0, 1, 1, 0]),
-                                           ([0, 0] + [0, 0, 0, 0, 0, 1, 0, 1], 0, (2, 1, 1), [0, 1] + [0, 0, 0, 0, 0, 1, 0, 1])):
+    for received, rounds, result, left in (([0, 1] + [0, 0, 0, 1, 0, 1, 1, 1], 0, (2, 1, 0, 0), [0, 1] + [0, 0, 0, 1, 0, 1, 1, 0]),
+                                           ([0, 1] + [0, 0, 0, 1, 0, 1, 1, 1], 1, (1, 1, 0, 0), [0, 1] + [0, 0, 0, 1, 0, 1, 1, 0]),
+                                           ([0, 0] + [0, 0, 0, 0, 0, 1, 0, 1], 0, (2, 1, 1, 1), [0, 1] + [0, 0, 0, 0, 0, 1, 0, 1])):
         frame.load(received)
         assert decode(frame, rounds) == result
         assert frame.information() + frame.redundancy() == left
@@ -299,7 +309,7 @@ def frame_of(frame):
 
 
 def counts_of(result):
-    return "record {{ rounds = {}; flips = {}; outside = {} }}".format(*result)
+    return "record {{ rounds = {}; turned = {}; outside = {}; stuck = {} }}".format(*result)
 
 
 def permutation(*places):

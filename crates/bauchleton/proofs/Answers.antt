@@ -28,7 +28,7 @@ use Rattle.design.specs.declared.Refusal.{Refusal}
 use Rattle.design.specs.Answers.{refusalVerdict, designVerdict, DesignIs}
 use Rattle.decoder.specs.declared.Decoding.{Decoding}
 use Rattle.decoder.specs.declared.Decoding.the-variants as decoding
-use Rattle.decoder.specs.Answers.{correctedOf}
+use Rattle.decoder.specs.Answers.{refusedFrame, correctedOf}
 use Rattle.rules_verdict.specs.declared.Judged.{Judged}
 use Rattle.rules_verdict.specs.Number.{number, placeOf, judgedOf, told}
 use Rattle.rules_verdict.proofs.Refused.{refusal-whole}
@@ -62,7 +62,7 @@ design-refused a r m t M e v =
 
 -- the frame of the decoder's result is the one that the call leaves
 corrected-left : (d : Decoding) (f : Frame) → correctedOf d f .frame ≡ f
-unfolding correctedOf
+unfolding correctedOf refusedFrame
 corrected-left (decoding.Decoded c) f = refl
 corrected-left (decoding.Refused r) f = refl
 

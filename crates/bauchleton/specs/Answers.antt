@@ -1,7 +1,7 @@
 -- What each call stores into the slice that it is lent for its answer: the refusal's place, then what the call tells, 0 where it is refused.
 --   designAnswer      of a design: r, n and k
 --   wordsAnswer       of the word checker: the words outside the code
---   correctedAnswer   of the decoder and the loopback: three counts
+--   correctedAnswer   of the decoder and the loopback: four counts
 --   showAnswer        of showing: the length of the stretch
 --   shownPart         what is shown: a block or a group
 --   pasted            a lent slice after a stretch was copied to its start, which is only done where it fits
@@ -27,9 +27,9 @@ designAnswer (refused n p) s = p ∷ 0 ∷ 0 ∷ 0 ∷ []
 abbrev pub wordsAnswer : Counted → List ℕ
 wordsAnswer c = placeOf (c .verdict) ∷ c .outside ∷ []
 
--- "The result: rounds made .., bits turned .., words outside the code at the end"
+-- "The result: rounds made .., bits turned .., words outside the code at the end", and "the number of stuck verdicts in the last round made"
 abbrev pub correctedAnswer : Corrected → List ℕ
-correctedAnswer c = placeOf (c .verdict) ∷ c .counts .rounds ∷ c .counts .flips ∷ c .counts .outside ∷ []
+correctedAnswer c = placeOf (c .verdict) ∷ c .counts .rounds ∷ c .counts .turned ∷ c .counts .outside ∷ c .counts .stuck ∷ []
 
 -- "A block or a group is shown as the stretch of whichever buffer holds it"
 abbrev pub showAnswer : Shown → List ℕ

@@ -129,7 +129,8 @@ pub extern "C" fn bauchleton_check_words(
     tell_words(a, answer)
 }
 
-// Corrects a frame in place. `answer` has four entries: the place, rounds made, bits turned, words outside the code at the end.
+// Corrects a frame in place. `answer` has five entries: the place, rounds made, bits turned, words outside the code at the end, stuck words of the
+// last round made.
 #[no_mangle]
 pub extern "C" fn bauchleton_decode(
     m: u64,
@@ -154,7 +155,7 @@ pub extern "C" fn bauchleton_decode(
     tell_decoding(a, answer)
 }
 
-// Encodes, turns the bits that the patterns name, and decodes. `answer` has four entries, as the decoder's.
+// Encodes, turns the bits that the patterns name, and decodes. `answer` has five entries, as the decoder's.
 #[no_mangle]
 pub extern "C" fn bauchleton_loopback(
     m: u64,

@@ -2,6 +2,7 @@
 //   kits     bauchleton_design, bauchleton_check_kit, bauchleton_make_inverse, bauchleton_spread_lists
 //   calls    bauchleton_encode, bauchleton_encode_batch, bauchleton_check_words, bauchleton_decode, bauchleton_loopback, bauchleton_show
 //   loads    bauchleton_load_fill, bauchleton_load_errors, bauchleton_load_run
+//   tallies  bauchleton_decode_tallied, bauchleton_report
 //   tells    what an answer tells a host
 //
 // Each call answers 0, or the number of the rule of document 01's table that refuses. It is lent a slice `answer` of a fixed length, which is left as
@@ -10,6 +11,7 @@
 mod calls;
 mod kits;
 mod loads;
+mod tallies;
 mod tells;
 
 pub use calls::bauchleton_check_words;
@@ -25,3 +27,5 @@ pub use kits::bauchleton_spread_lists;
 pub use loads::bauchleton_load_errors;
 pub use loads::bauchleton_load_fill;
 pub use loads::bauchleton_load_run;
+pub use tallies::bauchleton_decode_tallied;
+pub use tallies::bauchleton_report;

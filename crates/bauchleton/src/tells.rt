@@ -15,7 +15,7 @@ use design::Check;
 use rules_verdict::Judged;
 use rules_verdict::of_check;
 use rules_verdict::of_refusal;
-use rules_verdict::tell_four;
+use rules_verdict::tell_five;
 use rules_verdict::tell_place;
 use rules_verdict::tell_two;
 use words::WordCount;
@@ -43,13 +43,14 @@ pub fn tell_decoding(a: Decoding, answer: &mut [u64]) -> u64
         × (now (answer .exit) ≡ told (correctedAnswer (correctedOf a f)) (now (answer .entry)))) ⌝ }
 {
     match a {
-        Decoding::Decoded(c) => tell_four(
+        Decoding::Decoded(c) => tell_five(
             Judged { rule: 0, place: 0 },
             c.rounds,
-            c.flips,
+            c.turned,
             c.outside,
+            c.stuck,
             answer,
         ),
-        Decoding::Refused(r) => tell_four(of_refusal(r), 0, 0, 0, answer),
+        Decoding::Refused(r) => tell_five(of_refusal(r), 0, 0, 0, 0, answer),
     }
 }

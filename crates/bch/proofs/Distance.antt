@@ -4,13 +4,15 @@
 --   distance-self               a word is at distance 0 from itself
 --   distance-zero               and from no other of its length
 --   distance-comm, distance-triangle
+--   distance-bound              at most the word's length
+--   distance-append             of words that are joined from words of the same lengths
 -- Assumes nothing.
 use mathlib.Core.Path.{_≡_, refl, sym, ap, ap₂, _∙_}
 use mathlib.Core.Logic.{_≢_}
 use mathlib.Core.Bool.{Bool, cond}
-use mathlib.Core.List.{List, [], _∷_}
+use mathlib.Core.List.{List, [], _∷_, _++_}
 use Prim.Native.Nat.{ℕ, _+_, _≤_, zero-le}
-use native.Mathlib.Nat.{suc-inj, suc-ne-zero}
+use native.Mathlib.Nat.{suc-inj, suc-ne-zero, zero-add}
 use native.Mathlib.Decide.{ℕ-discrete}
 use native.Mathlib.Omega.{arith}
 use lib.ListN.{length}
@@ -75,3 +77,16 @@ distance-triangle [] v w e d = zero-le
 distance-triangle (a ∷ u) [] w e d = absurd (suc-ne-zero (length u) e)
 distance-triangle (a ∷ u) (b ∷ v) [] e d = absurd (suc-ne-zero (length v) d)
 distance-triangle (a ∷ u) (b ∷ v) (c ∷ w) e d = omega (arith, unlike-triangle a b c, distance-triangle u v w (suc-inj e) (suc-inj d))
+
+pub distance-bound : (v w : List ℕ) → distance v w ≤ length v
+unfolding distance
+distance-bound [] w = zero-le
+distance-bound (a ∷ v) [] = zero-le
+distance-bound (a ∷ v) (b ∷ w) = omega (arith, unlike-le a b, distance-bound v w)
+
+pub distance-append : (v w u x : List ℕ) → length v ≡ length w → distance (v ++ u) (w ++ x) ≡ distance v w + distance u x
+unfolding distance
+distance-append [] [] u x e = sym (zero-add (distance u x))
+distance-append [] (b ∷ w) u x e = absurd (suc-ne-zero (length w) (sym e))
+distance-append (a ∷ v) [] u x e = absurd (suc-ne-zero (length v) e)
+distance-append (a ∷ v) (b ∷ w) u x e = omega (arith, distance-append v w u x (suc-inj e))

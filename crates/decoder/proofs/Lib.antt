@@ -1,3 +1,4 @@
 pub mod Room
+pub mod Keeping
 pub mod Rounds
 pub mod DecodeCall

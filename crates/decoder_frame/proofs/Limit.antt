@@ -4,6 +4,7 @@
 --   rounds-more     after a round that flips bits
 --   rounds-idle     after one that flips none
 --   rounds-end      after the last that is allowed
+--   stuck-from, stuck-more, stuck-idle, stuck-end   the stuck words of the last round made, likewise
 --   allowed-itself  a number of rounds that is not 0
 -- Assumes nothing.
 use mathlib.Core.Path.{_≡_, refl, sym, ap, ap₂, _∙_}
@@ -13,9 +14,11 @@ use Prim.Native.Nat.{ℕ, zero, suc, _+_, _-_, _<_}
 use native.Mathlib.Nat.{sub-zero, zero-add}
 use native.Mathlib.Omega.{arith}
 use Rattle.staircase.specs.Design.{Params}
-use Rattle.staircase.specs.Frame.{Frame, Site}
-use Rattle.staircase.specs.Decoder.{Progress, round, Decoded, runEach, runRounds, roundsAllowed}
+use Rattle.staircase.specs.Frame.{Frame, Site, plain}
+use Rattle.staircase.specs.Decoder.{Progress, roundOf, correctWords, round, Decoded, runEach, runRounds, roundsAllowed}
+use Rattle.staircase.specs.Outcomes.{stuckAmong, lastStuck}
 use Rattle.staircase.proofs.Rounds.{runRounds-idle, runRounds-more}
+use Rattle.staircase.proofs.Outcomes.{lastStuck-idle, lastStuck-last, lastStuck-more}
 
 -- k rounds with n flips before them
 abbrev pub after : ℕ → ℕ → Decoded → Decoded
@@ -57,6 +60,31 @@ module _ (s : Params) (ws : List (List Site)) where
         let a : K ≡ k + 0 = omega arith in
         let b : n ≡ n + 0 = omega arith in
         ap₂ (λ (p q : ℕ). record { frame = g; rounds = p; flips = q }) a b ∙ sym (h ∙ ap (λ (m : ℕ). after k n (runRounds s ws m g)) z)
+
+-- ---- the stuck words of the last round made
+
+pub stuck-from : (s : Params) (ws : List (List Site)) (K : ℕ) (f : Frame) → lastStuck (plain s ws) K f ≡ lastStuck (plain s ws) (K - 0) f
+stuck-from s ws K f = ap (λ (n : ℕ). lastStuck (plain s ws) n f) (sym (sub-zero K))
+
+module _ (s : Params) (ws : List (List Site)) (D K k : ℕ) (g : Frame) (h : D ≡ lastStuck (plain s ws) (K - k) g) (l : k < K) where
+  stuck-left : D ≡ lastStuck (plain s ws) (suc (K - (k + 1))) g
+  stuck-left = let e : K - k ≡ suc (K - (k + 1)) = omega (arith, l) in h ∙ ap (λ (m : ℕ). lastStuck (plain s ws) m g) e
+
+  pub stuck-idle : (x : Progress) → x ≡ round s ws g → x .flips ≡ 0 → {n : ℕ} → n ≡ stuckAmong s g ws → n ≡ D
+  unfolding stuckAmong round correctWords roundOf
+  stuck-idle x e z c = c ∙ sym (stuck-left ∙ lastStuck-idle (plain s ws) (K - (k + 1)) g (ap (λ (w : Progress). w .flips) (sym e) ∙ z))
+
+  pub stuck-more : (x : Progress) → x ≡ round s ws g → x .flips ≢ 0 → k + 1 < K → D ≡ lastStuck (plain s ws) (K - (k + 1)) (x .frame)
+  unfolding round correctWords roundOf
+  stuck-more x e d m =
+      stuck-left ∙ lastStuck-more (plain s ws) (K - (k + 1)) g (λ z. d (ap (λ (w : Progress). w .flips) e ∙ z)) (λ z. omega (arith, z, m))
+      ∙ ap (λ (w : Progress). lastStuck (plain s ws) (K - (k + 1)) (w .frame)) (sym e)
+
+  pub stuck-end : k + 1 ≡ K → {n : ℕ} → n ≡ stuckAmong s g ws → n ≡ D
+  unfolding stuckAmong
+  stuck-end e c =
+      let z : K - (k + 1) ≡ 0 = omega (arith, e) in
+      c ∙ sym (stuck-left ∙ ap (λ (m : ℕ). lastStuck (plain s ws) (suc m) g) z ∙ lastStuck-last (plain s ws) g)
 
 -- "0 stands for 7", and any other number for itself
 pub allowed-itself : (k : ℕ) → k ≢ 0 → k ≡ roundsAllowed k

@@ -6,13 +6,15 @@
 //
 // The remainders of all words are summed once, line by line, in the order in which their bits stand in memory (crate `words`), and kept in working
 // bytes (crate `decoder_kept`). A round takes the lines one after the other and corrects the words whose kept number is not 0 (crate `decoder_words`),
-// which keeps all numbers right. Rounds end after one that flips nothing. The words outside the code at the end are those whose number is not 0.
+// which keeps all numbers right. Rounds end after one that flips nothing. The words outside the code at the end are those whose number is not 0; the
+// stuck words are counted by each round, and those of the last one are told.
 ghost use mathlib.Core.Path.{_≡_};
-ghost use Prim.Native.Nat.{_+_, _*_, _^_, _≤_};
+ghost use Prim.Native.Nat.{_+_, _*_, _^_, _≤_, _<_};
 ghost use lib.ListN.{length, take, drop};
 ghost use Rattle.staircase.specs.Design.{most-rounds, wordLength};
-ghost use Rattle.staircase.specs.Frame.{frameOf, words};
+ghost use Rattle.staircase.specs.Frame.{plain, frameOf, words};
 ghost use Rattle.staircase.specs.Decoder.{runRounds, roundsAllowed};
+ghost use Rattle.staircase.specs.Outcomes.{lastStuck};
 ghost use Rattle.staircase.specs.Lines.{wordCount};
 ghost use Rattle.design.specs.Answers.{Allowed};
 ghost use Rattle.design.specs.Sizes.{paramsOf};
@@ -30,10 +32,11 @@ use words_lines::Line;
 // "0 stands for 7"
 const DEFAULT_ROUNDS: usize = 7;
 
-// Rounds made and bits flipped.
+// Rounds made, bits flipped, and stuck words of the last round made.
 pub struct Made {
     pub rounds: usize,
     pub flips: usize,
+    pub stuck: usize,
 }
 
 // Fills the values of the positions of a word and, behind them, those of four bits, from the field's tables.
@@ -64,7 +67,7 @@ pub fn fill_tables(d: Design, tables: &mut [u32], field: &mut [u16])
 // The rounds that a number of rounds stands for.
 pub fn rounds_allowed(rounds: u64) -> usize
     requires { ⌜ rounds ≤ most-rounds ⌝ }
-    ensures { λ a. ⌜ (a ≡ roundsAllowed rounds) × (a ≤ most-rounds) ⌝ }
+    ensures { λ a. ⌜ (a ≡ roundsAllowed rounds) × (a ≤ most-rounds) × (0 < a) ⌝ }
 {
     if rounds == 0 {
         return DEFAULT_ROUNDS;
@@ -136,7 +139,7 @@ pub fn fill_numbers(
     }
 }
 
-// Corrects all words of a frame, until a round flips nothing or `limit` rounds are made. The line is the first.
+// Corrects all words of a frame, until a round flips nothing or `limit` rounds are made, at least one. The line is the first.
 pub fn run_rounds(
     line: Line,
     limit: usize,
@@ -148,14 +151,17 @@ pub fn run_rounds(
     numbers: &mut [u8],
 ) -> Made
     requires { ⌜ LineReady line (now links) (now tables) (now field) × (line .k ≡ 0) × (limit ≤ most-rounds)
-        × FrameKept (line .d) (line .blocks) (now links) (now info) (now red) (now numbers) ⌝ }
+        × FrameKept (line .d) (line .blocks) (now links) (now info) (now red) (now numbers) × (0 < limit) ⌝ }
     ensures { λ a. ⌜ (record { frame = frameOf (now (info .exit)) (now (red .exit)); rounds = a .rounds; flips = a .flips }
         ≡ runRounds (paramsOf (line .d)) (words (paramsOf (line .d)) (listsIn (line .d) (now (links .entry))) (line .blocks)) limit
         (frameOf (now (info .entry)) (now (red .entry))))
-        × FrameKept (line .d) (line .blocks) (now (links .entry)) (now (info .exit)) (now (red .exit)) (now (numbers .exit)) ⌝ }
+        × FrameKept (line .d) (line .blocks) (now (links .entry)) (now (info .exit)) (now (red .exit)) (now (numbers .exit))
+        × (a .stuck ≡ lastStuck (plain (paramsOf (line .d)) (words (paramsOf (line .d)) (listsIn (line .d) (now (links .entry))) (line .blocks))) limit
+        (frameOf (now (info .entry)) (now (red .entry)))) ⌝ }
 {
     let lines = words_lines::line_count(line.blocks);
     let mut flips = 0;
+    let mut stuck = 0;
     for k in 0..limit {
         let more = decoder_words::correct_lines(
             line,
@@ -167,16 +173,19 @@ pub fn run_rounds(
             red,
             numbers,
         );
-        flips += more;
-        if more == 0 {
+        flips += more.flips;
+        stuck = more.stuck;
+        if more.flips == 0 {
             return Made {
                 rounds: k + 1,
                 flips: flips,
+                stuck: stuck,
             };
         }
     }
     Made {
         rounds: limit,
         flips: flips,
+        stuck: stuck,
     }
 }

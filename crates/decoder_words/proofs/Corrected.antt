@@ -2,7 +2,8 @@
 --   number-below, number-is          the number of a word, and its remainder
 --   turned, turned-all               one flipped bit, and all flips of a word: the numbers of all words but this one
 --   one-sent .., none-goes ..        the answers of `locate`
---   zero-over, marked-over           a word that is passed over
+--   zero-clean, marked-stuck         a word that is passed over
+--   other-outcome                    a word that is not clean, by its correction
 --   sent-found, flips-is             the located positions of a word that is corrected
 --   word-stuck, word-corrected       what is left after a word
 -- Assumes nothing.
@@ -15,12 +16,15 @@ use native.Mathlib.Nat.{suc-ne-zero, mod-lt}
 use native.Mathlib.Omega.{arith}
 use lib.Dec.{leb}
 use lib.ListN.{length, getD, length-map}
-use borrow.Author.Tests.{le-leb}
+use borrow.Author.Tests.{le-leb, eq-eqb, ne-eqb}
 use Rattle.bch.specs.Polynomial.{remainder}
+use Rattle.bch.specs.Code.{isCodeword}
 use Rattle.staircase.specs.Design.{Params, Interleavers, wordLength}
 use Rattle.staircase.specs.Frame.{Frame, Site, Word, groups, frameOf, read}
 use Rattle.staircase.specs.Frame.Site.{unsent, inInfo, inRed}
 use Rattle.staircase.specs.Decoder.{allSent, correction, flipAll}
+use Rattle.staircase.specs.Outcomes.{Outcome, correctedBits, outcome}
+use Rattle.staircase.specs.Outcomes.Outcome.{clean, stuck}
 use Rattle.staircase.specs.Kept.{Holds}
 use Rattle.staircase.specs.Lines.{lineSites, wordCount, frameWord, crossing}
 use Rattle.staircase.proofs.Bounds.{stretch-end}
@@ -28,7 +32,9 @@ use Rattle.staircase.proofs.Member.{In}
 use Rattle.staircase.proofs.System.{Proper}
 use Rattle.staircase.proofs.Flip.{Sent, allSent-each, Within, Received, flipAll-received, site-in}
 use Rattle.staircase.proofs.Apart.{correction-in}
-use Rattle.staircase.proofs.Kept.{zero-stays, stuck-keeps, corrected-keeps}
+use Rattle.staircase.proofs.Idle.{correction-none}
+use Rattle.staircase.proofs.Outcomes.{outcome-clean, outcome-other}
+use Rattle.staircase.proofs.Kept.{stuck-keeps, corrected-keeps}
 use Rattle.staircase.proofs.KeptFrame.{word-number, line-length, line-within, crossing-keeps}
 use Rattle.design.specs.declared.Design.{Design}
 use Rattle.design.specs.Sizes.{paramsOf}
@@ -187,24 +193,33 @@ module _ {line : Line} (L : LineFits line) {links : List ℕ} (T : LinksFit (lin
   number-is {x} e =
       ap (λ (z : ℕ). z % 2147483648) e ∙ K .kept u below .number ∙ ap (λ (w : List Site). remainder (s₂ .g) (s₂ .r) (read f w)) word-is
 
-  -- a word that is passed over
-  abbrev Over : Type 0
-  Over =
+  -- a word that is passed over stays; it is clean or stuck
+  abbrev Over : Outcome → Type 0
+  Over o =
       (frameOf info red ≡ flipAll (correctionAt line links (frameOf info red) a) (frameOf info red))
-      × (_≡_ {A = ℕ} 0 (length (correctionAt line links (frameOf info red) a)))
+      × (o ≡ outcome (paramsOf (line .d)) (frameOf info red) (lineWord line links a))
 
-  none-over : correction s₂ f word ≡ [] → Over
+  stays : correction s₂ f word ≡ [] → f ≡ flipAll (correction s₂ f word) f
   unfolding flipAll
-  none-over r = (ap (λ (y : List Site). flipAll y f) (sym r), ap length (sym r))
+  stays r = ap (λ (y : List Site). flipAll y f) (sym r)
 
-  pub zero-over : {x : ℕ} → x ≡ keptAt b (line .k * line .d .size + a) → x % 2147483648 ≡ 0 → Over
-  zero-over {x} e z =
-      none-over (ap (correction s₂ f) (sym word-is)
-      ∙ zero-stays (W u) f (numberAt b u) (markedAt b u) (K .kept u below) (ap (λ (n : ℕ). n % 2147483648) (sym e) ∙ z))
+  -- the kept number says whether the word is in the code
+  module _ {x : ℕ} (e : x ≡ keptAt b (line .k * line .d .size + a)) where
+    pub zero-clean : x % 2147483648 ≡ 0 → Over clean
+    unfolding isCodeword
+    zero-clean z = let c = eq-eqb _ 0 (sym (number-is e) ∙ z) in (stays (correction-none s₂ f word c), sym (outcome-clean s₂ f word c))
 
-  pub marked-over : {x : ℕ} → x ≡ keptAt b (line .k * line .d .size + a) → 2147483648 ≤ x → Over
-  marked-over {x} e z =
-      none-over (ap (correction s₂ f) (sym word-is) ∙ K .kept u below .mark (ap (leb 2147483648) (sym e) ∙ le-leb 2147483648 x z))
+    -- a word with another number, by its correction
+    pub other-outcome : x % 2147483648 ≢ 0 → {k : ℕ} → k ≡ length (correctionAt line links (frameOf info red) a)
+        → correctedBits k ≡ outcome (paramsOf (line .d)) (frameOf info red) (lineWord line links a)
+    unfolding isCodeword
+    other-outcome d q = ap correctedBits q ∙ sym (outcome-other s₂ f word (ne-eqb _ 0 (λ z. d (number-is e ∙ z))))
+
+    pub marked-stuck : x % 2147483648 ≢ 0 → 2147483648 ≤ x → Over stuck
+    marked-stuck d z =
+        let r : correction s₂ f word ≡ [] =
+        ap (correction s₂ f) (sym word-is) ∙ K .kept u below .mark (ap (leb 2147483648) (sym e) ∙ le-leb 2147483648 x z) in
+        (stays r, other-outcome d (ap length (sym r)))
 
   module _ (z : Located) (c : correctionAt line links (frameOf info red) a ≡ map (λ j. getD (lineWord line links a) j unsent) (positionsOf z)) where
     pub sent-found : Below (wordLength (paramsOf (line .d))) (positionsOf z) → SentAt line links a (positionsOf z)

@@ -1,2 +1,3 @@
 pub mod Sites
 pub mod Ready
+pub mod Told

@@ -1,4 +1,5 @@
 // Corrects the words of a frame's lines, in the buffers that hold them, on kept remainders.
+//   Outcome          what correcting a word comes to: clean, corrected or stuck
 //   correct_word     corrects a word from its kept number
 //   correct_line     corrects the words of a line
 //   correct_lines    the words of some lines, one line after the other: a round, or a part of one
@@ -7,7 +8,7 @@
 // `decoder_locator`). `decoder_lines::site_at` says where these stand in the two lent buffers, and `flip_at` flips the bits there. A bit of Y or of P
 // is one byte, whichever word it is read by, so both its places change. Then the other word that has the bit gets the power of the bit's position in
 // it, and the own number becomes 0. A word that has no correction is marked, until one of its bits is flipped: a word whose number is 0 and a marked
-// word are passed over.
+// word are passed over; the first is clean, the second is stuck.
 ghost use mathlib.Core.Path.{_≡_};
 ghost use mathlib.Core.List.{map};
 ghost use Prim.Native.Nat.{_+_, _*_, _^_, _≤_, _<_};
@@ -18,6 +19,7 @@ ghost use Rattle.staircase.specs.Design.{wordLength};
 ghost use Rattle.staircase.specs.Frame.{groups, frameOf, read};
 ghost use Rattle.staircase.specs.Frame.Site.{unsent};
 ghost use Rattle.staircase.specs.Decoder.{allSent, flipAll, round};
+ghost use Rattle.staircase.specs.Outcomes.{correctedBits, outcome, flipsOf, stuckOf, stuckAmong};
 ghost use Rattle.staircase.specs.Lines.{lineSites, wordCount};
 ghost use Rattle.design.specs.Sizes.{paramsOf, orderOf};
 ghost use Rattle.rules.specs.Received.{FrameFits};
@@ -28,6 +30,7 @@ ghost use Rattle.decoder_lines.specs.Links.{listsIn, LinksFit};
 ghost use Rattle.decoder_locator.specs.Located.{positionsOf, located};
 ghost use Rattle.decoder_words.specs.Sites.{listed, AllInside, Below};
 ghost use Rattle.decoder_words.specs.Ready.{WordTables, LineReady, FrameKept, lineWord, correctionAt, SentAt, CrossedAll};
+ghost use Rattle.decoder_words.specs.Told.{outcomeOf};
 use decoder_lines::BitSite;
 use decoder_locator::Located;
 use design::Design;
@@ -39,6 +42,19 @@ struct Spots {
     x: BitSite,
     y: BitSite,
     z: BitSite,
+}
+
+// What correcting a word comes to: it was in the code, so many bits of it were flipped, or it has no correction and stays outside the code.
+pub enum Outcome {
+    Clean,
+    Corrected(usize),
+    Stuck,
+}
+
+// What correcting some words has done: bits flipped, and words that were stuck.
+pub struct Pass {
+    pub flips: usize,
+    pub stuck: usize,
 }
 
 // Where the located positions of word a of a line stand.
@@ -255,8 +271,18 @@ pub fn correct_word(
     count
 }
 
+// What a word that is outside the code comes to, by the number of bits that were flipped.
+fn by_count(count: usize) -> Outcome
+    ensures { λ a. ⌜ outcomeOf a ≡ correctedBits count ⌝ }
+{
+    match count {
+        0 => Outcome::Stuck,
+        _ => Outcome::Corrected(count),
+    }
+}
+
 // Corrects word a of a line, unless its number is 0 or it is marked.
-fn visit_word(
+pub fn visit_word(
     line: Line,
     a: usize,
     links: &[u16],
@@ -265,27 +291,50 @@ fn visit_word(
     info: &mut [u8],
     red: &mut [u8],
     numbers: &mut [u8],
-) -> usize
+) -> Outcome
     requires { ⌜ LineReady line (now links) (now tables) (now field) × (a < line .d .size)
         × FrameKept (line .d) (line .blocks) (now links) (now info) (now red) (now numbers) ⌝ }
-    ensures { λ k. ⌜ (frameOf (now (info .exit)) (now (red .exit))
+    ensures { λ z. ⌜ (frameOf (now (info .exit)) (now (red .exit))
         ≡ flipAll (correctionAt line (now (links .entry)) (frameOf (now (info .entry)) (now (red .entry))) a) (frameOf (now (info .entry)) (now (red .entry))))
-        × (k ≡ length (correctionAt line (now (links .entry)) (frameOf (now (info .entry)) (now (red .entry))) a))
+        × (outcomeOf z ≡ outcome (paramsOf (line .d)) (frameOf (now (info .entry)) (now (red .entry))) (lineWord line (now (links .entry)) a))
         × FrameKept (line .d) (line .blocks) (now (links .entry)) (now (info .exit)) (now (red .exit)) (now (numbers .exit)) ⌝ }
 {
     let w = decoder_lines::word_number(line, a);
     let x = decoder_kept::get(&numbers[..], w);
     if x % 2147483648 == 0 {
-        return 0;
+        return Outcome::Clean;
     }
     if 2147483648 <= x {
-        return 0;
+        return Outcome::Stuck;
     }
-    correct_word(line, a, links, tables, field, info, red, numbers)
+    let count = correct_word(line, a, links, tables, field, info, red, numbers);
+    by_count(count)
 }
 
-// Corrects the words of a line that are outside the code and not marked, one after the other, and answers how many bits it flipped: at most 500 words,
-// of three flips each.
+// The bits that were flipped.
+fn flips_of(told: Outcome) -> usize
+    ensures { λ k. ⌜ k ≡ flipsOf (outcomeOf told) ⌝ }
+{
+    match told {
+        Outcome::Clean => 0,
+        Outcome::Corrected(n) => n,
+        Outcome::Stuck => 0,
+    }
+}
+
+// 1 for a word that is stuck.
+fn stuck_of(told: Outcome) -> usize
+    ensures { λ k. ⌜ (k ≡ stuckOf (outcomeOf told)) × (k ≤ 1) ⌝ }
+{
+    match told {
+        Outcome::Clean => 0,
+        Outcome::Corrected(_) => 0,
+        Outcome::Stuck => 1,
+    }
+}
+
+// Corrects the words of a line that are outside the code and not marked, one after the other, and answers how many bits it flipped and how many words
+// were stuck, the marked ones among them: at most 500 words, of three flips each.
 pub fn correct_line(
     line: Line,
     links: &[u16],
@@ -294,23 +343,31 @@ pub fn correct_line(
     info: &mut [u8],
     red: &mut [u8],
     numbers: &mut [u8],
-) -> usize
+) -> Pass
     requires { ⌜ LineReady line (now links) (now tables) (now field)
         × FrameKept (line .d) (line .blocks) (now links) (now info) (now red) (now numbers) ⌝ }
-    ensures { λ k. ⌜ (record { frame = frameOf (now (info .exit)) (now (red .exit)); flips = k }
+    ensures { λ k. ⌜ (record { frame = frameOf (now (info .exit)) (now (red .exit)); flips = k .flips }
         ≡ round (paramsOf (line .d)) (tabulate (line .d .size) (lineWord line (now (links .entry)))) (frameOf (now (info .entry)) (now (red .entry))))
-        × FrameKept (line .d) (line .blocks) (now (links .entry)) (now (info .exit)) (now (red .exit)) (now (numbers .exit)) × (k ≤ 1500) ⌝ }
+        × FrameKept (line .d) (line .blocks) (now (links .entry)) (now (info .exit)) (now (red .exit)) (now (numbers .exit)) × (k .flips ≤ 1500)
+        × (k .stuck ≡ stuckAmong (paramsOf (line .d)) (frameOf (now (info .entry)) (now (red .entry)))
+        (tabulate (line .d .size) (lineWord line (now (links .entry))))) × (k .stuck ≤ 500) ⌝ }
 {
     let size = line.d.size();
     let mut flips = 0;
+    let mut stuck = 0;
     for a in 0..size {
-        let more = visit_word(line, a, links, tables, field, info, red, numbers);
-        flips += more;
+        let told = visit_word(line, a, links, tables, field, info, red, numbers);
+        flips += flips_of(told);
+        stuck += stuck_of(told);
     }
-    flips
+    Pass {
+        flips: flips,
+        stuck: stuck,
+    }
 }
 
-// Corrects the words of `count` lines from a line on, line by line, and answers how many bits it flipped: a round, or a part of one.
+// Corrects the words of `count` lines from a line on, line by line, and answers how many bits it flipped and how many words were stuck: a round, or a
+// part of one.
 pub fn correct_lines(
     line: Line,
     count: usize,
@@ -320,19 +377,26 @@ pub fn correct_lines(
     info: &mut [u8],
     red: &mut [u8],
     numbers: &mut [u8],
-) -> usize
+) -> Pass
     requires { ⌜ LineReady line (now links) (now tables) (now field) × (line .k + count ≤ 2 * groups (line .blocks))
         × FrameKept (line .d) (line .blocks) (now links) (now info) (now red) (now numbers) ⌝ }
-    ensures { λ k. ⌜ (record { frame = frameOf (now (info .exit)) (now (red .exit)); flips = k }
+    ensures { λ k. ⌜ (record { frame = frameOf (now (info .exit)) (now (red .exit)); flips = k .flips }
         ≡ round (paramsOf (line .d)) (concat count (λ i. tabulate (line .d .size)
         (lineSites (paramsOf (line .d)) (listsIn (line .d) (now (links .entry))) (line .blocks) (line .k + i)))) (frameOf (now (info .entry)) (now (red .entry))))
-        × FrameKept (line .d) (line .blocks) (now (links .entry)) (now (info .exit)) (now (red .exit)) (now (numbers .exit)) × (k ≤ 1500 * count) ⌝ }
+        × FrameKept (line .d) (line .blocks) (now (links .entry)) (now (info .exit)) (now (red .exit)) (now (numbers .exit)) × (k .flips ≤ 1500 * count)
+        × (k .stuck ≡ stuckAmong (paramsOf (line .d)) (frameOf (now (info .entry)) (now (red .entry))) (concat count (λ i. tabulate (line .d .size)
+        (lineSites (paramsOf (line .d)) (listsIn (line .d) (now (links .entry))) (line .blocks) (line .k + i))))) × (k .stuck ≤ 500 * count) ⌝ }
 {
     let mut flips = 0;
+    let mut stuck = 0;
     for i in 0..count {
         let here = words_lines::line_at(line, line.k + i);
         let more = correct_line(here, links, tables, field, info, red, numbers);
-        flips += more;
+        flips += more.flips;
+        stuck += more.stuck;
     }
-    flips
+    Pass {
+        flips: flips,
+        stuck: stuck,
+    }
 }

@@ -35,6 +35,7 @@ pub enum Refusal {
     Bit(u64),
     Singular(u64),
     Narrow(u64),
+    Full(u64),
     Batch(u64),
 }
 

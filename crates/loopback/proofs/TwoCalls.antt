@@ -1,10 +1,12 @@
 -- The two calls of the loopback, one after the other.
 --   turned-length, turned-bits   a buffer with some bits turned
+--   part-length                  the part at the start of the working bytes that is lent
 --   numbers-accepted             rules 1 to 5 accept what demand 3 takes for given, at an allowed number of rounds
 --   loopback-numbers             the result where rules 1 to 5 refuse
 --   loopback-encoder             where the encoder does
---   small-frame                  its blocks are few, and so are their rows
+--   small-frame                  its design is allowed, its blocks are few, and so are the rows of its inverse
 --   own-length, working-fits     the decoder's working bytes are among those that are lent
+--   decode-same                  a decoder's call on the same buffers
 --   loopback-decoded             the result after the decoder, which accepts the frame
 -- Assumes nothing.
 use mathlib.Core.Path.{_≡_, refl, sym, ap, ap₂, _∙_, subst}
@@ -16,15 +18,16 @@ use native.Mathlib.Decide.{decLt, ℕ-discrete}
 use native.Mathlib.Omega.{arith}
 use borrow.Author.Tests.{le-ltb, ltb-false, eq-eqb, ne-eqb}
 use lib.Dec.{eqb, ltb}
-use lib.ListN.{length, getD, List·getD-eq-default}
+use lib.ListN.{length, getD, take, List·getD-eq-default}
+use lib.Seq.{length-take-le}
 use Rattle.bch.specs.Polynomial.{Bits}
-use Rattle.staircase.specs.Design.{Params, Interleavers, params, order, most-M, most-order, most-blocks, most-rounds}
+use Rattle.staircase.specs.Design.{Params, Interleavers, params, order, most-order, most-blocks, most-rounds}
 use Rattle.staircase.specs.System.{rowBytes, redundancy}
-use Rattle.staircase.specs.Frame.{Frame, frameOf, groups, outside}
-use Rattle.staircase.specs.Decoder.{Decoded, decoded}
-use Rattle.staircase.specs.Rules.{Verdict, _then_, refuse, designRules, countRule, roundsRule, lengthRule, kitLengths, frameLengths, kitWork, decoderWork, interleavers, contentRules}
+use Rattle.staircase.specs.Frame.{Frame, frameOf}
+use Rattle.staircase.specs.Decoder.{decoded}
+use Rattle.staircase.specs.Rules.{Verdict, _then_, refuse, designRules, countRule, roundsRule, lengthRule, kitLengths, frameLengths, kitWork, keptWork, decoderWork, interleavers, contentRules}
 use Rattle.staircase.specs.Rules.Verdict.{accepted, refused}
-use Rattle.staircase.specs.Calls.{encodedBy, encodeVerdict, encodeCall, Corrected, correctedBy, decodeVerdict, decodeCall}
+use Rattle.staircase.specs.Calls.{encodedBy, encodeVerdict, encodeCall, Counts, countsOf, Corrected, correctedBy, decodeVerdict, decodeCall}
 use Rattle.staircase.specs.Demand3.{Kit, Given}
 use Rattle.staircase.proofs.Bounds.{small-product}
 use Rattle.staircase.proofs.Tabulate.{tabulate-length, tabulate-at}
@@ -38,6 +41,7 @@ use Rattle.design.specs.declared.Check.the-variants as check
 use Rattle.design.specs.Answers.{verdictOf}
 use Rattle.design.proofs.Answers.{refused-then, check-refused}
 use Rattle.decoder.specs.Answers.{refusedFrame}
+use Rattle.decoder.proofs.DecodeCall.{refused-is}
 use Rattle.loopback.specs.Link.{turned, numberRules, loopbackWork, loopbackVerdict, loopbackCall}
 
 -- ---- turned bits
@@ -58,6 +62,11 @@ turned-bits errors b h k = go (decLt k (length b))
     go (yes l) = subst (λ (z : ℕ). z < 2) (sym (tabulate-at (length b) (λ j. cond (eqb (getD errors j 0) 0) (getD b j 0) (1 - getD b j 0)) 0 k l)) (bit (eqb (getD errors k 0) 0))
     go (no l) = subst (λ (z : ℕ). z < 2) (sym (List·getD-eq-default (turned errors b) 0 {n = k} (omega (arith, turned-length errors b)))) (omega arith)
 
+-- ---- working bytes
+
+pub part-length : (l : List ℕ) (n : ℕ) → n ≤ length l → length (take (n - 0) l) ≡ n
+part-length l n h = length-take-le (n - 0) l (omega arith) ∙ omega arith
+
 -- ---- the verdict
 
 less-rule : (w x a : ℕ) → 0 < a → lengthRule 6 (w - x) a ≡ lengthRule 6 w (a + x)
@@ -73,6 +82,11 @@ numbers-accepted K L info old G k h =
     then-accepted (G .design)
     (then-accepted (refuse-accepted 4 L (inRange 1 most-blocks L (G .some) (G .few))) (refuse-accepted 5 k (le-ltb most-rounds k h)))
 
+pub decode-same : (m t M L k : ℕ) (self parity : List ℕ) {i i' r r' : List ℕ} {n n' : ℕ} → i ≡ i' → r ≡ r' → n ≡ n'
+    → decodeCall m t M L k self parity i r n ≡ decodeCall m t M L k self parity i' r' n'
+decode-same m t M L k self parity {i} {i'} {r} {r'} {n} {n'} p q e =
+    ap₂ (λ (x y : List ℕ). decodeCall m t M L k self parity x y n) p q ∙ ap (λ (z : ℕ). decodeCall m t M L k self parity i' r' z) e
+
 module _ (m t M L k : ℕ) (self parity w infoErrors redErrors info red : List ℕ) (work : ℕ) where
   abbrev K : Kit
   K = record { m = m; t = t; M = M; self = self; parity = parity; inverse = w }
@@ -86,19 +100,17 @@ module _ (m t M L k : ℕ) (self parity w infoErrors redErrors info red : List �
   abbrev received : Frame
   received = frameOf (turned infoErrors info) (turned redErrors (redundancy (params m t M) (interleavers (params m t M) self parity) w L info))
 
-  abbrev d : Decoded
-  d = decoded s l L k received
+  abbrev done : Frame
+  done = decoded s l L k received .frame
+
+  abbrev counts : Counts
+  counts = countsOf s l L k received
 
   -- a refused call counts nothing and leaves the frame
   refused-result : (v : Verdict) → v ≢ accepted → loopbackVerdict m t M L k self parity w info red work ≡ v
       → refusedFrame v (frameOf info red) ≡ loopbackCall m t M L k self parity w infoErrors redErrors info red work
-  unfolding loopbackCall refusedFrame
-  refused-result v h e =
-      stays v h ∙ sym (ap (λ (x : Verdict). correctedBy x (frameOf info red) d (outside s l L (d .frame))) e)
-    where
-      stays : (x : Verdict) → x ≢ accepted → refusedFrame x (frameOf info red) ≡ correctedBy x (frameOf info red) d (outside s l L (d .frame))
-      stays accepted n = absurd (n refl)
-      stays (refused n p) z = refl
+  unfolding loopbackCall
+  refused-result v h e = refused-is v (frameOf info red) done counts h ∙ sym (ap (λ (x : Verdict). correctedBy x (frameOf info red) done counts) e)
 
   -- refused by rules 1 to 5
   pub loopback-numbers : (x : Check) → verdictOf x ≡ numberRules m t M L k → {r : Refusal} → x ≡ check.Refused r
@@ -121,12 +133,12 @@ module _ (m t M L k : ℕ) (self parity w infoErrors redErrors info red : List �
     unfolding numberRules
     designed = then-first (designRules m t M) (countRule L then roundsRule k) ok
 
-    pub small-frame : (M ≤ most-M) × (L ≤ most-blocks) × (order (params m t M) ≤ most-order)
+    pub small-frame : (designRules m t M ≡ accepted) × (L ≤ most-blocks) × (order (params m t M) ≤ most-order)
     small-frame =
-        let limits = design-limits m t M designed in (limits .M-high, count-limits L (then-first (countRule L) (roundsRule k) counted) .1, limits .order-high)
+        let limits = design-limits m t M designed in (designed, count-limits L (then-first (countRule L) (roundsRule k) counted) .1, limits .order-high)
 
     abbrev more : ℕ
-    more = 8 * (groups L * M)
+    more = keptWork (params m t M) L
 
     kit-some : (0 < kitWork s) × (order s ≤ kitWork s)
     unfolding kitWork
@@ -137,13 +149,13 @@ module _ (m t M L k : ℕ) (self parity w infoErrors redErrors info red : List �
         let q = small-product (order s) 1 (order s) (rowBytes (order s)) (omega arith) one in
         (omega (arith, p, q), omega (arith, q))
 
-    -- the last of the working bytes are left out: those of the decoder's numbers
-    same-rule : lengthRule 6 (work - 8 * (groups L * M)) (kitWork s) ≡ lengthRule 6 work (loopbackWork s L)
+    -- the last of the working bytes are left out: those of what the decoder keeps
+    same-rule : lengthRule 6 (work - keptWork (params m t M) L) (kitWork s) ≡ lengthRule 6 work (loopbackWork s L)
     unfolding loopbackWork
     same-rule = less-rule work more (kitWork s) (kit-some .0)
 
     -- the encoder's rules 1 to 4 are passed, so that the others decide
-    verdict-encodes : loopbackVerdict m t M L k self parity w info red work ≡ encodeVerdict m t M L self parity w info red (work - 8 * (groups L * M))
+    verdict-encodes : loopbackVerdict m t M L k self parity w info red work ≡ encodeVerdict m t M L self parity w info red (work - keptWork (params m t M) L)
     unfolding loopbackVerdict encodeVerdict numberRules
     verdict-encodes =
         let rest : Verdict = kitLengths s self parity w then frameLengths s L info red then lengthRule 6 (work - more) (kitWork s) then contentRules s l w info in
@@ -152,18 +164,18 @@ module _ (m t M L k : ℕ) (self parity w infoErrors redErrors info red : List �
         ∙ sym (ap (λ (v : Verdict). v then countRule L then rest) (then-first (designRules m t M) (countRule L then roundsRule k) ok)
         ∙ ap (λ (v : Verdict). v then rest) (then-first (countRule L) (roundsRule k) counted))
 
-    encoder-verdict : encodeCall m t M L self parity w info red (work - 8 * (groups L * M)) .verdict ≡ encodeVerdict m t M L self parity w info red (work - 8 * (groups L * M))
+    encoder-verdict : encodeCall m t M L self parity w info red (work - keptWork (params m t M) L) .verdict ≡ encodeVerdict m t M L self parity w info red (work - keptWork (params m t M) L)
     unfolding encodeCall
-    encoder-verdict = encodedBy-verdict (encodeVerdict m t M L self parity w info red (work - 8 * (groups L * M))) red (redundancy s l w L info)
+    encoder-verdict = encodedBy-verdict (encodeVerdict m t M L self parity w info red (work - keptWork (params m t M) L)) red (redundancy s l w L info)
 
     -- refused by the encoder, which leaves the redundancy
-    pub loopback-encoder : (x : Check) (after : List ℕ) → verdictOf x ≡ encodeCall m t M L self parity w info red (work - 8 * (groups L * M)) .verdict
-        → after ≡ encodeCall m t M L self parity w info red (work - 8 * (groups L * M)) .red → {r : Refusal} → x ≡ check.Refused r
+    pub loopback-encoder : (x : Check) (after : List ℕ) → verdictOf x ≡ encodeCall m t M L self parity w info red (work - keptWork (params m t M) L) .verdict
+        → after ≡ encodeCall m t M L self parity w info red (work - keptWork (params m t M) L) .red → {r : Refusal} → x ≡ check.Refused r
         → refusedFrame (verdictOf x) (frameOf info after) ≡ loopbackCall m t M L k self parity w infoErrors redErrors info red work
     unfolding encodeCall
     loopback-encoder x after v a e =
         let n : verdictOf x ≢ accepted = check-refused e in
-        let u : Verdict = encodeVerdict m t M L self parity w info red (work - 8 * (groups L * M)) in
+        let u : Verdict = encodeVerdict m t M L self parity w info red (work - keptWork (params m t M) L) in
         ap (λ (z : List ℕ). refusedFrame (verdictOf x) (frameOf info z)) (a ∙ red-stays u (λ z. n (v ∙ encoder-verdict ∙ z)))
         ∙ refused-result (verdictOf x) n (verdict-encodes ∙ sym (v ∙ encoder-verdict))
       where
@@ -172,26 +184,26 @@ module _ (m t M L k : ℕ) (self parity w infoErrors redErrors info red : List �
         red-stays (refused n p) h = refl
 
     -- encoded: the decoder's answer
-    module _ (v : encodeCall m t M L self parity w info red (work - 8 * (groups L * M)) .verdict ≡ accepted) where
-      accepts : encodeVerdict m t M L self parity w info red (work - 8 * (groups L * M)) ≡ accepted
+    module _ (v : encodeCall m t M L self parity w info red (work - keptWork (params m t M) L) .verdict ≡ accepted) where
+      accepts : encodeVerdict m t M L self parity w info red (work - keptWork (params m t M) L) ≡ accepted
       accepts = sym encoder-verdict ∙ v
 
       G : Given K L info red
-      G = encode-accepted K L info red (work - 8 * (groups L * M)) accepts
+      G = encode-accepted K L info red (work - keptWork (params m t M) L) accepts
 
-      made-red : encodeCall m t M L self parity w info red (work - 8 * (groups L * M)) .red ≡ redundancy s l w L info
+      made-red : encodeCall m t M L self parity w info red (work - keptWork (params m t M) L) .red ≡ redundancy s l w L info
       unfolding encodeCall
       made-red = ap (λ (x : Verdict). encodedBy x red (redundancy s l w L info) .red) accepts
 
       pub own-length : length self ≡ 2 * order (params m t M)
       own-length = G .fits .selfLength
 
-      pub working-fits : order (params m t M) + 8 * (groups L * M) ≤ work
+      pub working-fits : order (params m t M) + keptWork (params m t M) L ≤ work
       working-fits =
-          let e : work - more ≡ kitWork s = encode-work K L info red (work - 8 * (groups L * M)) accepts in
+          let e : work - more ≡ kitWork s = encode-work K L info red (work - keptWork (params m t M) L) accepts in
           omega (arith, e, kit-some .0, kit-some .1)
 
-      pub loopback-decoded : (x : Corrected) (after : List ℕ) (n : ℕ) → after ≡ encodeCall m t M L self parity w info red (work - 8 * (groups L * M)) .red → n ≡ decoderWork (params m t M) L
+      pub loopback-decoded : (x : Corrected) (after : List ℕ) (n : ℕ) → after ≡ encodeCall m t M L self parity w info red (work - keptWork (params m t M) L) .red → n ≡ decoderWork (params m t M) L
           → x ≡ decodeCall m t M L k self parity (turned infoErrors info) (turned redErrors after) n
           → x ≡ loopbackCall m t M L k self parity w infoErrors redErrors info red work
       unfolding loopbackCall decodeCall
@@ -204,5 +216,5 @@ module _ (m t M L k : ℕ) (self parity w infoErrors redErrors info red : List �
           (turned-bits infoErrors info (G .bits)) (turned-bits redErrors made (made-bits K L info red G)) in
           e
           ∙ ap₂ (λ (z : List ℕ) (y : ℕ). decodeCall m t M L k self parity i (turned redErrors z) y) (a ∙ made-red) q
-          ∙ ap (λ (z : Verdict). correctedBy z received d (outside s l L (d .frame))) ev
-          ∙ sym (ap (λ (z : Verdict). correctedBy z (frameOf info red) d (outside s l L (d .frame))) (verdict-encodes ∙ accepts))
+          ∙ ap (λ (z : Verdict). correctedBy z received done counts) ev
+          ∙ sym (ap (λ (z : Verdict). correctedBy z (frameOf info red) done counts) (verdict-encodes ∙ accepts))

@@ -7,16 +7,16 @@
 -- Assumes nothing.
 use mathlib.Core.Bool.{cond}
 use mathlib.Core.List.{List}
-use Prim.Native.Nat.{ℕ, _+_, _-_, _*_}
+use Prim.Native.Nat.{ℕ, _+_, _-_}
 use lib.Dec.{eqb}
 use lib.ListN.{length, getD}
 use Rattle.staircase.specs.Lists.{tabulate}
 use Rattle.staircase.specs.Design.{Params, Interleavers, params}
-use Rattle.staircase.specs.Frame.{Frame, frameOf, groups, outside}
+use Rattle.staircase.specs.Frame.{Frame, frameOf}
 use Rattle.staircase.specs.System.{redundancy}
-use Rattle.staircase.specs.Decoder.{Decoded, decoded}
-use Rattle.staircase.specs.Rules.{Verdict, _then_, designRules, countRule, roundsRule, lengthRule, kitLengths, frameLengths, kitWork, interleavers, contentRules}
-use Rattle.staircase.specs.Calls.{Corrected, correctedBy}
+use Rattle.staircase.specs.Decoder.{decoded}
+use Rattle.staircase.specs.Rules.{Verdict, _then_, designRules, countRule, roundsRule, lengthRule, kitLengths, frameLengths, kitWork, keptWork, interleavers, contentRules}
+use Rattle.staircase.specs.Calls.{countsOf, Corrected, correctedBy}
 
 -- "with any of their bits turned": byte k of the pattern turns bit k unless it is 0; what the pattern is too short to name stays
 unfoldable pub turned : List ℕ → List ℕ → List ℕ
@@ -25,9 +25,9 @@ turned errors b = tabulate (length b) (λ k. cond (eqb (getD errors k 0) 0) (get
 unfoldable pub numberRules : ℕ → ℕ → ℕ → ℕ → ℕ → Verdict
 numberRules m t M L k = designRules m t M then countRule L then roundsRule k
 
--- the encoder's, and four bytes for each of the 2 M words of each group, which the decoder has
+-- the encoder's, and what the decoder keeps
 unfoldable pub loopbackWork : Params → ℕ → ℕ
-loopbackWork s L = kitWork s + 8 * (groups L * s .M)
+loopbackWork s L = kitWork s + keptWork s L
 
 -- "Checks run in rising order": the decoder's rule 5 among those of the encoder, and before anything is written
 unfoldable pub loopbackVerdict : ℕ → ℕ → ℕ → ℕ → ℕ → List ℕ → List ℕ → List ℕ → List ℕ → List ℕ → ℕ → Verdict
@@ -43,5 +43,4 @@ loopbackCall m t M L k self parity w infoErrors redErrors info red work =
     let s : Params = params m t M in
     let l : Interleavers = interleavers s self parity in
     let received : Frame = frameOf (turned infoErrors info) (turned redErrors (redundancy s l w L info)) in
-    let d : Decoded = decoded s l L k received in
-    correctedBy (loopbackVerdict m t M L k self parity w info red work) (frameOf info red) d (outside s l L (d .frame))
+    correctedBy (loopbackVerdict m t M L k self parity w info red work) (frameOf info red) (decoded s l L k received .frame) (countsOf s l L k received)

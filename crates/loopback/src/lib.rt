@@ -6,18 +6,20 @@
 // (`loopback-restores` in proofs/Restores.antt): where the patterns leave no word with more than t wrong bits, the frame comes back.
 ghost use mathlib.Core.Path.{_≡_};
 ghost use mathlib.Core.Bool.{cond};
-ghost use Prim.Native.Nat.{_-_, _*_, _≤_};
+ghost use Prim.Native.Nat.{_-_, _≤_};
 ghost use lib.Dec.{eqb};
 ghost use lib.ListN.{length, getD};
-ghost use Rattle.staircase.specs.Design.{most-M, most-blocks};
-ghost use Rattle.staircase.specs.Frame.{frameOf, groups};
-ghost use Rattle.staircase.specs.Calls.{encodeCall, decodeCall};
+ghost use Rattle.staircase.specs.Design.{params, most-blocks};
+ghost use Rattle.staircase.specs.Frame.{frameOf};
+ghost use Rattle.staircase.specs.Rules.{designRules, keptWork};
+ghost use Rattle.staircase.specs.Rules.Verdict.{accepted};
 ghost use Rattle.decoder.specs.Answers.{correctedOf};
 ghost use Rattle.design.specs.Answers.{verdictOf};
 ghost use Rattle.loopback.specs.Link.{turned, numberRules, loopbackCall};
 use decoder::Decoding;
 use design::Check;
 use design::Design;
+use design::Designed;
 
 // Byte k of a pattern, 0 past its end.
 fn error_at(errors: &[u8], k: usize) -> u8
@@ -67,12 +69,16 @@ fn check_numbers(m: u64, t: u64, size: u64, blocks: u64, rounds: u64) -> Check
     design::check_rounds(rounds)
 }
 
-// The working bytes of the decoder's numbers: four for each word of a frame.
-fn number_bytes(size: u64, blocks: u64) -> usize
-    requires { ⌜ (size ≤ most-M) × (blocks ≤ most-blocks) ⌝ }
-    ensures { λ a. ⌜ (a ≡ 8 * (groups blocks * size)) × (a ≤ 16384000) ⌝ }
+// The working bytes of what the decoder keeps: four for each word of a frame, and one for each bit.
+fn kept_bytes(m: u64, t: u64, size: u64, blocks: u64) -> usize
+    requires { ⌜ (designRules m t size ≡ accepted) × (blocks ≤ most-blocks) ⌝ }
+    ensures { λ a. ⌜ (a ≡ keptWork (params m t size) blocks) × (a ≤ 1100000000) ⌝ }
 {
-    (8 * (design::group_count(blocks) * size)) as usize
+    let designed = Design::new(m, t, size);
+    let Designed::Made(d) = designed else {
+        return 0;
+    };
+    rules::kept_work(d, blocks)
 }
 
 // How many bytes come before the last `more` of `all`; none where there are not so many.
@@ -85,76 +91,10 @@ fn bytes_before(all: usize, more: usize) -> usize
     all - more
 }
 
-// The encoder's call with the first n of the lent working bytes.
-fn encode_front(
-    m: u64,
-    t: u64,
-    size: u64,
-    blocks: u64,
-    own: &[u8],
-    parity: &[u8],
-    inverse: &[u8],
-    info: &[u8],
-    red: &mut [u8],
-    work: &mut [u8],
-    n: usize,
-) -> Check
-    requires { ⌜ n ≤ length (now work) ⌝ }
-    ensures { λ a. ⌜ (verdictOf a ≡ (encodeCall m t size blocks (now (own .entry)) (now (parity .entry)) (now (inverse .entry)) (now (info .entry))
-        (now (red .entry)) n) .verdict)
-        × (now (red .exit) ≡ (encodeCall m t size blocks (now (own .entry)) (now (parity .entry)) (now (inverse .entry)) (now (info .entry))
-        (now (red .entry)) n) .red) ⌝ }
-{
-    encoder::encode(
-        m,
-        t,
-        size,
-        blocks,
-        own,
-        parity,
-        inverse,
-        info,
-        red,
-        &mut work[..n],
-    )
-}
-
-// The decoder's call with the first n of the lent working bytes.
-fn decode_front(
-    m: u64,
-    t: u64,
-    size: u64,
-    blocks: u64,
-    rounds: u64,
-    own: &[u8],
-    parity: &[u8],
-    info: &mut [u8],
-    red: &mut [u8],
-    work: &mut [u8],
-    n: usize,
-) -> Decoding
-    requires { ⌜ n ≤ length (now work) ⌝ }
-    ensures { λ a. ⌜ correctedOf a (frameOf (now (info .exit)) (now (red .exit)))
-        ≡ decodeCall m t size blocks rounds (now (own .entry)) (now (parity .entry)) (now (info .entry)) (now (red .entry)) n ⌝ }
-{
-    decoder::decode(
-        m,
-        t,
-        size,
-        blocks,
-        rounds,
-        own,
-        parity,
-        info,
-        red,
-        &mut work[..n],
-    )
-}
-
 // Encodes the lent information, turns the bits of the frame that the two patterns name, and decodes it in at most `rounds` rounds, 0 standing for
 // 7. Byte k of a pattern that is not 0 turns bit k of its buffer; a pattern may have any length. The answer is the decoder's: its counts, or the
-// first of rules 1 to 10 that refuses; a refused call leaves both buffers as they were. The working bytes are as many as the inverse's and four for each
-// word. The work is that of the two calls.
+// first of rules 1 to 10 that refuses; a refused call leaves both buffers as they were. The working bytes are as many as the inverse's, and four for each
+// word and one for each bit of the frame: the encoder is lent all but these. The work is that of the two calls.
 pub fn loopback(
     m: u64,
     t: u64,
@@ -178,9 +118,9 @@ pub fn loopback(
     let Check::Passed = numbers else {
         return decoder::refused_frame(numbers);
     };
-    let more = number_bytes(size, blocks);
-    let spare = bytes_before(work.len(), more);
-    let encoded = encode_front(
+    let kept = kept_bytes(m, t, size, blocks);
+    let front = bytes_before(work.len(), kept);
+    let encoded = encoder::encode(
         m,
         t,
         size,
@@ -190,14 +130,24 @@ pub fn loopback(
         inverse,
         &info[..],
         red,
-        work,
-        spare,
+        &mut work[0..front],
     );
     let Check::Passed = encoded else {
         return decoder::refused_frame(encoded);
     };
     turn_bits(info_errors, info);
     turn_bits(red_errors, red);
-    let n = own.len() / 2 + more;
-    decode_front(m, t, size, blocks, rounds, own, parity, info, red, work, n)
+    let n = own.len() / 2 + kept;
+    decoder::decode(
+        m,
+        t,
+        size,
+        blocks,
+        rounds,
+        own,
+        parity,
+        info,
+        red,
+        &mut work[0..n],
+    )
 }

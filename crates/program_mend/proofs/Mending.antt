@@ -16,7 +16,7 @@ use lib.ListN.{length, length-append}
 use lib.Seq.{sets, length-sets}
 use Rattle.staircase.specs.Design.{most-blocks}
 use Rattle.staircase.specs.Frame.{Frame, frameOf, groups}
-use Rattle.staircase.specs.Rules.{wordWork, decoderWork}
+use Rattle.staircase.specs.Rules.{wordWork, keptWork, decoderWork}
 use Rattle.staircase.specs.Rules.Verdict.{accepted, refused}
 use Rattle.staircase.specs.Calls.{Corrected, decodeCall}
 use Rattle.design.specs.declared.Design.{Design}
@@ -28,7 +28,7 @@ use Rattle.rules_verdict.specs.Number.{judgedOf}
 use Rattle.decoder.specs.declared.Counts.{Counts}
 use Rattle.decoder.specs.declared.Decoding.{Decoding}
 use Rattle.decoder.specs.declared.Decoding.the-variants as decoding
-use Rattle.decoder.specs.Answers.{correctedOf}
+use Rattle.decoder.specs.Answers.{refusedFrame, correctedOf}
 use Rattle.text.specs.FrameText.{blockText, groupText}
 use Rattle.text.specs.Programs.{refusalText, countsText, most-input, printed, mendCall, mendText, mendOutput}
 use Rattle.text_lines.proofs.Decimal.{dec-short}
@@ -68,8 +68,8 @@ short d L kit text B =
 pub red-room : (d : Design) (L : ℕ) (kit text : List ℕ) → Scanned true d L kit text → (s : Sizes) → SizesAre s d L → s .red ≤ most-input
 red-room d L kit text B s z = omega (arith, z .red-is, short d L kit text B)
 
-pub work-room : (d : Design) (L : ℕ) (kit text : List ℕ) → Scanned true d L kit text → decoderWork (paramsOf d) L ≤ 32949
-unfolding decoderWork wordWork
+pub work-room : (d : Design) (L : ℕ) (kit text : List ℕ) → Scanned true d L kit text → decoderWork (paramsOf d) L ≤ 65717
+unfolding decoderWork wordWork keptWork
 work-room d L kit text B =
     let A = B .started .allowed in
     let r : 4 * 1 ≤ d .m * d .t = mul-le-mul (A .m-low) (A .t-low) in
@@ -120,20 +120,20 @@ module _ (d : Design) (L : ℕ) (info red : List ℕ) (F : FrameSized d L (lengt
     pub lines-printed : (area i j r : ℕ) (o o₁ o₂ o₃ : List ℕ) (c : Counts) → area ≡ d .size * d .size → most-output ≤ length o
         → i ≡ 0 + length (blockText area L info) → o₁ ≡ sets o 0 (blockText area L info)
         → j ≡ i + length (groupText n G red) → o₂ ≡ sets o₁ i (groupText n G red)
-        → r ≡ after o₂ j (countsText (c .rounds) (c .flips) (c .outside)) → o₃ ≡ puts o₂ j (countsText (c .rounds) (c .flips) (c .outside))
+        → r ≡ after o₂ j (countsText (c .rounds) (c .turned) (c .outside)) → o₃ ≡ puts o₂ j (countsText (c .rounds) (c .turned) (c .outside))
         → Printed (mendText (d .size) (orderOf d) L (correctedOf (decoding.Decoded c) (frameOf info red))) r o o₃
     unfolding mendText correctedOf
     lines-printed area i j r o o₁ o₂ o₃ c ea h ei e₁ ej e₂ er e₃ =
         let B : List ℕ = blockText area L info in
         let T : List ℕ = groupText n G red in
-        let C : List ℕ = countsText (c .rounds) (c .flips) (c .outside) in
+        let C : List ℕ = countsText (c .rounds) (c .turned) (c .outside) in
         let lb = blocks-long area ea in
         let lg = groups-long in
-        let lc = counts-length (c .rounds) (c .flips) (c .outside) in
+        let lc = counts-length (c .rounds) (c .turned) (c .outside) in
         let m : length o₂ ≡ length o =
         ap length e₂ ∙ length-sets o₁ i T ∙ ap length e₁ ∙ length-sets o 0 B
         in
-        let room : j + length C ≤ length o₂ = omega (arith, dec-short (c .rounds), dec-short (c .flips), dec-short (c .outside)) in
+        let room : j + length C ≤ length o₂ = omega (arith, dec-short (c .rounds), dec-short (c .turned), dec-short (c .outside)) in
         let whole : o₃ ≡ sets o 0 (B ++ (T ++ C)) =
         e₃ ∙ puts-room o₂ j C room ∙ ap (λ (k : ℕ). sets o₂ k C) ej ∙ ap (λ (l : List ℕ). sets l (i + length T) C) e₂
         ∙ sym (sets-append T C o₁ i) ∙ ap (λ (k : ℕ). sets o₁ k (T ++ C)) ei ∙ ap (λ (l : List ℕ). sets l (0 + length B) (T ++ C)) e₁
@@ -158,7 +158,7 @@ module _ (d : Design) (L : ℕ) (f : Frame) (x : Decoding) (o new : List ℕ) (n
   pub refused-prints : (r : Refusal) (j : Judged) → x ≡ decoding.Refused r → j ≡ judgedOf (refusalVerdict r)
       → Printed (refusalText (j .rule) (j .place)) n o new
       → Printed (printed (correctedOf x f .verdict) (mendText (d .size) (orderOf d) L (correctedOf x f))) n o new
-  unfolding correctedOf
+  unfolding correctedOf refusedFrame
   refused-prints r j e g p = rw e (printed-refused r j _ o new n g p)
 
 -- ---- the call

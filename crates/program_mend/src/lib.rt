@@ -15,13 +15,13 @@ use decoder::Decoding;
 use design::Design;
 use program::Start;
 
-// The decoder's working bytes. Only their room is told: a kit text of at most 32,768 bytes has at most 181 rows, and a frame text of as many at most
-// 32,768 bits of redundancy, of which a word has 2 r, and so 8 at least.
-fn working_bytes(n: usize) -> [u8; 32949]
-    requires { ⌜ n ≤ 32949 ⌝ }
+// The decoder's working bytes. Only their room is told: a kit text of at most 32,768 bytes has at most 181 rows, and a frame text of as many shows at most
+// 32,768 bits, all of which are copied; a word has 2 r of those of redundancy, and so 8 at least, and four working bytes.
+fn working_bytes(n: usize) -> [u8; 65717]
+    requires { ⌜ n ≤ 65717 ⌝ }
     ensures { λ a. ⌜ RoomFor n a ⌝ }
 {
-    [0; 32949]
+    [0; 65717]
 }
 
 // Writes both texts of a corrected frame and the three counts.
@@ -41,7 +41,7 @@ fn put_corrected(
     let groups = design::group_count(blocks);
     let i = text_lines::put_blocks(out, 0, d.area(), blocks as usize, info);
     let j = text_lines::put_groups(out, i, d.order(), groups as usize, red);
-    text_write::count_lines(out, j, counts.rounds, counts.flips, counts.outside)
+    text_write::count_lines(out, j, counts.rounds, counts.turned, counts.outside)
 }
 
 // Writes the frame that the decoder corrected, or its refusal.

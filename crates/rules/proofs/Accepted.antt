@@ -3,6 +3,7 @@
 --   frame-accepted     rules 4 and 5, and the same
 --   batch-accepted     rules 4 and 17, and the same
 --   frame-small        the lengths of a frame are small
+--   kept-small         and what the decoder keeps of it
 --   received, received-work   what the rules leave of a received frame
 --   decoder-received, decoder-work, decoder-rounds   and of one that is to be decoded
 -- Assumes nothing.
@@ -14,7 +15,7 @@ use lib.Dec.{ltb}
 use borrow.Author.Tests.{ltb-false}
 use Rattle.staircase.specs.Design.{Params, most-blocks, most-rounds}
 use Rattle.staircase.specs.Frame.{groups}
-use Rattle.staircase.specs.Rules.{Verdict, _then_, countRule, roundsRule, lengthRule, infoLength, redLength, listRule, spareRule, frameBits, interleavers, wordWork, decoderWork}
+use Rattle.staircase.specs.Rules.{Verdict, _then_, countRule, roundsRule, lengthRule, infoLength, redLength, listRule, spareRule, frameBits, interleavers, wordWork, keptWork, decoderWork}
 use Rattle.staircase.specs.Rules.Verdict.{accepted}
 use Rattle.staircase.specs.Batch.{most-frames, batchRule}
 use Rattle.staircase.proofs.Bounds.{small-product}
@@ -81,6 +82,14 @@ frame-small d L info red a h e f =
     let y = small-product (groups L) (2 * orderOf d) 4096 8192 (omega arith) (omega (arith, a .order-high)) in
     omega (arith, e, f, x, y)
 
+pub kept-small : (d : Design) (L : ℕ) → Allowed d → L ≤ most-blocks
+    → (8 * (groups L * d .size) ≤ 16384000) × (8 * (groups L * d .size) + (infoLength (paramsOf d) L + redLength (paramsOf d) L) ≤ 1100000000)
+kept-small d L a h =
+    let x = small-product L (d .size * d .size) 4096 250000 h (small-product (d .size) (d .size) 500 500 (a .M-high) (a .M-high)) in
+    let y = small-product (groups L) (2 * orderOf d) 4096 8192 (omega arith) (omega (arith, a .order-high)) in
+    let z = small-product (groups L) (d .size) 4096 500 (omega arith) (a .M-high) in
+    (omega (arith, z), omega (arith, x, y, z))
+
 module _ (d : Design) (L k : ℕ) (own parity info red : List ℕ) (work due : ℕ) (allowed : Allowed d)
     (e : (frameRules (paramsOf d) L k (lengthsOf own parity [] info red work) (listsWith (paramsOf d) due) then byteRules (paramsOf d) (interleavers (paramsOf d) own parity) [] info red) ≡ accepted) where
   abbrev s : Params
@@ -133,7 +142,7 @@ module _ (d : Design) (L k : ℕ) (own parity info red : List ℕ) (work : ℕ) 
   unfolding decoderDue
   decoder-received = received-by d L k own parity info red work (decoderWork (paramsOf d) L) allowed e
 
-  pub decoder-work : work ≡ orderOf d + 8 * (groups L * d .size)
+  pub decoder-work : work ≡ orderOf d + keptWork (paramsOf d) L
   unfolding decoderDue decoderWork wordWork
   decoder-work = work-by d L k own parity info red work (decoderWork (paramsOf d) L) allowed e
 

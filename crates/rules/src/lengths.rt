@@ -3,6 +3,7 @@
 //   check_length(place, have, due)      rule 6 for one slice
 //   check_lengths(have, due)            for all six
 //   kit_due, make_due, lists_due, frame_due, batch_due   the lengths that are due of a kit, of one that is made, of its lists, of a frame, of several
+//   kept_work                           the working bytes of what the decoder keeps of a frame
 //   decoder_due                         of the lists, and of the working bytes of the decoder
 //   check_list_lengths, check_kit_lengths, check_frame_lengths   rule 6 for some of the slices
 //   check_frame                         rules 4 to 6
@@ -12,7 +13,7 @@
 ghost use mathlib.Core.Path.{_≡_};
 ghost use Prim.Native.Nat.{_≤_};
 ghost use Rattle.staircase.specs.Design.{most-blocks};
-ghost use Rattle.staircase.specs.Rules.{_then_, lengthRule, listLengths, kitLengths, frameLengths};
+ghost use Rattle.staircase.specs.Rules.{_then_, lengthRule, listLengths, kitLengths, frameLengths, keptWork};
 ghost use Rattle.staircase.specs.Batch.{most-frames};
 ghost use Rattle.design.specs.Sizes.{paramsOf};
 ghost use Rattle.design.specs.Answers.{verdictOf, Allowed};
@@ -225,21 +226,30 @@ fn blocks_allowed(blocks: u64) -> u64
     blocks
 }
 
+// The working bytes of what the decoder keeps of a frame of `blocks` blocks: four for each word, and one for each bit.
+pub fn kept_work(d: Design, blocks: u64) -> usize
+    requires { ⌜ Allowed d × (blocks ≤ most-blocks) ⌝ }
+    ensures { λ a. ⌜ (a ≡ keptWork (paramsOf d) blocks) × (a ≤ 1100000000) ⌝ }
+{
+    let bits = frame_due(d, blocks, lists_due(d));
+    let count = design::group_count(blocks) as usize;
+    8 * (count * d.size()) + (bits.info + bits.red)
+}
+
 // Of the lists of a kit, and of the working bytes of the decoder for a frame of `blocks` blocks, where rule 4 accepts them.
 pub fn decoder_due(d: Design, blocks: u64) -> Lengths
     requires { ⌜ Allowed d ⌝ }
     ensures { λ a. ⌜ (blocks ≤ most-blocks → a ≡ decoderDue (paramsOf d) blocks) ⌝ }
 {
     let n = d.order();
-    let count = design::group_count(blocks_allowed(blocks)) as usize;
-    let numbers = 8 * (count * d.size());
+    let kept = kept_work(d, blocks_allowed(blocks));
     Lengths {
         own: 2 * n,
         parity: 2 * n,
         inverse: 0,
         info: 0,
         red: 0,
-        work: n + numbers,
+        work: n + kept,
     }
 }
 

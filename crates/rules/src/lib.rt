@@ -37,6 +37,7 @@ pub use lengths::check_list_lengths;
 pub use lengths::decoder_due;
 pub use lengths::first;
 pub use lengths::frame_due;
+pub use lengths::kept_work;
 pub use lengths::kit_due;
 pub use lengths::lists_due;
 pub use lengths::make_due;

@@ -1,6 +1,6 @@
 // Verdicts as numbers, and numbers stored into the slice that a host lends for its answer.
 //   of_refusal, of_check               a verdict's rule and place
-//   tell_place, tell_two, tell_four    store a place and what else a call tells
+//   tell_place, tell_two, tell_four, tell_five   store a place and what else a call tells
 //
 // A slice of another length is left as it was. Each of the three answers the rule's number.
 ghost use mathlib.Core.Path.{_≡_};
@@ -33,6 +33,7 @@ pub fn of_refusal(r: Refusal) -> Judged
         Refusal::Bit(p) => Judged { rule: 10, place: p },
         Refusal::Singular(p) => Judged { rule: 14, place: p },
         Refusal::Narrow(p) => Judged { rule: 15, place: p },
+        Refusal::Full(p) => Judged { rule: 16, place: p },
         Refusal::Batch(p) => Judged { rule: 17, place: p },
     }
 }
@@ -81,5 +82,20 @@ pub fn tell_four(j: Judged, x: u64, y: u64, z: u64, answer: &mut [u64]) -> u64
     answer[1] = x;
     answer[2] = y;
     answer[3] = z;
+    j.rule
+}
+
+// Stores the place and four numbers into a slice of five entries.
+pub fn tell_five(j: Judged, w: u64, x: u64, y: u64, z: u64, answer: &mut [u64]) -> u64
+    ensures { λ a. ⌜ (a ≡ j .rule) × (now (answer .exit) ≡ told (j .place ∷ w ∷ x ∷ y ∷ z ∷ []) (now (answer .entry))) ⌝ }
+{
+    if answer.len() != 5 {
+        return j.rule;
+    }
+    answer[0] = j.place;
+    answer[1] = w;
+    answer[2] = x;
+    answer[3] = y;
+    answer[4] = z;
     j.rule
 }

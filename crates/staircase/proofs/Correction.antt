@@ -8,10 +8,11 @@
 --   Nearer f a b          b has the frame's bit or a's bit at each site
 --   correct-word          a corrected word is the sent word
 --   correctEach-restore   after a pass over some words these are the sent ones, and nothing has moved away from the frame
+--   roundOf-near          after a round no word has more than t wrong bits
 --   roundOf-restores, runEach-restore, outsideEach-none   any number of rounds but none leaves the frame, with no word outside
 -- Assumes nothing.
-use mathlib.Core.Path.{_≡_, refl, sym, ap, ap₂, _∙_, subst}
-use mathlib.Core.Bool.{Bool, true, cond}
+use mathlib.Core.Path.{_≡_, refl, sym, ap, _∙_, subst}
+use mathlib.Core.Bool.{true}
 use mathlib.Core.Logic.{_≢_, _⊎_, inl, inr}
 use mathlib.Core.List.{List, [], _∷_, map}
 use Prim.Native.Nat.{ℕ, zero, suc, _+_, _-_, _*_, _≤_, _<_, zero-le}
@@ -32,6 +33,7 @@ use Rattle.staircase.proofs.Search.{cond-ind}
 use Rattle.staircase.proofs.Member.{In, in?}
 use Rattle.staircase.proofs.Flip.{Sent, Within, Received, flipAll-received, flipAll-other, error-within, read-same, same-read, read-bits, read-length, site?}
 use Rattle.staircase.proofs.Occurrences.{permitted-all, once-in, in-once, once-single, flipAll-here, differing, sites-differing, differing-in, in-differing, occurrences-differing}
+use Rattle.staircase.proofs.Outside.{outsideEach-inside}
 use Rattle.staircase.proofs.Errors.{flipBits-length, flipBits-bits, flipBits-distance, Positions, errors, errors-positions, errors-flipped, errorPositions-found, flips-once}
 
 -- The code's distance: words of n bits in the code that differ in at most 2t places are equal.
@@ -73,7 +75,7 @@ Covers f ws =
     × ((k : ℕ) → k < length (f .red) → (w : Word) × In w ws × In (inRed k) (w .sites))
 
 -- b has the frame's bit or a's bit at each site
-abbrev Nearer : Frame → Frame → Frame → Type 0
+abbrev pub Nearer : Frame → Frame → Frame → Type 0
 Nearer f a b = (y : Site) → (bitAt b y ≡ bitAt f y) ⊎ (bitAt b y ≡ bitAt a y)
 
 nearer-trans : (f a b c : Frame) → Nearer f a b → Nearer f b c → Nearer f a c
@@ -84,7 +86,7 @@ nearer-trans f a b c p q y = go (p y) (q y)
     go (inl d) (inr e) = inl (e ∙ d)
     go (inr d) (inr e) = inr (e ∙ d)
 
-nearer-distance : (f a b : Frame) → Nearer f a b → (w : List Site) → distance (read f w) (read b w) ≤ distance (read f w) (read a w)
+pub nearer-distance : (f a b : Frame) → Nearer f a b → (w : List Site) → distance (read f w) (read b w) ≤ distance (read f w) (read a w)
 unfolding distance
 nearer-distance f a b p [] = zero-le
 nearer-distance f a b p (x ∷ w) = go (p x) (nearer-distance f a b p w)
@@ -149,7 +151,7 @@ module _ (f : Frame) (ff : Received f f) where
         ∙ permitted-all w (differing a f w) (λ y i. sent-site y (wrong-within y (differing-in a f w y i .1)))
         (λ y i. occurrences-differing a f w y (differing-in a f w y i .1))
 
-    correct-word : read (flipAll (correction (v .code) a (v .sites)) a) (v .sites) ≡ read f (v .sites)
+    pub correct-word : read (flipAll (correction (v .code) a (v .sites)) a) (v .sites) ≡ read f (v .sites)
     correct-word =
         ap (λ (c : List Site). read (flipAll c a) w) correction-sites
         ∙ read-same w (flipAll (once (differing a f w)) a) f (λ y i. go y i (ℕ-discrete (bitAt a y) (bitAt f y)))
@@ -160,7 +162,7 @@ module _ (f : Frame) (ff : Received f f) where
             flipAll-here (once (differing a f w)) (once-single (differing a f w)) f a g y (wrong-within y d) (in-once (differing a f w) y (in-differing a f w y i d))
             ∙ (let p = g .binary y in let q = ff .binary y in omega (arith, p, q, d))
 
-    correct-nearer : Nearer f a (flipAll (correction (v .code) a (v .sites)) a)
+    pub correct-nearer : Nearer f a (flipAll (correction (v .code) a (v .sites)) a)
     correct-nearer y = go (in? site? y (correction s a w))
       where
         among : In y (correction s a w) → In y w
@@ -192,6 +194,14 @@ module _ (f : Frame) (ff : Received f f) where
           → (w : Word) → In w (v ∷ ws) → read z (w .sites) ≡ read f (w .sites)
       each b z own near rest w (inl e) = subst (λ (u : Word). read z (u .sites) ≡ read f (u .sites)) (sym e) (nearer-same f b z near (v .sites) own)
       each b z own near rest w (inr i) = rest w i
+
+  -- after a round no word has more than t wrong bits either
+  pub roundOf-near : (ws : List Word) → ((w : Word) → In w ws → Sound f w) → (a : Frame) → Received f a → ((w : Word) → In w ws → FewWrong f a w)
+      → Received f (roundOf ws a .frame) × ((w : Word) → In w ws → FewWrong f (roundOf ws a .frame) w)
+  unfolding roundOf
+  roundOf-near ws ok a g few =
+      let p = correctEach-restore ws ok (record { frame = a; flips = 0 }) g few in
+      (p .0, λ w i. le-trans (nearer-distance f a (correctEach (record { frame = a; flips = 0 }) ws .frame) (p .1) (w .sites)) (few w i))
 
   module _ (ws : List Word) (ok : (w : Word) → In w ws → Sound f w) (all : Covers f ws) where
     roundOf-restores : (a : Frame) → Received f a → ((w : Word) → In w ws → FewWrong f a w) → roundOf ws a .frame ≡ f
@@ -226,7 +236,4 @@ module _ (f : Frame) (ff : Received f f) where
         cond-ind (λ (d : Decoded). d .frame ≡ f) (eqb (roundOf ws a .flips) 0) _ _ (λ q. one) (λ q. runEach-keep k (roundOf ws a .frame) one)
 
   pub outsideEach-none : (ws : List Word) → ((w : Word) → In w ws → Sound f w) → outsideEach f ws ≡ 0
-  unfolding outsideEach
-  outsideEach-none [] ok = refl
-  outsideEach-none (w ∷ ws) ok =
-      ap₂ (λ (x y : ℕ). x + y) (ap (λ (z : Bool). cond z 0 1) (ok w (inl refl) .coded)) (outsideEach-none ws (λ v i. ok v (inr i)))
+  outsideEach-none ws ok = outsideEach-inside f ws (λ w i. ok w i .coded)

@@ -1,29 +1,82 @@
--- A decoder's call that is accepted.
+-- What the decoder counts, and a call of it that is accepted.
 --   correctedBy-verdict          a call's verdict is that of its rules
+--   roundsAllowed-some           a round at least is allowed
+--   countsOf-stays               of a frame whose words are all in the code: one idle round
+--   countsOf-idle, countsOf-early   where the last round made flips nothing, or fewer are made than allowed, stuck words are words outside
 --   Decodes, decode-accepted     what the rules ask for
 --   decode-left, decode-received what it leaves: the frame that the rounds make, as long as the copy and of bits
 --   decode-again                 where no word is left outside, a second call makes one idle round
+--   idle-stuck, early-stuck      countsOf-idle and countsOf-early of every call
 -- Assumes nothing.
-use mathlib.Core.Path.{_≡_, refl, ap, _∙_}
+use mathlib.Core.Path.{_≡_, refl, ap, subst⁻¹, _∙_}
+use mathlib.Core.Bool.{true}
 use mathlib.Core.List.{List}
-use Prim.Native.Nat.{ℕ}
+use Prim.Native.Nat.{ℕ, zero, suc, _-_, _<_}
 use lib.ListN.{length}
 use Rattle.staircase.specs.Design.{Params, Interleavers, params}
-use Rattle.staircase.specs.Frame.{Frame, frameOf, words, outside, outsideAmong}
+use Rattle.staircase.specs.Frame.{Frame, Site, Word, plain, frameOf, words, inCode, outsideEach, outsideAmong, outside}
 use Rattle.staircase.specs.Frame.Site.{inInfo, inRed}
-use Rattle.staircase.specs.Decoder.{Decoded, decoded, roundsAllowed}
+use Rattle.staircase.specs.Decoder.{Progress, roundOf, Decoded, runEach, runRounds, default-rounds, roundsAllowed, decoded}
+use Rattle.staircase.specs.LineErrors.{lineErrors}
+use Rattle.staircase.specs.Outcomes.{beforeLast, lastStuck}
 use Rattle.staircase.specs.Rules.{Verdict, _then_, designRules, countRule, roundsRule, lengthRule, listLengths, infoLength, redLength, frameLengths, decoderWork, interleavers, listRule, frameBits}
 use Rattle.staircase.specs.Rules.Verdict.{accepted, refused}
-use Rattle.staircase.specs.Calls.{correctedBy, decodeVerdict, decodeCall}
+use Rattle.staircase.specs.Calls.{Counts, countsOf, correctedBy, decodeVerdict, decodeCall}
 use Rattle.staircase.proofs.Rules.{then-first, then-rest, then-accepted, length-accepted, frame-lengths, bits-accepted, frame-bits}
 use Rattle.staircase.proofs.Flip.{Received, bitAt-bits}
-use Rattle.staircase.proofs.Rounds.{runRounds-received}
-use Rattle.staircase.proofs.Outside.{all-inside}
-use Rattle.staircase.proofs.Idle.{decoded-stays}
+use Rattle.staircase.proofs.Member.{In}
+use Rattle.staircase.proofs.Rounds.{plain-each, runRounds-received}
+use Rattle.staircase.proofs.Outside.{all-inside, outsideEach-inside}
+use Rattle.staircase.proofs.Idle.{roundOf-stays, decoded-stays}
+use Rattle.staircase.proofs.LineErrors.{lineErrors-same}
+use Rattle.staircase.proofs.Outcomes.{stuckEach-idle, lastStuck-idle, lastStuck-outside, runEach-early}
 
-pub correctedBy-verdict : (v : Verdict) (f : Frame) (d : Decoded) (o : ℕ) → (correctedBy v f d o) .verdict ≡ v
-correctedBy-verdict accepted f d o = refl
-correctedBy-verdict (refused n p) f d o = refl
+pub correctedBy-verdict : (v : Verdict) (old new : Frame) (c : Counts) → correctedBy v old new c .verdict ≡ v
+correctedBy-verdict accepted old new c = refl
+correctedBy-verdict (refused n p) old new c = refl
+
+-- ---- what is counted
+
+-- some number of rounds is allowed
+pub roundsAllowed-some : (k : ℕ) → (j : ℕ) × (roundsAllowed k ≡ suc j)
+roundsAllowed-some zero = (default-rounds - 1, refl)
+roundsAllowed-some (suc k) = (k, refl)
+
+module _ (s : Params) (l : Interleavers) (L k : ℕ) (f : Frame) where
+  abbrev ws : List Word
+  ws = plain s (words s l L)
+
+  pub countsOf-stays : ((w : List Site) → In w (words s l L) → inCode s f w ≡ true) → countsOf s l L k f ≡ record { rounds = 1; turned = 0; outside = 0; stuck = 0 }
+  unfolding countsOf outside outsideAmong
+  countsOf-stays h =
+      let each : (w : Word) → In w ws → inCode (w .code) f (w .sites) ≡ true = plain-each s (λ (w : Word). inCode (w .code) f (w .sites) ≡ true) (words s l L) h in
+      let (j, some) = roundsAllowed-some k in
+      let ed : decoded s l L k f ≡ record { frame = f; rounds = 1; flips = 0 } = decoded-stays s f l L k h in
+      let none : outsideEach f ws ≡ 0 = outsideEach-inside f ws each in
+      let idle : roundOf ws f .flips ≡ 0 = ap (λ (x : Progress). x .flips) (roundOf-stays f ws each) in
+      let eo : outsideEach (decoded s l L k f .frame) ws ≡ 0 = ap (λ (d : Decoded). outsideEach (d .frame) ws) ed ∙ none in
+      let es : lastStuck ws (roundsAllowed k) f ≡ 0 =
+      ap (λ (n : ℕ). lastStuck ws n f) some ∙ lastStuck-idle ws j f idle ∙ stuckEach-idle ws f idle .0 ∙ none in
+      let et : lineErrors f (decoded s l L k f .frame) ≡ 0 = ap (λ (d : Decoded). lineErrors f (d .frame)) ed ∙ lineErrors-same f in
+      λ i. record { rounds = ed i .rounds; turned = et i; outside = eo i; stuck = es i }
+
+  -- where the last round made flips nothing, the stuck words are those outside at the end
+  pub countsOf-idle : roundOf (plain s (words s l L)) (beforeLast (plain s (words s l L)) (roundsAllowed k) f) .flips ≡ 0
+      → countsOf s l L k f .stuck ≡ countsOf s l L k f .outside
+  unfolding countsOf decoded runRounds outside outsideAmong
+  countsOf-idle =
+      let (j, some) = roundsAllowed-some k in
+      subst⁻¹ (λ (n : ℕ). roundOf ws (beforeLast ws n f) .flips ≡ 0 → lastStuck ws n f ≡ outsideEach (runEach ws n f .frame) ws) some (lastStuck-outside ws j f)
+
+  -- and so it is where fewer rounds are made than allowed
+  pub countsOf-early : countsOf s l L k f .rounds < roundsAllowed k → countsOf s l L k f .stuck ≡ countsOf s l L k f .outside
+  unfolding countsOf decoded runRounds
+  countsOf-early h =
+      let (j, some) = roundsAllowed-some k in
+      countsOf-idle
+      (subst⁻¹ (λ (n : ℕ). runEach ws n f .rounds < n → roundOf ws (beforeLast ws n f) .flips ≡ 0) some (runEach-early ws j f) h)
+
+-- ---- the call
 
 pub record Decodes (m t M L k : ℕ) (self parity info red : List ℕ) : Type 0 where
   pub design : designRules m t M ≡ accepted
@@ -83,11 +136,13 @@ module _ (m t M L k : ℕ) (self parity info red : List ℕ) (ok : decodeVerdict
       (record { infoLength = refl; redLength = refl; binary = bitAt-bits (frameOf info red) (b .0) (b .1) })
 
   pub decode-left : decodeCall m t M L k self parity info red (decoderWork (params m t M) L)
-      ≡ correctedBy accepted (frameOf info red) (decoded (params m t M) (interleavers (params m t M) self parity) L k (frameOf info red))
-      (outside (params m t M) (interleavers (params m t M) self parity) L
-      (decoded (params m t M) (interleavers (params m t M) self parity) L k (frameOf info red) .frame))
+      ≡ record {
+        verdict = accepted;
+        frame = decoded (params m t M) (interleavers (params m t M) self parity) L k (frameOf info red) .frame;
+        counts = countsOf (params m t M) (interleavers (params m t M) self parity) L k (frameOf info red);
+      }
   unfolding decodeCall
-  decode-left = ap (λ (v : Verdict). correctedBy v (frameOf info red) d (outside s l L (d .frame))) ok
+  decode-left = ap (λ (v : Verdict). correctedBy v (frameOf info red) (d .frame) (countsOf s l L k (frameOf info red))) ok
 
   verdict-again : decodeVerdict m t M L k self parity (d .frame .info) (d .frame .red) (decoderWork s L) ≡ accepted
   unfolding decodeVerdict frameLengths frameBits
@@ -110,13 +165,43 @@ module _ (m t M L k : ℕ) (self parity info red : List ℕ) (ok : decodeVerdict
       ≡ record {
         verdict = accepted;
         frame = decoded (params m t M) (interleavers (params m t M) self parity) L k (frameOf info red) .frame;
-        counts = record { rounds = 1; flips = 0; outside = 0 };
+        counts = record { rounds = 1; turned = 0; outside = 0; stuck = 0 };
       }
   unfolding decodeCall outside
   decode-again e =
       let f : Frame = d .frame in
-      let x : Decoded = decoded s l L k f in
-      let ex : x ≡ record { frame = f; rounds = 1; flips = 0 } = decoded-stays s f l L k (all-inside s f (words s l L) e) in
-      let eo : outsideAmong s (x .frame) (words s l L) ≡ 0 = ap (λ (z : Decoded). outsideAmong s (z .frame) (words s l L)) ex ∙ e in
-      ap (λ (v : Verdict). correctedBy v f x (outsideAmong s (x .frame) (words s l L))) verdict-again
-      ∙ (λ j. record { verdict = accepted; frame = ex j .frame; counts = record { rounds = ex j .rounds; flips = ex j .flips; outside = eo j } })
+      let h : (w : List Site) → In w (words s l L) → inCode s f w ≡ true = all-inside s f (words s l L) e in
+      ap (λ (v : Verdict). correctedBy v f (decoded s l L k f .frame) (countsOf s l L k f)) verdict-again
+      ∙ (λ j. record { verdict = accepted; frame = decoded-stays s f l L k h j .frame; counts = countsOf-stays s l L k f h j })
+
+-- "in the last round made": of every call, also a refused one, which counts nothing. Where fewer rounds are made than allowed, the last one is idle.
+module _ (m t M L k : ℕ) (self parity info red : List ℕ) (work : ℕ) where
+  abbrev sizes : Params
+  sizes = params m t M
+
+  abbrev lists : Interleavers
+  lists = interleavers sizes self parity
+
+  by : (v : Verdict) (old new : Frame) (c : Counts) → c .stuck ≡ c .outside → correctedBy v old new c .counts .stuck ≡ correctedBy v old new c .counts .outside
+  by accepted old new c e = e
+  by (refused n p) old new c e = refl
+
+  pub idle-stuck : roundOf (plain (params m t M) (words (params m t M) (interleavers (params m t M) self parity) L))
+      (beforeLast (plain (params m t M) (words (params m t M) (interleavers (params m t M) self parity) L)) (roundsAllowed k) (frameOf info red)) .flips ≡ 0
+      → decodeCall m t M L k self parity info red work .counts .stuck ≡ decodeCall m t M L k self parity info red work .counts .outside
+  unfolding decodeCall
+  idle-stuck e = by (decodeVerdict m t M L k self parity info red work) _ _ _ (countsOf-idle sizes lists L k (frameOf info red) e)
+
+  pub early-stuck : decodeCall m t M L k self parity info red work .counts .rounds < roundsAllowed k
+      → decodeCall m t M L k self parity info red work .counts .stuck ≡ decodeCall m t M L k self parity info red work .counts .outside
+  unfolding decodeCall
+  early-stuck = go (decodeVerdict m t M L k self parity info red work)
+    where
+      f : Frame
+      f = frameOf info red
+
+      go : (v : Verdict) → correctedBy v f (decoded sizes lists L k f .frame) (countsOf sizes lists L k f) .counts .rounds < roundsAllowed k
+          → correctedBy v f (decoded sizes lists L k f .frame) (countsOf sizes lists L k f) .counts .stuck
+          ≡ correctedBy v f (decoded sizes lists L k f .frame) (countsOf sizes lists L k f) .counts .outside
+      go accepted h = countsOf-early sizes lists L k f h
+      go (refused n p) h = refl

@@ -20,11 +20,10 @@ use Rattle.staircase.specs.Lists.{firstWhere}
 use Rattle.staircase.specs.Design.{Params, Interleavers, params, wordLength, order, least-m, most-m, most-t, most-M, most-order, most-blocks, most-rounds}
 use Rattle.staircase.specs.Frame.{Frame, groups}
 use Rattle.staircase.specs.System.{systemEntry, inverseEntry, rowBytes, redundancy}
-use Rattle.staircase.specs.Decoder.{Decoded}
 use Rattle.staircase.specs.Rules.{Verdict, _then_, refuse, refuseFirst, outOfRange, Part, sizeRule, longRule, largeRule, designRules, countRule, partRule, roundsRule, lengthRule, listLengths, kitLengths, infoLength, redLength, frameLengths, kitWork, wordWork, decoderWork, interleavers, badEntry, listRule, spareRow, spareRule, wrongEntry, inverseRule, kitRules, bitRule, frameBits, contentRules}
 use Rattle.staircase.specs.Rules.Verdict.{accepted, refused}
 use Rattle.staircase.specs.Rules.Part.{block, group}
-use Rattle.staircase.specs.Calls.{kitVerdict, encodeVerdict, encodedBy, encodeCall, wordsVerdict, countedBy, wordsCall, correctedBy, decodeVerdict, decodeCall, showVerdict, shownBy, showCall}
+use Rattle.staircase.specs.Calls.{kitVerdict, encodeVerdict, encodedBy, encodeCall, wordsVerdict, countedBy, wordsCall, Counts, correctedBy, decodeVerdict, decodeCall, showVerdict, shownBy, showCall}
 use Rattle.staircase.specs.Square.{dependent, inverseMatrix, packedMatrix}
 use Rattle.staircase.specs.Maker.{makeWork, singularRule, makeVerdict, madeBy, makeCall}
 use Rattle.staircase.specs.Spread.{narrowRule, spreadVerdict, spreadBy, spreadCall}
@@ -205,10 +204,10 @@ pub encodedBy-untouched : (v : Verdict) (old new : List ℕ) → encodedBy v old
 encodedBy-untouched accepted old new h = absurd (h refl)
 encodedBy-untouched (refused n p) old new h = refl
 
-pub correctedBy-untouched : (v : Verdict) (f : Frame) (d : Decoded) (o : ℕ) → correctedBy v f d o .verdict ≢ accepted
-    → correctedBy v f d o .frame .info ∷ correctedBy v f d o .frame .red ∷ [] ≡ f .info ∷ f .red ∷ []
-correctedBy-untouched accepted f d o h = absurd (h refl)
-correctedBy-untouched (refused n p) f d o h = refl
+pub correctedBy-untouched : (v : Verdict) (old new : Frame) (c : Counts) → correctedBy v old new c .verdict ≢ accepted
+    → correctedBy v old new c .frame .info ∷ correctedBy v old new c .frame .red ∷ [] ≡ old .info ∷ old .red ∷ []
+correctedBy-untouched accepted old new c h = absurd (h refl)
+correctedBy-untouched (refused n p) old new c h = refl
 
 countedBy-verdict : (v : Verdict) (o : ℕ) → countedBy v o .verdict ≡ v
 countedBy-verdict accepted o = refl
@@ -439,7 +438,7 @@ words-demand1 m t M L self parity info red work =
 abbrev decoderNumbers : List ℕ
 decoderNumbers = 1 ∷ 2 ∷ 3 ∷ 4 ∷ 5 ∷ 6 ∷ 7 ∷ 10 ∷ []
 
-decode-byTable : (m t M L k : ℕ) (self parity info red : List ℕ) (work : ℕ) → ByTable decoderNumbers (decodeVerdict m t M L k self parity info red work)
+pub decode-byTable : (m t M L k : ℕ) (self parity info red : List ℕ) (work : ℕ) → ByTable decoderNumbers (decodeVerdict m t M L k self parity info red work)
 unfolding decodeVerdict
 decode-byTable m t M L k self parity info red work =
     let s : Params = params m t M in

@@ -22,9 +22,11 @@ use Rattle.staircase.specs.Design.{Params, Interleavers, wordLength, ord
 use Rattle.staircase.specs.Frame.{Frame, Site, Word, word, plain, frameOf, groups, rowSites, columnSites, words, read, inCode, outsideAmong, outside}
 use Rattle.staircase.specs.System.{redundancy}
 use Rattle.staircase.specs.Decoder.{Decoded, runEach, runRounds, default-rounds, roundsAllowed, decoded}
+use Rattle.staircase.specs.Outcomes.{lastStuck}
+use Rattle.staircase.specs.LineErrors.{lineErrors}
 use Rattle.staircase.specs.Rules.{Verdict, countRule, roundsRule, listLengths, infoLength, redLength, frameLengths, kitWork, decoderWork, listRule, kitRules, frameBits}
 use Rattle.staircase.specs.Rules.Verdict.{accepted}
-use Rattle.staircase.specs.Calls.{encodeVerdict, Encoded, encodedBy, encodeCall, decodeVerdict, correctedBy, decodeCall}
+use Rattle.staircase.specs.Calls.{encodeVerdict, Encoded, encodedBy, encodeCall, decodeVerdict, countsOf, correctedBy, decodeCall}
 use Rattle.staircase.specs.Demand2.{KitPasses}
 use Rattle.staircase.specs.Demand3.{Kit, sizes, lists, decode, Given, EachWord, SameBut, Restored, Demand3}
 use Rattle.staircase.proofs.Rules.{then-first, then-accepted, refuse-accepted, inRange, length-accepted, design-limits, lengths-accepted, bits-accepted, accepted-content}
@@ -33,6 +35,8 @@ use Rattle.staircase.proofs.Flip.{Received, bitAt-bits}
 use Rattle.staircase.proofs.Rounds.{plain-each}
 use Rattle.staircase.proofs.Outside.{all-inside}
 use Rattle.staircase.proofs.Correction.{CodeDistance, Sound, FewWrong, Covers, outsideEach-none, runEach-restore}
+use Rattle.staircase.proofs.Freed.{lastStuck-free}
+use Rattle.staircase.proofs.Decoded.{roundsAllowed-some}
 use Rattle.staircase.proofs.System.{Proper}
 use Rattle.staircase.proofs.BchCode.{proper-of, apart-of}
 use Rattle.staircase.proofs.Sites.{rowSites-length, columnSites-length, row-among-words, column-among-words, each-word, info-covered, red-covered}
@@ -185,26 +189,33 @@ module _ (K : Kit) (L : ℕ) (info old : List ℕ) (G : Given K L info old) wher
       go zero = runEach-restore frame frame-itself (plain s (words s l L)) sound covered (default-rounds - 1) received like each
       go (suc k) = runEach-restore frame frame-itself (plain s (words s l L)) sound covered k received like each
 
+  -- no word is ever stuck
+  freed : (k : ℕ) (received : Frame) → Received frame received
+      → ((v : List Site) → In v (words s l L) → distance (read frame v) (read received v) ≤ t) → lastStuck (plain s (words s l L)) (roundsAllowed k) received ≡ 0
+  freed k received like few =
+      let (j, some) = roundsAllowed-some k in
+      ap (λ (n : ℕ). lastStuck (plain s (words s l L)) n received) some
+      ∙ lastStuck-free frame frame-itself (plain s (words s l L)) sound j received like (plain-each s (FewWrong frame received) (words s l L) few)
+
   none-outside : outsideAmong s frame (words s l L) ≡ 0
   unfolding outsideAmong
   none-outside = outsideEach-none frame frame-itself (plain s (words s l L)) sound
 
   pub made-restored : (received : Frame) → length (received .info) ≡ length info → length (received .red) ≡ length made
       → Bits (received .info) → Bits (received .red) → EachWord s l L (λ x. distance (read frame x) (read received x) ≤ t)
-      → (k : ℕ) → k ≤ most-rounds → Restored frame (decode K L k received)
-  unfolding decodeCall decoded outside
+      → (k : ℕ) → k ≤ most-rounds → Restored received frame (decode K L k received)
+  unfolding decodeCall countsOf decoded outside
   made-restored received li lr hi hr few k hk =
       let d : Decoded = runRounds s (words s l L) (roundsAllowed k) received in
-      let same : d .frame ≡ frame =
-      restored k received (record { infoLength = li; redLength = lr; binary = bitAt-bits received hi hr })
-      (each-word s L l ok (kit .self) (kit .parity) (λ x. distance (read frame x) (read received x) ≤ t) (few .rows) (few .columns)) in
-      let none : outsideAmong s (d .frame) (words s l L) ≡ 0 =
-      ap (λ (x : Frame). outsideAmong s x (words s l L)) same ∙ none-outside in (
+      let like : Received frame received = record { infoLength = li; redLength = lr; binary = bitAt-bits received hi hr } in
+      let near = each-word s L l ok (kit .self) (kit .parity) (λ x. distance (read frame x) (read received x) ≤ t) (few .rows) (few .columns) in
+      let same : d .frame ≡ frame = restored k received like near in
+      let none : outsideAmong s (d .frame) (words s l L) ≡ 0 = ap (λ (x : Frame). outsideAmong s x (words s l L)) same ∙ none-outside in
+      let free = freed k received like near in (
         d .rounds,
-        d .flips,
-        ap (λ (v : Verdict). correctedBy v received d (outsideAmong s (d .frame) (words s l L)))
+        ap (λ (v : Verdict). correctedBy v received (d .frame) (countsOf s l L k received))
             (decode-admits k hk (received .info) (received .red) (li ∙ (G .info-fits)) (lr ∙ made-length) hi hr)
-            ∙ (λ i. record { verdict = accepted; frame = same i; counts = record { rounds = d .rounds; flips = d .flips; outside = none i } }),
+            ∙ (λ i. record { verdict = accepted; frame = same i; counts = record { rounds = d .rounds; turned = lineErrors received (same i); outside = none i; stuck = free i } }),
       )
 
   pub demand3 : Demand3 K L info old

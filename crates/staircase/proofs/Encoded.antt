@@ -10,25 +10,23 @@ use mathlib.Core.Path.{_≡_, refl, sym, ap, _∙_}
 use mathlib.Core.Bool.{true}
 use mathlib.Core.List.{List}
 use Prim.Native.Nat.{ℕ, _≤_}
-use native.Mathlib.Omega.{arith}
 use lib.ListN.{length}
-use Rattle.bch.specs.Code.{distance}
-use Rattle.bch.proofs.Distance.{distance-self}
 use Rattle.staircase.specs.Design.{Params, Interleavers, params, most-rounds}
-use Rattle.staircase.specs.Frame.{Frame, Site, frameOf, rowSites, columnSites, words, read, inCode, outside}
+use Rattle.staircase.specs.Frame.{Frame, Site, frameOf, words, inCode}
 use Rattle.staircase.specs.System.{redundancy}
-use Rattle.staircase.specs.Decoder.{Decoded, decoded}
-use Rattle.staircase.specs.Rules.{Verdict, _then_, designRules, countRule, lengthRule, kitLengths, infoLength, redLength, frameLengths, kitWork, decoderWork, interleavers, contentRules}
+use Rattle.staircase.specs.Decoder.{decoded}
+use Rattle.staircase.specs.Rules.{Verdict, _then_, designRules, countRule, lengthRule, kitLengths, infoLength, redLength, frameLengths, kitWork, interleavers, contentRules}
 use Rattle.staircase.specs.Rules.Verdict.{accepted, refused}
-use Rattle.staircase.specs.Calls.{Encoded, encodeVerdict, encodedBy, encodeCall, Corrected, correctedBy, decodeVerdict, decodeCall}
-use Rattle.staircase.specs.Demand3.{Kit, sizes, lists, encode, decode, Given, EachWord, Demand3}
+use Rattle.staircase.specs.Calls.{Encoded, encodeVerdict, encodedBy, encodeCall, countsOf, correctedBy, decodeCall}
+use Rattle.staircase.specs.Demand3.{Kit, sizes, lists, encode, decode, Given, Demand3}
 use Rattle.staircase.proofs.Member.{In}
 use Rattle.staircase.proofs.Rules.{then-first, then-rest, design-limits, count-limits, length-equal, lengths-fit, frame-lengths, bytes-bits, content-accepted}
 use Rattle.staircase.proofs.BchCode.{proper-of}
 use Rattle.staircase.proofs.Sites.{each-word}
 use Rattle.staircase.proofs.Idle.{decoded-stays}
+use Rattle.staircase.proofs.Decoded.{countsOf-stays}
 use Rattle.staircase.proofs.Demand2.{kit-passes}
-use Rattle.staircase.proofs.Demand3.{decode-admits, made-length, made-bits, made-rows, made-columns, made-restored, demand3}
+use Rattle.staircase.proofs.Demand3.{decode-admits, made-length, made-bits, made-rows, made-columns, demand3}
 
 pub encodedBy-verdict : (v : Verdict) (old new : List ℕ) → (encodedBy v old new) .verdict ≡ v
 encodedBy-verdict accepted old new = refl
@@ -110,22 +108,12 @@ module _ (K : Kit) (L : ℕ) (info old : List ℕ) (G : Given K L info old) wher
       (made-rows K L info old G) (made-columns K L info old G)
 
   pub made-idle : (k : ℕ) → k ≤ most-rounds
-      → decode K L k frame ≡ record { verdict = accepted; frame = frame; counts = record { rounds = 1; flips = 0; outside = 0 } }
+      → decode K L k frame ≡ record { verdict = accepted; frame = frame; counts = record { rounds = 1; turned = 0; outside = 0; stuck = 0 } }
   unfolding decodeCall
   made-idle k hk =
-      let near : EachWord s l L (λ x. distance (read frame x) (read frame x) ≤ K .t) = record {
-        rows = λ i a hi ha. omega (arith, distance-self (read frame (rowSites s l L i a)));
-        columns = λ i a hi ha. omega (arith, distance-self (read frame (columnSites s L i a)));
-      } in
-      let r = made-restored K L info old G frame refl refl (G .bits) (made-bits K L info old G) near k hk in
-      let d : Decoded = decoded s l L k frame in
-      let v : Verdict = decodeVerdict (K .m) (K .t) (K .M) L k (K .self) (K .parity) info made (decoderWork s L) in
-      let o : ℕ = outside s l L (d .frame) in
-      let ev : v ≡ accepted = decode-admits K L info old G k hk info made (G .info-fits) (made-length K L info old G) (G .bits) (made-bits K L info old G) in
-      let ed : d ≡ record { frame = frame; rounds = 1; flips = 0 } = decoded-stays s frame l L k inside in
-      let full : correctedBy v frame d o ≡ correctedBy accepted frame d o = ap (λ (x : Verdict). correctedBy x frame d o) ev in
-      let eo : o ≡ 0 = ap (λ (c : Corrected). c .counts .outside) (sym full ∙ r .2) in
-      full ∙ (λ i. record { verdict = accepted; frame = ed i .frame; counts = record { rounds = ed i .rounds; flips = ed i .flips; outside = eo i } })
+      ap (λ (v : Verdict). correctedBy v frame (decoded s l L k frame .frame) (countsOf s l L k frame))
+      (decode-admits K L info old G k hk info made (G .info-fits) (made-length K L info old G) (G .bits) (made-bits K L info old G))
+      ∙ (λ i. record { verdict = accepted; frame = decoded-stays s frame l L k inside i .frame; counts = countsOf-stays s l L k frame inside i })
 
 -- ---- another old redundancy
 

@@ -52,7 +52,7 @@ module _ (f : Frame) where
       ∙ correctEach-stay k ws (λ v i. h v (inr i))
 
   module _ (ws : List Word) (h : (w : Word) → In w ws → inCode (w .code) f (w .sites) ≡ true) where
-    roundOf-stays : roundOf ws f ≡ record { frame = f; flips = 0 }
+    pub roundOf-stays : roundOf ws f ≡ record { frame = f; flips = 0 }
     unfolding roundOf
     roundOf-stays = correctEach-stay 0 ws h
 

@@ -28,6 +28,9 @@ pub mod Reach
 pub mod Rounds
 pub mod Outside
 pub mod Idle
+pub mod Outcomes
+pub mod Freed
+pub mod LineErrors
 pub mod CorrectedWord
 pub mod Weight
 pub mod Kept
@@ -48,5 +51,8 @@ pub mod Demand3
 pub mod Encoded
 pub mod Batch
 pub mod Demand1
+pub mod Tally
+pub mod Report
 pub mod Load
 pub mod Vectors
+pub mod RowsTally

@@ -3,8 +3,9 @@
 --   outsideEach-bound, outside-bound     no more than there are words
 --   outside-next                         of one group more
 --   each-inside, all-inside              where none is counted, each word is in its code
+--   outsideEach-inside                   where each word is in its code, none is counted
 -- Assumes nothing.
-use mathlib.Core.Path.{_≡_, refl, sym, ap, _∙_, subst}
+use mathlib.Core.Path.{_≡_, refl, sym, ap, ap₂, _∙_, subst}
 use mathlib.Core.Bool.{Bool, true, false, cond}
 use mathlib.Core.Logic.{inl, inr}
 use mathlib.Core.List.{List, [], _∷_, _++_, map-append}
@@ -43,6 +44,12 @@ module _ (f : Frame) where
       inside true d = refl
       inside false d = absurd (omega arith)
   each-inside (v ∷ ws) e w (inr h) = each-inside ws (omega (arith, e)) w h
+
+  pub outsideEach-inside : (ws : List Word) → ((w : Word) → In w ws → inCode (w .code) f (w .sites) ≡ true) → outsideEach f ws ≡ 0
+  unfolding outsideEach
+  outsideEach-inside [] h = refl
+  outsideEach-inside (w ∷ ws) h =
+      ap₂ (λ (x y : ℕ). x + y) (ap (λ (z : Bool). cond z 0 1) (h w (inl refl))) (outsideEach-inside ws (λ v i. h v (inr i)))
 
 -- ---- words of one code
 

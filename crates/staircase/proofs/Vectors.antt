@@ -22,9 +22,11 @@ use Rattle.staircase.specs.Frame.{Site, rowSites, columnSites, words, re
 use Rattle.staircase.specs.Frame.Site.{unsent}
 use Rattle.staircase.specs.System.{preimage, columnParity, rowParity, residual, systemEntry, constantEntry, inverseEntry, product, identity, selfEntry, groupBits, groupRedundancy, redundancy}
 use Rattle.staircase.specs.Decoder.{choices, flipBits, firstCorrecting, errorPositions, occurrences, everyOccurrence, once, permitted, correction, flipAll, correctWord, correctEach, correctWords, roundOf, round, runEach, runRounds, decoded}
-use Rattle.staircase.specs.Rules.{Verdict, refuseFirst, sizeRule, longRule, largeRule, designRules, countRule, roundsRule, listLengths, kitLengths, redLength, frameLengths, kitWork, wordWork, decoderWork, entries, interleavers, badEntry, listRule, spareRow, spareRule, wrongEntry, inverseRule, kitRules, contentRules, bitRule, frameBits}
+use Rattle.staircase.specs.LineErrors.{lineErrors}
+use Rattle.staircase.specs.Outcomes.{outcome, stuckEach, beforeLast, lastStuck}
+use Rattle.staircase.specs.Rules.{Verdict, refuseFirst, sizeRule, longRule, largeRule, designRules, countRule, roundsRule, listLengths, kitLengths, redLength, frameLengths, kitWork, wordWork, keptWork, decoderWork, entries, interleavers, badEntry, listRule, spareRow, spareRule, wrongEntry, inverseRule, kitRules, contentRules, bitRule, frameBits}
 use Rattle.staircase.specs.Rules.Verdict.{accepted}
-use Rattle.staircase.specs.Calls.{kitVerdict, encodeVerdict, encodedBy, encodeCall, wordsVerdict, wordsCall, decodeVerdict, decodeCall, showVerdict, showCall}
+use Rattle.staircase.specs.Calls.{kitVerdict, encodeVerdict, encodedBy, encodeCall, wordsVerdict, wordsCall, decodeVerdict, countsOf, decodeCall, showVerdict, showCall}
 use Rattle.staircase.specs.Spread.{turnedTo, listBytes, narrowRule, spreadVerdict, spreadCall}
 use Rattle.staircase.specs.Batch.{batchRule, batchLengths, batchVerdict, batchRedundancy, batchCall}
 use Rattle.staircase.specs.RowsK.{RowsK}
@@ -39,7 +41,7 @@ use Rattle.staircase.proofs.Correction.{nearest-errors}
 use Rattle.staircase.proofs.BchCode.{apart-of}
 
 pub rowsK : RowsK
-unfolding _⊕_ _⊗_ timesX iterate polyAtDigits polyAt horner remainder bitsOf fieldPoly valueAt leastFrom minimalPoly generator isCodeword parity sumBits tabulate concat firstWhere rowInfo rowWord columnInfo columnWord preimage columnParity rowParity residual systemEntry constantEntry inverseEntry product selfEntry groupBits rowSites columnSites words outsideEach outsideAmong outside groupRedundancy redundancy choices flipBits firstCorrecting errorPositions occurrences everyOccurrence once permitted correction flipAll correctWord correctEach correctWords roundOf round runEach runRounds decoded refuseFirst sizeRule longRule largeRule designRules countRule roundsRule listLengths kitLengths frameLengths kitWork wordWork decoderWork entries badEntry listRule spareRow spareRule wrongEntry inverseRule kitRules contentRules bitRule frameBits kitVerdict encodeVerdict encodeCall wordsVerdict wordsCall decodeVerdict decodeCall showVerdict showCall batchRule batchLengths batchVerdict batchRedundancy batchCall
+unfolding _⊕_ _⊗_ timesX iterate polyAtDigits polyAt horner remainder bitsOf fieldPoly valueAt leastFrom minimalPoly generator isCodeword parity sumBits tabulate concat firstWhere rowInfo rowWord columnInfo columnWord preimage columnParity rowParity residual systemEntry constantEntry inverseEntry product selfEntry groupBits rowSites columnSites words outsideEach outsideAmong outside groupRedundancy redundancy choices flipBits firstCorrecting errorPositions occurrences everyOccurrence once permitted correction flipAll correctWord correctEach correctWords roundOf round runEach runRounds decoded outcome stuckEach beforeLast lastStuck refuseFirst sizeRule longRule largeRule designRules countRule roundsRule listLengths kitLengths frameLengths kitWork wordWork keptWork decoderWork entries badEntry listRule spareRow spareRule wrongEntry inverseRule kitRules contentRules bitRule frameBits kitVerdict encodeVerdict encodeCall wordsVerdict wordsCall decodeVerdict unlike distance lineErrors countsOf decodeCall showVerdict showCall batchRule batchLengths batchVerdict batchRedundancy batchCall
 rowsK =
     record {
       x9 = refl;
@@ -140,7 +142,7 @@ inverse-accepted =
 -- rule 9 apart
 encoded-but : encodeCall 4 1 2 3 selfS parityS inverseS infoS (replicate (redLength paramsS 3) 255) (kitWork paramsS)
     ≡ encodedBy (inverseRule paramsS listsS inverseS) (replicate (redLength paramsS 3) 255) redS
-unfolding _⊕_ _⊗_ timesX iterate polyAtDigits polyAt horner remainder bitsOf fieldPoly valueAt leastFrom minimalPoly generator isCodeword parity sumBits tabulate concat firstWhere rowInfo rowWord columnInfo columnWord preimage columnParity rowParity residual systemEntry constantEntry inverseEntry product selfEntry groupBits rowSites columnSites words outsideEach outsideAmong outside groupRedundancy redundancy choices flipBits firstCorrecting errorPositions occurrences everyOccurrence once permitted correction flipAll correctWord correctEach correctWords roundOf round runEach runRounds decoded refuseFirst sizeRule longRule largeRule designRules countRule roundsRule listLengths kitLengths frameLengths kitWork wordWork decoderWork entries badEntry listRule spareRow spareRule wrongEntry kitRules contentRules bitRule frameBits kitVerdict encodeVerdict encodeCall decodeVerdict decodeCall
+unfolding _⊕_ _⊗_ timesX iterate polyAtDigits polyAt horner remainder bitsOf fieldPoly valueAt leastFrom minimalPoly generator isCodeword parity sumBits tabulate concat firstWhere rowInfo rowWord columnInfo columnWord preimage columnParity rowParity residual systemEntry constantEntry inverseEntry product selfEntry groupBits rowSites columnSites words outsideEach outsideAmong outside groupRedundancy redundancy choices flipBits firstCorrecting errorPositions occurrences everyOccurrence once permitted correction flipAll correctWord correctEach correctWords roundOf round runEach runRounds decoded refuseFirst sizeRule longRule largeRule designRules countRule roundsRule listLengths kitLengths frameLengths kitWork wordWork keptWork decoderWork entries badEntry listRule spareRow spareRule wrongEntry kitRules contentRules bitRule frameBits kitVerdict encodeVerdict encodeCall decodeVerdict decodeCall
 encoded-but = refl
 
 -- ---- two errors
@@ -184,7 +186,7 @@ unfolding occurrences everyOccurrence once permitted correction rowSites rowWord
 needs-B0 = ap (sentAt (rowSites paramsT listsT 1 0 1)) positions1T
 
 pub secondKit : SecondKit
-unfolding _⊕_ _⊗_ timesX iterate polyAtDigits polyAt horner remainder bitsOf fieldPoly valueAt leastFrom minimalPoly generator isCodeword parity sumBits tabulate concat firstWhere rowInfo rowWord columnInfo columnWord preimage columnParity rowParity residual systemEntry constantEntry inverseEntry product selfEntry groupBits rowSites columnSites words outsideEach outsideAmong outside groupRedundancy redundancy choices flipBits firstCorrecting errorPositions occurrences everyOccurrence once permitted correction flipAll correctWord correctEach correctWords roundOf round runEach runRounds decoded refuseFirst sizeRule longRule largeRule designRules countRule roundsRule listLengths kitLengths frameLengths kitWork wordWork decoderWork entries badEntry listRule spareRow spareRule wrongEntry inverseRule kitRules contentRules bitRule frameBits kitVerdict encodeVerdict encodeCall decodeVerdict decodeCall
+unfolding _⊕_ _⊗_ timesX iterate polyAtDigits polyAt horner remainder bitsOf fieldPoly valueAt leastFrom minimalPoly generator isCodeword parity sumBits tabulate concat firstWhere rowInfo rowWord columnInfo columnWord preimage columnParity rowParity residual systemEntry constantEntry inverseEntry product selfEntry groupBits rowSites columnSites words outsideEach outsideAmong outside groupRedundancy redundancy choices flipBits firstCorrecting errorPositions occurrences everyOccurrence once permitted correction flipAll correctWord correctEach correctWords roundOf round runEach runRounds decoded outcome stuckEach beforeLast lastStuck refuseFirst sizeRule longRule largeRule designRules countRule roundsRule listLengths kitLengths frameLengths kitWork wordWork keptWork decoderWork entries badEntry listRule spareRow spareRule wrongEntry inverseRule kitRules contentRules bitRule frameBits kitVerdict encodeVerdict encodeCall decodeVerdict unlike distance lineErrors countsOf decodeCall
 secondKit =
     record {
       system = system-rows;

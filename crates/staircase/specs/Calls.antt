@@ -3,16 +3,19 @@
 --   kitVerdict      the kit checker
 --   encodeCall      the encoder: its verdict and the redundancy buffer
 --   wordsCall       the word checker: its verdict and the number of words outside the code
---   decodeCall      the decoder: its verdict, both buffers and the three counts
+--   countsOf        what the decoder counts of a frame
+--   decodeCall      the decoder: its verdict, both buffers and the counts
 --   showCall        showing a block or a group: its verdict and the stretch
 -- Assumes nothing.
 use mathlib.Core.List.{List, []}
 use Prim.Native.Nat.{ℕ, _-_, _*_}
 use lib.ListN.{take, drop}
 use Rattle.staircase.specs.Design.{Params, Interleavers, params, order}
-use Rattle.staircase.specs.Frame.{Frame, outside}
+use Rattle.staircase.specs.Frame.{Frame, plain, words, outside}
 use Rattle.staircase.specs.System.{redundancy}
-use Rattle.staircase.specs.Decoder.{Decoded, decoded}
+use Rattle.staircase.specs.LineErrors.{lineErrors}
+use Rattle.staircase.specs.Decoder.{Decoded, roundsAllowed, decoded}
+use Rattle.staircase.specs.Outcomes.{lastStuck}
 use Rattle.staircase.specs.Rules.{Verdict, _then_, Part, designRules, countRule, partRule, roundsRule, lengthRule, listLengths, kitLengths, frameLengths, kitWork, wordWork, decoderWork, interleavers, listRule, kitRules, contentRules, frameBits}
 use Rattle.staircase.specs.Rules.Verdict.{accepted, refused}
 use Rattle.staircase.specs.Rules.Part.{block, group}
@@ -80,29 +83,43 @@ decodeVerdict m t M L k self parity info red work =
     then listLengths s self parity then frameLengths s L info red then lengthRule 6 work (decoderWork s L)
     then listRule s (interleavers s self parity) then frameBits info red
 
--- "The result: rounds made .., bits turned .., words outside the code at the end"
+-- "The result: rounds made .., bits turned .., words outside the code at the end"; document 02: "The second number becomes the number of sent bits in
+-- which the mended frame differs from the copy", "and the result gains the number of stuck verdicts in the last round made"
 pub record Counts : Type 0 where
   pub rounds : ℕ
-  pub flips : ℕ
+  pub turned : ℕ
   pub outside : ℕ
+  pub stuck : ℕ
+
+unfoldable pub countsOf : Params → Interleavers → ℕ → ℕ → Frame → Counts
+countsOf s l L k f =
+    let d : Decoded = decoded s l L k f in
+    record {
+      rounds = d .rounds;
+      turned = lineErrors f (d .frame);
+      outside = outside s l L (d .frame);
+      stuck = lastStuck (plain s (words s l L)) (roundsAllowed k) f;
+    }
+
+abbrev pub no-counts : Counts
+no-counts = record { rounds = 0; turned = 0; outside = 0; stuck = 0 }
 
 pub record Corrected : Type 0 where
   pub verdict : Verdict
   pub frame : Frame
   pub counts : Counts
 
--- a refused call counts nothing
-abbrev pub correctedBy : Verdict → Frame → Decoded → ℕ → Corrected
-correctedBy accepted f d o = record { verdict = accepted; frame = d .frame; counts = record { rounds = d .rounds; flips = d .flips; outside = o } }
-correctedBy (refused n p) f d o = record { verdict = refused n p; frame = f; counts = record { rounds = 0; flips = 0; outside = 0 } }
+-- the frame before the call and after it; a refused call counts nothing
+abbrev pub correctedBy : Verdict → Frame → Frame → Counts → Corrected
+correctedBy accepted old new c = record { verdict = accepted; frame = new; counts = c }
+correctedBy (refused n p) old new c = record { verdict = refused n p; frame = old; counts = no-counts }
 
 unfoldable pub decodeCall : ℕ → ℕ → ℕ → ℕ → ℕ → List ℕ → List ℕ → List ℕ → List ℕ → ℕ → Corrected
 decodeCall m t M L k self parity info red work =
     let s : Params = params m t M in
     let l : Interleavers = interleavers s self parity in
     let f : Frame = record { info = info; red = red } in
-    let d : Decoded = decoded s l L k f in
-    correctedBy (decodeVerdict m t M L k self parity info red work) f d (outside s l L (d .frame))
+    correctedBy (decodeVerdict m t M L k self parity info red work) f (decoded s l L k f .frame) (countsOf s l L k f)
 
 -- ---- showing
 

@@ -48,6 +48,10 @@ pub data Table (n p : ℕ) : Type 0 where
   narrow : n ≡ 15 → p ≤ most-M → Table n p
   -- document 02: "17 batch .. when the number of frames is 0 or above 256; the place is that number"
   batch : n ≡ 17 → (0 < p → most-frames < p) → Table n p
+  -- document 02: "16 full .. the place is the first such total's position in the order above, from 1"
+  full : n ≡ 16 → 1 ≤ p → p ≤ 6 → Table n p
+  -- a tally that a host in C lends as a slice, behind the places of documents 01 and 02 (docs/DECISIONS.md)
+  tally : n ≡ 6 → p ≡ 9 → Table n p
 
 abbrev pub among : ℕ → List ℕ → Bool
 among n [] = false

@@ -19,6 +19,7 @@ use Rattle.bch.specs.Polynomial.{Bits}
 use Rattle.bch.specs.Code.{distance}
 use Rattle.staircase.specs.Design.{Params, Interleavers, params, order, most-blocks, most-rounds}
 use Rattle.staircase.specs.Frame.{Frame, Site, frameOf, groups, rowSites, columnSites, read, inCode, outside}
+use Rattle.staircase.specs.LineErrors.{lineErrors}
 use Rattle.staircase.specs.Rules.{designRules, infoLength, redLength, interleavers, kitWork, decoderWork}
 use Rattle.staircase.specs.Rules.Verdict.{accepted}
 use Rattle.staircase.specs.Calls.{Encoded, encodeCall, Corrected, decodeCall}
@@ -73,9 +74,10 @@ SameButTwo size i j u v = (k : ℕ) → k / size ≢ i → k / size ≢ j → ge
 abbrev pub Like : List ℕ → List ℕ → Type 0
 Like u v = (length v ≡ length u) × Bits v
 
--- accepted, with the frame f in the buffers and no word outside
-abbrev pub Restored : Frame → Corrected → Type 0
-Restored f c = (rounds : ℕ) × (flips : ℕ) × (c ≡ record { verdict = accepted; frame = f; counts = record { rounds = rounds; flips = flips; outside = 0 } })
+-- accepted, with the frame f in the buffers, the line errors of the received frame counted, no word outside and none stuck
+abbrev pub Restored : Frame → Frame → Corrected → Type 0
+Restored received f c =
+    (rounds : ℕ) × (c ≡ record { verdict = accepted; frame = f; counts = record { rounds = rounds; turned = lineErrors received f; outside = 0; stuck = 0 } })
 
 pub record Demand3 (K : Kit) (L : ℕ) (info old : List ℕ) : Type 0 where
   -- the encoder's call is accepted, and leaves `made`
@@ -96,4 +98,4 @@ pub record Demand3 (K : Kit) (L : ℕ) (info old : List ℕ) : Type 0 where
   -- included, leaves exactly that frame in the buffers and counts no word outside at the end."
   pub restores : (received : Frame) → Like info (received .info) → Like made (received .red)
       → EachWord (sizes K) (lists K) L (λ x. distance (read (frameOf info made) x) (read received x) ≤ K .t)
-      → (k : ℕ) → k ≤ most-rounds → Restored (frameOf info made) (decode K L k received)
+      → (k : ℕ) → k ≤ most-rounds → Restored received (frameOf info made) (decode K L k received)

@@ -5,7 +5,9 @@ pub mod Frame
 pub mod System
 pub mod Square
 pub mod Solvable
+pub mod LineErrors
 pub mod Decoder
+pub mod Outcomes
 pub mod Kept
 pub mod Lines
 pub mod Readings
@@ -14,6 +16,8 @@ pub mod Calls
 pub mod Maker
 pub mod Spread
 pub mod Batch
+pub mod Tally
+pub mod Report
 pub mod Load
 pub mod Demand1
 pub mod OrderMoved
@@ -24,3 +28,4 @@ pub mod RowsK
 pub mod LoadRows
 pub mod SecondKit
 pub mod RowsSpread
+pub mod RowsTally

@@ -23,7 +23,7 @@ use Rattle.staircase.specs.System.{systemEntry, inverseEntry, product, i
 use Rattle.staircase.specs.Rules.{Verdict, Part, designRules, redLength, kitWork, wordWork, decoderWork, interleavers}
 use Rattle.staircase.specs.Rules.Verdict.{accepted, refused}
 use Rattle.staircase.specs.Rules.Part.{block, group}
-use Rattle.staircase.specs.Calls.{kitVerdict, Encoded, encodeCall, Counted, wordsCall, Corrected, decodeCall, Shown, showCall}
+use Rattle.staircase.specs.Calls.{kitVerdict, Encoded, encodeCall, Counted, wordsCall, no-counts, Corrected, decodeCall, Shown, showCall}
 use Rattle.staircase.specs.Batch.{batchRule, batchCall}
 
 abbrev pub paramsK : Params
@@ -64,7 +64,7 @@ decodedK L rounds info red = decodeCall 4 1 1 L rounds selfK parityK info red (d
 -- a refused call of the decoder: both buffers as they were, and nothing counted
 abbrev pub refusedK : ℕ → ℕ → List ℕ → List ℕ → Corrected
 refusedK n p info red =
-    record { verdict = refused n p; frame = record { info = info; red = red }; counts = record { rounds = 0; flips = 0; outside = 0 } }
+    record { verdict = refused n p; frame = record { info = info; red = red }; counts = no-counts }
 
 abbrev pub countedK : ℕ → List ℕ → List ℕ → Counted
 countedK L info red = wordsCall 4 1 1 L selfK parityK info red (wordWork paramsK)
@@ -117,21 +117,21 @@ pub record RowsK : Type 0 where
       ≡ record {
         verdict = accepted;
         frame = record { info = 0 ∷ 1 ∷ []; red = 0 ∷ 0 ∷ 0 ∷ 1 ∷ 0 ∷ 1 ∷ 1 ∷ 0 ∷ [] };
-        counts = record { rounds = 2; flips = 1; outside = 0 };
+        counts = record { rounds = 2; turned = 1; outside = 0; stuck = 0 };
       }
   -- "with one round allowed 1, 1, 0"
   pub correctedInOne : decodedK 2 1 (0 ∷ 1 ∷ []) (0 ∷ 0 ∷ 0 ∷ 1 ∷ 0 ∷ 1 ∷ 1 ∷ 1 ∷ [])
       ≡ record {
         verdict = accepted;
         frame = record { info = 0 ∷ 1 ∷ []; red = 0 ∷ 0 ∷ 0 ∷ 1 ∷ 0 ∷ 1 ∷ 1 ∷ 0 ∷ [] };
-        counts = record { rounds = 1; flips = 1; outside = 0 };
+        counts = record { rounds = 1; turned = 1; outside = 0; stuck = 0 };
       }
   -- "blocks 0, 0 with group 0000 0101: blocks 0, 1, group kept, result 2, 1, 1 (the row word's codeword needs B0)"
   pub needsB0 : decodedK 2 0 (0 ∷ 0 ∷ []) (0 ∷ 0 ∷ 0 ∷ 0 ∷ 0 ∷ 1 ∷ 0 ∷ 1 ∷ [])
       ≡ record {
         verdict = accepted;
         frame = record { info = 0 ∷ 1 ∷ []; red = 0 ∷ 0 ∷ 0 ∷ 0 ∷ 0 ∷ 1 ∷ 0 ∷ 1 ∷ [] };
-        counts = record { rounds = 2; flips = 1; outside = 1 };
+        counts = record { rounds = 2; turned = 1; outside = 1; stuck = 1 };
       }
   -- "m 4, t 1, M 3 fits; M 4 is refused 2 at 16. m 10, t 2, M 204 fits; M 205 is refused 3 at 4,100."
   pub fits3 : designRules 4 1 3 ≡ accepted

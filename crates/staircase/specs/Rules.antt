@@ -7,7 +7,7 @@
 --   kitRules              rules 7 to 9 of a kit
 --   contentRules          rules 7, 8, 10 and 9 of a kit and the information under it
 --   Part                  what is shown
---   kitWork, wordWork, decoderWork   the working lengths
+--   kitWork, wordWork, keptWork, decoderWork   the working lengths
 --   entries, interleavers the lists, from their bytes
 -- Assumes nothing.
 use mathlib.Core.Bool.{Bool, true, false, not, _||_}
@@ -107,9 +107,13 @@ kitWork s = order s * rowBytes (order s)
 unfoldable pub wordWork : Params → ℕ
 wordWork s = order s
 
--- of the decoder: the same, and four bytes for each of the 2 M words of each group
+-- of what the decoder keeps: four bytes for each of the 2 M words of each group, and a byte for each bit of the copy
+unfoldable pub keptWork : Params → ℕ → ℕ
+keptWork s L = 8 * (groups L * s .M) + (infoLength s L + redLength s L)
+
+-- of the decoder
 unfoldable pub decoderWork : Params → ℕ → ℕ
-decoderWork s L = wordWork s + 8 * (groups L * s .M)
+decoderWork s L = wordWork s + keptWork s L
 
 -- "two bytes an entry, low byte first"
 unfoldable pub entries : ℕ → List ℕ → List ℕ

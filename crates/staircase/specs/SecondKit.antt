@@ -1,6 +1,6 @@
 -- Vectors for what kit K leaves open, since its M and t are 1 and its self list is its own inverse: the sense of the self list, the order in
--- which Y is stacked, a block's rows and columns, the order of a round's words, the rounds that 0 stands for, corrections of two bits. The
--- values are those of tests/second_kit.py, a literal reading of document 01 with matrices and transposes written out. Names end in S for the
+-- which Y is stacked, a block's rows and columns, the order of a round's words, the rounds that 0 stands for, corrections of two bits, a bit flipped
+-- twice. The values are those of tests/second_kit.py, a literal reading of document 01 with matrices and transposes written out. Names end in S for the
 -- second kit (m 4, t 1, M 2) and in T for two words with m 5, t 2, M 2. No list here is its own inverse.
 --   paramsS, paramsT                   the sizes of the two designs
 --   selfS, parityS, inverseS           the second kit's slices
@@ -65,7 +65,7 @@ abbrev pub receivedS : Frame
 receivedS = record { info = 0 ∷ 0 ∷ 1 ∷ 0 ∷ 0 ∷ 0 ∷ 0 ∷ 0 ∷ 1 ∷ 1 ∷ 0 ∷ 0 ∷ []; red = 1 ∷ 1 ∷ 1 ∷ 1 ∷ 1 ∷ 1 ∷ 0 ∷ 1 ∷ 1 ∷ 0 ∷ 1 ∷ 0 ∷ 0 ∷ 1 ∷ 1 ∷ 1 ∷ 0 ∷ 1 ∷ 1 ∷ 1 ∷ 0 ∷ 1 ∷ 0 ∷ 0 ∷ 0 ∷ 1 ∷ 0 ∷ 1 ∷ 1 ∷ 1 ∷ 0 ∷ 1 ∷ [] }
 
 abbrev pub countsS : Counts
-countsS = record { rounds = 3; flips = 5; outside = 0 }
+countsS = record { rounds = 3; turned = 3; outside = 0; stuck = 0 }
 
 abbrev pub unsettledS : Frame
 unsettledS = record { info = 0 ∷ 0 ∷ 1 ∷ 0 ∷ []; red = 0 ∷ 1 ∷ 0 ∷ 0 ∷ 1 ∷ 1 ∷ 1 ∷ 1 ∷ 1 ∷ 1 ∷ 0 ∷ 1 ∷ 0 ∷ 0 ∷ 0 ∷ 1 ∷ [] }
@@ -74,7 +74,7 @@ abbrev pub unsettledLeftS : Frame
 unsettledLeftS = record { info = 0 ∷ 0 ∷ 1 ∷ 0 ∷ []; red = 0 ∷ 1 ∷ 0 ∷ 0 ∷ 1 ∷ 1 ∷ 1 ∷ 0 ∷ 0 ∷ 1 ∷ 0 ∷ 1 ∷ 1 ∷ 0 ∷ 0 ∷ 1 ∷ [] }
 
 abbrev pub unsettledCountsS : Counts
-unsettledCountsS = record { rounds = 7; flips = 13; outside = 1 }
+unsettledCountsS = record { rounds = 7; turned = 3; outside = 1; stuck = 0 }
 
 abbrev pub kitS : List ℕ → Verdict
 kitS w = kitVerdict 4 1 2 selfS parityS w (kitWork paramsS)
@@ -112,10 +112,12 @@ pub record SecondKit : Type 0 where
   -- the kit passes, and the blocks have this redundancy; the buffer holds bytes 255 before the call
   pub encoded : encodeCall 4 1 2 3 selfS parityS inverseS infoS (replicate (redLength paramsS 3) 255) (kitWork paramsS)
       ≡ record { verdict = accepted; red = redS }
-  -- row word 0 would need a bit of B0 and stays, so that column word 0 flips a right bit, which is flipped back in round 2; round 3 is idle
+  -- row word 0 would need a bit of B0 and stays, so that column word 0 flips a right bit, which is flipped back in round 2 and does not count; round 3
+  -- is idle
   pub corrected : decodedS 3 receivedS ≡ record { verdict = accepted; frame = record { info = infoS; red = redS }; counts = countsS }
   -- in round 1 row word 0 would need a bit of B0 and column word 0 one of the block after the last, and both stay; from round 2 on column word 0
-  -- flips a bit that row word 1 flips back in the next round, so that no round is idle and all 7 are made
+  -- flips a bit that row word 1 flips back in the next round, so that no round is idle and all 7 are made; in the last one no word is stuck, and yet
+  -- one is outside at the end
   pub unsettled : decodedS 1 unsettledS ≡ record { verdict = accepted; frame = unsettledLeftS; counts = unsettledCountsS }
   -- two errors, one in X and one in Q
   pub twoErrors : correctionT 0 ≡ correction0T

@@ -15,6 +15,7 @@ use Rattle.text_formats.proofs.Parts.{fit-append}
 use Rattle.staircase.specs.Design.{Params, order, most-blocks}
 use Rattle.staircase.specs.Frame.{frameOf, groups, read, outside}
 use Rattle.staircase.specs.System.{redundancy}
+use Rattle.staircase.specs.LineErrors.{lineErrors}
 use Rattle.staircase.specs.Rules.{Verdict, _then_, redLength, kitWork, decoderWork, interleavers}
 use Rattle.staircase.specs.Rules.Verdict.{accepted, refused}
 use Rattle.staircase.specs.Calls.{Encoded, encodeVerdict, encodeCall, Corrected, decodeCall}
@@ -149,12 +150,12 @@ module _ (kit text : List ℕ) (ok : frameVerdict kit text ≡ accepted) where
   -- what `mend` prints of any frame text whose decoding leaves the frame
   mend-sends : (copy : List ℕ) → length copy ≤ most-input → frameRule M (m * t) copy ≡ accepted → frameCount M (m * t) copy ≡ L → (rounds turned : ℕ)
       → decodeCall m t M L 0 (selfOf kit) (parityOf kit) (frameInfo M (m * t) copy) (frameRed M (m * t) copy) (decoderWork (kitParams kit) L)
-      ≡ record { verdict = accepted; frame = frameOf info red; counts = record { rounds = rounds; flips = turned; outside = 0 } }
+      ≡ record { verdict = accepted; frame = frameOf info red; counts = record { rounds = rounds; turned = turned; outside = 0; stuck = 0 } }
       → mendOutput kit copy ≡ sent kit text ++ countsText rounds turned 0
   unfolding mendOutput judged printed mendCall mendText
   mend-sends copy short accepts count rounds turned e =
       let n : ℕ = M * (m * t) in
-      let c : Corrected = record { verdict = accepted; frame = frameOf info red; counts = record { rounds = rounds; flips = turned; outside = 0 } } in
+      let c : Corrected = record { verdict = accepted; frame = frameOf info red; counts = record { rounds = rounds; turned = turned; outside = 0; stuck = 0 } } in
       let call : mendCall kit copy ≡ c =
       ap (λ (k : ℕ). decodeCall m t M k 0 (selfOf kit) (parityOf kit) (frameInfo M (m * t) copy) (frameRed M (m * t) copy)
       (decoderWork (kitParams kit) k)) count ∙ e in
@@ -191,7 +192,7 @@ module _ (kit text : List ℕ) (ok : frameVerdict kit text ≡ accepted) where
       restores : (copy : List ℕ) → length copy ≡ length (sent kit text) → length copy ≤ most-input → frameRule M (m * t) copy ≡ accepted
           → EachWord (sizes (kitOf kit)) (lists (kitOf kit)) L
           (λ x. distance (read (madeFrame kit text) x) (read (copyFrame kit copy) x) ≤ t)
-          → (rounds : ℕ) × (turned : ℕ) × (mendOutput kit copy ≡ sent kit text ++ countsText rounds turned 0)
+          → (rounds : ℕ) × (mendOutput kit copy ≡ sent kit text ++ countsText rounds (lineErrors (copyFrame kit copy) (madeFrame kit text)) 0)
       restores copy long short accepts near =
           let F = frame-accepted M (m * t) copy .0 accepts in
           let h = frame-holds M (m * t) copy accepts in
@@ -203,4 +204,7 @@ module _ (kit text : List ℕ) (ok : frameVerdict kit text ≡ accepted) where
           let r = made-restored (kitOf kit) L info old G (copyFrame kit copy)
           (h .info-length ∙ ap (λ (k : ℕ). k * (M * M)) count ∙ sym (holds .info-length))
           (h .red-length ∙ ap (λ (k : ℕ). groups k * (2 * (M * (m * t)))) count ∙ sym red-fits) (h .info-bits) (h .red-bits) near′ 0 (omega arith) in
-          (r .0, r .1, mend-sends copy short accepts count (r .0) (r .1) (r .2))
+          let turned : List ℕ → ℕ = λ z. lineErrors (copyFrame kit copy) (frameOf info z) in (
+            r .0,
+            mend-sends copy short accepts count (r .0) (turned red) (r .1) ∙ ap (λ (z : List ℕ). sent kit text ++ countsText (r .0) (turned z) 0) (sym red-is),
+          )

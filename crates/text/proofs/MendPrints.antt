@@ -13,7 +13,7 @@ use Rattle.staircase.specs.Frame.Site.{inInfo, inRed}
 use Rattle.staircase.specs.Decoder.{Decoded, decoded}
 use Rattle.staircase.specs.Rules.{Verdict, infoLength, redLength, decoderWork, interleavers}
 use Rattle.staircase.specs.Rules.Verdict.{accepted}
-use Rattle.staircase.specs.Calls.{Corrected, decodeVerdict, decodeCall}
+use Rattle.staircase.specs.Calls.{countsOf, Corrected, decodeVerdict, decodeCall}
 use Rattle.staircase.proofs.Flip.{Received}
 use Rattle.staircase.proofs.Rules.{then-accepted}
 use Rattle.text.specs.KitReader.{headNumber, kitParams, selfOf, parityOf}
@@ -59,9 +59,8 @@ module _ (kit copy : List ℕ) (ok : mendVerdict kit copy ≡ accepted) where
       let s : Params = kitParams kit in
       let l : Interleavers = interleavers s (selfOf kit) (parityOf kit) in
       let f : Frame = frameOf (frameInfo M r copy) (frameRed M r copy) in
-      let d : Decoded = decoded s l L 0 f in
       let v : Verdict = decodeVerdict m t M L 0 (selfOf kit) (parityOf kit) (frameInfo M r copy) (frameRed M r copy) (decoderWork s L) in
-      sym (correctedBy-verdict v f d (outside s l L (d .frame))) ∙ A .call-ok
+      sym (correctedBy-verdict v f (decoded s l L 0 f .frame) (countsOf s l L 0 f)) ∙ A .call-ok
 
   abbrev made : Decoded
   made =
@@ -81,12 +80,7 @@ module _ (kit copy : List ℕ) (ok : mendVerdict kit copy ≡ accepted) where
       ≡ record {
         verdict = accepted;
         frame = made .frame;
-        counts = record {
-          rounds = made .rounds;
-          flips = made .flips;
-          outside = outside (kitParams kit)
-              (interleavers (kitParams kit) (selfOf kit) (parityOf kit)) L (made .frame);
-        };
+        counts = countsOf (kitParams kit) (interleavers (kitParams kit) (selfOf kit) (parityOf kit)) L 0 (frameOf (frameInfo M r copy) (frameRed M r copy));
       }
   unfolding mendCall
   left = decode-left m t M L 0 (selfOf kit) (parityOf kit) (frameInfo M r copy) (frameRed M r copy) decodes
@@ -133,16 +127,17 @@ module _ (kit copy : List ℕ) (ok : mendVerdict kit copy ≡ accepted) where
   prints-call : (text : List ℕ) (c : Corrected) → inputRule kit text ≡ accepted → frameRule M r text ≡ accepted → frameCount M r text ≡ L
       → mendCall kit text ≡ c → c .verdict ≡ accepted
       → mendOutput kit text ≡ (blockText (M * M) L (c .frame .info) ++ groupText (M * r) (groups L) (c .frame .red)) ++ countsText
-      (c .counts .rounds) (c .counts .flips) (c .counts .outside)
+      (c .counts .rounds) (c .counts .turned) (c .counts .outside)
   unfolding mendOutput judged printed mendText
   prints-call text c a b n e v =
       ap (λ (x : Verdict). printed x (mendText M (M * r) (frameCount M r text) (mendCall kit text)))
       (then-accepted a (then-accepted (A .kit-ok) (then-accepted b (ap (λ (x : Corrected). x .verdict) e ∙ v))))
       ∙ ap₂ (λ (k : ℕ) (x : Corrected). mendText M (M * r) k x) n e
       ∙ sym (append-assoc (blockText (M * M) L (c .frame .info)) (groupText (M * r) (groups L) (c .frame .red))
-      (countsText (c .counts .rounds) (c .counts .flips) (c .counts .outside)))
+      (countsText (c .counts .rounds) (c .counts .turned) (c .counts .outside)))
 
   pub mend-prints : MendPrints kit copy
+  unfolding countsOf
   mend-prints =
       record {
         prints = prints-call copy (mendCall kit copy) (short-inputs kit copy (A .kit-short) (A .text-short)) (A .text-ok) refl refl
@@ -159,14 +154,14 @@ module _ (kit copy : List ℕ) (ok : mendVerdict kit copy ≡ accepted) where
       again e =
           let none : outside (kitParams kit) (interleavers (kitParams kit) (selfOf kit) (parityOf kit)) L (made .frame) ≡ 0 =
           ap (λ (c : Corrected). c .counts .outside) (sym left) ∙ e in
-          let c : Corrected = record { verdict = accepted; frame = made .frame; counts = record { rounds = 1; flips = 0; outside = 0 } } in
+          let c : Corrected = record { verdict = accepted; frame = made .frame; counts = record { rounds = 1; turned = 0; outside = 0; stuck = 0 } } in
           prints-call (mended kit copy) c (short-inputs kit (mended kit copy) (A .kit-short) (omega (arith, same-length, A .text-short)))
           (read-back .0) (sym (read-back .1))
           (second none) refl
           ∙ ap (λ (x : List ℕ). x ++ countsText 1 0 0) (sym mended-is)
         where
           second : outside (kitParams kit) (interleavers (kitParams kit) (selfOf kit) (parityOf kit)) L (made .frame) ≡ 0
-              → mendCall kit (mended kit copy) ≡ record { verdict = accepted; frame = made .frame; counts = record { rounds = 1; flips = 0; outside = 0 } }
+              → mendCall kit (mended kit copy) ≡ record { verdict = accepted; frame = made .frame; counts = record { rounds = 1; turned = 0; outside = 0; stuck = 0 } }
           second none =
               mendCall-by kit (mended kit copy) L info red (sym (read-back .1)) (sym (back .0)) (sym (back .1))
               ∙ decode-again m t M L 0 (selfOf kit) (parityOf kit) (frameInfo M r copy) (frameRed M r copy) decodes none

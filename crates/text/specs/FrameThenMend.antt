@@ -12,6 +12,7 @@ use Prim.Native.Nat.{ℕ, _*_, _≤_, _<_}
 use lib.ListN.{length}
 use Rattle.bch.specs.Code.{distance}
 use Rattle.staircase.specs.Frame.{Frame, frameOf, read}
+use Rattle.staircase.specs.LineErrors.{lineErrors}
 use Rattle.staircase.specs.Rules.{Verdict, _then_}
 use Rattle.staircase.specs.Rules.Verdict.{accepted}
 use Rattle.staircase.specs.Demand3.{Kit, sizes, lists, EachWord}
@@ -66,8 +67,8 @@ pub record FrameThenMend (kit text : List ℕ) : Type 0 where
   -- or refuses it by rule 13
   pub refuses : most-input < length (sent kit text) → mendOutput kit (sent kit text) ≡ refusalText 13 2
   -- demand 3: of a frame text of the same length, with at most t wrong bits in each word, `mend` prints the blocks and groups that were sent, and
-  -- counts no word outside
+  -- counts the wrong bits and no word outside
   pub restores : (copy : List ℕ) → length copy ≡ length (sent kit text) → length copy ≤ most-input → frameRule (kitM kit) (kitR kit) copy ≡ accepted
       → EachWord (sizes (kitOf kit)) (lists (kitOf kit)) (blockCount (kitM kit) text)
       (λ x. distance (read (madeFrame kit text) x) (read (copyFrame kit copy) x) ≤ kitOf kit .t)
-      → (rounds : ℕ) × (turned : ℕ) × (mendOutput kit copy ≡ sent kit text ++ countsText rounds turned 0)
+      → (rounds : ℕ) × (mendOutput kit copy ≡ sent kit text ++ countsText rounds (lineErrors (copyFrame kit copy) (madeFrame kit text)) 0)

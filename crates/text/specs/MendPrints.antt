@@ -27,7 +27,7 @@ mended kit copy =
     ++ groupText (order (kitParams kit)) (groups (frameCount (kitM kit) (kitR kit) copy)) (mendCall kit copy .frame .red)
 
 pub record MendPrints (kit copy : List ℕ) : Type 0 where
-  pub prints : mendOutput kit copy ≡ mended kit copy ++ countsText (mendCall kit copy .counts .rounds) (mendCall kit copy .counts .flips)
+  pub prints : mendOutput kit copy ≡ mended kit copy ++ countsText (mendCall kit copy .counts .rounds) (mendCall kit copy .counts .turned)
       (mendCall kit copy .counts .outside)
   pub long : length (mended kit copy) ≡ length copy
   pub reads : frameRule (kitM kit) (kitR kit) (mended kit copy) ≡ accepted

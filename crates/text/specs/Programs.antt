@@ -89,7 +89,7 @@ mendCall kit text =
 unfoldable pub mendText : ℕ → ℕ → ℕ → Corrected → List ℕ
 mendText M n L c =
     blockText (M * M) L (c .frame .info)
-    ++ (groupText n (groups L) (c .frame .red) ++ countsText (c .counts .rounds) (c .counts .flips) (c .counts .outside))
+    ++ (groupText n (groups L) (c .frame .red) ++ countsText (c .counts .rounds) (c .counts .turned) (c .counts .outside))
 
 unfoldable pub mendOutput : List ℕ → List ℕ → List ℕ
 mendOutput kit text =

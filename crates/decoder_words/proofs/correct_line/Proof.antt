@@ -1,32 +1,39 @@
--- The loop's invariant: the words before `a` are corrected, and all kept numbers are right. The measure is the number of words left.
+-- The loop's invariant: the words before `a` are corrected, `stuck` of them were stuck, and all kept numbers are right. The measure is the number of
+-- words left.
 -- Assumes nothing.
 use mathlib.Core.Path.{_≡_, ap, _∙_}
 use Prim.Native.Nat.{ℕ, _+_, _-_, _<_, _≤_}
 use native.Mathlib.Omega.{arith}
 use Rattle.staircase.specs.Lists.{tabulate}
 use Rattle.staircase.specs.Frame.{frameOf}
-use Rattle.staircase.specs.Decoder.{round}
+use Rattle.staircase.specs.Decoder.{Progress, round}
+use Rattle.staircase.specs.Outcomes.{stuckAmong}
 use Rattle.design.specs.Sizes.{paramsOf}
 use Rattle.decoder_words.specs.Ready.{FrameKept, lineWord}
-use Rattle.decoder_words.proofs.Passes.{pass-none, pass-more, pass-few}
+use Rattle.decoder_words.specs.Told.{outcomeOf}
+use Rattle.decoder_words.proofs.Passes.{flips-told, pass-none, pass-more, pass-few, stuck-none, stuck-more}
 use borrow.Author.Needs.{needs}
 use Rattle.decoder_words.proofs.correct_line.Statement.{statement}
 use Rattle.decoder_words.proofs.correct_line.Tie as tie
 
 abbrev Inv-loop : tie.InvT-loop
-Inv-loop line links tables field info₀ red₀ numbers₀ size flips₀ a₀ info red numbers flips a =
+Inv-loop line links tables field info₀ red₀ numbers₀ size flips₀ stuck₀ a₀ info red numbers flips stuck a =
     (size ≡ line .d .size) × (a ≤ line .d .size)
     × (record { frame = frameOf info red; flips = flips } ≡ round (paramsOf (line .d)) (tabulate a (lineWord line links)) (frameOf info₀ red₀))
     × FrameKept (line .d) (line .blocks) links info red numbers
+    × (stuck ≡ stuckAmong (paramsOf (line .d)) (frameOf info₀ red₀) (tabulate a (lineWord line links))) × (stuck ≤ a)
 
 abbrev μ-loop : tie.MeasureT-loop
-μ-loop line links tables field info₀ red₀ numbers₀ size flips₀ a₀ info red numbers flips a = line .d .size - a
+μ-loop line links tables field info₀ red₀ numbers₀ size flips₀ stuck₀ a₀ info red numbers flips stuck a = line .d .size - a
 
 loop-holds : tie.Need-loop-holds Inv-loop μ-loop
 loop-holds c =
     let p = c .before .before .before .before .before .before .before .pre in
     let a = c .before .before .before .before .before .before .before .args in
-    (c .size .ensures, omega arith, pass-none (paramsOf (a .line .d)) (lineWord (a .line) (a .links .now)) (frameOf (a .info .now) (a .red .now)), p .1)
+    let s = paramsOf (a .line .d) in
+    let W = lineWord (a .line) (a .links .now) in
+    let f = frameOf (a .info .now) (a .red .now) in
+    (c .size .ensures, omega arith, pass-none s W f, p .1, stuck-none s W f, omega arith)
 
 visit-word-requires : tie.Need-visit-word-requires Inv-loop μ-loop
 visit-word-requires c κs =
@@ -36,34 +43,56 @@ visit-word-requires c κs =
 
 add-flips : tie.Need-add-flips Inv-loop μ-loop
 add-flips c =
-    let p = c .before .before .before .before .before .before .before .before .before .before .before .before .before .before .before .before .before .before .before .pre in
-    let a = c .before .before .before .before .before .before .before .before .before .before .before .before .before .before .before .before .before .before .before .args in
-    let l = c .before .before .before .before .before .before .before .before .before .before .before .loop in
+    let p = c .before .before .before .before .before .before .before .before .before .before .before .before .before .before .before .before .before .before .before .before .pre in
+    let a = c .before .before .before .before .before .before .before .before .before .before .before .before .before .before .before .before .before .before .before .before .args in
+    let l = c .before .before .before .before .before .before .before .before .before .before .before .before .loop in
     let s = paramsOf (a .line .d) in
     let W = lineWord (a .line) (a .links .now) in
     let f = frameOf (a .info .now) (a .red .now) in
-    let v = c .before .before .before .before .before .before .visit-word .ensures in
-    let h : l .a < a .line .d .size = omega (arith, c .before .before .before .before .before .before .before .before .before .before .loop-test .taken, l .inv .0) in
-    let e = pass-more s W f (l .a) (record { frame = frameOf (l .info) (l .red); flips = l .flips }) _ _ (l .inv .2) (v .0) (v .1) in
+    let v = c .before .before .before .before .before .before .before .visit-word .ensures in
+    let x : Progress = record { frame = frameOf (l .info) (l .red); flips = l .flips } in
+    let h : l .a < a .line .d .size = omega (arith, c .before .before .before .before .before .before .before .before .before .before .before .loop-test .taken, l .inv .0) in
+    let q = flips-told s (x .frame) (W (l .a)) (outcomeOf (c .before .before .before .before .before .before .before .visit-word .result)) (c .flips-of .ensures) (v .1) in
+    let e = pass-more s W f (l .a) x _ _ (l .inv .2) (v .0) q in
     omega (arith, h, pass-few s W f (l .a + 1) _ (p .0 .fits .allowed .t-high) e, p .0 .fits .allowed .M-high)
 
+add-stuck : tie.Need-add-stuck Inv-loop μ-loop
+add-stuck c =
+    omega (
+      arith,
+      c .before .before .before .before .before .before .before .before .before .before .before .before .loop-test .taken,
+      c .before .before .before .before .before .before .before .before .before .before .before .before .before .loop .inv .0,
+      c .before .before .before .before .before .before .before .before .before .before .before .before .before .loop .inv .5,
+      c .stuck-of .ensures .1,
+      c .before .before .before .before .before .before .before .before .before .before .before .before .before .before .before .before .before .before .before .before .before .pre .0 .fits .allowed .M-high,
+    )
+
 add-a : tie.Need-add-a Inv-loop μ-loop
-add-a c = omega (arith, c .before .before .before .before .before .before .before .before .before .before .loop-test .taken, c .before .before .before .before .before .before .before .before .before .before .before .loop .inv .0, c .before .before .before .before .before .before .before .before .before .before .before .before .before .before .before .before .before .before .before .pre .0 .fits .allowed .M-high)
+add-a c = omega (arith, c .before .before .before .before .before .before .before .before .before .before .before .before .loop-test .taken, c .before .before .before .before .before .before .before .before .before .before .before .before .before .loop .inv .0, c .before .before .before .before .before .before .before .before .before .before .before .before .before .before .before .before .before .before .before .before .before .pre .0 .fits .allowed .M-high)
 
 loop-less : tie.Need-loop-less Inv-loop μ-loop
-loop-less c = omega (arith, c .before .before .before .before .before .before .before .before .before .before .loop-test .taken)
+loop-less c = omega (arith, c .before .before .before .before .before .before .before .before .before .before .before .before .loop-test .taken)
 
 loop-again : tie.Need-loop-again Inv-loop μ-loop
 loop-again c =
-    let l = c .before .before .before .before .before .before .before .before .before .before .before .loop in
-    let a = c .before .before .before .before .before .before .before .before .before .before .before .before .before .before .before .before .before .before .before .args in
-    let h : l .a + 1 ≤ a .line .d .size = omega (arith, c .before .before .before .before .before .before .before .before .before .before .loop-test .taken, l .inv .0) in
+    let l = c .before .before .before .before .before .before .before .before .before .before .before .before .before .loop in
+    let a = c .before .before .before .before .before .before .before .before .before .before .before .before .before .before .before .before .before .before .before .before .before .args in
+    let h : l .a + 1 ≤ a .line .d .size = omega (arith, c .before .before .before .before .before .before .before .before .before .before .before .before .loop-test .taken, l .inv .0) in
     let s = paramsOf (a .line .d) in
     let W = lineWord (a .line) (a .links .now) in
     let f = frameOf (a .info .now) (a .red .now) in
-    let v = c .before .before .before .before .before .before .visit-word .ensures in
-    let e = pass-more s W f (l .a) (record { frame = frameOf (l .info) (l .red); flips = l .flips }) _ _ (l .inv .2) (v .0) (v .1) in
-    (l .inv .0, h, e, v .2)
+    let v = c .before .before .before .before .before .before .before .before .visit-word .ensures in
+    let x : Progress = record { frame = frameOf (l .info) (l .red); flips = l .flips } in
+    let o = outcomeOf (c .before .before .before .before .before .before .before .before .visit-word .result) in
+    let q = flips-told s (x .frame) (W (l .a)) o (c .before .flips-of .ensures) (v .1) in
+    let k = c .stuck-of .ensures in (
+      l .inv .0,
+      h,
+      pass-more s W f (l .a) x _ _ (l .inv .2) (v .0) q,
+      v .2,
+      ap (λ (n : ℕ). l .stuck + n) (k .0) ∙ stuck-more s W f (l .a) (l .stuck) x o (l .inv .4) (l .inv .2) (v .1),
+      omega (arith, l .inv .5, k .1),
+    )
 
 same-length : tie.Need-same-length Inv-loop μ-loop
 same-length c = omega (arith, c .before .loop .inv .3 .frame .infoLength, c .before .before .before .before .before .before .before .before .before .pre .1 .frame .infoLength)
@@ -83,11 +112,16 @@ returns c =
     let W = lineWord (a .line) (a .links .now) in
     let f = frameOf (a .info .now) (a .red .now) in
     let e : l .a ≡ a .line .d .size = omega (arith, c .loop-test .left, l .inv .0, l .inv .1) in
-    let few = pass-few s W f (l .a) (record { frame = frameOf (l .info) (l .red); flips = l .flips }) (p .0 .fits .allowed .t-high) (l .inv .2) in
-    (l .inv .2 ∙ ap (λ (n : ℕ). round s (tabulate n W) f) e, l .inv .3, omega (arith, few, e, p .0 .fits .allowed .M-high))
+    let few = pass-few s W f (l .a) (record { frame = frameOf (l .info) (l .red); flips = l .flips }) (p .0 .fits .allowed .t-high) (l .inv .2) in (
+      l .inv .2 ∙ ap (λ (n : ℕ). round s (tabulate n W) f) e,
+      l .inv .3,
+      omega (arith, few, e, p .0 .fits .allowed .M-high),
+      l .inv .4 ∙ ap (λ (n : ℕ). stuckAmong s f (tabulate n W)) e,
+      omega (arith, l .inv .5, e, p .0 .fits .allowed .M-high),
+    )
 
 pub correct-line-spec : {M : Type 1} → statement M
 correct-line-spec =
     tie.close
-    (tie.spec Inv-loop μ-loop (λ c κs. search needs) loop-holds visit-word-requires add-flips add-a loop-less loop-again same-length same-length-2
-    same-length-3 returns)
+    (tie.spec Inv-loop μ-loop (λ c κs. search needs) loop-holds visit-word-requires (λ c κs. search needs) add-flips (λ c κs. search needs) add-stuck add-a
+    loop-less loop-again same-length same-length-2 same-length-3 returns)

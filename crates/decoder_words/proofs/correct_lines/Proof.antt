@@ -1,4 +1,5 @@
--- The loop's invariant: the lines before line `k + i` are corrected, and all kept numbers are right. The measure is the number of lines left.
+-- The loop's invariant: the lines before line `k + i` are corrected, `stuck` of their words were stuck, and all kept numbers are right. The measure is
+-- the number of lines left.
 -- Assumes nothing.
 use mathlib.Core.Path.{_≡_, sym, ap, _∙_, subst}
 use mathlib.Core.List.{List}
@@ -7,25 +8,29 @@ use native.Mathlib.Omega.{arith}
 use Rattle.staircase.specs.Lists.{tabulate, concat}
 use Rattle.staircase.specs.Frame.{Site, frameOf, groups}
 use Rattle.staircase.specs.Decoder.{Progress, round}
+use Rattle.staircase.specs.Outcomes.{stuckAmong}
 use Rattle.staircase.specs.Lines.{lineSites}
 use Rattle.design.specs.Sizes.{paramsOf}
 use Rattle.words_lines.specs.declared.Line.{Line}
 use Rattle.decoder_lines.specs.Links.{listsIn}
 use Rattle.decoder_words.specs.Ready.{LineReady, FrameKept, lineWord}
-use Rattle.decoder_words.proofs.Passes.{lines-none, lines-next, ready-at}
+use Rattle.decoder_words.proofs.Passes.{lines-none, lines-next, stuck-lines-none, stuck-lines-next, ready-at}
 use borrow.Author.Needs.{needs}
 use Rattle.decoder_words.proofs.correct_lines.Statement.{statement}
 use Rattle.decoder_words.proofs.correct_lines.Tie as tie
 
 abbrev Inv-loop : tie.InvT-loop
-Inv-loop line count links tables field info₀ red₀ numbers₀ flips₀ i₀ info red numbers flips i =
+Inv-loop line count links tables field info₀ red₀ numbers₀ flips₀ stuck₀ i₀ info red numbers flips stuck i =
     (i ≤ count)
     × (record { frame = frameOf info red; flips = flips } ≡ round (paramsOf (line .d))
     (concat i (λ j. tabulate (line .d .size) (lineSites (paramsOf (line .d)) (listsIn (line .d) links) (line .blocks) (line .k + j)))) (frameOf info₀ red₀))
     × FrameKept (line .d) (line .blocks) links info red numbers × (flips ≤ 1500 * i)
+    × (stuck ≡ stuckAmong (paramsOf (line .d)) (frameOf info₀ red₀)
+    (concat i (λ j. tabulate (line .d .size) (lineSites (paramsOf (line .d)) (listsIn (line .d) links) (line .blocks) (line .k + j)))))
+    × (stuck ≤ 500 * i)
 
 abbrev μ-loop : tie.MeasureT-loop
-μ-loop line count links tables field info₀ red₀ numbers₀ flips₀ i₀ info red numbers flips i = count - i
+μ-loop line count links tables field info₀ red₀ numbers₀ flips₀ stuck₀ i₀ info red numbers flips stuck i = count - i
 
 loop-holds : tie.Need-loop-holds Inv-loop μ-loop
 loop-holds c =
@@ -33,7 +38,8 @@ loop-holds c =
     let a = c .before .before .before .before .before .before .args in
     let s = paramsOf (a .line .d) in
     let W : ℕ → List (List Site) = λ j. tabulate (a .line .d .size) (lineSites s (listsIn (a .line .d) (a .links .now)) (a .line .blocks) (a .line .k + j)) in
-    (omega arith, lines-none s W (frameOf (a .info .now) (a .red .now)), p .2, omega arith)
+    let f = frameOf (a .info .now) (a .red .now) in
+    (omega arith, lines-none s W f, p .2, omega arith, stuck-lines-none s W f, omega arith)
 
 add-line-at : tie.Need-add-line-at Inv-loop μ-loop
 add-line-at c = omega (arith, c .before .loop-test .taken, c .before .before .before .before .before .before .before .before .before .pre .1, c .before .before .before .before .before .before .before .before .before .pre .0 .fits .few-blocks)
@@ -49,29 +55,57 @@ correct-line-requires c κs =
     (sym (c .before .before .before .line-at .ensures)) (ready-at k (p .0) hk, l .inv .2)
 
 add-flips : tie.Need-add-flips Inv-loop μ-loop
-add-flips c = omega (arith, c .before .before .before .before .before .before .before .before .before .before .before .before .loop-test .taken, c .before .before .before .before .before .before .before .before .before .before .before .before .before .loop .inv .3, c .before .before .before .before .before .before .correct-line .ensures .2, c .before .before .before .before .before .before .before .before .before .before .before .before .before .before .before .before .before .before .before .before .pre .1, c .before .before .before .before .before .before .before .before .before .before .before .before .before .before .before .before .before .before .before .before .pre .0 .fits .few-blocks)
+add-flips c =
+    omega (
+      arith,
+      c .before .before .before .before .before .before .before .before .before .before .before .before .before .loop-test .taken,
+      c .before .before .before .before .before .before .before .before .before .before .before .before .before .before .loop .inv .3,
+      c .before .before .before .before .before .before .before .correct-line .ensures .2,
+      c .before .before .before .before .before .before .before .before .before .before .before .before .before .before .before .before .before .before .before .before .before .pre .1,
+      c .before .before .before .before .before .before .before .before .before .before .before .before .before .before .before .before .before .before .before .before .before .pre .0 .fits .few-blocks,
+    )
+
+add-stuck : tie.Need-add-stuck Inv-loop μ-loop
+add-stuck c =
+    omega (
+      arith,
+      c .before .before .before .before .before .before .before .before .before .before .before .before .before .before .loop-test .taken,
+      c .before .before .before .before .before .before .before .before .before .before .before .before .before .before .before .loop .inv .5,
+      c .before .before .before .before .before .before .before .before .correct-line .ensures .4,
+      c .before .before .before .before .before .before .before .before .before .before .before .before .before .before .before .before .before .before .before .before .before .before .pre .1,
+      c .before .before .before .before .before .before .before .before .before .before .before .before .before .before .before .before .before .before .before .before .before .before .pre .0 .fits .few-blocks,
+    )
 
 add-i : tie.Need-add-i Inv-loop μ-loop
-add-i c = omega (arith, c .before .before .before .before .before .before .before .before .before .before .before .before .loop-test .taken, c .before .before .before .before .before .before .before .before .before .before .before .before .before .before .before .before .before .before .before .before .pre .1, c .before .before .before .before .before .before .before .before .before .before .before .before .before .before .before .before .before .before .before .before .pre .0 .fits .few-blocks)
+add-i c = omega (arith, c .before .before .before .before .before .before .before .before .before .before .before .before .before .before .loop-test .taken, c .before .before .before .before .before .before .before .before .before .before .before .before .before .before .before .before .before .before .before .before .before .before .pre .1, c .before .before .before .before .before .before .before .before .before .before .before .before .before .before .before .before .before .before .before .before .before .before .pre .0 .fits .few-blocks)
 
 loop-less : tie.Need-loop-less Inv-loop μ-loop
-loop-less c = omega (arith, c .before .before .before .before .before .before .before .before .before .before .before .before .loop-test .taken)
+loop-less c = omega (arith, c .before .before .before .before .before .before .before .before .before .before .before .before .before .before .loop-test .taken)
 
 loop-again : tie.Need-loop-again Inv-loop μ-loop
 loop-again c =
-    let p = c .before .before .before .before .before .before .before .before .before .before .before .before .before .before .before .before .before .before .before .before .pre in
-    let a = c .before .before .before .before .before .before .before .before .before .before .before .before .before .before .before .before .before .before .before .before .args in
-    let l = c .before .before .before .before .before .before .before .before .before .before .before .before .before .loop in
+    let p = c .before .before .before .before .before .before .before .before .before .before .before .before .before .before .before .before .before .before .before .before .before .before .pre in
+    let a = c .before .before .before .before .before .before .before .before .before .before .before .before .before .before .before .before .before .before .before .before .before .before .args in
+    let l = c .before .before .before .before .before .before .before .before .before .before .before .before .before .before .before .loop in
     let s = paramsOf (a .line .d) in
     let W : ℕ → List (List Site) = λ j. tabulate (a .line .d .size) (lineSites s (listsIn (a .line .d) (a .links .now)) (a .line .blocks) (a .line .k + j)) in
     let f = frameOf (a .info .now) (a .red .now) in
-    let v = c .before .before .before .before .before .before .correct-line .ensures in
+    let r = c .before .before .before .before .before .before .before .before .correct-line .result in
+    let v = c .before .before .before .before .before .before .before .before .correct-line .ensures in
     let x : Progress = record { frame = frameOf (l .info) (l .red); flips = l .flips } in
-    let m = c .before .before .before .before .before .before .correct-line .last in
-    let here = subst (λ (z : Line). (record { frame = frameOf (m .1 .1 .1 .1 .0) (m .1 .1 .1 .1 .1 .0); flips = c .before .before .before .before .before .before .correct-line .result }
+    let m = c .before .before .before .before .before .before .before .before .correct-line .last in
+    let here = subst (λ (z : Line). (record { frame = frameOf (m .1 .1 .1 .1 .0) (m .1 .1 .1 .1 .1 .0); flips = r .flips }
     ≡ round (paramsOf (z .d)) (tabulate (z .d .size) (lineWord z (a .links .now))) (frameOf (l .info) (l .red)))
-    × FrameKept (z .d) (z .blocks) (a .links .now) (m .1 .1 .1 .1 .0) (m .1 .1 .1 .1 .1 .0) (m .1 .1 .1 .1 .1 .1 .0)) (c .before .before .before .before .before .before .before .before .before .before .line-at .ensures) (v .0, v .1) in
-    (omega (arith, c .before .before .before .before .before .before .before .before .before .before .before .before .loop-test .taken), lines-next s W f (l .i) x _ (l .inv .1) (here .0), here .1, omega (arith, l .inv .3, v .2))
+    × FrameKept (z .d) (z .blocks) (a .links .now) (m .1 .1 .1 .1 .0) (m .1 .1 .1 .1 .1 .0) (m .1 .1 .1 .1 .1 .1 .0)
+    × (r .stuck ≡ stuckAmong (paramsOf (z .d)) (frameOf (l .info) (l .red)) (tabulate (z .d .size) (lineWord z (a .links .now)))))
+    (c .before .before .before .before .before .before .before .before .before .before .before .before .line-at .ensures) (v .0, v .1, v .3) in (
+      omega (arith, c .before .before .before .before .before .before .before .before .before .before .before .before .before .before .loop-test .taken),
+      lines-next s W f (l .i) x _ (l .inv .1) (here .0),
+      here .1,
+      omega (arith, l .inv .3, v .2),
+      stuck-lines-next s W f (l .i) (l .stuck) (r .stuck) x (l .inv .4) (l .inv .1) (here .2),
+      omega (arith, l .inv .5, v .4),
+    )
 
 same-length : tie.Need-same-length Inv-loop μ-loop
 same-length c = omega (arith, c .before .loop .inv .2 .frame .infoLength, c .before .before .before .before .before .before .before .before .pre .2 .frame .infoLength)
@@ -89,11 +123,16 @@ returns c =
     let s = paramsOf (a .line .d) in
     let W : ℕ → List (List Site) = λ j. tabulate (a .line .d .size) (lineSites s (listsIn (a .line .d) (a .links .now)) (a .line .blocks) (a .line .k + j)) in
     let f = frameOf (a .info .now) (a .red .now) in
-    let e : l .i ≡ a .count = omega (arith, c .loop-test .left, l .inv .0) in
-    (l .inv .1 ∙ ap (λ (n : ℕ). round s (concat n W) f) e, l .inv .2, omega (arith, l .inv .3, e))
+    let e : l .i ≡ a .count = omega (arith, c .loop-test .left, l .inv .0) in (
+      l .inv .1 ∙ ap (λ (n : ℕ). round s (concat n W) f) e,
+      l .inv .2,
+      omega (arith, l .inv .3, e),
+      l .inv .4 ∙ ap (λ (n : ℕ). stuckAmong s f (concat n W)) e,
+      omega (arith, l .inv .5, e),
+    )
 
 pub correct-lines-spec : {M : Type 1} → statement M
 correct-lines-spec =
     tie.close
-    (tie.spec Inv-loop μ-loop loop-holds add-line-at (λ c κs. search needs) correct-line-requires add-flips add-i loop-less loop-again same-length
+    (tie.spec Inv-loop μ-loop loop-holds add-line-at (λ c κs. search needs) correct-line-requires add-flips add-stuck add-i loop-less loop-again same-length
     same-length-2 same-length-3 returns)

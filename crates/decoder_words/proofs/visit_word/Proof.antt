@@ -1,9 +1,9 @@
--- A word that is passed over has no correction.
+-- A word that is passed over is clean or stuck; any other is what its correction says.
 -- Assumes nothing.
 use mathlib.Core.Path.{ap, _∙_}
 use native.Mathlib.Omega.{arith}
 use Rattle.decoder_kept.specs.Numbers.{keptAt}
-use Rattle.decoder_words.proofs.Corrected.{zero-over, marked-over}
+use Rattle.decoder_words.proofs.Corrected.{zero-clean, other-outcome, marked-stuck}
 use borrow.Author.Needs.{needs}
 use Rattle.decoder_words.proofs.visit_word.Statement.{statement}
 use Rattle.decoder_words.proofs.visit_word.Tie as tie
@@ -18,18 +18,28 @@ returns : tie.Need-returns
 returns c =
     let p = c .before .before .before .before .before .before .before .before .before .before .pre in
     let a = c .before .before .before .before .before .before .before .before .before .before .args in
-    let o = zero-over (p .0 .fits) (p .0 .linked) (a .a) (p .1) (p .2) (c .before .get .ensures ∙ ap (keptAt (a .numbers .now)) (c .before .before .before .word-number .ensures .0)) (c .if1 .taken) in
+    let x = c .before .get .ensures ∙ ap (keptAt (a .numbers .now)) (c .before .before .before .word-number .ensures .0) in
+    let o = zero-clean (p .0 .fits) (p .0 .linked) (a .a) (p .1) (p .2) x (c .if1 .taken) in
     (o .0, o .1, p .2)
 
 returns-2 : tie.Need-returns-2
 returns-2 c =
     let p = c .before .before .before .before .before .before .before .before .before .before .before .pre in
     let a = c .before .before .before .before .before .before .before .before .before .before .before .args in
-    let o = marked-over (p .0 .fits) (p .0 .linked) (a .a) (p .1) (p .2) (c .before .before .get .ensures ∙ ap (keptAt (a .numbers .now)) (c .before .before .before .before .word-number .ensures .0)) (c .if2 .taken) in
+    let x = c .before .before .get .ensures ∙ ap (keptAt (a .numbers .now)) (c .before .before .before .before .word-number .ensures .0) in
+    let o = marked-stuck (p .0 .fits) (p .0 .linked) (a .a) (p .1) (p .2) x (c .before .if1 .left) (c .if2 .taken) in
     (o .0, o .1, p .2)
+
+returns-3 : tie.Need-returns-3
+returns-3 c =
+    let p = c .before .before .before .before .before .before .before .before .before .before .before .before .before .before .before .before .before .before .before .before .before .before .pre in
+    let a = c .before .before .before .before .before .before .before .before .before .before .before .before .before .before .before .before .before .before .before .before .before .before .args in
+    let x = c .before .before .before .before .before .before .before .before .before .before .before .before .before .get .ensures ∙ ap (keptAt (a .numbers .now)) (c .before .before .before .before .before .before .before .before .before .before .before .before .before .before .before .word-number .ensures .0) in
+    let w = c .before .before .before .before .before .before .before .correct-word .ensures in
+    (w .0, c .by-count .ensures ∙ other-outcome (p .0 .fits) (p .0 .linked) (a .a) (p .1) (p .2) x (c .before .before .before .before .before .before .before .before .before .before .before .before .if1 .left) (w .1), w .2)
 
 pub visit-word-spec : {M : Type 1} → statement M
 visit-word-spec =
     tie.close
-    (tie.spec word-number-requires get-requires (λ c. search needs) returns (λ c. search needs) returns-2 (λ c κs. search needs) (λ c. search needs)
-    (λ c. search needs) (λ c. search needs) (λ c. search needs))
+    (tie.spec word-number-requires get-requires (λ c. search needs) returns (λ c. search needs) returns-2 (λ c κs. search needs) (λ c κs. search needs)
+    (λ c. search needs) (λ c. search needs) (λ c. search needs) returns-3)

@@ -1,16 +1,15 @@
 -- A refusal of rules 1 to 5 is the answer, then one of the encoder; else the decoder's answer is the answer.
 -- Assumes nothing.
-use mathlib.Core.Path.{_≡_, sym, ap, ap₂, _∙_}
-use mathlib.Core.List.{List}
-use Prim.Native.Nat.{ℕ, _+_, _-_, _*_, _/_}
+use mathlib.Core.Path.{_≡_, sym, ap, _∙_}
+use mathlib.Core.List.{_++_}
+use Prim.Native.Nat.{ℕ, _+_, _-_, _/_, _≤_}
 use native.Mathlib.Omega.{arith}
-use lib.ListN.{length}
+use lib.ListN.{length, take, drop}
 use Rattle.staircase.specs.Design.{params, order}
-use Rattle.staircase.specs.Frame.{groups}
-use Rattle.staircase.specs.Rules.{wordWork, decoderWork}
-use Rattle.staircase.specs.Calls.{encodeCall, decodeCall}
+use Rattle.staircase.specs.Rules.{wordWork, keptWork, decoderWork}
+use Rattle.staircase.specs.Calls.{Encoded, encodeCall}
 use Rattle.design.proofs.Answers.{check-passed}
-use Rattle.loopback.proofs.TwoCalls.{loopback-numbers, loopback-encoder, small-frame, own-length, working-fits, loopback-decoded}
+use Rattle.loopback.proofs.TwoCalls.{decode-same, part-length, loopback-numbers, loopback-encoder, small-frame, own-length, working-fits, loopback-decoded}
 use borrow.Author.Needs.{needs}
 use Rattle.loopback.proofs.loopback.Statement.{statement}
 use Rattle.loopback.proofs.loopback.Tie as tie
@@ -23,24 +22,25 @@ returns c =
     (a .info .now) (a .red .now) (length (a .work .now)) _
     (c .before .before .before .check-numbers .ensures) (c .before .enum-told2 .given .1)
 
-number-bytes-requires : tie.Need-number-bytes-requires
-number-bytes-requires c κs =
+kept-bytes-requires : tie.Need-kept-bytes-requires
+kept-bytes-requires c κs =
     let a = c .before .before .before .before .before .before .before .before .before .before .before .args in
     let ok = sym (c .before .before .check-numbers .ensures) ∙ check-passed (c .enum-told .given .1) in
     let h = small-frame (a .m) (a .t) (a .size) (a .blocks) (a .rounds) (a .own .now) (a .parity .now) (a .inverse .now) (a .info-errors .now) (a .red-errors .now)
     (a .info .now) (a .red .now) (length (a .work .now)) ok in (h .0, h .1)
 
-encode-front-requires : tie.Need-encode-front-requires
-encode-front-requires c κs = omega (arith, c .before .before .before .bytes-before .ensures .1)
-
 returns-2 : tie.Need-returns-2
 returns-2 c =
     let a = c .before .before .before .before .before .before .before .before .before .before .before .before .before .before .before .before .before .before .before .before .before .before .before .before .args in
+    let s = params (a .m) (a .t) (a .size) in
     let ok = sym (c .before .before .before .before .before .before .before .before .before .before .before .before .before .before .before .check-numbers .ensures) ∙ check-passed (c .before .before .before .before .before .before .before .before .before .before .before .before .before .enum-told .given .1) in
-    let more : c .before .before .before .before .before .before .before .before .before .before .before .before .number-bytes .result ≡ 8 * (groups (a .blocks) * a .size) = c .before .before .before .before .before .before .before .before .before .before .before .before .number-bytes .ensures .0 in
-    let spare : c .before .before .before .before .before .before .before .before .before .before .before .bytes-before .result ≡ length (a .work .now) - 8 * (groups (a .blocks) * a .size) = c .before .before .before .before .before .before .before .before .before .before .before .bytes-before .ensures .0 ∙ ap (λ (n : ℕ). length (a .work .now) - n) more in
-    let verdict = c .before .before .before .before .before .before .before .encode-front .ensures .0 ∙ ap (λ (n : ℕ). encodeCall (a .m) (a .t) (a .size) (a .blocks) (a .own .now) (a .parity .now) (a .inverse .now) (a .info .now) (a .red .now) n .verdict) spare in
-    let after = c .before .before .before .before .before .before .before .encode-front .ensures .1 ∙ ap (λ (n : ℕ). encodeCall (a .m) (a .t) (a .size) (a .blocks) (a .own .now) (a .parity .now) (a .inverse .now) (a .info .now) (a .red .now) n .red) spare in
+    let front = c .before .before .before .before .before .before .before .before .before .before .before .bytes-before .result in
+    let room : front ≤ length (a .work .now) = c .before .before .before .before .before .before .before .before .before .before .before .bytes-before .ensures .1 in
+    let lent : length (take (front - 0) (a .work .now)) ≡ length (a .work .now) - keptWork s (a .blocks) =
+    part-length (a .work .now) front room ∙ c .before .before .before .before .before .before .before .before .before .before .before .bytes-before .ensures .0 ∙ ap (λ (n : ℕ). length (a .work .now) - n) (c .before .before .before .before .before .before .before .before .before .before .before .before .kept-bytes .ensures .0) in
+    let call : ℕ → Encoded = λ n. encodeCall (a .m) (a .t) (a .size) (a .blocks) (a .own .now) (a .parity .now) (a .inverse .now) (a .info .now) (a .red .now) n in
+    let verdict = c .before .before .before .before .before .before .before .encode .ensures .0 ∙ ap (λ (n : ℕ). call n .verdict) lent in
+    let after = c .before .before .before .before .before .before .before .encode .ensures .1 ∙ ap (λ (n : ℕ). call n .red) lent in
     c .refused-frame2 .ensures _
     ∙ loopback-encoder (a .m) (a .t) (a .size) (a .blocks) (a .rounds) (a .own .now) (a .parity .now) (a .inverse .now) (a .info-errors .now) (a .red-errors .now)
     (a .info .now) (a .red .now) (length (a .work .now)) ok _ _
@@ -49,68 +49,99 @@ returns-2 c =
 add-n : tie.Need-add-n
 add-n c =
     let a = c .before .before .before .before .before .before .before .before .before .before .before .before .before .before .before .before .before .before .before .before .before .before .before .before .before .before .before .before .before .before .before .args in
+    let s = params (a .m) (a .t) (a .size) in
     let ok = sym (c .before .before .before .before .before .before .before .before .before .before .before .before .before .before .before .before .before .before .before .before .before .before .check-numbers .ensures) ∙ check-passed (c .before .before .before .before .before .before .before .before .before .before .before .before .before .before .before .before .before .before .before .before .enum-told .given .1) in
-    let more : c .before .before .before .before .before .before .before .before .before .before .before .before .before .before .before .before .before .before .before .number-bytes .result ≡ 8 * (groups (a .blocks) * a .size) = c .before .before .before .before .before .before .before .before .before .before .before .before .before .before .before .before .before .before .before .number-bytes .ensures .0 in
-    let spare : c .before .before .before .before .before .before .before .before .before .before .before .before .before .before .before .before .before .before .bytes-before .result ≡ length (a .work .now) - 8 * (groups (a .blocks) * a .size) = c .before .before .before .before .before .before .before .before .before .before .before .before .before .before .before .before .before .before .bytes-before .ensures .0 ∙ ap (λ (n : ℕ). length (a .work .now) - n) more in
-    let verdict = c .before .before .before .before .before .before .before .before .before .before .before .before .before .before .encode-front .ensures .0 ∙ ap (λ (n : ℕ). encodeCall (a .m) (a .t) (a .size) (a .blocks) (a .own .now) (a .parity .now) (a .inverse .now) (a .info .now) (a .red .now) n .verdict) spare in
-    let after = c .before .before .before .before .before .before .before .before .before .before .before .before .before .before .encode-front .ensures .1 ∙ ap (λ (n : ℕ). encodeCall (a .m) (a .t) (a .size) (a .blocks) (a .own .now) (a .parity .now) (a .inverse .now) (a .info .now) (a .red .now) n .red) spare in
+    let front = c .before .before .before .before .before .before .before .before .before .before .before .before .before .before .before .before .before .before .bytes-before .result in
+    let room : front ≤ length (a .work .now) = c .before .before .before .before .before .before .before .before .before .before .before .before .before .before .before .before .before .before .bytes-before .ensures .1 in
+    let lent : length (take (front - 0) (a .work .now)) ≡ length (a .work .now) - keptWork s (a .blocks) =
+    part-length (a .work .now) front room ∙ c .before .before .before .before .before .before .before .before .before .before .before .before .before .before .before .before .before .before .bytes-before .ensures .0 ∙ ap (λ (n : ℕ). length (a .work .now) - n) (c .before .before .before .before .before .before .before .before .before .before .before .before .before .before .before .before .before .before .before .kept-bytes .ensures .0) in
+    let call : ℕ → Encoded = λ n. encodeCall (a .m) (a .t) (a .size) (a .blocks) (a .own .now) (a .parity .now) (a .inverse .now) (a .info .now) (a .red .now) n in
+    let verdict = c .before .before .before .before .before .before .before .before .before .before .before .before .before .before .encode .ensures .0 ∙ ap (λ (n : ℕ). call n .verdict) lent in
+    let after = c .before .before .before .before .before .before .before .before .before .before .before .before .before .before .encode .ensures .1 ∙ ap (λ (n : ℕ). call n .red) lent in
     let v = sym verdict ∙ check-passed (c .before .before .before .before .before .before .before .before .enum-told3 .given .1) in
     omega (
       arith,
-      c .before .before .before .before .before .before .before .before .before .before .before .before .before .before .before .before .before .before .before .number-bytes .ensures .1,
+      c .before .before .before .before .before .before .before .before .before .before .before .before .before .before .before .before .before .before .before .kept-bytes .ensures .1,
       own-length (a .m) (a .t) (a .size) (a .blocks) (a .rounds) (a .own .now) (a .parity .now) (a .inverse .now) (a .info-errors .now) (a .red-errors .now)
           (a .info .now) (a .red .now) (length (a .work .now)) ok v,
       small-frame (a .m) (a .t) (a .size) (a .blocks) (a .rounds) (a .own .now) (a .parity .now) (a .inverse .now) (a .info-errors .now) (a .red-errors .now)
           (a .info .now) (a .red .now) (length (a .work .now)) ok .2,
     )
 
-decode-front-requires : tie.Need-decode-front-requires
-decode-front-requires c κs =
-    let a = c .before .before .before .before .before .before .before .before .before .before .before .before .before .before .before .before .before .before .before .before .before .before .before .before .before .before .before .before .before .before .before .before .before .before .args in
-    let ok = sym (c .before .before .before .before .before .before .before .before .before .before .before .before .before .before .before .before .before .before .before .before .before .before .before .before .before .check-numbers .ensures) ∙ check-passed (c .before .before .before .before .before .before .before .before .before .before .before .before .before .before .before .before .before .before .before .before .before .before .before .enum-told .given .1) in
-    let more : c .before .before .before .before .before .before .before .before .before .before .before .before .before .before .before .before .before .before .before .before .before .before .number-bytes .result ≡ 8 * (groups (a .blocks) * a .size) = c .before .before .before .before .before .before .before .before .before .before .before .before .before .before .before .before .before .before .before .before .before .before .number-bytes .ensures .0 in
-    let spare : c .before .before .before .before .before .before .before .before .before .before .before .before .before .before .before .before .before .before .before .before .before .bytes-before .result ≡ length (a .work .now) - 8 * (groups (a .blocks) * a .size) = c .before .before .before .before .before .before .before .before .before .before .before .before .before .before .before .before .before .before .before .before .before .bytes-before .ensures .0 ∙ ap (λ (n : ℕ). length (a .work .now) - n) more in
-    let verdict = c .before .before .before .before .before .before .before .before .before .before .before .before .before .before .before .before .before .encode-front .ensures .0 ∙ ap (λ (n : ℕ). encodeCall (a .m) (a .t) (a .size) (a .blocks) (a .own .now) (a .parity .now) (a .inverse .now) (a .info .now) (a .red .now) n .verdict) spare in
-    let after = c .before .before .before .before .before .before .before .before .before .before .before .before .before .before .before .before .before .encode-front .ensures .1 ∙ ap (λ (n : ℕ). encodeCall (a .m) (a .t) (a .size) (a .blocks) (a .own .now) (a .parity .now) (a .inverse .now) (a .info .now) (a .red .now) n .red) spare in
-    let v = sym verdict ∙ check-passed (c .before .before .before .before .before .before .before .before .before .before .before .enum-told3 .given .1) in
-    omega (
+part-decode-end : tie.Need-part-decode-end
+part-decode-end c =
+    let a = c .before .before .before .before .before .before .before .before .before .before .before .before .before .before .before .before .before .before .before .before .before .before .before .before .before .before .before .before .before .before .before .before .before .args in
+    let s = params (a .m) (a .t) (a .size) in
+    let ok = sym (c .before .before .before .before .before .before .before .before .before .before .before .before .before .before .before .before .before .before .before .before .before .before .before .before .check-numbers .ensures) ∙ check-passed (c .before .before .before .before .before .before .before .before .before .before .before .before .before .before .before .before .before .before .before .before .before .before .enum-told .given .1) in
+    let front = c .before .before .before .before .before .before .before .before .before .before .before .before .before .before .before .before .before .before .before .before .bytes-before .result in
+    let room : front ≤ length (a .work .now) = c .before .before .before .before .before .before .before .before .before .before .before .before .before .before .before .before .before .before .before .before .bytes-before .ensures .1 in
+    let lent : length (take (front - 0) (a .work .now)) ≡ length (a .work .now) - keptWork s (a .blocks) =
+    part-length (a .work .now) front room ∙ c .before .before .before .before .before .before .before .before .before .before .before .before .before .before .before .before .before .before .before .before .bytes-before .ensures .0 ∙ ap (λ (n : ℕ). length (a .work .now) - n) (c .before .before .before .before .before .before .before .before .before .before .before .before .before .before .before .before .before .before .before .before .before .kept-bytes .ensures .0) in
+    let call : ℕ → Encoded = λ n. encodeCall (a .m) (a .t) (a .size) (a .blocks) (a .own .now) (a .parity .now) (a .inverse .now) (a .info .now) (a .red .now) n in
+    let verdict = c .before .before .before .before .before .before .before .before .before .before .before .before .before .before .before .before .encode .ensures .0 ∙ ap (λ (n : ℕ). call n .verdict) lent in
+    let after = c .before .before .before .before .before .before .before .before .before .before .before .before .before .before .before .before .encode .ensures .1 ∙ ap (λ (n : ℕ). call n .red) lent in
+    let v = sym verdict ∙ check-passed (c .before .before .before .before .before .before .before .before .before .before .enum-told3 .given .1) in
+    let W = c .before .before .before .before .before .before .before .before .before .before .before .before .before .before .before .before .encode .last .1 .1 .1 .1 .1 .1 .1 .1 .1 .0 in
+    let n = length (a .own .now) / 2 + c .before .before .before .before .before .before .before .before .before .before .before .before .before .before .before .before .before .before .before .before .before .kept-bytes .result in
+    let q : n ≡ order s + keptWork s (a .blocks) = omega (
       arith,
-      more,
-      c .before .before .before .before .before .before .before .before .before .before .before .before .before .before .work .given,
+      c .before .before .before .before .before .before .before .before .before .before .before .before .before .before .before .before .before .before .before .before .before .kept-bytes .ensures .0,
       own-length (a .m) (a .t) (a .size) (a .blocks) (a .rounds) (a .own .now) (a .parity .now) (a .inverse .now) (a .info-errors .now) (a .red-errors .now)
           (a .info .now) (a .red .now) (length (a .work .now)) ok v,
+    ) in
+    let long : length (W ++ drop (front - 0) (a .work .now)) ≡ length (a .work .now) = c .before .before .before .before .before .before .before .before .before .before .before .before .before .work .given .1 in
+    let fits : n ≤ length (W ++ drop (front - 0) (a .work .now)) = omega (
+      arith,
+      q,
+      long,
       working-fits (a .m) (a .t) (a .size) (a .blocks) (a .rounds) (a .own .now) (a .parity .now) (a .inverse .now) (a .info-errors .now) (a .red-errors .now)
           (a .info .now) (a .red .now) (length (a .work .now)) ok v,
-    )
+    ) in
+    fits
 
 returns-3 : tie.Need-returns-3
 unfolding decoderWork wordWork
 returns-3 c =
     let a = c .before .before .before .before .before .before .before .before .before .before .before .before .before .before .before .before .before .before .before .before .before .before .before .before .before .before .before .before .before .before .before .before .before .before .before .before .before .before .before .before .before .args in
+    let s = params (a .m) (a .t) (a .size) in
     let ok = sym (c .before .before .before .before .before .before .before .before .before .before .before .before .before .before .before .before .before .before .before .before .before .before .before .before .before .before .before .before .before .before .before .before .check-numbers .ensures) ∙ check-passed (c .before .before .before .before .before .before .before .before .before .before .before .before .before .before .before .before .before .before .before .before .before .before .before .before .before .before .before .before .before .before .enum-told .given .1) in
-    let more : c .before .before .before .before .before .before .before .before .before .before .before .before .before .before .before .before .before .before .before .before .before .before .before .before .before .before .before .before .before .number-bytes .result ≡ 8 * (groups (a .blocks) * a .size) = c .before .before .before .before .before .before .before .before .before .before .before .before .before .before .before .before .before .before .before .before .before .before .before .before .before .before .before .before .before .number-bytes .ensures .0 in
-    let spare : c .before .before .before .before .before .before .before .before .before .before .before .before .before .before .before .before .before .before .before .before .before .before .before .before .before .before .before .before .bytes-before .result ≡ length (a .work .now) - 8 * (groups (a .blocks) * a .size) = c .before .before .before .before .before .before .before .before .before .before .before .before .before .before .before .before .before .before .before .before .before .before .before .before .before .before .before .before .bytes-before .ensures .0 ∙ ap (λ (n : ℕ). length (a .work .now) - n) more in
-    let verdict = c .before .before .before .before .before .before .before .before .before .before .before .before .before .before .before .before .before .before .before .before .before .before .before .before .encode-front .ensures .0 ∙ ap (λ (n : ℕ). encodeCall (a .m) (a .t) (a .size) (a .blocks) (a .own .now) (a .parity .now) (a .inverse .now) (a .info .now) (a .red .now) n .verdict) spare in
-    let after = c .before .before .before .before .before .before .before .before .before .before .before .before .before .before .before .before .before .before .before .before .before .before .before .before .encode-front .ensures .1 ∙ ap (λ (n : ℕ). encodeCall (a .m) (a .t) (a .size) (a .blocks) (a .own .now) (a .parity .now) (a .inverse .now) (a .info .now) (a .red .now) n .red) spare in
+    let front = c .before .before .before .before .before .before .before .before .before .before .before .before .before .before .before .before .before .before .before .before .before .before .before .before .before .before .before .before .bytes-before .result in
+    let room : front ≤ length (a .work .now) = c .before .before .before .before .before .before .before .before .before .before .before .before .before .before .before .before .before .before .before .before .before .before .before .before .before .before .before .before .bytes-before .ensures .1 in
+    let lent : length (take (front - 0) (a .work .now)) ≡ length (a .work .now) - keptWork s (a .blocks) =
+    part-length (a .work .now) front room ∙ c .before .before .before .before .before .before .before .before .before .before .before .before .before .before .before .before .before .before .before .before .before .before .before .before .before .before .before .before .bytes-before .ensures .0 ∙ ap (λ (n : ℕ). length (a .work .now) - n) (c .before .before .before .before .before .before .before .before .before .before .before .before .before .before .before .before .before .before .before .before .before .before .before .before .before .before .before .before .before .kept-bytes .ensures .0) in
+    let call : ℕ → Encoded = λ n. encodeCall (a .m) (a .t) (a .size) (a .blocks) (a .own .now) (a .parity .now) (a .inverse .now) (a .info .now) (a .red .now) n in
+    let verdict = c .before .before .before .before .before .before .before .before .before .before .before .before .before .before .before .before .before .before .before .before .before .before .before .before .encode .ensures .0 ∙ ap (λ (n : ℕ). call n .verdict) lent in
+    let after = c .before .before .before .before .before .before .before .before .before .before .before .before .before .before .before .before .before .before .before .before .before .before .before .before .encode .ensures .1 ∙ ap (λ (n : ℕ). call n .red) lent in
     let v = sym verdict ∙ check-passed (c .before .before .before .before .before .before .before .before .before .before .before .before .before .before .before .before .before .before .enum-told3 .given .1) in
-    let n = length (a .own .now) / 2 + c .before .before .before .before .before .before .before .before .before .before .before .before .before .before .before .before .before .before .before .before .before .before .before .before .before .before .before .before .before .number-bytes .result in
-    let q : n ≡ order (params (a .m) (a .t) (a .size)) + 8 * (groups (a .blocks) * a .size) = omega (
+    let W = c .before .before .before .before .before .before .before .before .before .before .before .before .before .before .before .before .before .before .before .before .before .before .before .before .encode .last .1 .1 .1 .1 .1 .1 .1 .1 .1 .0 in
+    let n = length (a .own .now) / 2 + c .before .before .before .before .before .before .before .before .before .before .before .before .before .before .before .before .before .before .before .before .before .before .before .before .before .before .before .before .before .kept-bytes .result in
+    let q : n ≡ order s + keptWork s (a .blocks) = omega (
       arith,
-      more,
+      c .before .before .before .before .before .before .before .before .before .before .before .before .before .before .before .before .before .before .before .before .before .before .before .before .before .before .before .before .before .kept-bytes .ensures .0,
       own-length (a .m) (a .t) (a .size) (a .blocks) (a .rounds) (a .own .now) (a .parity .now) (a .inverse .now) (a .info-errors .now) (a .red-errors .now)
           (a .info .now) (a .red .now) (length (a .work .now)) ok v,
     ) in
+    let long : length (W ++ drop (front - 0) (a .work .now)) ≡ length (a .work .now) = c .before .before .before .before .before .before .before .before .before .before .before .before .before .before .before .before .before .before .before .before .before .work .given .1 in
+    let fits : n ≤ length (W ++ drop (front - 0) (a .work .now)) = omega (
+      arith,
+      q,
+      long,
+      working-fits (a .m) (a .t) (a .size) (a .blocks) (a .rounds) (a .own .now) (a .parity .now) (a .inverse .now) (a .info-errors .now) (a .red-errors .now)
+          (a .info .now) (a .red .now) (length (a .work .now)) ok v,
+    ) in
+    let lent-again = part-length (W ++ drop (front - 0) (a .work .now)) n fits in
     loopback-decoded (a .m) (a .t) (a .size) (a .blocks) (a .rounds) (a .own .now) (a .parity .now) (a .inverse .now) (a .info-errors .now) (a .red-errors .now)
     (a .info .now) (a .red .now) (length (a .work .now)) ok v _ _ n
     after q
-    (c .before .before .before .before .before .before .decode-front .ensures
-    ∙ ap₂ (λ (i r : List ℕ). decodeCall (a .m) (a .t) (a .size) (a .blocks) (a .rounds) (a .own .now) (a .parity .now) i r n)
-    (c .before .before .before .before .before .before .before .before .before .before .before .before .before .before .before .before .turn-bits .ensures) (c .before .before .before .before .before .before .before .before .before .before .before .before .turn-bits2 .ensures))
+    (c .before .before .before .before .before .before .decode .ensures
+    ∙ decode-same (a .m) (a .t) (a .size) (a .blocks) (a .rounds) (a .own .now) (a .parity .now)
+    (c .before .before .before .before .before .before .before .before .before .before .before .before .before .before .before .before .turn-bits .ensures)
+    (c .before .before .before .before .before .before .before .before .before .before .before .before .turn-bits2 .ensures) lent-again)
 
 pub loopback-spec : {M : Type 1} → statement M
 loopback-spec =
     tie.close
-    (tie.spec (λ c κs. search needs) (λ c. search needs) (λ c. search needs) (λ c κs. search needs) returns number-bytes-requires (λ c κs. search needs)
-    encode-front-requires (λ c. search needs) (λ c. search needs) (λ c κs. search needs) (λ c. search needs) (λ c. search needs) (λ c. search needs)
-    returns-2 (λ c κs. search needs) (λ c κs. search needs) add-n decode-front-requires (λ c. search needs) (λ c. search needs) (λ c. search needs)
-    returns-3)
+    (tie.spec (λ c κs. search needs) (λ c. search needs) (λ c. search needs) (λ c κs. search needs) returns kept-bytes-requires (λ c κs. search needs)
+    (λ c. search needs) (λ c. search needs) (λ c. search needs) (λ c κs. search needs) (λ c. search needs) (λ c. search needs) (λ c κs. search needs)
+    (λ c. search needs) (λ c. search needs) (λ c. search needs) returns-2 (λ c κs. search needs) (λ c κs. search needs) add-n (λ c. search needs)
+    (λ c. search needs) part-decode-end (λ c κs. search needs) (λ c. search needs) (λ c. search needs) (λ c. search needs) returns-3)
