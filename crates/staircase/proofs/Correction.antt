@@ -6,6 +6,7 @@
 --   Sound f w             a word of the frame is in its code, whose distance is at least 2t + 1
 --   FewWrong, Covers      at most t wrong bits in a word; each byte of the frame is in some word
 --   Nearer f a b          b has the frame's bit or a's bit at each site
+--   covers-same           where all words are the frame's, so are the buffers
 --   correct-word          a corrected word is the sent word
 --   correctEach-restore   after a pass over some words these are the sent ones, and nothing has moved away from the frame
 --   roundOf-near          after a round no word has more than t wrong bits
@@ -78,7 +79,7 @@ Covers f ws =
 abbrev pub Nearer : Frame → Frame → Frame → Type 0
 Nearer f a b = (y : Site) → (bitAt b y ≡ bitAt f y) ⊎ (bitAt b y ≡ bitAt a y)
 
-nearer-trans : (f a b c : Frame) → Nearer f a b → Nearer f b c → Nearer f a c
+pub nearer-trans : (f a b c : Frame) → Nearer f a b → Nearer f b c → Nearer f a c
 nearer-trans f a b c p q y = go (p y) (q y)
   where
     go : (bitAt b y ≡ bitAt f y) ⊎ (bitAt b y ≡ bitAt a y) → (bitAt c y ≡ bitAt f y) ⊎ (bitAt c y ≡ bitAt b y) → (bitAt c y ≡ bitAt f y) ⊎ (bitAt c y ≡ bitAt a y)
@@ -97,12 +98,24 @@ nearer-distance f a b p (x ∷ w) = go (p x) (nearer-distance f a b p w)
     go (inr e) l =
         omega (arith, ap (unlike (bitAt f x)) e, l)
 
-nearer-same : (f a b : Frame) → Nearer f a b → (w : List Site) → read a w ≡ read f w → read b w ≡ read f w
+pub nearer-same : (f a b : Frame) → Nearer f a b → (w : List Site) → read a w ≡ read f w → read b w ≡ read f w
 nearer-same f a b p w e = read-same w b f (λ y i. go y i (p y))
   where
     go : (y : Site) → In y w → (bitAt b y ≡ bitAt f y) ⊎ (bitAt b y ≡ bitAt a y) → bitAt b y ≡ bitAt f y
     go y i (inl q) = q
     go y i (inr q) = q ∙ same-read w a f e y i
+
+-- a frame all words of which are the frame's
+pub covers-same : (f : Frame) (ws : List Word) → Covers f ws → (b : Frame) → Received f b
+    → ((w : Word) → In w ws → read b (w .sites) ≡ read f (w .sites)) → b ≡ f
+covers-same f ws all b g same =
+    let info-same : b .info ≡ f .info =
+    ext-getD 0 (b .info) (f .info) (g .infoLength)
+    (λ k h. let c = all .0 k (omega (arith, g .infoLength)) in same-read (c .0 .sites) b f (same (c .0) (c .1)) (inInfo k) (c .2)) in
+    let red-same : b .red ≡ f .red =
+    ext-getD 0 (b .red) (f .red) (g .redLength)
+    (λ k h. let c = all .1 k (omega (arith, g .redLength)) in same-read (c .0 .sites) b f (same (c .0) (c .1)) (inRed k) (c .2)) in
+    λ i. record { info = info-same i; red = red-same i }
 
 module _ (f : Frame) (ff : Received f f) where
   module _ (a : Frame) (g : Received f a) (v : Word) (ok : Sound f v) (few : FewWrong f a v) where
@@ -174,7 +187,7 @@ module _ (f : Frame) (ff : Received f f) where
         go (inr d) = inr (flipAll-other (correction s a w) a y d)
 
   -- after a pass over some words these are the frame's, and nothing has moved away from the frame
-  correctEach-restore : (ws : List Word) → ((w : Word) → In w ws → Sound f w) → (x : Progress) → Received f (x .frame)
+  pub correctEach-restore : (ws : List Word) → ((w : Word) → In w ws → Sound f w) → (x : Progress) → Received f (x .frame)
       → ((w : Word) → In w ws → FewWrong f (x .frame) w)
       → Received f (correctEach x ws .frame) × Nearer f (x .frame) (correctEach x ws .frame)
       × ((w : Word) → In w ws → read (correctEach x ws .frame) (w .sites) ≡ read f (w .sites))
@@ -209,14 +222,7 @@ module _ (f : Frame) (ff : Received f f) where
     roundOf-restores a g few =
         let x : Progress = record { frame = a; flips = 0 } in
         let p = correctEach-restore ws ok x g few in
-        let b : Frame = correctEach x ws .frame in
-        let info-same : b .info ≡ f .info =
-        ext-getD 0 (b .info) (f .info) (p .0 .infoLength)
-        (λ k h. let c = all .0 k (omega (arith, p .0 .infoLength)) in same-read (c .0 .sites) b f (p .2 (c .0) (c .1)) (inInfo k) (c .2)) in
-        let red-same : b .red ≡ f .red =
-        ext-getD 0 (b .red) (f .red) (p .0 .redLength)
-        (λ k h. let c = all .1 k (omega (arith, p .0 .redLength)) in same-read (c .0 .sites) b f (p .2 (c .0) (c .1)) (inRed k) (c .2)) in
-        λ i. record { info = info-same i; red = red-same i }
+        covers-same f ws all (correctEach x ws .frame) (p .0) (p .2)
 
     none-wrong : (w : Word) → In w ws → FewWrong f f w
     none-wrong w i = subst (λ (z : ℕ). z ≤ w .code .t) (sym (distance-self (read f (w .sites)))) zero-le

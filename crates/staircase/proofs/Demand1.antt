@@ -2,7 +2,8 @@
 --   byTable-then, byTable-refuse, byTable-first   one rule after another; a rule of a test; a rule of a search
 --   design-byTable, lists-byTable, ..             the rules
 --   byTable-more, byTable-front                   a call that has more rules
---   design-demand1, kit-demand1, make-demand1, spread-demand1, encode-demand1, batch-demand1, words-demand1, decode-demand1, show-demand1   the calls
+--   design-demand1, kit-demand1, make-demand1, spread-demand1, encode-demand1, batch-demand1, words-demand1, decode-demand1, window-demand1, show-demand1
+--                                                 the calls
 --   encodedBy-untouched, correctedBy-untouched    what a refused call leaves
 -- Assumes nothing.
 use mathlib.Core.Path.{_≡_, refl, sym, ap, subst, _∙_, subst⁻¹}
@@ -28,6 +29,7 @@ use Rattle.staircase.specs.Square.{dependent, inverseMatrix, packedMatri
 use Rattle.staircase.specs.Maker.{makeWork, singularRule, makeVerdict, madeBy, makeCall}
 use Rattle.staircase.specs.Spread.{narrowRule, spreadVerdict, spreadBy, spreadCall}
 use Rattle.staircase.specs.Batch.{most-frames, batchRule, batchLengths, batchVerdict, batchRedundancy, batchCall}
+use Rattle.staircase.specs.Window.{most-window, windowRule, windowVerdict, windowCall}
 use Rattle.staircase.specs.Demand1.{Table, among, ByTable, worked, refusedBy, Demand1}
 use Rattle.staircase.specs.Demand1 as table
 use Rattle.staircase.proofs.Bounds.{small-product}
@@ -353,6 +355,14 @@ encode-demand1 m t M L self parity w info red work =
       untouched = encodedBy-untouched v red new;
     }
 
+-- a number that a rule wants from 1 to a limit
+none-or-above : (high n : ℕ) → outOfRange 1 high n ≡ true → 0 < n → high < n
+none-or-above high n e pos = go (decLt high n)
+  where
+    go : Dec (high < n) → high < n
+    go (yes h) = h
+    go (no h) = absurd (true≢false (sym e ∙ inRange 1 high n pos (omega arith)))
+
 -- document 02: the batch has the encoder's and 17
 abbrev batchNumbers : List ℕ
 batchNumbers = 1 ∷ 2 ∷ 3 ∷ 4 ∷ 6 ∷ 7 ∷ 8 ∷ 9 ∷ 10 ∷ 17 ∷ []
@@ -367,17 +377,10 @@ batch-byTable m t M L n self parity w info red work =
     let rest : Verdict = kitLengths s self parity w then (v4 then v5) then lengthRule 6 work (kitWork s) then contentRules s (interleavers s self parity) w info in
     byTable-then batchNumbers (designRules m t M) (countRule L then v17 then rest) (design-byTable batchNumbers refl refl refl m t M)
     (λ d. byTable-then batchNumbers (countRule L) (v17 then rest) (count-byTable batchNumbers refl L)
-    (λ c. byTable-then batchNumbers v17 rest (byTable-refuse batchNumbers (outOfRange 1 most-frames n) 17 n refl (λ e. table.batch refl (outside e)))
+    (λ c. byTable-then batchNumbers v17 rest (byTable-refuse batchNumbers (outOfRange 1 most-frames n) 17 n refl (λ e. table.batch refl (none-or-above most-frames n e)))
     (λ b. framed-byTable batchNumbers refl refl refl refl refl m t M d self parity w info work (v4 then v5)
     (byTable-then batchNumbers v4 v5 (length-byTable batchNumbers refl 4 (length info) (n * infoLength s L) (omega arith) (omega arith))
     (λ f. length-byTable batchNumbers refl 5 (length red) (n * redLength s L) (omega arith) (omega arith))))))
-  where
-    outside : outOfRange 1 most-frames n ≡ true → 0 < n → most-frames < n
-    outside e pos = go (decLt most-frames n)
-      where
-        go : Dec (most-frames < n) → most-frames < n
-        go (yes h) = h
-        go (no h) = absurd (true≢false (sym e ∙ inRange 1 most-frames n pos (omega arith)))
 
 pub batch-demand1 : (m t M L n : ℕ) (self parity w info red : List ℕ) (work : ℕ)
     → Demand1 (1 ∷ 2 ∷ 3 ∷ 4 ∷ 6 ∷ 7 ∷ 8 ∷ 9 ∷ 10 ∷ 17 ∷ []) (batchCall m t M L n self parity w info red work .verdict)
@@ -458,6 +461,35 @@ decode-demand1 m t M L k self parity info red work =
     record {
       byTable = subst (ByTable decoderNumbers) (sym (correctedBy-verdict v _ _ _)) (decode-byTable m t M L k self parity info red work);
       untouched = correctedBy-untouched v _ _ _;
+    }
+
+-- document 02: under a window the decoder has 18, too
+abbrev windowNumbers : List ℕ
+windowNumbers = 1 ∷ 2 ∷ 3 ∷ 4 ∷ 5 ∷ 6 ∷ 7 ∷ 10 ∷ 18 ∷ []
+
+window-byTable : (m t M L k v : ℕ) (self parity info red : List ℕ) (work : ℕ) → ByTable windowNumbers (windowVerdict m t M L k v self parity info red work)
+unfolding windowVerdict windowRule
+window-byTable m t M L k v self parity info red work =
+    let s : Params = params m t M in
+    let v18 : Verdict = refuse (outOfRange 1 most-window v) 18 v in
+    let rest : Verdict = listLengths s self parity then frameLengths s L info red then lengthRule 6 work (decoderWork s L)
+    then listRule s (interleavers s self parity) then frameBits info red in
+    byTable-then windowNumbers (designRules m t M) (countRule L then roundsRule k then v18 then rest) (design-byTable windowNumbers refl refl refl m t M)
+    (λ d. byTable-then windowNumbers (countRule L) (roundsRule k then v18 then rest) (count-byTable windowNumbers refl L)
+    (λ c. byTable-then windowNumbers (roundsRule k) (v18 then rest) (rounds-byTable windowNumbers refl k)
+    (λ r. byTable-then windowNumbers v18 rest
+    (byTable-refuse windowNumbers (outOfRange 1 most-window v) 18 v refl (λ e. table.window refl (none-or-above most-window v e)))
+    (λ w. received-byTable windowNumbers refl refl refl m t M L d self parity info red work (decoderWork s L)))))
+
+pub window-demand1 : (m t M L k v : ℕ) (self parity info red : List ℕ) (work : ℕ)
+    → Demand1 (1 ∷ 2 ∷ 3 ∷ 4 ∷ 5 ∷ 6 ∷ 7 ∷ 10 ∷ 18 ∷ []) (windowCall m t M L k v self parity info red work .verdict) (info ∷ red ∷ [])
+    (windowCall m t M L k v self parity info red work .frame .info ∷ windowCall m t M L k v self parity info red work .frame .red ∷ [])
+unfolding windowCall
+window-demand1 m t M L k v self parity info red work =
+    let x : Verdict = windowVerdict m t M L k v self parity info red work in
+    record {
+      byTable = subst⁻¹ (ByTable windowNumbers) (correctedBy-verdict x _ _ _) (window-byTable m t M L k v self parity info red work);
+      untouched = correctedBy-untouched x _ _ _;
     }
 
 -- "showing 1 to 4 and 6"

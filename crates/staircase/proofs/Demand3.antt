@@ -131,10 +131,10 @@ module _ (K : Kit) (L : ℕ) (info old : List ℕ) (G : Given K L info old) wher
   pub made-bits : Bits made
   made-bits = redundancy-bits s l L ok (kit .self) (kit .parity) w (kit .rightInverse) (kit .leftInverse) info (G .bits)
 
-  frame-itself : Received frame frame
+  pub frame-itself : Received frame frame
   frame-itself = record { infoLength = refl; redLength = refl; binary = bitAt-bits frame (G .bits) made-bits }
 
-  sound : (w : Word) → In w (plain s (words s l L)) → Sound frame w
+  pub sound : (w : Word) → In w (plain s (words s l L)) → Sound frame w
   sound =
       plain-each s (Sound frame) (words s l L)
       (each-word s L l ok (kit .self) (kit .parity) (λ (v : List Site). Sound frame (word s v))
@@ -144,7 +144,7 @@ module _ (K : Kit) (L : ℕ) (info old : List ℕ) (G : Given K L info old) wher
       far : (v : List Site) → length v ≡ wordLength s → CodeDistance s (length v)
       far v e = subst (CodeDistance s) (sym e) (apart-of limits)
 
-  covered : Covers frame (plain s (words s l L))
+  pub covered : Covers frame (plain s (words s l L))
   covered = (
     λ k h. among (info-covered s L l ok (kit .self) (kit .parity) k (subst (λ (z : ℕ). k < z) (G .info-fits) h)),
     λ k h. among (red-covered s L l ok (kit .self) (kit .parity) k (subst (λ (z : ℕ). k < z) made-length h)),
@@ -197,7 +197,7 @@ module _ (K : Kit) (L : ℕ) (info old : List ℕ) (G : Given K L info old) wher
       ap (λ (n : ℕ). lastStuck (plain s (words s l L)) n received) some
       ∙ lastStuck-free frame frame-itself (plain s (words s l L)) sound j received like (plain-each s (FewWrong frame received) (words s l L) few)
 
-  none-outside : outsideAmong s frame (words s l L) ≡ 0
+  pub none-outside : outsideAmong s frame (words s l L) ≡ 0
   unfolding outsideAmong
   none-outside = outsideEach-none frame frame-itself (plain s (words s l L)) sound
 

@@ -41,6 +41,7 @@ pub mod KeptFrame
 pub mod Rules
 pub mod OrderMoved
 pub mod Decoded
+pub mod Settled
 pub mod BchCode
 pub mod Demand2
 pub mod Maker
@@ -48,6 +49,7 @@ pub mod Spread
 pub mod Singular
 pub mod SpreadCall
 pub mod Demand3
+pub mod Window
 pub mod Encoded
 pub mod Batch
 pub mod Demand1
@@ -56,3 +58,4 @@ pub mod Report
 pub mod Load
 pub mod Vectors
 pub mod RowsTally
+pub mod WindowRows

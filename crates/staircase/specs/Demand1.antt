@@ -17,6 +17,7 @@ use Rattle.staircase.specs.Design.{most-M, most-order, most-rounds}
 use Rattle.staircase.specs.Rules.{Verdict}
 use Rattle.staircase.specs.Rules.Verdict.{accepted, refused}
 use Rattle.staircase.specs.Batch.{most-frames}
+use Rattle.staircase.specs.Window.{most-window}
 
 -- "Returned", "Place". A place that is a number of blocks, of a byte or of a length may be any number.
 pub data Table (n p : ℕ) : Type 0 where
@@ -52,6 +53,8 @@ pub data Table (n p : ℕ) : Type 0 where
   full : n ≡ 16 → 1 ≤ p → p ≤ 6 → Table n p
   -- a tally that a host in C lends as a slice, behind the places of documents 01 and 02 (docs/DECISIONS.md)
   tally : n ≡ 6 → p ≡ 9 → Table n p
+  -- document 02: "18 window .. when V is 0 or above 64; the place is V"
+  window : n ≡ 18 → (0 < p → most-window < p) → Table n p
 
 abbrev pub among : ℕ → List ℕ → Bool
 among n [] = false

@@ -23,6 +23,8 @@ pub mod Demand1
 pub mod OrderMoved
 pub mod Demand2
 pub mod Demand3
+pub mod Window
+pub mod WindowRows
 pub mod BatchFrames
 pub mod RowsK
 pub mod LoadRows

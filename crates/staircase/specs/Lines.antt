@@ -3,6 +3,7 @@
 -- word, and in line b, in the first.
 --   even               the kind of a line: row words for an even number
 --   lineSites          the sites of word a of line k
+--   wordsFrom          the words of some lines, from a line on
 --   wordCount, frameWord   the words of a frame by their numbers, k × M + a
 --   Incidence          a line, a word of it and a position of that: where a word has a bit
 --   along, partner     from the place of a redundancy bit in its row word to that in its column word, and back
@@ -13,6 +14,7 @@ use mathlib.Core.List.{List}
 use Prim.Native.Nat.{ℕ, _+_, _-_, _*_, _/_, _%_}
 use lib.Dec.{eqb, ltb}
 use lib.ListN.{getD}
+use Rattle.staircase.specs.Lists.{tabulate, concat}
 use Rattle.staircase.specs.Design.{Params, Interleavers, order}
 use Rattle.staircase.specs.System.{preimage}
 use Rattle.staircase.specs.Frame.{Site, Word, word, groups, rowSites, columnSites}
@@ -22,6 +24,10 @@ even k = eqb (k % 2) 0
 
 unfoldable pub lineSites : Params → Interleavers → ℕ → ℕ → ℕ → List Site
 lineSites s l L k a = cond (even k) (rowSites s l L (k / 2) a) (columnSites s L (k / 2) a)
+
+-- of n lines from line k on
+abbrev pub wordsFrom : Params → Interleavers → ℕ → ℕ → ℕ → List (List Site)
+wordsFrom s l L k n = concat n (λ i. tabulate (s .M) (lineSites s l L (k + i)))
 
 abbrev pub wordCount : Params → ℕ → ℕ
 wordCount s L = 2 * groups L * s .M
