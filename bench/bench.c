@@ -278,7 +278,7 @@ int main(void)
         double plain = (encode[0][1] - encode[0][0]) / 16, ours = (encode[1][1] - encode[1][0]) / 16;
         printf("m %u t %u M %u, %u rows: kit check %.1f us, plain %.1f us, ratio %.3f, strong %.1f us, ratio %.2f\n", m, t, M, s.size, check[1] * 1e6,
                check[0] * 1e6, check[1] / check[0], check[2] * 1e6, check[1] / check[2]);
-        printf("  32 blocks encoded, kit check apart, in %.1f us, plain %.1f us, ratio %.2f; by a call with its kit check in %.1f us, ratio to that %.1f\n",
+        printf("  32 blocks of a longer frame encoded, kit check apart, in %.1f us, plain %.1f us, ratio %.2f; by a call with its kit check in %.1f us, ratio to that %.1f\n",
                ours * 1e6, plain * 1e6, ours / plain, encode[1][0] * 1e6, encode[1][0] / ours);
         printf("  a bad last byte refused in %.0f us, %.2f of the kit check; its bytes searched plainly in %.0f us, ratio %.2f\n", bad[1] * 1e6,
                bad[1] / check[1], bad[0] * 1e6, bad[1] / bad[0]);

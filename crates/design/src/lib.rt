@@ -37,6 +37,7 @@ pub enum Refusal {
     Narrow(u64),
     Full(u64),
     Batch(u64),
+    Thin(u64),
 }
 
 // The answer of a check.
@@ -67,8 +68,8 @@ const MOST_ROUNDS: u64 = 64;
 // Rule 17: "0 or above 256".
 pub const MOST_FRAMES: u64 = 256;
 
-// `x` is not from `low` to `high`.
-fn out_of_range(low: u64, high: u64, x: u64) -> bool
+// `x` is not from `low` to `high`. Constant work.
+pub fn out_of_range(low: u64, high: u64, x: u64) -> bool
     ensures { λ a. ⌜ a ≡ outOfRange low high x ⌝ }
 {
     if x < low {

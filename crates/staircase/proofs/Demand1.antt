@@ -1,6 +1,6 @@
 -- Demand 1 of the calls on kits and frames.
 --   byTable-then, byTable-refuse, byTable-first   one rule after another; a rule of a test; a rule of a search
---   design-byTable, lists-byTable, ..             the rules
+--   size-byTable, long-byTable, design-byTable, lists-byTable, ..   the rules
 --   byTable-more, byTable-front                   a call that has more rules
 --   design-demand1, kit-demand1, make-demand1, spread-demand1, encode-demand1, batch-demand1, words-demand1, decode-demand1, window-demand1, show-demand1
 --                                                 the calls
@@ -33,7 +33,7 @@ use Rattle.staircase.specs.Window.{most-window, windowRule, windowVerdic
 use Rattle.staircase.specs.Demand1.{Table, among, ByTable, worked, refusedBy, Demand1}
 use Rattle.staircase.specs.Demand1 as table
 use Rattle.staircase.proofs.Bounds.{small-product}
-use Rattle.staircase.proofs.Rules.{then-first, outOfRange-false, inRange, refuse-false, design-limits}
+use Rattle.staircase.proofs.Rules.{inRange, size-limits, design-limits}
 use Rattle.staircase.proofs.Decoded.{correctedBy-verdict}
 use Rattle.staircase.proofs.Encoded.{encodedBy-verdict}
 use Rattle.staircase.proofs.SpreadCall.{spreadBy-verdict}
@@ -55,39 +55,34 @@ module _ (rules : List ℕ) where
 
   -- ---- rules 1 to 6
 
-  module _ (has1 : among 1 rules ≡ true) (has2 : among 2 rules ≡ true) (has3 : among 3 rules ≡ true) where
-    size-byTable : (m t M : ℕ) → ByTable rules (sizeRule m t M)
-    unfolding sizeRule
-    size-byTable m t M =
-        let rm : Verdict = refuse (outOfRange least-m most-m m) 1 1 in
-        let rt : Verdict = refuse (outOfRange 1 most-t t) 1 2 in
-        let rM : Verdict = refuse (outOfRange 1 most-M M) 1 3 in
-        byTable-then rm (rt then rM) (byTable-refuse (outOfRange least-m most-m m) 1 1 has1 (λ e. table.size refl (omega arith) (omega arith)))
-        (λ a. byTable-then rt rM (byTable-refuse (outOfRange 1 most-t t) 1 2 has1 (λ e. table.size refl (omega arith) (omega arith)))
-        (λ b. byTable-refuse (outOfRange 1 most-M M) 1 3 has1 (λ e. table.size refl (omega arith) (omega arith))))
+  pub size-byTable : among 1 rules ≡ true → (m t M : ℕ) → ByTable rules (sizeRule m t M)
+  unfolding sizeRule
+  size-byTable has1 m t M =
+      let rm : Verdict = refuse (outOfRange least-m most-m m) 1 1 in
+      let rt : Verdict = refuse (outOfRange 1 most-t t) 1 2 in
+      let rM : Verdict = refuse (outOfRange 1 most-M M) 1 3 in
+      byTable-then rm (rt then rM) (byTable-refuse (outOfRange least-m most-m m) 1 1 has1 (λ e. table.size refl (omega arith) (omega arith)))
+      (λ a. byTable-then rt rM (byTable-refuse (outOfRange 1 most-t t) 1 2 has1 (λ e. table.size refl (omega arith) (omega arith)))
+      (λ b. byTable-refuse (outOfRange 1 most-M M) 1 3 has1 (λ e. table.size refl (omega arith) (omega arith))))
 
-    m-least : (m t M : ℕ) → sizeRule m t M ≡ accepted → 4 ≤ m
-    unfolding sizeRule
-    m-least m t M e =
-        let rest : Verdict = refuse (outOfRange 1 most-t t) 1 2 then refuse (outOfRange 1 most-M M) 1 3 in
-        outOfRange-false least-m most-m m
-        (refuse-false (outOfRange least-m most-m m) 1 1 (then-first (refuse (outOfRange least-m most-m m) 1 1) rest e)) .0
+  long-place : (m n : ℕ) → 4 ≤ m → 2 ^ m - 1 < n → 15 < n
+  long-place m n h l =
+      let e : m ≡ 4 + (m - 4) = omega arith in
+      let p : 2 ^ m ≡ 16 * 2 ^ (m - 4) = ap (λ (k : ℕ). 2 ^ k) e ∙ pow-add 2 4 (m - 4) in
+      omega (arith, p, pow-pos (m - 4))
 
-    long-place : (m n : ℕ) → 4 ≤ m → 2 ^ m - 1 < n → 15 < n
-    long-place m n h l =
-        let e : m ≡ 4 + (m - 4) = omega arith in
-        let p : 2 ^ m ≡ 16 * 2 ^ (m - 4) = ap (λ (k : ℕ). 2 ^ k) e ∙ pow-add 2 4 (m - 4) in
-        omega (arith, p, pow-pos (m - 4))
+  -- rule 2 for words of n bits, after rule 1
+  pub long-byTable : among 2 rules ≡ true → (m t M n : ℕ) → sizeRule m t M ≡ accepted → ByTable rules (refuse (ltb (2 ^ m - 1) n) 2 n)
+  long-byTable has2 m t M n a =
+      byTable-refuse (ltb (2 ^ m - 1) n) 2 n has2 (λ e. table.long refl (long-place m n (size-limits m t M a .0) (ltb-true (2 ^ m - 1) n e)))
 
-    pub design-byTable : (m t M : ℕ) → ByTable rules (designRules m t M)
-    unfolding designRules longRule largeRule
-    design-byTable m t M =
-        let s : Params = params m t M in
-        byTable-then (sizeRule m t M) (longRule m s then largeRule s) (size-byTable m t M)
-        (λ a. byTable-then (longRule m s) (largeRule s)
-        (byTable-refuse (ltb (2 ^ m - 1) (wordLength s)) 2 (wordLength s) has2
-        (λ e. table.long refl (long-place m (wordLength s) (m-least m t M a) (ltb-true (2 ^ m - 1) (wordLength s) e))))
-        (λ b. byTable-refuse (ltb most-order (order s)) 3 (order s) has3 (λ e. table.large refl (ltb-true most-order (order s) e))))
+  pub design-byTable : among 1 rules ≡ true → among 2 rules ≡ true → among 3 rules ≡ true → (m t M : ℕ) → ByTable rules (designRules m t M)
+  unfolding designRules longRule largeRule
+  design-byTable has1 has2 has3 m t M =
+      let s : Params = params m t M in
+      byTable-then (sizeRule m t M) (longRule m s then largeRule s) (size-byTable has1 m t M)
+      (λ a. byTable-then (longRule m s) (largeRule s) (long-byTable has2 m t M (wordLength s) a)
+      (λ b. byTable-refuse (ltb most-order (order s)) 3 (order s) has3 (λ e. table.large refl (ltb-true most-order (order s) e))))
 
   pub count-byTable : among 4 rules ≡ true → (L : ℕ) → ByTable rules (countRule L)
   unfolding countRule
@@ -211,7 +206,7 @@ pub correctedBy-untouched : (v : Verdict) (old new : Frame) (c : Counts) → cor
 correctedBy-untouched accepted old new c h = absurd (h refl)
 correctedBy-untouched (refused n p) old new c h = refl
 
-countedBy-verdict : (v : Verdict) (o : ℕ) → countedBy v o .verdict ≡ v
+pub countedBy-verdict : (v : Verdict) (o : ℕ) → countedBy v o .verdict ≡ v
 countedBy-verdict accepted o = refl
 countedBy-verdict (refused n p) o = refl
 

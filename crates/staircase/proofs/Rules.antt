@@ -4,7 +4,7 @@
 --   refuseFirst-false, refuseFirst-accepted, refuseFirst-refused   a rule by its first place
 --   refuseFirst-at, refuseFirst-past                where that place was found, and where none was
 --   outOfRange-false, inRange                       a range
---   design-limits                                   rules 1 to 3
+--   size-limits, design-limits                      rule 1; rules 1 to 3
 --   number-in, count-limits                         rule 4
 --   length-equal, length-accepted                   rule 6, for one slice
 --   list-lengths, lengths-fit, lengths-accepted, frame-lengths   for lists, a kit's slices, a frame's buffers
@@ -101,29 +101,34 @@ inRange low high x a b = or-both (le-ltb x low a) (le-ltb high x b)
 
 -- ---- rules 1 to 3
 
-pub design-limits : (m t M : ℕ) → designRules m t M ≡ accepted → Limits m t M
-unfolding designRules sizeRule longRule largeRule
-design-limits m t M e =
+pub size-limits : (m t M : ℕ) → sizeRule m t M ≡ accepted → (least-m ≤ m) × (m ≤ most-m) × (1 ≤ t) × (t ≤ most-t) × (1 ≤ M) × (M ≤ most-M)
+unfolding sizeRule
+size-limits m t M e =
     let rm : Verdict = refuse (outOfRange least-m most-m m) 1 1 in
     let rt : Verdict = refuse (outOfRange 1 most-t t) 1 2 in
     let rM : Verdict = refuse (outOfRange 1 most-M M) 1 3 in
+    let tM : (rt then rM) ≡ accepted = then-rest rm (rt then rM) e in
+    let a = outOfRange-false least-m most-m m (refuse-false (outOfRange least-m most-m m) 1 1 (then-first rm (rt then rM) e)) in
+    let b = outOfRange-false 1 most-t t (refuse-false (outOfRange 1 most-t t) 1 2 (then-first rt rM tM)) in
+    let c = outOfRange-false 1 most-M M (refuse-false (outOfRange 1 most-M M) 1 3 (then-rest rt rM tM)) in
+    (a .0, a .1, b .0, b .1, c .0, c .1)
+
+pub design-limits : (m t M : ℕ) → designRules m t M ≡ accepted → Limits m t M
+unfolding designRules longRule largeRule
+design-limits m t M e =
     let n : ℕ = wordLength (params m t M) in
     let k : ℕ = order (params m t M) in
     let rn : Verdict = refuse (ltb (2 ^ m - 1) n) 2 n in
     let rk : Verdict = refuse (ltb most-order k) 3 k in
-    let sizes : (rm then rt then rM) ≡ accepted = then-first (rm then rt then rM) (rn then rk) e in
-    let rest : (rn then rk) ≡ accepted = then-rest (rm then rt then rM) (rn then rk) e in
-    let tM : (rt then rM) ≡ accepted = then-rest rm (rt then rM) sizes in
-    let a = outOfRange-false least-m most-m m (refuse-false (outOfRange least-m most-m m) 1 1 (then-first rm (rt then rM) sizes)) in
-    let b = outOfRange-false 1 most-t t (refuse-false (outOfRange 1 most-t t) 1 2 (then-first rt rM tM)) in
-    let c = outOfRange-false 1 most-M M (refuse-false (outOfRange 1 most-M M) 1 3 (then-rest rt rM tM)) in
+    let (a, b, c, d, f, g) = size-limits m t M (then-first (sizeRule m t M) (rn then rk) e) in
+    let rest : (rn then rk) ≡ accepted = then-rest (sizeRule m t M) (rn then rk) e in
     record {
-      m-low = a .0;
-      m-high = a .1;
-      t-low = b .0;
-      t-high = b .1;
-      M-low = c .0;
-      M-high = c .1;
+      m-low = a;
+      m-high = b;
+      t-low = c;
+      t-high = d;
+      M-low = f;
+      M-high = g;
       n-high = ltb-false (2 ^ m - 1) n (refuse-false (ltb (2 ^ m - 1) n) 2 n (then-first rn rk rest));
       order-high = ltb-false most-order k (refuse-false (ltb most-order k) 3 k (then-rest rn rk rest));
     }

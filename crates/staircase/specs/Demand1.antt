@@ -13,7 +13,7 @@ use mathlib.Core.Logic.{_≢_}
 use mathlib.Core.List.{List, [], _∷_}
 use Prim.Native.Nat.{ℕ, _*_, _≤_, _<_}
 use lib.Dec.{eqb}
-use Rattle.staircase.specs.Design.{most-M, most-order, most-rounds}
+use Rattle.staircase.specs.Design.{most-m, most-t, most-M, most-order, most-rounds}
 use Rattle.staircase.specs.Rules.{Verdict}
 use Rattle.staircase.specs.Rules.Verdict.{accepted, refused}
 use Rattle.staircase.specs.Batch.{most-frames}
@@ -55,6 +55,8 @@ pub data Table (n p : ℕ) : Type 0 where
   tally : n ≡ 6 → p ≡ 9 → Table n p
   -- document 02: "18 window .. when V is 0 or above 64; the place is V"
   window : n ≡ 18 → (0 < p → most-window < p) → Table n p
+  -- document 02: "19 thin .. the place is r"
+  thin : n ≡ 19 → p ≤ most-m * most-t → Table n p
 
 abbrev pub among : ℕ → List ℕ → Bool
 among n [] = false

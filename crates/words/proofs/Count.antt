@@ -1,5 +1,6 @@
 -- Counting the words outside the code: those whose remainder is not 0.
 --   nonzeros-next, nonzeros-end   a list entry by entry
+--   remainders-outside            words of one code
 --   line-count                    a line, by the remainders of its words
 --   none-yet, next-line, all-counted   line by line
 -- Assumes nothing.
@@ -31,7 +32,7 @@ module _ (l : List ℕ) where
   nonzeros-end k e = ap (λ (j : ℕ). nonzeros (drop j l)) e ∙ ap nonzeros (drop-length l)
 
 module _ (s : Params) (f : Frame) where
-  remainders-outside : (n : ℕ) (w : ℕ → List Site) → nonzeros (tabulate n (λ a. remainder (s .g) (s .r) (read f (w a)))) ≡ outsideAmong s f (tabulate n w)
+  pub remainders-outside : (n : ℕ) (w : ℕ → List Site) → nonzeros (tabulate n (λ a. remainder (s .g) (s .r) (read f (w a)))) ≡ outsideAmong s f (tabulate n w)
   unfolding nonzeros tabulate outsideEach outsideAmong isCodeword
   remainders-outside zero w = refl
   remainders-outside (suc n) w = ap (λ (k : ℕ). cond (eqb (remainder (s .g) (s .r) (read f (w zero))) 0) 0 1 + k) (remainders-outside n (λ a. w (suc a)))

@@ -2,7 +2,7 @@
 --   lists-asked                                what is asked of the lists
 --   received-due                               the rules with the lengths that are due where rule 4 accepts the number of blocks
 --   received-flat                              the rules on a received frame, one after another
---   counted-refused                            a refusal as an answer
+--   counted-refused, by-refused                a refusal as an answer
 --   words-design, words-frame, words-counted   the call's answer at each of its ends
 -- Assumes nothing.
 use mathlib.Core.Path.{_≡_, refl, sym, ap, ap₂, _∙_, subst⁻¹}
@@ -63,7 +63,7 @@ pub counted-refused : (v : Verdict) → record { verdict = v; outside = 0 } ≡ 
 counted-refused accepted = refl
 counted-refused (refused n p) = refl
 
-by-refused : (v : Verdict) (n : ℕ) → v ≢ accepted → countedBy v 0 ≡ countedBy v n
+pub by-refused : (v : Verdict) (n : ℕ) → v ≢ accepted → countedBy v 0 ≡ countedBy v n
 by-refused accepted n h = absurd (h refl)
 by-refused (refused k p) n h = refl
 

@@ -3,6 +3,7 @@
 //   count_nonzero     how many of some remainders are not 0
 //   count_outside     how many words of a frame are outside the code
 //   check_received    rules 4 to 7 and 10 for a frame and its lists
+//   refused_count     a refusal as the word checker's answer
 //   check_words       the word checker: rules 1 to 4, 6, 7 and 10, then the count
 //
 // The remainder of a word is a sum of entries of a table of powers of x, one for each of its ones (crate `bch_remainders`), and a word is in the code
@@ -297,8 +298,8 @@ fn count_received(
     count_outside(line, own, parity, info, red, &positions[0..bits])
 }
 
-// A refused check as the word checker's answer.
-fn refused_count(a: Check) -> WordCount
+// A refused check as the word checker's answer; for calls that end in a count.
+pub fn refused_count(a: Check) -> WordCount
     ensures { λ c. ⌜ countedOf c ≡ countedBy (verdictOf a) 0 ⌝ }
 {
     match a {

@@ -9,6 +9,7 @@
 --   unread, read-whole    how many bits of a block are read for a word
 --   read-few              no more than it has columns
 --   read-each             as many for each word as there are words
+--   zeros-are             a list of zeros as a table
 --   blocks-added          the two blocks of a group's words, from 0
 -- Assumes nothing.
 use mathlib.Core.Path.{_≡_, refl, sym, ap, ap₂, _∙_}
@@ -179,7 +180,7 @@ read-each n words each few = go (decLt 0 words)
     go (yes h) = each 0 h
     go (no h) = omega arith
 
-zeros-are : (n : ℕ) → _≡_ {A = List ℕ} (replicate n 0) (tabulate n (λ k. 0))
+pub zeros-are : (n : ℕ) → _≡_ {A = List ℕ} (replicate n 0) (tabulate n (λ k. 0))
 unfolding tabulate
 zeros-are zero = refl
 zeros-are (suc n) = ap (λ (t : List ℕ). 0 ∷ t) (zeros-are n)

@@ -1,6 +1,7 @@
 // The blocks of a frame as parts of the lent information, and the remainders of the blocks of a group's words.
 //   is_sent(blocks, b)        whether block b of a frame is sent
 //   block_of(info, ..)        its bytes
+//   add_block                 the sums of a block's columns or rows, added, and how many bits were read for each
 //   block_sums                the remainders of the two blocks of a line's words, and how many bits of each word were read
 //   column_sums, row_sums     the same for a group's column words and row words, without the number
 //
@@ -60,7 +61,7 @@ fn add_dots(acc: &mut [u32], block: &[u8], part: &[u32]) -> usize
 
 // Adds to each of `sums` the entries of the table from entry `from` on, as many as there are sums, at the ones of its column of a block where
 // `column` is true, else of its row. A block that is not sent adds nothing. Answers how many bits it has read for each sum.
-fn add_block(
+pub fn add_block(
     sums: &mut [u32],
     block: &[u8],
     sent: bool,

@@ -1,0 +1,7 @@
+pub mod Systematic
+pub mod Frame
+pub mod Rules
+pub mod Calls
+pub mod Steps
+pub mod Demand
+pub mod RowsOriginal

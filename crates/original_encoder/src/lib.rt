@@ -1,0 +1,149 @@
+// The encoder of original staircase frames: rules 1, 2, 19, 4, 6 and 10, then the parity of every row, written in place.
+//   encode   writes the last r columns of each block
+//
+// First the parity columns of all blocks are made 0. The remainder of a row whose parity is 0 has the parity as its digits, so block after block the
+// remainders of all its rows are taken at once (crate `original_rows`), and their digits written. The rows of a block share no bit, and a row has bits of
+// its own block and of the one before, whose parity is written by then.
+ghost use mathlib.Core.Path.{_≡_};
+ghost use Prim.Native.Nat.{_+_, _-_, _*_, _%_, _≤_, _<_};
+ghost use lib.ListN.{length, getD};
+ghost use Rattle.design.specs.Answers.{verdictOf};
+ghost use Rattle.original.specs.Frame.{encoded};
+ghost use Rattle.original.specs.Demand.{InfoBits};
+ghost use Rattle.original.specs.Calls.{originalEncodeCall};
+ghost use Rattle.original_design.specs.Answers.{Allowed, paramsOf};
+ghost use Rattle.original_rows.specs.Rows.{rowRemainders, RowTable, BufferFits};
+ghost use Rattle.original_encoder.specs.Written.{DigitsAt, RowsAt, ParityZero, BufferLong, widthBits, encodeRules, writtenOf};
+use design::Check;
+use original_design::OriginalDesign;
+use original_design::OriginalDesigned;
+
+// Writes the r low bits of x, the highest first, from byte `from` on.
+fn put_digits(x: u32, r: usize, from: usize, buffer: &mut [u8])
+    requires { ⌜ (r ≤ 30) × (from + r ≤ length (now buffer)) ⌝ }
+    ensures { λ u. ⌜ DigitsAt r r from x (now (buffer .entry)) (now (buffer .exit)) ⌝ }
+{
+    for j in 0..r {
+        buffer[from + j] = ((x >> (r - 1 - j)) % 2) as u8;
+    }
+}
+
+// Writes the digits of each of `sums` at the end of its row of the block that begins at byte `at`.
+fn put_rows(sums: &[u32], r: usize, at: usize, buffer: &mut [u8])
+    requires { ⌜ (r ≤ 30) × (r ≤ length (now sums)) × (length (now sums) ≤ 512) × (at + length (now sums) * length (now sums) ≤ length (now buffer)) ⌝ }
+    ensures { λ u. ⌜ RowsAt (length (now (sums .entry))) (length (now (sums .entry))) r at (λ a. getD (now (sums .entry)) a 0) (now (buffer .entry)) (now (buffer .exit)) ⌝ }
+{
+    let size = sums.len();
+    for a in 0..size {
+        put_digits(sums[a], r, at + a * size + (size - r), buffer);
+    }
+}
+
+// Makes the parity of a buffer of rows 0.
+fn clear_parity(size: usize, r: usize, rows: usize, buffer: &mut [u8])
+    requires { ⌜ (r ≤ 30) × (r ≤ size) × (rows * size ≡ length (now buffer)) × (length (now buffer) ≤ 1073741824) ⌝ }
+    ensures { λ u. ⌜ RowsAt rows size r 0 (λ a. 0) (now (buffer .entry)) (now (buffer .exit)) ⌝ }
+{
+    for i in 0..rows {
+        put_digits(0, r, i * size + (size - r), buffer);
+    }
+}
+
+// Encodes the block that b blocks precede, whose parity is 0. `sums` are working entries, one for each row.
+fn encode_block(
+    d: OriginalDesign,
+    blocks: usize,
+    b: usize,
+    positions: &[u32],
+    sums: &mut [u32],
+    buffer: &mut [u8],
+)
+    requires { ⌜ BufferFits d blocks (now buffer) × (b < blocks) × RowTable (paramsOf d) (now positions) × (length (now sums) ≡ d .size) ⌝ }
+    ensures { λ u. ⌜ RowsAt (d .size) (d .size) (d .m * d .t) (b * (d .size * d .size)) (λ a. getD (rowRemainders (paramsOf d) (now (buffer .entry)) b) a 0)
+        (now (buffer .entry)) (now (buffer .exit)) × (length (now (sums .exit)) ≡ length (now (sums .entry))) ⌝ }
+{
+    let area = d.area();
+    let r = d.r();
+    original_rows::row_remainders(d, blocks, b, &buffer[..], positions, sums);
+    put_rows(&sums[..], r, b * area, buffer);
+}
+
+// Encodes all blocks of a buffer of bits whose parity is 0, one after the other.
+fn encode_blocks(
+    d: OriginalDesign,
+    blocks: usize,
+    positions: &[u32],
+    sums: &mut [u32],
+    buffer: &mut [u8],
+)
+    requires { ⌜ BufferFits d blocks (now buffer) × RowTable (paramsOf d) (now positions) × (length (now sums) ≡ d .size) × ParityZero (paramsOf d) (now buffer) ⌝ }
+    ensures { λ u. ⌜ now (buffer .exit) ≡ encoded (paramsOf d) blocks (now (buffer .entry)) ⌝ }
+{
+    for b in 0..blocks {
+        encode_block(d, blocks, b, positions, sums, buffer);
+    }
+}
+
+// Encodes a buffer of blocks whose information is bits.
+fn encode_buffer(d: OriginalDesign, blocks: usize, buffer: &mut [u8])
+    requires { ⌜ BufferLong d blocks (now buffer) × InfoBits (paramsOf d) (now buffer) ⌝ }
+    ensures { λ u. ⌜ now (buffer .exit) ≡ encoded (paramsOf d) blocks (now (buffer .entry)) ⌝ }
+{
+    let size = d.size();
+    let bits = d.n();
+    let r = d.r();
+    let m = d.m();
+    let t = d.t();
+    let mut positions = [0u32; 1024];
+    let mut sums = [0u32; 512];
+    words_positions::fill_code(m, t, &mut positions[0..bits]);
+    clear_parity(size, r, blocks * size, buffer);
+    encode_blocks(d, blocks, &positions[0..bits], &mut sums[0..size], buffer);
+}
+
+// Rule 10 for the information of a buffer of rows.
+fn check_rows(size: usize, width: usize, rows: usize, buffer: &[u8]) -> Check
+    requires { ⌜ (width ≤ size) × (0 < size) × (rows * size ≡ length (now buffer)) × (length (now buffer) ≤ 1073741824) ⌝ }
+    ensures { λ a. ⌜ verdictOf a ≡ widthBits size width (now (buffer .entry)) ⌝ }
+{
+    for i in 0..rows {
+        let at = i * size;
+        let row = rules::check_bits(&buffer[at..at + width], at as u64);
+        let Check::Passed = row else {
+            return row;
+        };
+    }
+    Check::Passed
+}
+
+// Rules 4, 6 and 10 for a buffer that is to be encoded. One pass over its information.
+fn check_information(d: OriginalDesign, blocks: u64, buffer: &[u8]) -> Check
+    requires { ⌜ Allowed d ⌝ }
+    ensures { λ a. ⌜ verdictOf a ≡ encodeRules (paramsOf d) blocks (now (buffer .entry)) ⌝ }
+{
+    let lengths = original_rows::check_buffer(d, blocks, 0, buffer.len());
+    let Check::Passed = lengths else {
+        return lengths;
+    };
+    let size = d.size();
+    let r = d.r();
+    check_rows(size, size - r, (blocks as usize) * size, buffer)
+}
+
+// The encoder: writes the last r columns of each block of the lent buffer of `blocks` blocks, or refuses it by the first of rules 1, 2, 19, 4, 6 and 10;
+// a refused buffer is left as it was. Rule 10 does not judge what the last r columns held. The work is one step for each bit of the rows, two for each bit
+// of the buffer.
+pub fn encode(m: u64, t: u64, size: u64, blocks: u64, buffer: &mut [u8]) -> Check
+    ensures { λ a. ⌜ writtenOf a (now (buffer .exit)) ≡ originalEncodeCall m t size blocks (now (buffer .entry)) ⌝ }
+{
+    let designed = OriginalDesign::new(m, t, size);
+    let OriginalDesigned::Made(d) = designed else {
+        return original_design::original_check(designed);
+    };
+    let information = check_information(d, blocks, &buffer[..]);
+    let Check::Passed = information else {
+        return information;
+    };
+    encode_buffer(d, blocks as usize, buffer);
+    Check::Passed
+}

@@ -1,0 +1,137 @@
+// The rows of original staircase frames: their remainders, and how many are outside the code.
+//   row_remainders    the remainders of all rows of a block
+//   count_outside     how many rows of a buffer are outside the code
+//   check_buffer      rules 4 to 6 for a buffer of blocks
+//   check_words       the word checker: rules 1, 2, 19, 4, 6 and 10, then the count
+//
+// A row of a block's word is a column of the block before and a row of the block itself. So the remainders of all rows of a block are taken at once, as
+// sums of entries of a table of powers of x (crate `bch_remainders`): the block before is added row by row, in the order in which it stands in memory,
+// and the block itself a row to each word. The block before the first is not sent, and adds nothing.
+ghost use mathlib.Core.Path.{_≡_};
+ghost use Prim.Native.Nat.{_*_, _≤_, _<_};
+ghost use lib.ListN.{length, getD};
+ghost use Rattle.bch.specs.Polynomial.{Bits};
+ghost use Rattle.staircase.specs.Lists.{tabulate};
+ghost use Rattle.staircase.specs.Frame.{outsideEach};
+ghost use Rattle.design.specs.Answers.{verdictOf};
+ghost use Rattle.words_blocks.specs.Blocks.{Sent, sentBit};
+ghost use Rattle.words.specs.Checks.{countedOf};
+ghost use Rattle.original.specs.Frame.{bufferOf, rowWords};
+ghost use Rattle.original.specs.Calls.{originalWordsCall};
+ghost use Rattle.original_design.specs.Answers.{Allowed, paramsOf};
+ghost use Rattle.original_rows.specs.Rows.{transposeSum, rowRemainders, RowTable, BufferFits, bufferRules, receivedRules};
+use design::Check;
+use original_design::OriginalDesign;
+use original_design::OriginalDesigned;
+use words::WordCount;
+
+// Makes `sums` the remainders of the rows of a block, `own`: a column of the block before it, then a row of its own.
+fn row_sums(before: &[u8], has_before: bool, own: &[u8], positions: &[u32], sums: &mut [u32])
+    requires { ⌜ Sent «has_before» (now before) (length (now sums) * length (now sums)) × (length (now own) ≡ length (now sums) * length (now sums)) × Bits (now own)
+        × (2 * length (now sums) ≤ length (now positions)) ⌝ }
+    ensures { λ u. ⌜ now (sums .exit) ≡ tabulate (length (now (sums .entry)))
+        (transposeSum (now (positions .entry)) (length (now (sums .entry))) (sentBit «has_before» (now (before .entry))) (λ k. getD (now (own .entry)) k 0)) ⌝ }
+{
+    bch_remainders::clear(sums);
+    words_blocks::add_block(sums, before, has_before, true, positions, 0);
+    words_blocks::add_block(sums, own, true, false, positions, sums.len());
+}
+
+// Makes `sums` the remainders of the rows of the block that b blocks precede. One step for each bit of the rows.
+pub fn row_remainders(
+    d: OriginalDesign,
+    blocks: usize,
+    b: usize,
+    buffer: &[u8],
+    positions: &[u32],
+    sums: &mut [u32],
+)
+    requires { ⌜ BufferFits d blocks (now buffer) × (b < blocks) × RowTable (paramsOf d) (now positions) × (length (now sums) ≡ d .size) ⌝ }
+    ensures { λ u. ⌜ now (sums .exit) ≡ rowRemainders (paramsOf d) (now (buffer .entry)) b ⌝ }
+{
+    let area = d.area();
+    let before = words_blocks::block_of(buffer, area, blocks, b);
+    let own = words_blocks::block_of(buffer, area, blocks, b + 1);
+    let has_before = words_blocks::is_sent(blocks, b);
+    row_sums(before, has_before, own, positions, sums);
+}
+
+// How many rows of a buffer are outside the code, with the table and working entries lent.
+fn count_rows(
+    d: OriginalDesign,
+    blocks: usize,
+    buffer: &[u8],
+    positions: &[u32],
+    sums: &mut [u32],
+) -> u64
+    requires { ⌜ BufferFits d blocks (now buffer) × RowTable (paramsOf d) (now positions) × (length (now sums) ≡ d .size) ⌝ }
+    ensures { λ a. ⌜ a ≡ outsideEach (bufferOf (now (buffer .entry))) (rowWords (paramsOf d) blocks) ⌝ }
+{
+    let mut total: u64 = 0;
+    for b in 0..blocks {
+        row_remainders(d, blocks, b, buffer, positions, sums);
+        total = total + words::count_nonzero(&sums[..]);
+    }
+    total
+}
+
+// How many rows of a buffer of blocks are outside the code. One step for each bit of the rows.
+fn count_outside(d: OriginalDesign, blocks: usize, buffer: &[u8]) -> u64
+    requires { ⌜ BufferFits d blocks (now buffer) ⌝ }
+    ensures { λ a. ⌜ a ≡ outsideEach (bufferOf (now (buffer .entry))) (rowWords (paramsOf d) blocks) ⌝ }
+{
+    let size = d.size();
+    let bits = d.n();
+    let m = d.m();
+    let t = d.t();
+    let mut positions = [0u32; 1024];
+    let mut sums = [0u32; 512];
+    words_positions::fill_code(m, t, &mut positions[0..bits]);
+    count_rows(d, blocks, buffer, &positions[0..bits], &mut sums[0..size])
+}
+
+// Rules 4 to 6 for a buffer of `blocks` blocks, whose length is `have`. Constant work.
+pub fn check_buffer(d: OriginalDesign, blocks: u64, rounds: u64, have: usize) -> Check
+    requires { ⌜ Allowed d ⌝ }
+    ensures { λ a. ⌜ verdictOf a ≡ bufferRules (paramsOf d) blocks rounds have ⌝ }
+{
+    let count = design::check_count(blocks);
+    let Check::Passed = count else {
+        return count;
+    };
+    let allowed = design::check_rounds(rounds);
+    let Check::Passed = allowed else {
+        return allowed;
+    };
+    let area = d.area();
+    let due = (blocks as usize) * area;
+    rules::check_length(rules::INFORMATION, have, due)
+}
+
+// Rules 4, 6 and 10 for a buffer of blocks. One pass over it.
+fn check_received(d: OriginalDesign, blocks: u64, buffer: &[u8]) -> Check
+    requires { ⌜ Allowed d ⌝ }
+    ensures { λ a. ⌜ verdictOf a ≡ receivedRules (paramsOf d) blocks (now (buffer .entry)) ⌝ }
+{
+    let lengths = check_buffer(d, blocks, 0, buffer.len());
+    let Check::Passed = lengths else {
+        return lengths;
+    };
+    rules::check_bits(buffer, 0)
+}
+
+// The word checker: how many rows of the lent buffer of `blocks` blocks are outside the code, or the table's number and place of the first of rules 1,
+// 2, 19, 4, 6 and 10 that refuses. The work is one step for each bit of the rows, two for each bit of the buffer.
+pub fn check_words(m: u64, t: u64, size: u64, blocks: u64, buffer: &[u8]) -> WordCount
+    ensures { λ a. ⌜ countedOf a ≡ originalWordsCall m t size blocks (now (buffer .entry)) ⌝ }
+{
+    let designed = OriginalDesign::new(m, t, size);
+    let OriginalDesigned::Made(d) = designed else {
+        return words::refused_count(original_design::original_check(designed));
+    };
+    let received = check_received(d, blocks, buffer);
+    let Check::Passed = received else {
+        return words::refused_count(received);
+    };
+    WordCount::Counted(count_outside(d, blocks as usize, buffer))
+}
