@@ -3,8 +3,8 @@
    two frames under one kit, divided by the groups between them, so that the kit check that the encoder makes drops out. A frame whose last
    information byte is no bit is refused beside a search of its bytes alone: the encoder asks rule 10 before it multiplies. Frames of two blocks are
    encoded in one call beside as many calls. The inverse is made of the lists, by elimination with byte tables on the plain side, and the kit's text is
-   written into a buffer. The word checker and the decoder get frames with errors, a copy each, written just before. Information and errors are the
-   test load's, from the seeds and limits below, so that every bench has the same frames. All times are the least of several turns, in which the
+   written into a buffer. The word checker and the decoder get frames with errors, a copy each, written just before; at M 72 a sliding window gets them too,
+   beside the decoder of whole frames and two windows in C. Information and errors are the test load's, from the seeds and limits below, so that every bench has the same frames. All times are the least of several turns, in which the
    contenders take turns. */
 
 #include "../include/bauchleton.h"
@@ -20,6 +20,9 @@ enum { SHORT = 32, LONG = 32 + 512, TURNS = 3, KIT_TURNS = 5, BATCH = 256 };
 
 static const struct { unsigned blocks, turns; } frames[] = { { 1, 200 }, { 32, 40 }, { 1024, 3 } };
 enum { FRAMES = sizeof frames / sizeof *frames };
+
+static const unsigned widths[] = { 4, 8 };      /* groups of a sliding window */
+enum { WIDTHS = sizeof widths / sizeof *widths };
 
 enum { SEED = 1, ERROR_SEED = 2 };
 static const uint64_t error_limit[] = { 0, 66, 328, 655 };     /* of 65,536: about 0, 1e-3, 5e-3, 1e-2 */
@@ -205,6 +208,48 @@ static int time_frame(unsigned m, unsigned t, unsigned M, unsigned L, unsigned t
     return differ;
 }
 
+/* A frame of L blocks by sliding windows, beside the same frame decoded whole. Returns whether a result differs. */
+static int time_window(unsigned m, unsigned t, unsigned M, unsigned L, unsigned turns, const plain_sizes *s, const uint8_t *self, const uint8_t *parity,
+                       const uint8_t *frame)
+{
+    size_t list = 2 * (size_t)s->size, info = (size_t)L * M * M, red = (L + 1) / 2 * list, working = s->size + 8 * (size_t)M * ((L + 1) / 2) + info + red;
+    uint8_t *received = lend(info + red), *mine = lend(info + red), *other = lend(info + red), *work = lend(working);
+    plain_frame lent = { self, parity, other, other + info, list, list, info, red };
+    int (*const decoder[2])(unsigned, unsigned, unsigned, unsigned, unsigned, unsigned, const plain_frame *, uint64_t *, uint64_t *) = { plain_window, strong_window };
+    uint64_t counts[PLAIN_COUNTS], place, answer[1 + PLAIN_COUNTS], load_answer[2];
+    int differ = 0;
+    for (unsigned w = 0; w < WIDTHS; w++)
+        for (unsigned e = 0; e < RATES; e++) {
+            double whole = 1e9, ours = 1e9, theirs[2] = { 1e9, 1e9 };
+            memcpy(received, frame, info + red);
+            differ |= bauchleton_load_errors(m, t, M, L, ERROR_SEED, error_limit[e], received, info, received + info, red, load_answer, 2) != 0;
+            for (unsigned turn = 0; turn < turns; turn++) {
+                memcpy(mine, received, info + red);
+                double a = now();
+                differ |= bauchleton_decode(m, t, M, L, 0, self, list, parity, list, mine, info, mine + info, red, work, working, answer,
+                                            1 + PLAIN_COUNTS) != 0;
+                whole = least(whole, now() - a);
+                memcpy(mine, received, info + red);
+                a = now();
+                differ |= bauchleton_decode_window(m, t, M, L, 0, widths[w], self, list, parity, list, mine, info, mine + info, red, work, working,
+                                                   answer, 1 + PLAIN_COUNTS) != 0;
+                ours = least(ours, now() - a);
+                for (unsigned i = 0; i < 2; i++) {
+                    memcpy(other, received, info + red);
+                    a = now();
+                    differ |= decoder[i](m, t, M, L, 0, widths[w], &lent, counts, &place) != 0;
+                    theirs[i] = least(theirs[i], now() - a);
+                    differ |= answer[0] != 0 || memcmp(answer + 1, counts, sizeof counts) != 0 || memcmp(mine, other, info + red) != 0;
+                }
+            }
+            printf("    window of %u at %.1g (%u rounds, %u turned, %u outside, %u stuck) %.0f us, whole frame %.0f us, ratio %.2f, plain window %.0f us, ratio %.2f, "
+                   "strong window %.0f us, ratio %.2f\n", widths[w], error_limit[e] / 65536.0, (unsigned)counts[0], (unsigned)counts[1], (unsigned)counts[2],
+                   (unsigned)counts[3], ours * 1e6, whole * 1e6, ours / whole, theirs[0] * 1e6, ours / theirs[0], theirs[1] * 1e6, ours / theirs[1]);
+        }
+    free(received), free(mine), free(other), free(work);
+    return differ;
+}
+
 /* Frames of the numbers of blocks above under one kit. Returns whether a result differs. */
 static int time_frames(unsigned m, unsigned t, unsigned M, const plain_sizes *s, const uint8_t *self, const uint8_t *parity, const uint8_t *inverse)
 {
@@ -217,6 +262,8 @@ static int time_frames(unsigned m, unsigned t, unsigned M, const plain_sizes *s,
         differ |= bauchleton_load_fill(m, t, M, L, SEED, frame, info, load_answer, 2) != 0;
         plain_encode(m, t, M, L, self, parity, inverse, frame, frame + info);
         differ |= time_frame(m, t, M, L, frames[i].turns, s, self, parity, frame);
+        if (M == 72 && L > 1)
+            differ |= time_window(m, t, M, L, frames[i].turns, s, self, parity, frame);
         free(frame);
     }
     return differ;

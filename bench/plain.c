@@ -10,7 +10,7 @@
 #include <stdlib.h>
 #include <string.h>
 
-enum { MAX_N = 1023, MAX_T = 3, MAX_M = 500, MAX_R = 30, MAX_SIZE = 4096, MAX_ROUNDS = 64, DEFAULT_ROUNDS = 7 };
+enum { MAX_N = 1023, MAX_T = 3, MAX_M = 500, MAX_R = 30, MAX_SIZE = 4096, MAX_ROUNDS = 64, MAX_WINDOW = 64, DEFAULT_ROUNDS = 7 };
 
 const plain_kit plain_kits[PLAIN_KITS] = { { 4, 1, 2, 3 }, { 8, 3, 72, 4 }, { 9, 3, 135, 3 }, { 10, 2, 204, 4 } };
 
@@ -902,8 +902,8 @@ size_t plain_first_bad_bit(const uint8_t *bytes, size_t length)
     return start;
 }
 
-/* Rules 1 to 7 and 10: 0, or the rule's number and its place. */
-static int judge_frame(unsigned m, unsigned t, unsigned M, unsigned L, unsigned rounds, const plain_frame *lent, uint64_t *place)
+/* Rules 1 to 5, 18, 6, 7 and 10: 0, or the rule's number and its place. A call without rounds gives 0 for them, one without a window 1. */
+static int judge_frame(unsigned m, unsigned t, unsigned M, unsigned L, unsigned rounds, unsigned window, const plain_frame *lent, uint64_t *place)
 {
     plain_sizes s;
     int rule = plain_design(m, t, M, &s, place);
@@ -916,6 +916,10 @@ static int judge_frame(unsigned m, unsigned t, unsigned M, unsigned L, unsigned 
     if (rounds > MAX_ROUNDS) {
         *place = rounds;
         return 5;
+    }
+    if (window < 1 || window > MAX_WINDOW) {
+        *place = window;
+        return 18;
     }
     size_t list = 2 * (size_t)s.size, info = (size_t)L * M * M, red = groups(L) * 2 * (size_t)s.size;
     unsigned slice = lent->self_length != list ? 1 : lent->parity_length != list ? 2 : lent->info_length != info ? 4
@@ -940,7 +944,7 @@ int plain_words(unsigned m, unsigned t, unsigned M, unsigned L, const plain_fram
 {
     words f;
     *outside = 0;
-    int rule = judge_frame(m, t, M, L, 0, lent, place);
+    int rule = judge_frame(m, t, M, L, 0, 1, lent, place);
     if (rule)
         return rule;
     make_words(&f, m, t, M, L, lent);
@@ -1046,29 +1050,67 @@ static void mend_group(words *f, const locator *l, const group *g, uint64_t *tur
     mend_words(f, l, g, column_bit, turned, stuck);
 }
 
+/* Rounds over groups first to last: adds those made, and sets the stuck words of the last one. Returns the bits turned in it. */
+static uint64_t make_rounds(words *f, const locator *l, unsigned first, unsigned last, unsigned rounds, uint64_t counts[PLAIN_COUNTS])
+{
+    uint64_t turned;
+    unsigned made = 0;
+    do {
+        turned = counts[3] = 0;
+        for (unsigned i = first; i <= last; i++) {
+            group g = get_group(&f->c, f->L, f->info, f->red, i);
+            mend_group(f, l, &g, &turned, &counts[3]);
+        }
+        made++;
+    } while (turned && made < (rounds ? rounds : DEFAULT_ROUNDS));
+    counts[0] += made;
+    return turned;
+}
+
 int plain_decode(unsigned m, unsigned t, unsigned M, unsigned L, unsigned rounds, const plain_frame *lent, uint64_t counts[PLAIN_COUNTS],
                  uint64_t *place)
 {
     words f;
     locator l;
-    uint64_t turned;
     memset(counts, 0, PLAIN_COUNTS * sizeof *counts);
-    int rule = judge_frame(m, t, M, L, rounds, lent, place);
+    int rule = judge_frame(m, t, M, L, rounds, 1, lent, place);
     if (rule)
         return rule;
     make_words(&f, m, t, M, L, lent);
     make_locator(&f.c, &l);
-    if (rounds == 0)
-        rounds = DEFAULT_ROUNDS;
-    do {
-        turned = counts[3] = 0;
-        for (unsigned i = 1; i <= groups(L); i++) {
-            group g = get_group(&f.c, L, f.info, f.red, i);
-            mend_group(&f, &l, &g, &turned, &counts[3]);
-        }
-        counts[0]++;
-    } while (turned && counts[0] < rounds);
+    uint64_t turned = make_rounds(&f, &l, 1, groups(L), rounds, counts);
     counts[1] = changed_bits(&f);
     counts[2] = turned ? count_outside(&f) : counts[3];         /* in an idle round the words outside are the stuck ones */
+    return 0;
+}
+
+/* The last position of a window. */
+static unsigned last_position(unsigned L, unsigned window)
+{
+    return groups(L) > window ? groups(L) - window + 1 : 1;
+}
+
+/* The last group that a window holds at a position. */
+static unsigned last_held(unsigned L, unsigned window, unsigned position)
+{
+    unsigned last = position + window - 1;
+    return last < groups(L) ? last : groups(L);
+}
+
+int plain_window(unsigned m, unsigned t, unsigned M, unsigned L, unsigned rounds, unsigned window, const plain_frame *lent,
+                 uint64_t counts[PLAIN_COUNTS], uint64_t *place)
+{
+    words f;
+    locator l;
+    memset(counts, 0, PLAIN_COUNTS * sizeof *counts);
+    int rule = judge_frame(m, t, M, L, rounds, window, lent, place);
+    if (rule)
+        return rule;
+    make_words(&f, m, t, M, L, lent);
+    make_locator(&f.c, &l);
+    for (unsigned position = 1; position <= last_position(L, window); position++)
+        make_rounds(&f, &l, position, last_held(L, window, position), rounds, counts);
+    counts[1] = changed_bits(&f);
+    counts[2] = count_outside(&f);
     return 0;
 }

@@ -1,4 +1,4 @@
-/* A plain C implementation of document 01 (feed-forward staircase frames and their kits): a baseline for benchmarks, an opponent for tests.
+/* A plain C implementation of document 01 (feed-forward staircase frames and their kits), of document 02's test load and of its sliding window: a baseline for benchmarks, an opponent for tests.
 
    Common to all calls: lists have two bytes an entry, low byte first; the inverse has M * r rows of (M * r + 7) / 8 bytes; info and red hold one
    bit a byte, info L * M * M bytes, red (L + 1) / 2 * 2 * M * r bytes. A call judges what its comment says; otherwise it wants a design that fits,
@@ -54,6 +54,12 @@ enum { PLAIN_COUNTS = 4 };
    steps. */
 int plain_decode(unsigned m, unsigned t, unsigned M, unsigned L, unsigned rounds, const plain_frame *lent, uint64_t counts[PLAIN_COUNTS],
                  uint64_t *place);
+
+/* Rules 1 to 5, 18, 6, 7 and 10, the rest as plain_decode: rounds over the groups that a window of so many holds, at each of its positions from group 1 to
+   the last from which it is within the frame, or at group 1 alone. Rounds are summed over positions, the stuck words are those of the last round at the
+   last position, and the other two counts are of the whole frame. Every round takes the remainders of the window's groups anew. */
+int plain_window(unsigned m, unsigned t, unsigned M, unsigned L, unsigned rounds, unsigned window, const plain_frame *lent,
+                 uint64_t counts[PLAIN_COUNTS], uint64_t *place);
 
 /* The first byte above 1, or the length. */
 size_t plain_first_bad_bit(const uint8_t *bytes, size_t length);

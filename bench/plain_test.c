@@ -205,6 +205,38 @@ static void ref_decode(const ref *d, unsigned L, unsigned rounds, uint8_t *frame
     turned_back += all_turns > counts[1];
 }
 
+static unsigned windows_differ;        /* windows that leave other bits than the decoder of whole frames */
+
+/* The decoder with a window of so many groups: at each position, rounds over the groups that it holds. */
+static void ref_window(const ref *d, unsigned L, unsigned rounds, unsigned window, uint8_t *frame, uint64_t counts[PLAIN_COUNTS])
+{
+    long at[1023];
+    unsigned last = (L + 1) / 2;
+    size_t length = (size_t)L * d->M * d->M + (size_t)last * 2 * d->N;
+    uint8_t *copy = get(length);
+    memcpy(copy, frame, length);
+    counts[0] = counts[1] = 0;
+    for (unsigned position = 1; position == 1 || position + window <= last + 1; position++) {
+        unsigned turns = 1;
+        for (unsigned left = rounds ? rounds : 7; left > 0 && turns > 0; left--) {
+            turns = 0;
+            counts[0]++;
+            counts[3] = 0;
+            for (unsigned group = position; group < position + window && group <= last; group++)
+                for (unsigned word = 0; word < 2 * d->M; word++) {
+                    ref_word(d, L, group, word >= d->M, word % d->M, at);
+                    int mended = ref_mend(d, frame, at);
+                    counts[3] += mended < 0;
+                    turns += mended > 0;
+                }
+        }
+    }
+    for (size_t bit = 0; bit < length; bit++)
+        counts[1] += frame[bit] != copy[bit];
+    counts[2] = ref_outside(d, L, frame);
+    free(copy);
+}
+
 /* A, one bit a byte: each column is the sum that a single one in Y gives between zero blocks. */
 static void ref_system(const ref *d, uint8_t *A)
 {
@@ -636,21 +668,36 @@ static void test_round_trips(void)
 static void brute_force(const ref *d, const uint8_t *inverse, unsigned L, unsigned rounds, unsigned per_mille, uint64_t *state)
 {
     size_t info_length = (size_t)L * d->M * d->M, length = info_length + (size_t)(L + 1) / 2 * 2 * d->N;
-    uint8_t *mine = get(length), *other = get(length);
-    uint64_t want[PLAIN_COUNTS];
+    uint8_t *mine = get(length), *other = get(length), *received = get(length);
+    uint64_t want[PLAIN_COUNTS], counts[PLAIN_COUNTS], whole[PLAIN_COUNTS], place;
     if (inverse) {
         random_bits(mine, info_length, state);
         plain_encode(d->m, d->t, d->M, L, d->self, d->parity, inverse, mine, mine + info_length);
     }
     for (size_t bit = 0; bit < length; bit++)
         mine[bit] ^= plain_random(state) % 1000 < per_mille;
+    memcpy(received, mine, length);
     memcpy(other, mine, length);
     CHECK(outside(d, L, mine) == (int64_t)ref_outside(d, L, other));
     CHECK(memcmp(mine, other, length) == 0);
-    ref_decode(d, L, rounds, other, want);
-    CHECK(decodes(d, L, rounds, mine, other, length, want));
+    ref_decode(d, L, rounds, other, whole);
+    CHECK(decodes(d, L, rounds, mine, other, length, whole));
+    for (unsigned window = 1; window <= (L + 1) / 2; window++) {
+        uint8_t *windowed = get(length);
+        plain_frame lent = lend(d, L, windowed);
+        memcpy(windowed, received, length);
+        memcpy(mine, received, length);
+        ref_window(d, L, rounds, window, mine, want);
+        CHECK(plain_window(d->m, d->t, d->M, L, rounds, window < (L + 1) / 2 ? window : 64, &lent, counts, &place) == 0);
+        CHECK(memcmp(windowed, mine, length) == 0 && memcmp(counts, want, sizeof counts) == 0);
+        if (window == (L + 1) / 2)
+            CHECK(memcmp(windowed, other, length) == 0 && memcmp(counts, whole, sizeof counts) == 0);
+        windows_differ += memcmp(windowed, other, length) != 0;
+        free(windowed);
+    }
     free(mine);
     free(other);
+    free(received);
 }
 
 /* Numbers of blocks, rounds and errors from none to every bit, under lists that nobody chose. */
@@ -694,7 +741,7 @@ static void test_brute_force(void)
     for (unsigned L = 1; L <= 3; L++)
         brute_force(&d, k.inverse, L, 1, 12, &state);
     free_kit(k);
-    CHECK(turned_back > 1000);
+    CHECK(turned_back > 1000 && windows_differ > 100);
     group_done("decoder against brute force", start);
 }
 
@@ -783,7 +830,8 @@ static void test_refusals(void)
     group_done("refusals of damaged kits", start);
 }
 
-/* Both calls refuse with this rule and place, count nothing and leave the frame; only the decoder knows rule 5. */
+/* The three calls refuse with this rule and place, count nothing and leave the frame; the word checker does not know rule 5. The window is 1, and
+   beside a rule after 18 also 65, which is refused first. */
 static int frame_refused(unsigned m, unsigned t, unsigned M, unsigned L, unsigned rounds, const plain_frame *lent, int rule, uint64_t at)
 {
     uint64_t words = 1, place = 0, counts[PLAIN_COUNTS] = { 1, 1, 1, 1 };
@@ -791,7 +839,10 @@ static int frame_refused(unsigned m, unsigned t, unsigned M, unsigned L, unsigne
     memcpy(info, lent->info, sizeof info);
     memcpy(red, lent->red, sizeof red);
     int by_words = rule == 5 || (plain_words(m, t, M, L, lent, &words, &place) == rule && place == at && words == 0);
-    return by_words && plain_decode(m, t, M, L, rounds, lent, counts, &place) == rule && place == at && !counts[0] && !counts[1] && !counts[2] && !counts[3]
+    int by_window = plain_window(m, t, M, L, rounds, 1, lent, counts, &place) == rule && place == at && !counts[0] && !counts[1] && !counts[2] && !counts[3];
+    for (unsigned window = 0; window <= 65; window += 65)
+        by_window &= plain_window(m, t, M, L, rounds, window, lent, counts, &place) == (rule <= 5 ? rule : 18) && place == (rule <= 5 ? at : window);
+    return by_words && by_window && plain_decode(m, t, M, L, rounds, lent, counts, &place) == rule && place == at && !counts[0] && !counts[1] && !counts[2] && !counts[3]
         && memcmp(info, lent->info, sizeof info) == 0 && memcmp(red, lent->red, sizeof red) == 0;
 }
 

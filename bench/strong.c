@@ -214,29 +214,56 @@ static unsigned mend_kept(keeper *k, unsigned i, int column, uint64_t *stuck_wor
     return turned;
 }
 
+/* Rounds over groups first to last: adds those made, and sets the stuck words of the last one. */
+static void rounds_kept(keeper *k, unsigned first, unsigned last, unsigned rounds, uint64_t counts[PLAIN_COUNTS])
+{
+    uint64_t turned;
+    unsigned made = 0;
+    do {
+        turned = counts[3] = 0;
+        for (unsigned i = first; i <= last; i++) {
+            turned += mend_kept(k, i, 0, &counts[3]);
+            turned += mend_kept(k, i, 1, &counts[3]);
+        }
+        made++;
+    } while (turned && made < (rounds ? rounds : DEFAULT_ROUNDS));
+    counts[0] += made;
+}
+
+/* The counts of the whole frame at the end. */
+static void count_kept(keeper *k, uint64_t counts[PLAIN_COUNTS])
+{
+    counts[1] = changed_bits(&k->f);
+    for (size_t w = 0; w < 2 * (size_t)k->f.c.M * groups(k->f.L); w++)
+        counts[2] += k->kept[w] != 0;
+    free(k->kept);
+}
+
 int strong_decode(unsigned m, unsigned t, unsigned M, unsigned L, unsigned rounds, const plain_frame *lent, uint64_t counts[PLAIN_COUNTS],
                   uint64_t *place)
 {
     keeper k;
-    uint64_t turned;
     memset(counts, 0, PLAIN_COUNTS * sizeof *counts);
-    int rule = judge_frame(m, t, M, L, rounds, lent, place);
+    int rule = judge_frame(m, t, M, L, rounds, 1, lent, place);
     if (rule)
         return rule;
     make_keeper(&k, m, t, M, L, lent);
-    if (rounds == 0)
-        rounds = DEFAULT_ROUNDS;
-    do {
-        turned = counts[3] = 0;
-        for (unsigned i = 1; i <= groups(L); i++) {
-            turned += mend_kept(&k, i, 0, &counts[3]);
-            turned += mend_kept(&k, i, 1, &counts[3]);
-        }
-        counts[0]++;
-    } while (turned && counts[0] < rounds);
-    counts[1] = changed_bits(&k.f);
-    for (size_t w = 0; w < 2 * (size_t)M * groups(L); w++)
-        counts[2] += k.kept[w] != 0;
-    free(k.kept);
+    rounds_kept(&k, 1, groups(L), rounds, counts);
+    count_kept(&k, counts);
+    return 0;
+}
+
+int strong_window(unsigned m, unsigned t, unsigned M, unsigned L, unsigned rounds, unsigned window, const plain_frame *lent,
+                  uint64_t counts[PLAIN_COUNTS], uint64_t *place)
+{
+    keeper k;
+    memset(counts, 0, PLAIN_COUNTS * sizeof *counts);
+    int rule = judge_frame(m, t, M, L, rounds, window, lent, place);
+    if (rule)
+        return rule;
+    make_keeper(&k, m, t, M, L, lent);
+    for (unsigned position = 1; position <= last_position(L, window); position++)
+        rounds_kept(&k, position, last_held(L, window, position), rounds, counts);
+    count_kept(&k, counts);
     return 0;
 }

@@ -15,4 +15,8 @@ int strong_check_kit(unsigned m, unsigned t, unsigned M, const uint8_t *self, co
 int strong_decode(unsigned m, unsigned t, unsigned M, unsigned L, unsigned rounds, const plain_frame *lent, uint64_t counts[PLAIN_COUNTS],
                   uint64_t *place);
 
+/* As plain_window, by the kept remainders of strong_decode: the frame is summed once for all positions. */
+int strong_window(unsigned m, unsigned t, unsigned M, unsigned L, unsigned rounds, unsigned window, const plain_frame *lent,
+                  uint64_t counts[PLAIN_COUNTS], uint64_t *place);
+
 #endif

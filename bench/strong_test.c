@@ -70,7 +70,7 @@ static void free_kit(kit k)
 
 /* ---- Kits ---- */
 
-static unsigned rules_seen[15];
+static unsigned rules_seen[19];
 
 static void same_verdict(const kit *k)
 {
@@ -152,7 +152,8 @@ static void test_kits(void)
 
 static unsigned left_outside, several_rounds, fewer_stuck, more_stuck;         /* stuck in the last round beside outside at the end */
 
-static void same_decoding(const kit *k, unsigned L, unsigned rounds, const plain_frame *lent)
+/* A window, or none: 0 stands for the decoder of whole frames. */
+static void same_by(const kit *k, unsigned L, unsigned rounds, unsigned window, const plain_frame *lent)
 {
     uint8_t *info = get(lent->info_length), *red = get(lent->red_length);
     uint64_t counts[PLAIN_COUNTS] = { 7, 7, 7, 7 }, want[PLAIN_COUNTS] = { 9, 9, 9, 9 }, place = 77, want_place = 77;
@@ -161,8 +162,10 @@ static void same_decoding(const kit *k, unsigned L, unsigned rounds, const plain
     other.red = red;
     memcpy(info, lent->info, lent->info_length);
     memcpy(red, lent->red, lent->red_length);
-    int rule = strong_decode(k->m, k->t, k->M, L, rounds, lent, counts, &place);
-    int wanted = plain_decode(k->m, k->t, k->M, L, rounds, &other, want, &want_place);
+    int rule = window ? strong_window(k->m, k->t, k->M, L, rounds, window, lent, counts, &place)
+                      : strong_decode(k->m, k->t, k->M, L, rounds, lent, counts, &place);
+    int wanted = window ? plain_window(k->m, k->t, k->M, L, rounds, window, &other, want, &want_place)
+                        : plain_decode(k->m, k->t, k->M, L, rounds, &other, want, &want_place);
     CHECK(rule == wanted && place == want_place && memcmp(counts, want, sizeof counts) == 0);
     CHECK(memcmp(info, lent->info, lent->info_length) == 0 && memcmp(red, lent->red, lent->red_length) == 0);
     rules_seen[wanted]++;
@@ -170,6 +173,22 @@ static void same_decoding(const kit *k, unsigned L, unsigned rounds, const plain
     several_rounds += want[0] > 2;
     fewer_stuck += want[3] < want[2];
     more_stuck += want[3] > want[2];
+    free(info);
+    free(red);
+}
+
+/* By a window, of each of these widths in turn, and whole. */
+static void same_decoding(const kit *k, unsigned L, unsigned rounds, const plain_frame *lent)
+{
+    static const unsigned width[] = { 1, 2, 3, 64 };
+    static unsigned turn;
+    uint8_t *info = get(lent->info_length), *red = get(lent->red_length);
+    memcpy(info, lent->info, lent->info_length);
+    memcpy(red, lent->red, lent->red_length);
+    same_by(k, L, rounds, width[turn++ % 4], lent);
+    memcpy(lent->info, info, lent->info_length);
+    memcpy(lent->red, red, lent->red_length);
+    same_by(k, L, rounds, 0, lent);
     free(info);
     free(red);
 }
@@ -272,6 +291,9 @@ static void test_refusals(void)
     same_decoding(&k, 3, 0, &lent);
     lent.self_length--;
     same_decoding(&k, 3, 0, &lent);
+    same_by(&k, 3, 0, 65, &lent);
+    same_by(&k, 3, 0, 1u << 31, &lent);
+    same_by(&k, 3, 65, 65, &lent);
     same_decoding(&k, 3, 65, &lent);
     same_decoding(&k, 0, 65, &lent);
     same_decoding(&k, 4097, 65, &lent);
@@ -279,7 +301,8 @@ static void test_refusals(void)
     same_decoding(&k, 0, 65, &lent);
     k.M = 0;
     same_decoding(&k, 0, 65, &lent);
-    CHECK(!rules_seen[0] && rules_seen[1] && rules_seen[4] == 3 && rules_seen[5] && rules_seen[6] == 4 && rules_seen[7] == 2 && rules_seen[10] == 2);
+    CHECK(!rules_seen[0] && rules_seen[1] && rules_seen[4] == 6 && rules_seen[5] == 3 && rules_seen[6] == 8 && rules_seen[7] == 4 && rules_seen[10] == 4
+          && rules_seen[18] == 2);
     free_frame(lent);
     free_kit(k);
     group_done("refusals of frames");

@@ -67,6 +67,14 @@ uint64_t bauchleton_decode(uint64_t m, uint64_t t, uint64_t size, uint64_t block
                            const uint8_t *parity, size_t parity_length, uint8_t *info, size_t info_length, uint8_t *red, size_t red_length,
                            uint8_t *work, size_t work_length, uint64_t *answer, size_t answer_length);
 
+/* As bauchleton_decode, for a receiver that holds `window` groups at a time, 1 to 64. The window's positions run from group 1 to the larger of 1 and
+   G - window + 1; at each, rounds are made over its groups alone, as many as are allowed, fewer where one turns no bit. A window of G groups or more
+   does what bauchleton_decode does. A frame with at most t wrong bits in each word comes back as sent by any window. Rule 18 comes after 5.
+   answer, 5 entries: as bauchleton_decode, with the rounds summed over the positions, and the stuck words of the last round at the last position */
+uint64_t bauchleton_decode_window(uint64_t m, uint64_t t, uint64_t size, uint64_t blocks, uint64_t rounds, uint64_t window, const uint8_t *self,
+                                  size_t self_length, const uint8_t *parity, size_t parity_length, uint8_t *info, size_t info_length,
+                                  uint8_t *red, size_t red_length, uint8_t *work, size_t work_length, uint64_t *answer, size_t answer_length);
+
 /* As bauchleton_decode, and adds to six totals: frames, sent bits, bits that differ (the third entry of answer), rounds, words outside, stuck words.
    Begin with six zeros. A refused call changes no total. Beside the decoder's rules: a tally of other than 6 entries is rule 6 at 9, after the working
    bytes; a total above 2^62 on entry is rule 16, after 10, with the first such total's position, from 1, as its place.

@@ -185,6 +185,7 @@ struct Lent {
     blocks: u64,
     frames: u64,
     rounds: u64,
+    window: u64,
     own: Vec<u8>,
     parity: Vec<u8>,
     inverse: Vec<u8>,
@@ -211,6 +212,7 @@ impl Lent {
             blocks: blocks as u64,
             frames: 1,
             rounds: 0,
+            window: 1,
             own: kit.own.clone(),
             parity: kit.parity.clone(),
             inverse: kit.inverse.clone(),
@@ -419,6 +421,19 @@ impl Case<'_> {
         });
         (info, red)
     }
+    /// The answer is the reference's: what is left in information and redundancy, and the counts of an accepted call.
+    fn decode_window(&mut self, l: &Lent) -> Answer<(Vec<u8>, Vec<u8>, Counts)> {
+        let result = decode_window(&l.received(), l.rounds, l.window, l.decoder_work);
+        let (number, told) = answered(&result, counted, 5);
+        let (info, red) = result.as_ref().map_or((&l.info, &l.red), |(info, red, _)| (info, red));
+        let buffers = vec![l.own.clone(), l.parity.clone(), info.clone(), red.clone()];
+        let lent: [&[u8]; 4] = [&l.own, &l.parity, &l.info, &l.red];
+        self.call("decode_window", &lent, l.decoder_work, Expected { number, told, buffers }, |b, w, a| {
+            let [own, parity, info, red] = b else { unreachable!() };
+            host::decode_window(l.design(), l.blocks, l.rounds, l.window, own, parity, info, red, w, a)
+        });
+        result
+    }
     /// The answer is the tally afterwards, by the reference, and the counts of an accepted call.
     fn decode_tallied(&mut self, l: &Lent, tally: &[u64]) -> (Vec<u64>, Answer<Counts>) {
         let result = decode_tallied(&l.received(), l.rounds, l.decoder_work, tally);
@@ -530,7 +545,7 @@ impl Case<'_> {
         let length = self.rng.pick(&[1, 7, 1 << 20, u64::MAX]);
         self.load_run(l, place, length);
     }
-    /// The six calls that are lent lists, showing the first block and the last group, and the test load.
+    /// The seven calls that are lent lists, showing the first block and the last group, and the test load.
     fn all(&mut self, l: &Lent) {
         self.check_kit(l);
         self.encode(l);
@@ -538,6 +553,7 @@ impl Case<'_> {
         self.decode(l);
         let tally = self.some_tally();
         drop(self.decode_tallied(l, &tally));
+        drop(self.decode_window(l));
         self.loopback(l);
         self.show(l, 0, 1, l.info.len());
         self.show(l, 1, (l.blocks / 2).max(1), l.red.len());
@@ -778,6 +794,7 @@ impl Case<'_> {
 
 mod groups;
 mod tally;
+mod window;
 
 /// How many comparisons of a group held and failed, how often each rule's number was the right answer, and what the cases met.
 #[derive(Default)]

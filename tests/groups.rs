@@ -28,6 +28,11 @@ pub const GROUPS: &[Group] = &[
     ("noise", || 12 * designs(60).len(), noise),
     ("show", || 2 * designs(60).len(), showing),
     ("loopback", || 8 * designs(60).len(), loopbacks),
+    ("window-rows", || 1, window::rows),
+    ("window", || 17 * designs(60).len(), window::windows),
+    ("window-few", || 3 * designs(400).len(), window::few_wrong),
+    ("window-refusals", || 24, window::refusals),
+    ("window-long", || window::LONG, window::long),
     ("tally-rows", || 1, tally::rows),
     ("tally", || 200, tally::lists_of_decodes),
     ("tally-full", || 6, tally::full),
@@ -634,15 +639,16 @@ fn huge(case: &mut Case) {
         1 => lent.t = number,
         2 => lent.size = number,
         3 => lent.blocks = number,
-        _ => lent.rounds = number,
+        4 => lent.rounds = number,
+        _ => lent.window = number,
     };
-    for which in 0..5 {
+    for which in 0..6 {
         let mut lent = right.clone();
         set(&mut lent, which, number);
         case.all(&lent);
         case.make_and_write(&lent);
         case.design(lent.m, lent.t, lent.size);
-        set(&mut lent, case.rng.below(5), case.rng.pick(&NUMBERS));
+        set(&mut lent, case.rng.below(6), case.rng.pick(&NUMBERS));
         case.all(&lent);
         case.make_and_write(&lent);
         lent.own.pop();
@@ -742,7 +748,7 @@ fn holders(shape: &Shape, words: &[Word]) -> Vec<Vec<usize>> {
 }
 
 /// Places to turn so that no word has more than t wrong bits, after `tries` random places.
-fn within(rng: &mut Rng, shape: &Shape, tries: usize) -> Vec<usize> {
+pub fn within(rng: &mut Rng, shape: &Shape, tries: usize) -> Vec<usize> {
     let words = shape.words();
     let holders = holders(shape, &words);
     let mut wrong = vec![0; words.len()];
@@ -845,7 +851,7 @@ fn received_frames(case: &mut Case) {
 
 /// A frame without an inverse: all zero under random lists, or zero blocks under identity lists, where
 /// any Y will do and P is what the column words give.
-fn unencoded(case: &mut Case, d: Design, blocks: usize) -> Lent {
+pub fn unencoded(case: &mut Case, d: Design, blocks: usize) -> Lent {
     let order = d.order();
     let zero = case.rng.below(2) == 0;
     let identity: Vec<usize> = (0..order).collect();

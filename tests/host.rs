@@ -45,6 +45,10 @@ extern "C" {
         m: u64, t: u64, size: u64, blocks: u64, rounds: u64, o: In, ol: usize, p: In, pl: usize, i: Out, il: usize,
         r: Out, rl: usize, w: Out, wl: usize, a: Told, al: usize,
     ) -> u64;
+    fn bauchleton_decode_window(
+        m: u64, t: u64, size: u64, blocks: u64, rounds: u64, window: u64, o: In, ol: usize, p: In, pl: usize, i: Out, il: usize,
+        r: Out, rl: usize, w: Out, wl: usize, a: Told, al: usize,
+    ) -> u64;
     fn bauchleton_decode_tallied(
         m: u64, t: u64, size: u64, blocks: u64, rounds: u64, o: In, ol: usize, p: In, pl: usize, i: Out, il: usize,
         r: Out, rl: usize, w: Out, wl: usize, y: Told, yl: usize, a: Told, al: usize,
@@ -133,6 +137,16 @@ pub fn decode(
     let ((o, ol), (p, pl)) = (lend!(own), lend!(parity));
     let ((i, il), (r, rl), (w, wl), (a, al)) = (lend_mut!(info), lend_mut!(red), lend_mut!(work), lend_mut!(answer));
     unsafe { bauchleton_decode(m, t, size, blocks, rounds, o, ol, p, pl, i, il, r, rl, w, wl, a, al) }
+}
+
+#[allow(clippy::too_many_arguments)]
+pub fn decode_window(
+    (m, t, size): (u64, u64, u64), blocks: u64, rounds: u64, window: u64, own: &[u8], parity: &[u8], info: &mut [u8],
+    red: &mut [u8], work: &mut [u8], answer: &mut [u64],
+) -> u64 {
+    let ((o, ol), (p, pl)) = (lend!(own), lend!(parity));
+    let ((i, il), (r, rl), (w, wl), (a, al)) = (lend_mut!(info), lend_mut!(red), lend_mut!(work), lend_mut!(answer));
+    unsafe { bauchleton_decode_window(m, t, size, blocks, rounds, window, o, ol, p, pl, i, il, r, rl, w, wl, a, al) }
 }
 
 #[allow(clippy::too_many_arguments)]

@@ -1,4 +1,4 @@
-//! Document 01 and document 02's U1 to U3 and U5 to U9 written a second time, from their text alone: small, literal and slow.
+//! Document 01 and document 02's U1 to U3, U5 to U9 and U11 written a second time, from their text alone: small, literal and slow.
 //! It shares nothing with the library. Everything that they define is a function here:
 //!
 //! - `design`, `powers`, `minimal`, `generator`, `remainder`: rules 1 to 3 and BCH words
@@ -6,8 +6,9 @@
 //! - `sums`, `system`, `check_kit`: A y + c, A, and the verdict on a kit
 //! - `first_dependent`, `inverse`, `make_inverse`: rule 14's column, W by elimination, and the maker
 //! - `turned`, `spread_lists`: spread lists
-//! - `Verdict`, `mend_word`, `Counts`, `mend`, `turns`: what mending a word tells, rounds, and what they count
-//! - `encode`, `encode_batch`, `check_words`, `decode`, `show`, `loopback`: the calls
+//! - `Verdict`, `mend_word`, `Counts`, `make_rounds`, `mend`, `turns`: what mending a word tells, rounds, and what they count
+//! - `last_position`, `held`, `slide`, `at_positions`: the positions of a window, the groups that it holds there, and what its rounds count
+//! - `encode`, `encode_batch`, `check_words`, `decode`, `decode_window`, `show`, `loopback`: the calls
 //! - `Tally`, `decode_tallied`, `greatest_common`, `report`: the tally and its report
 //! - `Generator`, `load_fill`, `load_errors`, `load_run`: the test load
 //! - `read_kit`, `read_blocks`, `read_frame`: the texts and the place of rules 11 and 12
@@ -17,6 +18,7 @@
 //! A frame is kept as one vector: the information, then the redundancy. A sent bit is its place in it.
 
 use std::collections::HashMap;
+use std::ops::RangeInclusive;
 
 /// "A refusal returns a number and a place."
 pub type Refusal = (u64, u64);
@@ -250,15 +252,19 @@ impl Shape {
         word.extend((0..r).map(|b| Some(self.p_bit(i, b, a))));
         word
     }
-    /// All words: "groups 1 to G, in each the row words 0 to M-1, then the column words".
-    pub fn words(&self) -> Vec<Word> {
+    /// The words of some groups in order, "in each the row words 0 to M-1, then the column words".
+    pub fn words_of(&self, groups: RangeInclusive<usize>) -> Vec<Word> {
         let side = self.d.side();
-        (1..=groups(self.blocks))
+        groups
             .flat_map(|i| {
                 let rows = (0..side).map(move |a| self.row_word(i, a));
                 rows.chain((0..side).map(move |a| self.column_word(i, a)))
             })
             .collect()
+    }
+    /// All words: "groups 1 to G".
+    pub fn words(&self) -> Vec<Word> {
+        self.words_of(1..=groups(self.blocks))
     }
 }
 
@@ -682,15 +688,19 @@ pub struct Received {
     pub red: Vec<u8>,
 }
 
-/// Rules 1 to 4, 5 (for a call with rounds), 6, 7 and 10. `others` are the slices of rule 6 after the redundancy: place, length and
-/// right length. The answer is the shape and the frame.
+/// Rules 1 to 4, 5 (for a call with rounds), 18 (for a call with a window), 6, 7 and 10. `others` are the slices of rule 6 after the
+/// redundancy: place, length and right length. The answer is the shape and the frame.
 fn received(
-    lent: &Received, rounds: u64, others: impl Fn(&Design, usize) -> Vec<(u64, usize, usize)>,
+    lent: &Received, rounds: u64, window: Option<u64>, others: impl Fn(&Design, usize) -> Vec<(u64, usize, usize)>,
 ) -> Answer<(Shape, Vec<u8>)> {
     let d = design(lent.m, lent.t, lent.size)?;
     let blocks = block_count(lent.blocks)?;
     if rounds > 64 {
         return Err((5, rounds));
+    }
+    // "18 window, after 5, when V is 0 or above 64; the place is V"
+    if let Some(wrong @ (0 | 65..)) = window {
+        return Err((18, wrong));
     }
     lengths(&[
         (1, lent.own.len(), 2 * d.order()),
@@ -707,7 +717,7 @@ fn received(
 
 /// The word checker: rules 1 to 4, 6, 7 and 10. The answer is the number of words outside the code.
 pub fn check_words(lent: &Received, work: usize) -> Answer<u64> {
-    let (shape, frame) = received(lent, 0, |d, _| vec![(6, work, d.word_work())])?;
+    let (shape, frame) = received(lent, 0, None, |d, _| vec![(6, work, d.word_work())])?;
     Ok(words_outside(&shape, &frame))
 }
 
@@ -797,7 +807,7 @@ fn differing(frame: &[u8], other: &[u8]) -> u64 {
 
 /// The decoder: rules 1 to 7 and 10. The answer is the mended information and redundancy, and counts.
 pub fn decode(lent: &Received, rounds: u64, work: usize) -> Answer<(Vec<u8>, Vec<u8>, Counts)> {
-    let (shape, mut frame) = received(lent, rounds, |d, blocks| vec![(6, work, d.decoder_work(blocks))])?;
+    let (shape, mut frame) = received(lent, rounds, None, |d, blocks| vec![(6, work, d.decoder_work(blocks))])?;
     let (counts, _) = mend(&shape, &mut frame, rounds);
     let red = frame.split_off(lent.info.len());
     Ok((frame, red, counts))
@@ -805,7 +815,7 @@ pub fn decode(lent: &Received, rounds: u64, work: usize) -> Answer<(Vec<u8>, Vec
 
 /// What the rounds of an accepted decode do beside what it tells.
 pub fn turns(lent: &Received, rounds: u64, work: usize) -> Answer<Turns> {
-    let (shape, mut frame) = received(lent, rounds, |d, blocks| vec![(6, work, d.decoder_work(blocks))])?;
+    let (shape, mut frame) = received(lent, rounds, None, |d, blocks| vec![(6, work, d.decoder_work(blocks))])?;
     Ok(mend(&shape, &mut frame, rounds).1)
 }
 
@@ -829,27 +839,79 @@ pub fn allowed(rounds: u64) -> u64 {
     if rounds == 0 { 7 } else { rounds }
 }
 
-/// "A round takes groups 1 to G, in each the row words 0 to M-1, then the column words. [..] Rounds end after one that turns
+/// Rounds over these words: how many are made, and the stuck verdicts of the last one. "Rounds end after one that turns
 /// no bit, or when all are made": also after document 02, by turns and not by the bits in which the frame differs.
-fn mend(shape: &Shape, frame: &mut [u8], rounds: u64) -> (Counts, Turns) {
-    let patterns = Patterns::new(&shape.d, shape.g);
-    let words = shape.words();
-    let copy = frame.to_vec();
+fn make_rounds(shape: &Shape, patterns: &Patterns, words: &[Word], frame: &mut [u8], rounds: u64) -> (u64, u64, Turns) {
     let (mut made, mut all) = (0, Turns::default());
     loop {
         let before = frame.to_vec();
-        let verdicts: Vec<Verdict> = words.iter().map(|word| mend_word(shape, &patterns, word, frame)).collect();
+        let verdicts: Vec<Verdict> = words.iter().map(|word| mend_word(shape, patterns, word, frame)).collect();
         let turns: u64 = verdicts.iter().map(Verdict::bits).sum();
         made += 1;
         all.turns += turns;
         all.undone_rounds += (turns > 0 && before == frame && made < allowed(rounds)) as u64;
         if turns == 0 || made == allowed(rounds) {
             let stuck = verdicts.iter().filter(|&&verdict| verdict == Verdict::Stuck).count() as u64;
-            let counts = Counts { rounds: made, turned: differing(&copy, frame), outside: words_outside(shape, frame), stuck };
-            return (counts, all);
+            return (made, stuck, all);
         }
     }
 }
+
+/// "A round takes groups 1 to G, in each the row words 0 to M-1, then the column words."
+fn mend(shape: &Shape, frame: &mut [u8], rounds: u64) -> (Counts, Turns) {
+    let patterns = Patterns::new(&shape.d, shape.g);
+    let copy = frame.to_vec();
+    let (rounds, stuck, all) = make_rounds(shape, &patterns, &shape.words(), frame, rounds);
+    (Counts { rounds, turned: differing(&copy, frame), outside: words_outside(shape, frame), stuck }, all)
+}
+
+// ---------------------------------------------------------------- The sliding window
+
+/// "With a window of V groups, positions run from group 1 to the larger of 1 and G - V + 1": the last one.
+pub fn last_position(blocks: usize, window: u64) -> u64 {
+    (groups(blocks) as i64 - window as i64 + 1).max(1) as u64
+}
+
+/// The groups that a window holds at a position: V of them from there on, as far as there are any.
+pub fn held(blocks: usize, window: u64, position: u64) -> RangeInclusive<usize> {
+    position as usize..=groups(blocks).min((position + window - 1) as usize)
+}
+
+/// What an accepted call with a window does at each position: the rounds made there and the bits turned in them.
+pub type Positions = Vec<(u64, u64)>;
+
+/// The decoder with a window: the decoder's rules, and 18. "Each position makes rounds over its groups, up to the number allowed,
+/// ending early after one with no turn. [..] Rounds are summed over positions [..]. The stuck verdicts are those of the last round at
+/// the last position." The other two counts are of the whole frame: the bits in which it differs from the copy, and its words outside
+/// at the end.
+pub fn decode_window(lent: &Received, rounds: u64, window: u64, work: usize) -> Answer<(Vec<u8>, Vec<u8>, Counts)> {
+    let (shape, mut frame) = received(lent, rounds, Some(window), |d, blocks| vec![(6, work, d.decoder_work(blocks))])?;
+    let (counts, _) = slide(&shape, &mut frame, rounds, window);
+    let red = frame.split_off(lent.info.len());
+    Ok((frame, red, counts))
+}
+
+/// What an accepted call does at each position.
+pub fn at_positions(lent: &Received, rounds: u64, window: u64, work: usize) -> Answer<Positions> {
+    let (shape, mut frame) = received(lent, rounds, Some(window), |d, blocks| vec![(6, work, d.decoder_work(blocks))])?;
+    Ok(slide(&shape, &mut frame, rounds, window).1)
+}
+
+fn slide(shape: &Shape, frame: &mut [u8], rounds: u64, window: u64) -> (Counts, Positions) {
+    let patterns = Patterns::new(&shape.d, shape.g);
+    let copy = frame.to_vec();
+    let (mut all, mut last_stuck) = (vec![], 0);
+    for position in 1..=last_position(shape.blocks, window) {
+        let words = shape.words_of(held(shape.blocks, window, position));
+        let (made, stuck, turns) = make_rounds(shape, &patterns, &words, frame, rounds);
+        all.push((made, turns.turns));
+        last_stuck = stuck;
+    }
+    let rounds = all.iter().map(|(made, _)| made).sum();
+    (Counts { rounds, turned: differing(&copy, frame), outside: words_outside(shape, frame), stuck: last_stuck }, all)
+}
+
+// ---------------------------------------------------------------- Loopback, showing
 
 /// The loopback: encode, turn the bits that the patterns name, decode in place. Its rules are 1 to 4, the
 /// decoder's 5, and then the encoder's 6, 7, 8, 10 and 9; a refused call leaves everything.
@@ -917,7 +979,7 @@ fn room(tally: &Tally) -> Answer<()> {
 pub fn decode_tallied(
     lent: &Received, rounds: u64, work: usize, tally: &[u64],
 ) -> Answer<((Vec<u8>, Vec<u8>, Counts), Tally)> {
-    received(lent, rounds, |d, blocks| vec![(6, work, d.decoder_work(blocks)), (9, tally.len(), 6)])?;
+    received(lent, rounds, None, |d, blocks| vec![(6, work, d.decoder_work(blocks)), (9, tally.len(), 6)])?;
     let mut tally = totals(tally)?;
     room(&tally)?;
     let decoded = decode(lent, rounds, work)?;

@@ -15,7 +15,8 @@ use Rattle.staircase.specs.Calls.{kitVerdict, encodeCall, wordsCall, decodeCall
 use Rattle.staircase.specs.Maker.{makeCall}
 use Rattle.staircase.specs.Spread.{spreadCall}
 use Rattle.staircase.specs.Batch.{batchCall}
-use Rattle.staircase.proofs.Demand1.{design-demand1, kit-demand1, make-demand1, spread-demand1, encode-demand1, batch-demand1, words-demand1, decode-demand1, show-demand1}
+use Rattle.staircase.specs.Window.{windowCall}
+use Rattle.staircase.proofs.Demand1.{design-demand1, kit-demand1, make-demand1, spread-demand1, encode-demand1, batch-demand1, words-demand1, decode-demand1, window-demand1, show-demand1}
 use Rattle.loopback.specs.Link.{loopbackCall}
 use Rattle.loopback.proofs.Demand1.{loopback-demand1}
 use Rattle.rules_verdict.specs.Number.{number, placeOf}
@@ -61,6 +62,12 @@ module _ (m t M L : ℕ) (self parity w info red : List ℕ) (work : ℕ) where
       (placeOf (decodeCall m t M L k self parity info red work .verdict)) (info ∷ red ∷ [])
       (decodeCall m t M L k self parity info red work .frame .info ∷ decodeCall m t M L k self parity info red work .frame .red ∷ [])
   bauchleton-decode-demand1 k = demand1-number _ _ _ _ (decode-demand1 m t M L k self parity info red work)
+
+  pub bauchleton-decode-window-demand1 : (k v : ℕ)
+      → Demand1C (1 ∷ 2 ∷ 3 ∷ 4 ∷ 5 ∷ 6 ∷ 7 ∷ 10 ∷ 18 ∷ []) (number (windowCall m t M L k v self parity info red work .verdict))
+      (placeOf (windowCall m t M L k v self parity info red work .verdict)) (info ∷ red ∷ [])
+      (windowCall m t M L k v self parity info red work .frame .info ∷ windowCall m t M L k v self parity info red work .frame .red ∷ [])
+  bauchleton-decode-window-demand1 k v = demand1-number _ _ _ _ (window-demand1 m t M L k v self parity info red work)
 
   pub bauchleton-loopback-demand1 : (k : ℕ) (infoErrors redErrors : List ℕ)
       → Demand1C (1 ∷ 2 ∷ 3 ∷ 4 ∷ 5 ∷ 6 ∷ 7 ∷ 8 ∷ 9 ∷ 10 ∷ []) (number (loopbackCall m t M L k self parity w infoErrors redErrors info red work .verdict))

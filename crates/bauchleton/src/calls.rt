@@ -3,6 +3,7 @@
 //   bauchleton_encode_batch  the encoder of several frames
 //   bauchleton_check_words   the word checker
 //   bauchleton_decode        the decoder
+//   bauchleton_decode_window the decoder with a window that slides over the frame
 //   bauchleton_loopback      the bench's self test
 //   bauchleton_show          showing a block or a group
 ghost use mathlib.Core.Path.{_≡_};
@@ -11,6 +12,7 @@ ghost use lib.ListN.{length};
 ghost use Rattle.staircase.specs.Frame.{frameOf};
 ghost use Rattle.staircase.specs.Calls.{encodeCall, wordsCall, decodeCall, showCall};
 ghost use Rattle.staircase.specs.Batch.{batchCall};
+ghost use Rattle.staircase.specs.Window.{windowCall};
 ghost use Rattle.loopback.specs.Link.{loopbackCall};
 ghost use Rattle.show.specs.Answers.{partOf};
 ghost use Rattle.rules_verdict.specs.Number.{number, placeOf, told};
@@ -152,6 +154,44 @@ pub extern "C" fn bauchleton_decode(
         × (now (answer .exit) ≡ told (correctedAnswer d) (now (answer .entry))) ⌝ }
 {
     let a = decoder::decode(m, t, size, blocks, rounds, own, parity, info, red, work);
+    tell_decoding(a, answer)
+}
+
+// Corrects a frame in place, with a window of `window` groups that slides over it. `answer` is as the decoder's.
+#[no_mangle]
+pub extern "C" fn bauchleton_decode_window(
+    m: u64,
+    t: u64,
+    size: u64,
+    blocks: u64,
+    rounds: u64,
+    window: u64,
+    own: &[u8],
+    parity: &[u8],
+    info: &mut [u8],
+    red: &mut [u8],
+    work: &mut [u8],
+    answer: &mut [u64],
+) -> u64
+    ensures { λ a.
+        let d = windowCall m t size blocks rounds window (now (own .entry)) (now (parity .entry)) (now (info .entry)) (now (red .entry))
+        (length (now (work .entry))) in
+        ⌜ (a ≡ number (d .verdict)) × (frameOf (now (info .exit)) (now (red .exit)) ≡ d .frame)
+        × (now (answer .exit) ≡ told (correctedAnswer d) (now (answer .entry))) ⌝ }
+{
+    let a = decoder::decode_window(
+        m,
+        t,
+        size,
+        blocks,
+        rounds,
+        window,
+        own,
+        parity,
+        info,
+        red,
+        work,
+    );
     tell_decoding(a, answer)
 }
 

@@ -1,6 +1,7 @@
 // The calls for a host in C. A slice is a pointer and a length there, and no two slices of a call may overlap.
 //   kits     bauchleton_design, bauchleton_check_kit, bauchleton_make_inverse, bauchleton_spread_lists
-//   calls    bauchleton_encode, bauchleton_encode_batch, bauchleton_check_words, bauchleton_decode, bauchleton_loopback, bauchleton_show
+//   calls    bauchleton_encode, bauchleton_encode_batch, bauchleton_check_words, bauchleton_decode, bauchleton_decode_window, bauchleton_loopback,
+//            bauchleton_show
 //   loads    bauchleton_load_fill, bauchleton_load_errors, bauchleton_load_run
 //   tallies  bauchleton_decode_tallied, bauchleton_report
 //   tells    what an answer tells a host
@@ -16,6 +17,7 @@ mod tells;
 
 pub use calls::bauchleton_check_words;
 pub use calls::bauchleton_decode;
+pub use calls::bauchleton_decode_window;
 pub use calls::bauchleton_encode;
 pub use calls::bauchleton_encode_batch;
 pub use calls::bauchleton_loopback;

@@ -13,18 +13,17 @@ use native.Mathlib.Omega.{arith}
 use lib.ListN.{length, take, drop, length-append, length-drop}
 use lib.Seq.{take-at, drop-at, getD-take, length-take-le}
 use Rattle.staircase.specs.Design.{Params, Interleavers}
-use Rattle.staircase.specs.Frame.{Frame, Site, plain, words, outside, inCode}
+use Rattle.staircase.specs.Frame.{Frame, Site, groups, words, outside, inCode}
 use Rattle.staircase.specs.LineErrors.{lineErrors}
-use Rattle.staircase.specs.Decoder.{Decoded, runRounds, roundsAllowed, decoded}
-use Rattle.staircase.specs.Outcomes.{lastStuck}
+use Rattle.staircase.specs.Decoder.{Decoded, roundsAllowed}
 use Rattle.staircase.specs.Rules.Verdict.{accepted}
-use Rattle.staircase.specs.Calls.{countsOf}
+use Rattle.staircase.specs.Window.{positions, windowWords, slide, slideStuck, windowed, windowStuck, windowCounts}
 use Rattle.staircase.proofs.Member.{In}
 use Rattle.staircase.proofs.Outside.{all-inside}
-use Rattle.staircase.proofs.Idle.{decoded-stays}
-use Rattle.staircase.proofs.Decoded.{countsOf-stays}
+use Rattle.staircase.proofs.Window.{windowed-stays, windowCounts-stays}
 use Rattle.words_positions.proofs.Parts.{part-is}
 use Rattle.decoder_kept.specs.Numbers.{keptAt}
+use Rattle.decoder_frame.proofs.Limit.{allowed-itself}
 use Rattle.decoder.specs.declared.Counts.{Counts}
 use Rattle.decoder.specs.declared.Decoding.the-variants as decoding
 use Rattle.decoder.specs.Answers.{correctedOf, correctedFrame}
@@ -80,22 +79,25 @@ module _ (K C : List ℕ) (n all : ℕ) (ea : all ≡ length K) (h : n ≤ all) 
 
 -- ---- the counts
 
-pub corrected-made : (s : Params) (l : Interleavers) (L k n flips : ℕ) (f g : Frame) (c : Counts) → n ≡ roundsAllowed k
-    → record { frame = g; rounds = c .rounds; flips = flips } ≡ runRounds s (words s l L) n f → c .turned ≡ lineErrors f g → c .outside ≡ outside s l L g
-    → c .stuck ≡ lastStuck (plain s (words s l L)) n f → correctedOf (decoding.Decoded c) g ≡ correctedFrame s l L k f
-unfolding correctedOf correctedFrame countsOf decoded
-corrected-made s l L k n flips f g c h e t o z =
-    let m : record { frame = g; rounds = c .rounds; flips = flips } ≡ runRounds s (words s l L) (roundsAllowed k) f =
-    e ∙ ap (λ (j : ℕ). runRounds s (words s l L) j f) h in
-    let t' = t ∙ ap (λ (d : Decoded). lineErrors f (d .frame)) m in
-    let o' = o ∙ ap (λ (d : Decoded). outside s l L (d .frame)) m in
-    let z' = z ∙ ap (λ (j : ℕ). lastStuck (plain s (words s l L)) j f) h in
-    λ i. record { verdict = accepted; frame = m i .frame; counts = record { rounds = m i .rounds; turned = t' i; outside = o' i; stuck = z' i } }
+module _ (s : Params) (l : Interleavers) (L v k : ℕ) (f : Frame) where
+  pub corrected-made : (flips : ℕ) (g : Frame) (c : Counts) → 1 ≤ k
+      → record { frame = g; rounds = c .rounds; flips = flips } ≡ slide (windowWords s l L v) (positions (groups L) v) k f → c .turned ≡ lineErrors f g
+      → c .outside ≡ outside s l L g → c .stuck ≡ slideStuck (windowWords s l L v) (groups L - v) k f
+      → correctedOf (decoding.Decoded c) g ≡ correctedFrame s l L v k f
+  unfolding correctedOf correctedFrame windowCounts windowed windowStuck
+  corrected-made flips g c some e t o z =
+      let same : k ≡ roundsAllowed k = allowed-itself k (λ n. omega (arith, some, n)) in
+      let m : record { frame = g; rounds = c .rounds; flips = flips } ≡ slide (windowWords s l L v) (positions (groups L) v) (roundsAllowed k) f =
+      e ∙ ap (λ (j : ℕ). slide (windowWords s l L v) (positions (groups L) v) j f) same in
+      let t' = t ∙ ap (λ (d : Decoded). lineErrors f (d .frame)) m in
+      let o' = o ∙ ap (λ (d : Decoded). outside s l L (d .frame)) m in
+      let z' = z ∙ ap (λ (j : ℕ). slideStuck (windowWords s l L v) (groups L - v) j f) same in
+      λ i. record { verdict = accepted; frame = m i .frame; counts = record { rounds = m i .rounds; turned = t' i; outside = o' i; stuck = z' i } }
 
-pub corrected-idle : (s : Params) (l : Interleavers) (L k : ℕ) (f : Frame) (c : Counts) → c ≡ record { rounds = 1; turned = 0; outside = 0; stuck = 0 }
-    → outside s l L f ≡ 0 → correctedOf (decoding.Decoded c) f ≡ correctedFrame s l L k f
-unfolding correctedOf correctedFrame outside
-corrected-idle s l L k f c q e =
-    let h : (w : List Site) → In w (words s l L) → inCode s f w ≡ true = all-inside s f (words s l L) e in
-    ap (λ (z : Counts). correctedOf (decoding.Decoded z) f) q
-    ∙ sym (λ i. record { verdict = accepted; frame = decoded-stays s f l L k h i .frame; counts = countsOf-stays s l L k f h i })
+  pub corrected-idle : (c : Counts) → c ≡ record { rounds = positions (groups L) v; turned = 0; outside = 0; stuck = 0 }
+      → outside s l L f ≡ 0 → correctedOf (decoding.Decoded c) f ≡ correctedFrame s l L v k f
+  unfolding correctedOf correctedFrame outside
+  corrected-idle c q e =
+      let h : (w : List Site) → In w (words s l L) → inCode s f w ≡ true = all-inside s f (words s l L) e in
+      ap (λ (z : Counts). correctedOf (decoding.Decoded z) f) q
+      ∙ sym (λ i. record { verdict = accepted; frame = windowed-stays s l L v k f h i .frame; counts = windowCounts-stays s l L v k f h i })

@@ -93,5 +93,6 @@ behind-same W B n all e h l =
       e,
     )
 
-pub corrected-in : (s : Params) (l l' : Interleavers) (L k : ℕ) (f : Frame) (x : Corrected) → l' ≡ l → x ≡ correctedFrame s l' L k f → x ≡ correctedFrame s l L k f
-corrected-in s l l' L k f x q e = e ∙ ap (λ (z : Interleavers). correctedFrame s z L k f) q
+pub corrected-in : (s : Params) (l l' : Interleavers) (L v k : ℕ) (f : Frame) (x : Corrected) → l' ≡ l → x ≡ correctedFrame s l' L v k f
+    → x ≡ correctedFrame s l L v k f
+corrected-in s l l' L v k f x q e = e ∙ ap (λ (z : Interleavers). correctedFrame s z L v k f) q

@@ -1,27 +1,35 @@
 -- The rules on a frame that is to be decoded after the design's, and what the decoder's answer says.
 --   copyRules        rules 4 to 7 and 10 for a frame that is to be decoded
+--   windowNumbers    rules 4, 5 and 18, on the numbers of a call with a window
 --   refusedFrame     the result for a frame that is refused
 --   countsTold       the counts that the code tells
 --   correctedOf      the answer and the frame that the call leaves, as the decoder's result
 --   correctedFrame   the result for a frame that no rule refuses
+--   callRules        the first check of a call, rules 4 to 7 and 10, and its last check
+--   answered         the result of a call
 -- Assumes nothing.
 use mathlib.Core.List.{List}
 use Prim.Native.Nat.{ℕ}
-use Rattle.staircase.specs.Design.{Params, Interleavers}
-use Rattle.staircase.specs.Frame.{Frame}
-use Rattle.staircase.specs.Decoder.{decoded}
-use Rattle.staircase.specs.Rules.{Verdict}
+use Rattle.staircase.specs.Design.{Params, Interleavers, params}
+use Rattle.staircase.specs.Frame.{Frame, frameOf}
+use Rattle.staircase.specs.Rules.{Verdict, _then_, designRules, countRule, roundsRule, interleavers}
 use Rattle.staircase.specs.Rules.Verdict.{accepted}
-use Rattle.staircase.specs.Calls.{Counts, countsOf, no-counts, Corrected, correctedBy}
-use Rattle.design.specs.Answers.{refusalVerdict}
+use Rattle.staircase.specs.Calls.{Counts, no-counts, Corrected, correctedBy}
+use Rattle.staircase.specs.Window.{windowRule, windowed, windowCounts}
+use Rattle.design.specs.Answers.{refusalVerdict, verdictOf}
 use Rattle.rules.specs.Lengths.{decoderDue}
 use Rattle.words.specs.Checks.{receivedRules}
 use Rattle.decoder.specs.declared.Counts as told
+use Rattle.decoder.specs.declared.Call.{Call}
 use Rattle.decoder.specs.declared.Decoding.{Decoding}
 use Rattle.decoder.specs.declared.Decoding.the-variants as decoding
 
 unfoldable pub copyRules : Params → ℕ → ℕ → List ℕ → List ℕ → List ℕ → List ℕ → ℕ → Verdict
 copyRules s L k self parity info red work = receivedRules s L k (decoderDue s L) self parity info red work
+
+-- document 02: "18 window, after 5"
+unfoldable pub windowNumbers : ℕ → ℕ → ℕ → Verdict
+windowNumbers L k v = countRule L then roundsRule k then windowRule v
 
 unfoldable pub refusedFrame : Verdict → Frame → Corrected
 refusedFrame v f = record { verdict = v; frame = f; counts = no-counts }
@@ -33,5 +41,18 @@ unfoldable pub correctedOf : Decoding → Frame → Corrected
 correctedOf (decoding.Decoded c) f = correctedBy accepted f f (countsTold c)
 correctedOf (decoding.Refused r) f = refusedFrame (refusalVerdict r) f
 
-unfoldable pub correctedFrame : Params → Interleavers → ℕ → ℕ → Frame → Corrected
-correctedFrame s l L k f = correctedBy accepted f (decoded s l L k f .frame) (countsOf s l L k f)
+-- under a window of v groups, which may be all that the frame has
+unfoldable pub correctedFrame : Params → Interleavers → ℕ → ℕ → ℕ → Frame → Corrected
+correctedFrame s l L v k f = correctedBy accepted f (windowed s l L v k f .frame) (windowCounts s l L v k f)
+
+abbrev pub callRules : Call → Params → List ℕ → List ℕ → List ℕ → List ℕ → ℕ → Verdict
+callRules c s self parity info red work =
+    verdictOf (c .first) then copyRules s (c .blocks) (c .rounds) self parity info red work then verdictOf (c .last)
+
+unfoldable pub answered : Call → List ℕ → List ℕ → List ℕ → List ℕ → ℕ → Corrected
+answered c self parity info red work =
+    let s : Params = params (c .m) (c .t) (c .size) in
+    let l : Interleavers = interleavers s self parity in
+    let f : Frame = frameOf info red in
+    correctedBy (designRules (c .m) (c .t) (c .size) then callRules c s self parity info red work) f
+    (windowed s l (c .blocks) (c .window) (c .rounds) f .frame) (windowCounts s l (c .blocks) (c .window) (c .rounds) f)

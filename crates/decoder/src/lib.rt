@@ -1,17 +1,22 @@
-// The decoder: rules 1 to 7 and 10 of document 01's table, then rounds over the words of the received frame, in place (crate `decoder_frame`).
+// The decoder: rules 1 to 7 and 10 of document 01's table, with a window rule 18 too, then rounds over the words of the received frame, in place (crate
+// `decoder_frame`). Without a window they are those of a window that has all groups.
 //   decode          corrects a frame, and counts rounds, bits that differ from the received frame's, words outside the code at the end, and stuck words
 //                   of the last round made
 //   decode_with     the same with one more check, which is asked last
+//   decode_window   the same, with a window that slides over the frame
 //   refused_frame   a refusal as the decoder's answer
 ghost use mathlib.Core.Path.{_≡_};
 ghost use Prim.Native.Nat.{_+_, _*_, _≤_};
 ghost use lib.ListN.{length, take, drop};
-ghost use Rattle.staircase.specs.Design.{most-rounds, wordLength};
-ghost use Rattle.staircase.specs.Frame.{Frame, frameOf};
+ghost use Rattle.staircase.specs.Design.{most-blocks, most-rounds, wordLength};
+ghost use Rattle.staircase.specs.Frame.{Frame, frameOf, groups};
+ghost use Rattle.staircase.specs.Decoder.{roundsAllowed};
 ghost use Rattle.staircase.specs.Lines.{wordCount};
 ghost use Rattle.staircase.specs.Rules.{keptWork};
+ghost use Rattle.staircase.specs.Rules.Verdict.{accepted};
 ghost use Rattle.staircase.specs.Calls.{decodeCall};
 ghost use Rattle.staircase.specs.Tally.{decodeWith, furtherCall};
+ghost use Rattle.staircase.specs.Window.{positions, windowGroups, windowCall};
 ghost use Rattle.design.specs.Answers.{Allowed, verdictOf};
 ghost use Rattle.design.specs.Sizes.{paramsOf, orderOf, listsOf};
 ghost use Rattle.rules.specs.Received.{Received};
@@ -19,8 +24,10 @@ ghost use Rattle.words_blocks.specs.Blocks.{Powers};
 ghost use Rattle.decoder_lines.specs.Links.{listsIn};
 ghost use Rattle.decoder_words.specs.Ready.{LineReady, FrameKept};
 ghost use Rattle.decoder_frame.specs.Filled.{Filled};
-ghost use Rattle.decoder.specs.Answers.{copyRules, correctedOf, correctedFrame, refusedFrame};
+ghost use Rattle.decoder_frame.specs.Stretch.{WindowFits};
+ghost use Rattle.decoder.specs.Answers.{copyRules, windowNumbers, correctedOf, correctedFrame, answered, refusedFrame};
 ghost use Rattle.decoder.specs.declared.Decoding.the-variants as Decoding;
+use decoder_frame::Window;
 use design::Check;
 use design::Design;
 use design::Designed;
@@ -35,6 +42,18 @@ pub struct Counts {
     pub turned: u64,
     pub outside: u64,
     pub stuck: u64,
+}
+
+// What a call asks: a design, a frame's blocks, the rounds and the groups of a window, and a check before and one behind the rules on the frame.
+struct Call {
+    m: u64,
+    t: u64,
+    size: u64,
+    blocks: u64,
+    rounds: u64,
+    window: u64,
+    first: Check,
+    last: Check,
 }
 
 // The answer of the decoder.
@@ -64,23 +83,24 @@ fn link_entries() -> [u16; 16384]
     [0; 16384]
 }
 
-// The counts of a frame whose words are all in the code: one idle round.
-fn idle_counts() -> Counts
-    ensures { λ a. ⌜ a ≡ record { rounds = 1; turned = 0; outside = 0; stuck = 0 } ⌝ }
+// The counts of a frame whose words are all in the code: one idle round at each position of a window.
+fn idle_counts(blocks: usize, window: Window) -> Counts
+    requires { ⌜ (blocks ≤ most-blocks) × WindowFits blocks window ⌝ }
+    ensures { λ a. ⌜ a ≡ record { rounds = positions (groups blocks) (window .groups); turned = 0; outside = 0; stuck = 0 } ⌝ }
 {
     Counts {
-        rounds: 1,
+        rounds: decoder_frame::position_count(blocks, window) as u64,
         turned: 0,
         outside: 0,
         stuck: 0,
     }
 }
 
-// Runs the rounds over a frame, and counts. The kept numbers of its words stand first in `kept`, and behind them is room for a copy of the frame. Where
-// all words are in the code, nothing is copied and no round is run: it would be a single idle one.
+// Runs the rounds of a window over a frame, and counts. The kept numbers of its words stand first in `kept`, and behind them is room for a copy of the
+// frame. Where all words are in the code, nothing is copied and no round is run: each position would have a single idle one. The line is any of the frame.
 fn correct_lines(
     line: Line,
-    rounds: u64,
+    window: Window,
     links: &[u16],
     tables: &[u32],
     field: &[u16],
@@ -88,24 +108,24 @@ fn correct_lines(
     red: &mut [u8],
     kept: &mut [u8],
 ) -> Counts
-    requires { ⌜ LineReady line (now links) (now tables) (now field) × (line .k ≡ 0) × (rounds ≤ most-rounds)
+    requires { ⌜ LineReady line (now links) (now tables) (now field) × WindowFits (line .blocks) window
         × FrameKept (line .d) (line .blocks) (now links) (now info) (now red) (take (4 * wordCount (paramsOf (line .d)) (line .blocks)) (now kept))
         × (length (now kept) ≡ 4 * wordCount (paramsOf (line .d)) (line .blocks) + (length (now info) + length (now red))) ⌝ }
     ensures { λ a. ⌜ (correctedOf (Decoding.Decoded a) (frameOf (now (info .exit)) (now (red .exit)))
-        ≡ correctedFrame (paramsOf (line .d)) (listsIn (line .d) (now (links .entry))) (line .blocks) rounds (frameOf (now (info .entry)) (now (red .entry))))
+        ≡ correctedFrame (paramsOf (line .d)) (listsIn (line .d) (now (links .entry))) (line .blocks) (window .groups) (window .limit)
+        (frameOf (now (info .entry)) (now (red .entry))))
         × (length (now (kept .exit)) ≡ length (now (kept .entry))) ⌝ }
 {
     let all = kept.len();
     let n = all - info.len() - red.len();
     let wrong = decoder_kept::count(&kept[0..n], n / 4);
     if wrong == 0 {
-        return idle_counts();
+        return idle_counts(line.blocks, window);
     }
-    let limit = decoder_frame::rounds_allowed(rounds);
     decoder_copy::keep_frame(&info[..], &red[..], &mut kept[n..all]);
-    let made = decoder_frame::run_rounds(
+    let made = decoder_frame::run_window(
         line,
-        limit,
+        window,
         links,
         tables,
         field,
@@ -159,7 +179,7 @@ fn fill_kept(
 fn correct_frame(
     d: Design,
     blocks: usize,
-    rounds: u64,
+    window: Window,
     own: &[u8],
     parity: &[u8],
     info: &mut [u8],
@@ -167,9 +187,10 @@ fn correct_frame(
     work: &mut [u8],
 ) -> Counts
     requires { ⌜ Received d blocks (now own) (now parity) (now info) (now red)
-        × (length (now work) ≡ orderOf d + keptWork (paramsOf d) blocks) × (rounds ≤ most-rounds) ⌝ }
+        × (length (now work) ≡ orderOf d + keptWork (paramsOf d) blocks) × WindowFits blocks window ⌝ }
     ensures { λ a. ⌜ correctedOf (Decoding.Decoded a) (frameOf (now (info .exit)) (now (red .exit)))
-        ≡ correctedFrame (paramsOf d) (listsOf d (now (own .entry)) (now (parity .entry))) blocks rounds (frameOf (now (info .entry)) (now (red .entry))) ⌝ }
+        ≡ correctedFrame (paramsOf d) (listsOf d (now (own .entry)) (now (parity .entry))) blocks (window .groups) (window .limit)
+        (frameOf (now (info .entry)) (now (red .entry))) ⌝ }
 {
     let line = words_lines::first_line(d, blocks);
     let n = d.order();
@@ -192,7 +213,7 @@ fn correct_frame(
     );
     correct_lines(
         line,
-        rounds,
+        window,
         &links[0..4 * n],
         &tables[0..due],
         &field[0..4 * powers],
@@ -200,6 +221,26 @@ fn correct_frame(
         red,
         &mut work[n..all],
     )
+}
+
+// The groups of a frame that stand in a window of `window` groups, and the rounds that are allowed at each of its positions.
+fn window_of(blocks: u64, rounds: u64, window: u64) -> Window
+    requires { ⌜ (blocks ≤ most-blocks) × (rounds ≤ most-rounds) ⌝ }
+    ensures { λ w. ⌜ (w ≡ record { groups = windowGroups (groups blocks) window; limit = roundsAllowed rounds })
+        × (1 ≤ w .limit) × (w .limit ≤ most-rounds) ⌝ }
+{
+    let limit = decoder_frame::rounds_allowed(rounds);
+    let count = design::group_count(blocks);
+    if window < count {
+        return Window {
+            groups: window as usize,
+            limit: limit,
+        };
+    }
+    Window {
+        groups: count as usize,
+        limit: limit,
+    }
 }
 
 // Rules 4 to 7 and 10 for a frame that is to be decoded.
@@ -240,8 +281,55 @@ pub fn refused_frame(a: Check) -> Decoding
     }
 }
 
+// Answers a call: rules 1 to 3, then its first check, rules 4 to 7 and 10, and its last check; and where none refuses, the rounds of its window. All
+// is judged before a bit is flipped.
+fn answer_call(
+    call: Call,
+    own: &[u8],
+    parity: &[u8],
+    info: &mut [u8],
+    red: &mut [u8],
+    work: &mut [u8],
+) -> Decoding
+    requires { ⌜ ((verdictOf (call .first) ≡ accepted) → (1 ≤ call .blocks) → (1 ≤ call .window)) ⌝ }
+    ensures { λ a. ⌜ correctedOf a (frameOf (now (info .exit)) (now (red .exit)))
+        ≡ answered call (now (own .entry)) (now (parity .entry)) (now (info .entry)) (now (red .entry)) (length (now (work .entry))) ⌝ }
+{
+    let designed = Design::new(call.m, call.t, call.size);
+    let Designed::Made(d) = designed else {
+        return refused_frame(design::design_check(designed));
+    };
+    let received = check_copy(
+        d,
+        call.blocks,
+        call.rounds,
+        own,
+        parity,
+        &info[..],
+        &red[..],
+        work,
+    );
+    let first = call.first;
+    let last = call.last;
+    let judged = rules::first(first, rules::first(received, last));
+    let Check::Passed = judged else {
+        return refused_frame(judged);
+    };
+    let window = window_of(call.blocks, call.rounds, call.window);
+    Decoding::Decoded(correct_frame(
+        d,
+        call.blocks as usize,
+        window,
+        own,
+        parity,
+        info,
+        red,
+        work,
+    ))
+}
+
 // Corrects a frame as `decode` does, with one more check behind its rules: where none of them refuses, `last` may. The check is asked before a bit is
-// flipped.
+// flipped. A window of as many groups as there are blocks has all groups.
 pub fn decode_with(
     last: Check,
     m: u64,
@@ -259,16 +347,61 @@ pub fn decode_with(
         ≡ furtherCall (verdictOf last) (decodeWith m t size blocks rounds (now (own .entry)) (now (parity .entry)) (now (info .entry)) (now (red .entry))
         (length (now (work .entry)))) ⌝ }
 {
-    let designed = Design::new(m, t, size);
-    let Designed::Made(d) = designed else {
-        return refused_frame(design::design_check(designed));
+    let call = Call {
+        m: m,
+        t: t,
+        size: size,
+        blocks: blocks,
+        rounds: rounds,
+        window: blocks,
+        first: Check::Passed,
+        last: last,
     };
-    let received = check_copy(d, blocks, rounds, own, parity, &info[..], &red[..], work);
-    let judged = rules::first(received, last);
-    let Check::Passed = judged else {
-        return refused_frame(judged);
+    answer_call(call, own, parity, info, red, work)
+}
+
+// Rules 4, 5 and 18: the numbers of a call with a window.
+fn check_numbers(blocks: u64, rounds: u64, window: u64) -> Check
+    ensures { λ a. ⌜ verdictOf a ≡ windowNumbers blocks rounds window ⌝ }
+{
+    let count = design::check_count(blocks);
+    let limit = design::check_rounds(rounds);
+    rules::first(count, rules::first(limit, design::check_window(window)))
+}
+
+// Corrects the lent frame as `decode` does, but with a window of `window` groups that slides over it: the rounds are those of its groups, and begin anew,
+// up to `rounds` of them, at each of its positions, from the first group to the last at which it ends with the frame. Refuses by the first of rules 1
+// to 5, 18, 6, 7 and 10; a refused frame is left as it was. Working bytes as `decode`'s. The remainders of the words are summed once, so the work is
+// that of `decode` and, for each position, a look at each word of its groups.
+pub fn decode_window(
+    m: u64,
+    t: u64,
+    size: u64,
+    blocks: u64,
+    rounds: u64,
+    window: u64,
+    own: &[u8],
+    parity: &[u8],
+    info: &mut [u8],
+    red: &mut [u8],
+    work: &mut [u8],
+) -> Decoding
+    ensures { λ a. ⌜ correctedOf a (frameOf (now (info .exit)) (now (red .exit)))
+        ≡ windowCall m t size blocks rounds window (now (own .entry)) (now (parity .entry)) (now (info .entry)) (now (red .entry))
+        (length (now (work .entry))) ⌝ }
+{
+    let numbers = check_numbers(blocks, rounds, window);
+    let call = Call {
+        m: m,
+        t: t,
+        size: size,
+        blocks: blocks,
+        rounds: rounds,
+        window: window,
+        first: numbers,
+        last: Check::Passed,
     };
-    Decoding::Decoded(correct_frame(d, blocks as usize, rounds, own, parity, info, red, work))
+    answer_call(call, own, parity, info, red, work)
 }
 
 // Corrects the lent frame of `blocks` blocks in place, in at most `rounds` rounds, 0 standing for 7, or refuses it by the first of rules 1 to 7 and

@@ -1,4 +1,4 @@
 pub mod Tables
 pub mod Numbers
 pub mod Limit
-pub mod Lines
+pub mod Positions

@@ -2,19 +2,25 @@
 //   fill_tables     the tables of a design, which correcting reads
 //   fill_numbers    the remainders of all words of a frame, as their kept numbers
 //   rounds_allowed  the limit that a number of rounds stands for
-//   run_rounds      corrects all words again and again, until a round flips nothing or the limit is reached
+//   run_rounds      corrects the words of some groups again and again, until a round flips nothing or the limit is reached
+//   position_count  the positions of a window that slides over a frame
+//   run_window      the same at each position of a window that slides over a frame; one that has all groups has one position
 //
 // The remainders of all words are summed once, line by line, in the order in which their bits stand in memory (crate `words`), and kept in working
 // bytes (crate `decoder_kept`). A round takes the lines one after the other and corrects the words whose kept number is not 0 (crate `decoder_words`),
 // which keeps all numbers right. Rounds end after one that flips nothing. The words outside the code at the end are those whose number is not 0; the
 // stuck words are counted by each round, and those of the last one are told.
+//
+// Numbers are right for all words of the frame, whichever lines are corrected. So a window has its numbers from those that are filled once, wherever it
+// stands: what a position costs is a look at the numbers of its words, and the words that are outside the code.
 ghost use mathlib.Core.Path.{_≡_};
-ghost use Prim.Native.Nat.{_+_, _*_, _^_, _≤_, _<_};
+ghost use Prim.Native.Nat.{_+_, _-_, _*_, _^_, _≤_};
 ghost use lib.ListN.{length, take, drop};
-ghost use Rattle.staircase.specs.Design.{most-rounds, wordLength};
-ghost use Rattle.staircase.specs.Frame.{plain, frameOf, words};
-ghost use Rattle.staircase.specs.Decoder.{runRounds, roundsAllowed};
+ghost use Rattle.staircase.specs.Design.{most-blocks, most-rounds, wordLength};
+ghost use Rattle.staircase.specs.Frame.{frameOf, groups};
+ghost use Rattle.staircase.specs.Decoder.{runEach, roundsAllowed};
 ghost use Rattle.staircase.specs.Outcomes.{lastStuck};
+ghost use Rattle.staircase.specs.Window.{positions, windowWords, slide, slideStuck};
 ghost use Rattle.staircase.specs.Lines.{wordCount};
 ghost use Rattle.design.specs.Answers.{Allowed};
 ghost use Rattle.design.specs.Sizes.{paramsOf};
@@ -26,17 +32,24 @@ ghost use Rattle.words_lines.specs.Lines.{LineFits};
 ghost use Rattle.decoder_lines.specs.Links.{listsIn};
 ghost use Rattle.decoder_words.specs.Ready.{WordTables, LineReady, FrameKept};
 ghost use Rattle.decoder_frame.specs.Filled.{Filled, PutFrom};
+ghost use Rattle.decoder_frame.specs.Stretch.{stretchWords, WindowFits};
 use design::Design;
 use words_lines::Line;
 
 // "0 stands for 7"
 const DEFAULT_ROUNDS: usize = 7;
 
-// Rounds made, bits flipped, and stuck words of the last round made.
+// Rounds made, bits flipped, and words that were stuck in the last round made.
 pub struct Made {
     pub rounds: usize,
     pub flips: usize,
     pub stuck: usize,
+}
+
+// How many groups stand in a window, and how many rounds are allowed at each of its positions.
+pub struct Window {
+    pub groups: usize,
+    pub limit: usize,
 }
 
 // Fills the values of the positions of a word and, behind them, those of four bits, from the field's tables.
@@ -67,7 +80,7 @@ pub fn fill_tables(d: Design, tables: &mut [u32], field: &mut [u16])
 // The rounds that a number of rounds stands for.
 pub fn rounds_allowed(rounds: u64) -> usize
     requires { ⌜ rounds ≤ most-rounds ⌝ }
-    ensures { λ a. ⌜ (a ≡ roundsAllowed rounds) × (a ≤ most-rounds) × (0 < a) ⌝ }
+    ensures { λ a. ⌜ (a ≡ roundsAllowed rounds) × (a ≤ most-rounds) × (1 ≤ a) ⌝ }
 {
     if rounds == 0 {
         return DEFAULT_ROUNDS;
@@ -139,10 +152,10 @@ pub fn fill_numbers(
     }
 }
 
-// Corrects all words of a frame, until a round flips nothing or `limit` rounds are made, at least one. The line is the first.
+// Corrects the words of the groups of a window, of which `line` is the first, until a round flips nothing or the rounds that are allowed are made.
 pub fn run_rounds(
     line: Line,
-    limit: usize,
+    window: Window,
     links: &[u16],
     tables: &[u32],
     field: &[u16],
@@ -150,16 +163,16 @@ pub fn run_rounds(
     red: &mut [u8],
     numbers: &mut [u8],
 ) -> Made
-    requires { ⌜ LineReady line (now links) (now tables) (now field) × (line .k ≡ 0) × (limit ≤ most-rounds)
-        × FrameKept (line .d) (line .blocks) (now links) (now info) (now red) (now numbers) × (0 < limit) ⌝ }
+    requires { ⌜ LineReady line (now links) (now tables) (now field) × (line .k + 2 * window .groups ≤ 2 * groups (line .blocks))
+        × (1 ≤ window .limit) × (window .limit ≤ most-rounds) × FrameKept (line .d) (line .blocks) (now links) (now info) (now red) (now numbers) ⌝ }
     ensures { λ a. ⌜ (record { frame = frameOf (now (info .exit)) (now (red .exit)); rounds = a .rounds; flips = a .flips }
-        ≡ runRounds (paramsOf (line .d)) (words (paramsOf (line .d)) (listsIn (line .d) (now (links .entry))) (line .blocks)) limit
-        (frameOf (now (info .entry)) (now (red .entry))))
+        ≡ runEach (stretchWords line (now (links .entry)) (2 * window .groups)) (window .limit) (frameOf (now (info .entry)) (now (red .entry))))
+        × (a .stuck ≡ lastStuck (stretchWords line (now (links .entry)) (2 * window .groups)) (window .limit) (frameOf (now (info .entry)) (now (red .entry))))
         × FrameKept (line .d) (line .blocks) (now (links .entry)) (now (info .exit)) (now (red .exit)) (now (numbers .exit))
-        × (a .stuck ≡ lastStuck (plain (paramsOf (line .d)) (words (paramsOf (line .d)) (listsIn (line .d) (now (links .entry))) (line .blocks))) limit
-        (frameOf (now (info .entry)) (now (red .entry)))) ⌝ }
+        × (a .rounds ≤ most-rounds) × (a .flips ≤ most-rounds * 6147000) ⌝ }
 {
-    let lines = words_lines::line_count(line.blocks);
+    let lines = 2 * window.groups;
+    let limit = window.limit;
     let mut flips = 0;
     let mut stuck = 0;
     for k in 0..limit {
@@ -185,6 +198,53 @@ pub fn run_rounds(
     }
     Made {
         rounds: limit,
+        flips: flips,
+        stuck: stuck,
+    }
+}
+
+// How many positions a window has, over a frame of `blocks` blocks.
+pub fn position_count(blocks: usize, window: Window) -> usize
+    requires { ⌜ (blocks ≤ most-blocks) × WindowFits blocks window ⌝ }
+    ensures { λ n. ⌜ (n ≡ positions (groups blocks) (window .groups)) × (n ≤ 2049) ⌝ }
+{
+    words_lines::line_count(blocks) / 2 - window.groups + 1
+}
+
+// Runs the rounds of a window at each of its positions, from the first group of a frame to the last at which all of its groups are the frame's. The line
+// is any of the frame.
+pub fn run_window(
+    line: Line,
+    window: Window,
+    links: &[u16],
+    tables: &[u32],
+    field: &[u16],
+    info: &mut [u8],
+    red: &mut [u8],
+    numbers: &mut [u8],
+) -> Made
+    requires { ⌜ LineReady line (now links) (now tables) (now field) × WindowFits (line .blocks) window
+        × FrameKept (line .d) (line .blocks) (now links) (now info) (now red) (now numbers) ⌝ }
+    ensures { λ a. ⌜ (record { frame = frameOf (now (info .exit)) (now (red .exit)); rounds = a .rounds; flips = a .flips }
+        ≡ slide (windowWords (paramsOf (line .d)) (listsIn (line .d) (now (links .entry))) (line .blocks) (window .groups))
+        (positions (groups (line .blocks)) (window .groups)) (window .limit) (frameOf (now (info .entry)) (now (red .entry))))
+        × (a .stuck ≡ slideStuck (windowWords (paramsOf (line .d)) (listsIn (line .d) (now (links .entry))) (line .blocks) (window .groups))
+        (groups (line .blocks) - window .groups) (window .limit) (frameOf (now (info .entry)) (now (red .entry))))
+        × FrameKept (line .d) (line .blocks) (now (links .entry)) (now (info .exit)) (now (red .exit)) (now (numbers .exit)) ⌝ }
+{
+    let count = position_count(line.blocks, window);
+    let mut rounds = 0;
+    let mut flips = 0;
+    let mut stuck = 0;
+    for p in 0..count {
+        let here = words_lines::line_at(line, 2 * p);
+        let made = run_rounds(here, window, links, tables, field, info, red, numbers);
+        rounds += made.rounds;
+        flips += made.flips;
+        stuck = made.stuck;
+    }
+    Made {
+        rounds: rounds,
         flips: flips,
         stuck: stuck,
     }

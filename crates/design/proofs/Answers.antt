@@ -14,7 +14,7 @@ use Rattle.staircase.specs.Design.{Params, params}
 use Rattle.staircase.specs.Rules.{Verdict, _then_, designRules}
 use Rattle.staircase.specs.Rules.Verdict.{accepted, refused}
 use Rattle.design.specs.declared.Refusal.{Refusal}
-use Rattle.design.specs.declared.Refusal.the-variants.{Size, Long, Large, Count, Rounds, Length, List, Spare, Inverse, Bit, Singular, Narrow, Full, Batch, Thin}
+use Rattle.design.specs.declared.Refusal.the-variants.{Size, Long, Large, Count, Rounds, Length, List, Spare, Inverse, Bit, Singular, Narrow, Full, Batch, Window, Thin}
 use Rattle.design.specs.declared.Check.{Check}
 use Rattle.design.specs.declared.Check.the-variants as check
 use Rattle.design.specs.declared.Design.{Design}
@@ -39,6 +39,7 @@ refusal-stays (Singular p) v = refl
 refusal-stays (Narrow p) v = refl
 refusal-stays (Full p) v = refl
 refusal-stays (Batch p) v = refl
+refusal-stays (Window p) v = refl
 refusal-stays (Thin p) v = refl
 
 module _ {x : Check} {u : Verdict} (v : Verdict) (is : verdictOf x ≡ u) where

@@ -13,7 +13,7 @@ use Rattle.staircase.specs.Rules.{Verdict}
 use Rattle.staircase.specs.Rules.Verdict.{accepted, refused}
 use Rattle.design.specs.declared.Design.{Design}
 use Rattle.design.specs.declared.Refusal.{Refusal}
-use Rattle.design.specs.declared.Refusal.the-variants.{Size, Long, Large, Count, Rounds, Length, List, Spare, Inverse, Bit, Singular, Narrow, Full, Batch, Thin}
+use Rattle.design.specs.declared.Refusal.the-variants.{Size, Long, Large, Count, Rounds, Length, List, Spare, Inverse, Bit, Singular, Narrow, Full, Batch, Window, Thin}
 use Rattle.design.specs.declared.Check.{Check}
 use Rattle.design.specs.declared.Check.the-variants as check
 use Rattle.design.specs.declared.Designed.{Designed}
@@ -34,6 +34,7 @@ refusalVerdict (Singular p) = refused 14 p
 refusalVerdict (Narrow p) = refused 15 p
 refusalVerdict (Full p) = refused 16 p
 refusalVerdict (Batch p) = refused 17 p
+refusalVerdict (Window p) = refused 18 p
 refusalVerdict (Thin p) = refused 19 p
 
 unfoldable pub verdictOf : Check → Verdict

@@ -4,6 +4,7 @@
 //   r, n, k, order, area, row_bytes             its sizes
 //   check_count(blocks), check_rounds(rounds)   rules 4 and 5
 //   check_batch(frames)                         rule 17
+//   check_window(window)                        rule 18
 //   design_check(a)                             the answer of `Design::new` as a check's
 //   MOST_BLOCKS, group_count                    the most blocks of a frame; the groups of a frame
 //   MOST_FRAMES                                 the most frames of a batch
@@ -19,6 +20,7 @@ ghost use Rattle.staircase.specs.Design.{most-blocks};
 ghost use Rattle.staircase.specs.Frame.{groups};
 ghost use Rattle.staircase.specs.Rules.{outOfRange, designRules, countRule, roundsRule};
 ghost use Rattle.staircase.specs.Batch.{batchRule};
+ghost use Rattle.staircase.specs.Window.{windowRule};
 ghost use Rattle.design.specs.Answers.{verdictOf, designVerdict, DesignIs, DesignAllowed};
 
 // A refusal: a rule of the table, by its name there, with the place.
@@ -37,6 +39,7 @@ pub enum Refusal {
     Narrow(u64),
     Full(u64),
     Batch(u64),
+    Window(u64),
     Thin(u64),
 }
 
@@ -67,6 +70,9 @@ const MOST_ROUNDS: u64 = 64;
 
 // Rule 17: "0 or above 256".
 pub const MOST_FRAMES: u64 = 256;
+
+// Rule 18: "0 or above 64".
+const MOST_WINDOW: u64 = 64;
 
 // `x` is not from `low` to `high`. Constant work.
 pub fn out_of_range(low: u64, high: u64, x: u64) -> bool
@@ -210,6 +216,16 @@ pub fn check_batch(frames: u64) -> Check
 {
     if out_of_range(1, MOST_FRAMES, frames) {
         return Check::Refused(Refusal::Batch(frames));
+    }
+    Check::Passed
+}
+
+// Rule 18 for the groups of a window. Constant work.
+pub fn check_window(window: u64) -> Check
+    ensures { λ a. ⌜ verdictOf a ≡ windowRule window ⌝ }
+{
+    if out_of_range(1, MOST_WINDOW, window) {
+        return Check::Refused(Refusal::Window(window));
     }
     Check::Passed
 }

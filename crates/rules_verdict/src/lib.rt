@@ -35,6 +35,7 @@ pub fn of_refusal(r: Refusal) -> Judged
         Refusal::Narrow(p) => Judged { rule: 15, place: p },
         Refusal::Full(p) => Judged { rule: 16, place: p },
         Refusal::Batch(p) => Judged { rule: 17, place: p },
+        Refusal::Window(p) => Judged { rule: 18, place: p },
         Refusal::Thin(p) => Judged { rule: 19, place: p },
     }
 }

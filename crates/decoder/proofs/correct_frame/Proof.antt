@@ -1,15 +1,16 @@
 -- The tables are filled, then the kept numbers, then the rounds run; each buffer is lent as long as the design needs.
 -- Assumes nothing.
-use mathlib.Core.Path.{_≡_, refl, sym, ap, _∙_, subst}
+use mathlib.Core.Path.{_≡_, sym, ap, _∙_, subst}
 use mathlib.Core.List.{_++_}
 use Prim.Native.Nat.{_+_, _-_, _*_, _%_, _^_, _≤_}
 use native.Mathlib.Omega.{arith}
 use lib.ListN.{length, take, drop}
 use lib.Seq.{length-take-le}
-use Rattle.staircase.specs.Design.{wordLength, most-rounds}
+use Rattle.staircase.specs.Design.{wordLength}
 use Rattle.staircase.specs.Frame.{frameOf}
 use Rattle.staircase.specs.Lines.{wordCount}
 use Rattle.decoder_frame.specs.Filled.{Filled}
+use Rattle.decoder_frame.specs.Stretch.{WindowFits}
 use Rattle.design.specs.Sizes.{paramsOf, orderOf, listsOf}
 use Rattle.rules.specs.Received.{Received}
 use Rattle.words_blocks.specs.Blocks.{Powers}
@@ -140,12 +141,11 @@ correct-lines-requires c κs =
     (c .before .before .before .before .before .before .before .before .before .before .before .before .before .before .before .before .before .before .before .before .before .before .before .before .before .before .before .before .before .before .before .first-line .ensures) (c .before .before .before .before .before .before .before .before .before .before .before .fill-kept .ensures .1) in
     let K' = drop (k - 0) (c .before .before .before .before .before .before .before .before .before .before .before .before .before .before .before .before .before .before .before .before .before .before .before .before .before .link-entries .result) in
     subst (λ (z : Line). LineReady z (take (k - 0) (drop 0 (K ++ K'))) (take (due - 0) (drop 0 (T ++ drop (due - 0) (c .before .before .before .before .before .before .before .before .before .before .before .before .before .before .before .before .before .before .before .before .before .before .before .before .before .before .before .table-entries .result)))) (take (f - 0) (drop 0 (F ++ drop (f - 0) (c .before .before .before .before .before .before .before .before .before .before .before .before .before .before .before .before .before .before .before .before .before .before .before .before .before .before .field-entries .result))))
-    × (z .k ≡ 0) × (a .rounds ≤ most-rounds)
+    × WindowFits (z .blocks) (a .window)
     × FrameKept (z .d) (z .blocks) (take (k - 0) (drop 0 (K ++ K'))) (a .info .now) (a .red .now) (take (4 * wordCount (paramsOf (z .d)) (z .blocks)) (take (length (a .work .now) - c .before .before .before .before .before .before .before .before .before .before .before .before .before .before .before .before .before .before .before .before .before .before .before .before .before .before .before .before .before .before .order .result) (drop (c .before .before .before .before .before .before .before .before .before .before .before .before .before .before .before .before .before .before .before .before .before .before .before .before .before .before .before .before .before .before .order .result) W)))
     × (length (take (length (a .work .now) - c .before .before .before .before .before .before .before .before .before .before .before .before .before .before .before .before .before .before .before .before .before .before .before .before .before .before .before .before .before .before .order .result) (drop (c .before .before .before .before .before .before .before .before .before .before .before .before .before .before .before .before .before .before .before .before .before .before .before .before .before .before .before .before .before .before .order .result) W)) ≡ 4 * wordCount (paramsOf (z .d)) (z .blocks) + (length (a .info .now) + length (a .red .now))))
     (sym (c .before .before .before .before .before .before .before .before .before .before .before .before .before .before .before .before .before .before .before .before .before .before .before .before .before .before .before .before .before .before .before .first-line .ensures)) (
       ready-lent first K K' T (drop (due - 0) (c .before .before .before .before .before .before .before .before .before .before .before .before .before .before .before .before .before .before .before .before .before .before .before .before .before .before .before .table-entries .result)) F (drop (f - 0) (c .before .before .before .before .before .before .before .before .before .before .before .before .before .before .before .before .before .before .before .before .before .before .before .before .before .before .field-entries .result)) k due f lK lT lF R,
-      refl,
       p .2,
       kept-lent first (a .own .now) (a .parity .now) K K' (a .info .now) (a .red .now) W k (c .before .before .before .before .before .before .before .before .before .before .before .before .before .before .before .before .before .before .before .before .before .before .before .before .before .before .before .before .before .before .order .result) (length (a .work .now)) lK (c .before .before .before .before .before .before .before .before .before .before .before .before .before .before .before .before .before .before .before .before .before .before .before .before .before .before .before .before .before .before .order .ensures .0) (sym (c .before .before .before .before .before .before .before .before .before .before .before .fill-kept .ensures .0)) lW (p .0 .allowed) (p .0 .frame) (c .before .before .before .before .before .before .before .before .before .before .before .before .before .before .before .before .before .before .fill-links .ensures .1) H,
       kept-length first (a .own .now) (a .parity .now) K K' (a .info .now) (a .red .now) W k (c .before .before .before .before .before .before .before .before .before .before .before .before .before .before .before .before .before .before .before .before .before .before .before .before .before .before .before .before .before .before .order .result) (length (a .work .now)) lK (c .before .before .before .before .before .before .before .before .before .before .before .before .before .before .before .before .before .before .before .before .before .before .before .before .before .before .before .before .before .before .order .ensures .0) (sym (c .before .before .before .before .before .before .before .before .before .before .before .fill-kept .ensures .0)) lW,
@@ -170,9 +170,9 @@ returns c =
     let f = frameOf (a .info .now) (a .red .now) in
     let l = take (k - 0) (drop 0 (K ++ K')) in
     let x = correctedOf (decoding.Decoded (c .before .before .before .before .before .before .correct-lines .result)) g in
-    corrected-in (paramsOf (a .d)) (listsOf (a .d) (a .own .now) (a .parity .now)) (listsIn (a .d) l) (a .blocks) (a .rounds) f x
+    corrected-in (paramsOf (a .d)) (listsOf (a .d) (a .own .now) (a .parity .now)) (listsIn (a .d) l) (a .blocks) (a .window .groups) (a .window .limit) f x
     (ap (listsIn (a .d)) (part-is K K' k lK) ∙ c .before .before .before .before .before .before .before .before .before .before .before .before .before .before .before .before .before .before .before .before .before .before .before .before .before .fill-links .ensures .1)
-    (subst (λ (z : Line). x ≡ correctedFrame (paramsOf (z .d)) (listsIn (z .d) l) (z .blocks) (a .rounds) f) (c .before .before .before .before .before .before .before .before .before .before .before .before .before .before .before .before .before .before .before .before .before .before .before .before .before .before .before .before .before .before .before .before .before .before .before .before .before .before .first-line .ensures) (c .before .before .before .before .before .before .correct-lines .ensures .0))
+    (subst (λ (z : Line). x ≡ correctedFrame (paramsOf (z .d)) (listsIn (z .d) l) (z .blocks) (a .window .groups) (a .window .limit) f) (c .before .before .before .before .before .before .before .before .before .before .before .before .before .before .before .before .before .before .before .before .before .before .before .before .before .before .before .before .before .before .before .before .before .before .before .before .before .before .first-line .ensures) (c .before .before .before .before .before .before .correct-lines .ensures .0))
 
 pub correct-frame-spec : {M : Type 1} → statement M
 correct-frame-spec =

@@ -68,9 +68,13 @@ returns-15 : tie.Need-returns-15
 unfolding number placeOf refusalVerdict
 returns-15 c = sym (ap (λ (r : Refusal). judgedOf (refusalVerdict r)) (c .before .r15 .given .1))
 
+returns-16 : tie.Need-returns-16
+unfolding number placeOf refusalVerdict
+returns-16 c = sym (ap (λ (r : Refusal). judgedOf (refusalVerdict r)) (c .before .r16 .given .1))
+
 pub of-refusal-spec : {M : Type 1} → statement M
 of-refusal-spec =
     tie.close
     (tie.spec (λ c. search needs) (λ c. search needs) (λ c. search needs) (λ c. search needs) (λ c. search needs) (λ c. search needs) (λ c. search needs) (λ c. search needs)
-    (λ c. search needs) (λ c. search needs) (λ c. search needs) (λ c. search needs) (λ c. search needs) (λ c. search needs) (λ c. search needs) returns
-    returns-2 returns-3 returns-4 returns-5 returns-6 returns-7 returns-8 returns-9 returns-10 returns-11 returns-12 returns-13 returns-14 returns-15)
+    (λ c. search needs) (λ c. search needs) (λ c. search needs) (λ c. search needs) (λ c. search needs) (λ c. search needs) (λ c. search needs)
+    (λ c. search needs) returns returns-2 returns-3 returns-4 returns-5 returns-6 returns-7 returns-8 returns-9 returns-10 returns-11 returns-12 returns-13 returns-14 returns-15 returns-16)

@@ -1,0 +1,135 @@
+-- The loop's invariant: the positions before `p` are made, and `stuck` are the stuck words of the last of their rounds. The measure is the number of
+-- positions left.
+-- Assumes nothing.
+use mathlib.Core.Path.{_≡_, sym, ap, _∙_, subst}
+use mathlib.Core.List.{List}
+use Prim.Native.Nat.{ℕ, _+_, _-_, _*_, _<_, _≤_}
+use native.Mathlib.Numerals.{add-one}
+use native.Mathlib.Omega.{arith}
+use Rattle.staircase.specs.Design.{most-rounds}
+use Rattle.staircase.specs.Frame.{Word, frameOf, groups}
+use Rattle.staircase.specs.Decoder.{Decoded, runEach}
+use Rattle.staircase.specs.Outcomes.{lastStuck}
+use Rattle.staircase.specs.Window.{windowWords, slide, slideStuck}
+use Rattle.design.specs.Sizes.{paramsOf}
+use Rattle.words_lines.specs.declared.Line.{Line}
+use Rattle.decoder_lines.specs.Links.{listsIn}
+use Rattle.decoder_words.specs.Ready.{LineReady, FrameKept}
+use Rattle.decoder_words.proofs.Passes.{ready-at}
+use Rattle.decoder_frame.specs.Stretch.{stretchWords}
+use Rattle.decoder_frame.proofs.Positions.{window-at, slide-none, slide-next, stuck-next}
+use borrow.Author.Needs.{needs}
+use Rattle.decoder_frame.proofs.run_window.Statement.{statement}
+use Rattle.decoder_frame.proofs.run_window.Tie as tie
+
+abbrev Inv-loop : tie.InvT-loop
+Inv-loop line window links tables field info₀ red₀ numbers₀ count rounds₀ flips₀ stuck₀ p₀ info red numbers rounds flips stuck p =
+    (count ≡ groups (line .blocks) - window .groups + 1) × (count ≤ 2049) × (p ≤ count) × FrameKept (line .d) (line .blocks) links info red numbers
+    × (rounds ≤ p * 64) × (flips ≤ p * 393408000)
+    × (record { frame = frameOf info red; rounds = rounds; flips = flips }
+    ≡ slide (windowWords (paramsOf (line .d)) (listsIn (line .d) links) (line .blocks) (window .groups)) p (window .limit) (frameOf info₀ red₀))
+    × ((q : ℕ) → p ≡ q + 1
+    → stuck ≡ slideStuck (windowWords (paramsOf (line .d)) (listsIn (line .d) links) (line .blocks) (window .groups)) q (window .limit) (frameOf info₀ red₀))
+
+abbrev μ-loop : tie.MeasureT-loop
+μ-loop line window links tables field info₀ red₀ numbers₀ count rounds₀ flips₀ stuck₀ p₀ info red numbers rounds flips stuck p = count - p
+
+position-count-requires : tie.Need-position-count-requires Inv-loop μ-loop
+position-count-requires c κs = (c .before .before .before .before .before .before .pre .0 .fits .few-blocks, c .before .before .before .before .before .before .pre .1)
+
+loop-holds : tie.Need-loop-holds Inv-loop μ-loop
+loop-holds c =
+    let k = c .position-count .ensures in
+    let p = c .before .before .before .before .before .before .before .pre in
+    let a = c .before .before .before .before .before .before .before .args in (
+      omega (arith, k .0),
+      k .1,
+      omega arith,
+      p .2,
+      omega arith,
+      omega arith,
+      slide-none (windowWords (paramsOf (a .line .d)) (listsIn (a .line .d) (a .links .now)) (a .line .blocks) (a .window .groups)) (a .window .limit)
+          (frameOf (a .info .now) (a .red .now)),
+      λ q e. absurd (omega (arith, e)),
+    )
+
+mul-line-at : tie.Need-mul-line-at Inv-loop μ-loop
+mul-line-at c = omega (arith, c .loop-test .taken, c .before .loop .inv .1)
+
+run-rounds-requires : tie.Need-run-rounds-requires Inv-loop μ-loop
+run-rounds-requires c κs =
+    let p = c .before .before .before .before .before .before .before .before .before .before .before .before .before .pre in
+    let a = c .before .before .before .before .before .before .before .before .before .before .before .before .before .args in
+    let l = c .before .before .before .before .before .loop in
+    let hk : 2 * l .p < 2 * groups (a .line .blocks) = omega (arith, c .before .before .before .before .loop-test .taken, l .inv .0, p .1 .some-groups, p .1 .all-groups) in
+    let fit : 2 * l .p + 2 * a .window .groups ≤ 2 * groups (a .line .blocks) = omega (arith, c .before .before .before .before .loop-test .taken, l .inv .0, p .1 .all-groups) in
+    subst (λ (z : Line). LineReady z (a .links .now) (a .tables .now) (a .field .now) × (z .k + 2 * a .window .groups ≤ 2 * groups (z .blocks))
+    × (1 ≤ a .window .limit) × (a .window .limit ≤ most-rounds) × FrameKept (z .d) (z .blocks) (a .links .now) (l .info) (l .red) (l .numbers))
+    (sym (c .before .before .before .line-at .ensures)) (ready-at (2 * l .p) (p .0) hk, fit, p .1 .some-rounds, p .1 .few-rounds, l .inv .3)
+
+add-rounds : tie.Need-add-rounds Inv-loop μ-loop
+add-rounds c = omega (arith, c .before .before .before .before .before .before .before .run-rounds .ensures .3, c .before .before .before .before .before .before .before .before .before .before .before .before .before .loop .inv .4, c .before .before .before .before .before .before .before .before .before .before .before .before .before .loop .inv .1, c .before .before .before .before .before .before .before .before .before .before .before .before .loop-test .taken)
+
+add-flips : tie.Need-add-flips Inv-loop μ-loop
+add-flips c = omega (arith, c .before .before .before .before .before .before .before .before .run-rounds .ensures .4, c .before .before .before .before .before .before .before .before .before .before .before .before .before .before .loop .inv .5, c .before .before .before .before .before .before .before .before .before .before .before .before .before .before .loop .inv .1, c .before .before .before .before .before .before .before .before .before .before .before .before .before .loop-test .taken)
+
+add-p : tie.Need-add-p Inv-loop μ-loop
+add-p c = omega (arith, c .before .before .before .before .before .before .before .before .before .before .before .before .before .loop-test .taken, c .before .before .before .before .before .before .before .before .before .before .before .before .before .before .loop .inv .1)
+
+loop-less : tie.Need-loop-less Inv-loop μ-loop
+loop-less c = omega (arith, c .before .before .before .before .before .before .before .before .before .before .before .before .before .loop-test .taken)
+
+loop-again : tie.Need-loop-again Inv-loop μ-loop
+loop-again c =
+    let p = c .before .before .before .before .before .before .before .before .before .before .before .before .before .before .before .before .before .before .before .before .before .before .pre in
+    let a = c .before .before .before .before .before .before .before .before .before .before .before .before .before .before .before .before .before .before .before .before .before .before .args in
+    let l = c .before .before .before .before .before .before .before .before .before .before .before .before .before .before .loop in
+    let L = a .links .now in
+    let g = a .window .groups in
+    let K = a .window .limit in
+    let W : ℕ → List Word = windowWords (paramsOf (a .line .d)) (listsIn (a .line .d) L) (a .line .blocks) g in
+    let f = frameOf (a .info .now) (a .red .now) in
+    let r = c .before .before .before .before .before .before .before .before .run-rounds .result in
+    let v = c .before .before .before .before .before .before .before .before .run-rounds .ensures in
+    let m = c .before .before .before .before .before .before .before .before .run-rounds .last in
+    let x : Decoded = record { frame = frameOf (l .info) (l .red); rounds = l .rounds; flips = l .flips } in
+    let here = subst (λ (z : Line). (record { frame = frameOf (m .1 .1 .1 .1 .1 .0) (m .1 .1 .1 .1 .1 .1 .0); rounds = r .rounds; flips = r .flips }
+    ≡ runEach (stretchWords z L (2 * g)) K (frameOf (l .info) (l .red)))
+    × (r .stuck ≡ lastStuck (stretchWords z L (2 * g)) K (frameOf (l .info) (l .red)))
+    × FrameKept (z .d) (z .blocks) L (m .1 .1 .1 .1 .1 .0) (m .1 .1 .1 .1 .1 .1 .0) (m .1 .1 .1 .1 .1 .1 .1 .0))
+    (c .before .before .before .before .before .before .before .before .before .before .before .before .line-at .ensures) (v .0, v .1, v .2) in
+    let same = window-at (a .line) L (l .p) g (p .1 .all-groups) in (
+      l .inv .0,
+      l .inv .1,
+      omega (arith, c .before .before .before .before .before .before .before .before .before .before .before .before .before .loop-test .taken),
+      here .2,
+      omega (arith, l .inv .4, v .3),
+      omega (arith, l .inv .5, v .4),
+      slide-next W K f (l .p) x (l .inv .6) _ (here .0 ∙ ap (λ (ws : List Word). runEach ws K (frameOf (l .info) (l .red))) same),
+      stuck-next W K f (l .p) x (l .inv .6) (r .stuck) (here .1 ∙ ap (λ (ws : List Word). lastStuck ws K (frameOf (l .info) (l .red))) same),
+    )
+
+same-length : tie.Need-same-length Inv-loop μ-loop
+same-length c = omega (arith, c .before .loop .inv .3 .frame .infoLength, c .before .before .before .before .before .before .before .before .before .pre .2 .frame .infoLength)
+
+same-length-2 : tie.Need-same-length-2 Inv-loop μ-loop
+same-length-2 c = omega (arith, c .before .loop .inv .3 .frame .redLength, c .before .before .before .before .before .before .before .before .before .pre .2 .frame .redLength)
+
+same-length-3 : tie.Need-same-length-3 Inv-loop μ-loop
+same-length-3 c = omega (arith, c .before .loop .inv .3 .long, c .before .before .before .before .before .before .before .before .before .pre .2 .long)
+
+returns : tie.Need-returns Inv-loop μ-loop
+returns c =
+    let a = c .before .before .before .before .before .before .before .before .before .args in
+    let l = c .before .loop in
+    let W : ℕ → List Word = windowWords (paramsOf (a .line .d)) (listsIn (a .line .d) (a .links .now)) (a .line .blocks) (a .window .groups) in
+    let f = frameOf (a .info .now) (a .red .now) in
+    let last = groups (a .line .blocks) - a .window .groups in
+    let e : l .p ≡ last + 1 = omega (arith, c .loop-test .left, l .inv .0, l .inv .2) in
+    (l .inv .6 ∙ ap (λ (n : ℕ). slide W n (a .window .limit) f) (e ∙ add-one last), l .inv .7 last e, l .inv .3)
+
+pub run-window-spec : {M : Type 1} → statement M
+run-window-spec =
+    tie.close
+    (tie.spec Inv-loop μ-loop position-count-requires loop-holds mul-line-at (λ c κs. search needs) run-rounds-requires add-rounds add-flips
+    add-p loop-less loop-again same-length same-length-2 same-length-3 returns)
