@@ -10,7 +10,7 @@
 #include <stdlib.h>
 #include <string.h>
 
-enum { MAX_N = 1023, MAX_T = 3, MAX_M = 500, MAX_R = 30, MAX_SIZE = 4096, MAX_ROUNDS = 64, MAX_WINDOW = 64, DEFAULT_ROUNDS = 7 };
+enum { MAX_N = 1023, MAX_T = 3, MAX_M = 500, MAX_R = 30, MAX_SIZE = 4096, MAX_ROUNDS = 64, MAX_WINDOW = 64, DEFAULT_ROUNDS = 12 };
 
 const plain_kit plain_kits[PLAIN_KITS] = { { 4, 1, 2, 3 }, { 8, 3, 72, 4 }, { 9, 3, 135, 3 }, { 10, 2, 204, 4 } };
 

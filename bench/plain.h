@@ -49,7 +49,7 @@ int plain_words(unsigned m, unsigned t, unsigned M, unsigned L, const plain_fram
 /* What a decoder counts: rounds made, bits in which the mended frame differs from the copy, words outside at the end, stuck words of the last round. */
 enum { PLAIN_COUNTS = 4 };
 
-/* Rules 1 to 7 and 10: 0, or the rule's number and its place. Mends info and red by the document's rounds (0 stands for 7); the counts are all 0 if
+/* Rules 1 to 7 and 10: 0, or the rule's number and its place. Mends info and red by the document's rounds (0 stands for 12); the counts are all 0 if
    refused. A frame is copied, a byte a bit, before its first turn, and compared at the end. A group's remainders are taken anew in each round, about n / 8 steps a word; the errors of a word are then found in a fixed number of
    steps. */
 int plain_decode(unsigned m, unsigned t, unsigned M, unsigned L, unsigned rounds, const plain_frame *lent, uint64_t counts[PLAIN_COUNTS],

@@ -1,11 +1,11 @@
-/* Self-test of plain.c: document 01's rows under kit K, the test load, a kit with M = 2, published generators, making inverses, round trips, a brute-force decoder,
-   refusals.
-   Prints a line a group, returns 1 on a failure. gcc -O3 -o plain_test plain_test.c plain.c
+/* Self-test of plain.c and plain_original.c: document 01's rows under kit K, the test load, a kit with M = 2, published generators, making inverses, round trips,
+   a brute-force decoder, refusals, and original frames.
+   Prints a line a group, returns 1 on a failure. gcc -O3 -o plain_test plain_test.c plain_original.c
 
    The opponent ("ref") shares nothing with plain.c but generators, which are tested by themselves: long division of whole words, words as tables
    of indices made from the document's matrices and places, mending by trying every set of at most t positions. */
 
-#include "plain.h"
+#include "plain_original.h"
 
 #include <stdio.h>
 #include <stdlib.h>
@@ -182,7 +182,7 @@ static void ref_decode(const ref *d, unsigned L, unsigned rounds, uint8_t *frame
     uint64_t all_turns = 0;
     memcpy(copy, frame, length);
     counts[0] = counts[1] = 0;
-    for (unsigned left = rounds ? rounds : 7; left > 0; left--) {
+    for (unsigned left = rounds ? rounds : 12; left > 0; left--) {
         unsigned turns = 0;
         counts[3] = 0;
         for (unsigned group = 1; group <= (L + 1) / 2; group++)
@@ -218,7 +218,7 @@ static void ref_window(const ref *d, unsigned L, unsigned rounds, unsigned windo
     counts[0] = counts[1] = 0;
     for (unsigned position = 1; position == 1 || position + window <= last + 1; position++) {
         unsigned turns = 1;
-        for (unsigned left = rounds ? rounds : 7; left > 0 && turns > 0; left--) {
+        for (unsigned left = rounds ? rounds : 12; left > 0 && turns > 0; left--) {
             turns = 0;
             counts[0]++;
             counts[3] = 0;
@@ -936,9 +936,179 @@ static void test_load(void)
     group_done("test load", start);
 }
 
+/* ---- Original staircase frames ---- */
+
+/* A ref for words of 2 M positions. */
+static ref ref_original(unsigned m, unsigned t, unsigned M)
+{
+    ref d = { m, t, M, m * t, 2 * M, 2 * M - m * t, M * m * t, plain_generator(m, t), NULL, NULL, { 0 } };
+    for (unsigned j = 0; j < d.n; j++) {
+        uint8_t word[1023] = { 0 };
+        word[j] = 1;
+        d.unit[j] = ref_remainder(&d, word, d.n);
+    }
+    return d;
+}
+
+/* The index of each position of word a of a block, counted from 1: column a of the block before, row a of the block; -1 for block 0. */
+static void ref_original_word(const ref *d, unsigned L, unsigned number, unsigned a, long *at)
+{
+    for (unsigned j = 0; j < d->M; j++) {
+        at[j] = ref_block(d, L, number - 1, j, a);
+        at[d->M + j] = ref_block(d, L, number, a, j);
+    }
+}
+
+static void ref_original_encode(const ref *d, unsigned L, uint8_t *buffer)
+{
+    long at[1023];
+    uint8_t information[1023], parity[30];
+    for (unsigned number = 1; number <= L; number++)
+        for (unsigned a = 0; a < d->M; a++) {
+            ref_original_word(d, L, number, a, at);
+            for (unsigned j = 0; j < d->k; j++)
+                information[j] = at[j] < 0 ? 0 : buffer[at[j]];
+            ref_parity(d, information, parity);
+            for (unsigned e = 0; e < d->r; e++)
+                buffer[at[d->k + e]] = parity[e];
+        }
+}
+
+static uint64_t ref_original_outside(const ref *d, unsigned L, const uint8_t *buffer)
+{
+    long at[1023];
+    uint64_t outside = 0;
+    for (unsigned number = 1; number <= L; number++)
+        for (unsigned a = 0; a < d->M; a++) {
+            ref_original_word(d, L, number, a, at);
+            outside += ref_word_remainder(d, buffer, at) != 0;
+        }
+    return outside;
+}
+
+static void ref_original_decode(const ref *d, unsigned L, unsigned rounds, uint8_t *buffer, uint64_t counts[PLAIN_COUNTS])
+{
+    long at[1023];
+    size_t length = (size_t)L * d->M * d->M;
+    uint8_t *copy = get(length);
+    memcpy(copy, buffer, length);
+    counts[0] = counts[1] = 0;
+    for (unsigned left = rounds ? rounds : 12, turns = 1; left > 0 && turns; left--) {
+        turns = counts[3] = 0;
+        for (unsigned number = 1; number <= L; number++)
+            for (unsigned a = 0; a < d->M; a++) {
+                ref_original_word(d, L, number, a, at);
+                int mended = ref_mend(d, buffer, at);
+                counts[3] += mended < 0;
+                turns += mended < 0 ? 0 : mended;
+            }
+        counts[0]++;
+    }
+    for (size_t i = 0; i < length; i++)
+        counts[1] += buffer[i] != copy[i];
+    counts[2] = ref_original_outside(d, L, buffer);
+    free(copy);
+}
+
+static void originals_of(unsigned m, unsigned t, unsigned M, unsigned most_blocks, uint64_t *state)
+{
+    static const unsigned per_mille[] = { 0, 5, 15, 30, 60, 100, 200, 500, 1000 }, rounds[] = { 0, 1, 2, 64 };
+    ref d = ref_original(m, t, M);
+    for (unsigned L = 1; L <= most_blocks; L++)
+        for (unsigned i = 0; i < sizeof rounds / sizeof *rounds; i++)
+            for (unsigned e = 0; e < sizeof per_mille / sizeof *per_mille; e++) {
+                size_t length = (size_t)L * M * M;
+                uint8_t *buffer = get(length), *other = get(length);
+                uint64_t counts[PLAIN_COUNTS], want[PLAIN_COUNTS], outside, place;
+                random_bits(buffer, length, state);
+                memcpy(other, buffer, length);
+                for (size_t bit = 0; bit < length; bit++)
+                    if (bit % M >= M - m * t)
+                        buffer[bit] = plain_random(state);
+                CHECK(plain_original_encode(m, t, M, L, buffer, length, &place) == 0);
+                ref_original_encode(&d, L, other);
+                CHECK(memcmp(buffer, other, length) == 0);
+                CHECK(plain_original_words(m, t, M, L, buffer, length, &outside, &place) == 0 && outside == 0);
+                for (size_t bit = 0; bit < length; bit++)
+                    buffer[bit] ^= plain_random(state) % 1000 < per_mille[e];
+                memcpy(other, buffer, length);
+                CHECK(plain_original_words(m, t, M, L, buffer, length, &outside, &place) == 0 && outside == ref_original_outside(&d, L, other));
+                CHECK(plain_original_decode(m, t, M, L, rounds[i], buffer, length, counts, &place) == 0);
+                ref_original_decode(&d, L, rounds[i], other, want);
+                CHECK(memcmp(buffer, other, length) == 0 && memcmp(counts, want, sizeof counts) == 0);
+                free(buffer);
+                free(other);
+            }
+}
+
+/* The three calls refuse with this rule and place, count nothing and leave the buffer; only the decoder knows rule 5. */
+static int original_refused(unsigned m, unsigned t, unsigned M, unsigned L, unsigned rounds, uint8_t *buffer, size_t length, int rule, uint64_t at)
+{
+    uint64_t words = 1, place = 0, counts[PLAIN_COUNTS] = { 1, 1, 1, 1 };
+    uint8_t copy[64];
+    memcpy(copy, buffer, length);
+    int others = rule == 5 || (plain_original_words(m, t, M, L, buffer, length, &words, &place) == rule && place == at && words == 0
+                               && plain_original_encode(m, t, M, L, buffer, length, &place) == rule && place == at);
+    return others && plain_original_decode(m, t, M, L, rounds, buffer, length, counts, &place) == rule && place == at && !counts[0] && !counts[1] && !counts[2]
+        && !counts[3] && memcmp(copy, buffer, length) == 0;
+}
+
+static void test_originals(void)
+{
+    double start = seconds();
+    uint64_t state = 21, place, outside, counts[PLAIN_COUNTS];
+    static const unsigned design[][4] = { { 4, 1, 5, 5 }, { 4, 1, 6, 5 }, { 4, 1, 7, 5 }, { 5, 1, 15, 3 }, { 5, 2, 11, 5 }, { 5, 2, 15, 3 }, { 6, 1, 7, 4 }, { 6, 2, 31, 2 },
+        { 6, 3, 19, 3 }, { 7, 3, 22, 2 }, { 10, 1, 11, 3 } };
+    for (unsigned i = 0; i < sizeof design / sizeof *design; i++)
+        originals_of(design[i][0], design[i][1], design[i][2], design[i][3], &state);
+
+    /* a one at row 0, column 0 of block 1 carries x^4, and position 0 of a word x^9 */
+    static const char one[] = "10011" "00000" "00000" "00000" "00000" "01010" "00000" "00000" "01010" "01010";
+    uint8_t buffer[51] = { 1 };
+    CHECK(plain_original_encode(4, 1, 5, 2, buffer, 50, &place) == 0);
+    for (unsigned i = 0; i < 50; i++)
+        CHECK(buffer[i] == one[i] - '0');
+
+    buffer[49] = 2;                     /* old parity */
+    CHECK(plain_original_words(4, 1, 5, 2, buffer, 50, &outside, &place) == 10 && place == 49);
+    CHECK(plain_original_decode(4, 1, 5, 2, 0, buffer, 50, counts, &place) == 10 && place == 49);
+    CHECK(plain_original_encode(4, 1, 5, 2, buffer, 50, &place) == 0 && buffer[49] == 0);
+    buffer[45] = 255;
+    CHECK(original_refused(4, 1, 5, 2, 0, buffer, 50, 10, 45));
+    CHECK(original_refused(4, 1, 5, 2, 0, buffer, 49, 6, 4) && original_refused(4, 1, 5, 2, 0, buffer, 51, 6, 4));
+    CHECK(original_refused(4, 1, 5, 2, 65, buffer, 49, 5, 65));
+    CHECK(original_refused(4, 1, 5, 0, 65, buffer, 49, 4, 0) && original_refused(4, 1, 5, 4097, 65, buffer, 49, 4, 4097));
+    CHECK(original_refused(4, 1, 4, 0, 65, buffer, 49, 19, 4) && original_refused(10, 3, 29, 0, 65, buffer, 49, 19, 30));
+    CHECK(original_refused(4, 1, 8, 0, 65, buffer, 49, 2, 16) && original_refused(4, 2, 8, 0, 65, buffer, 49, 2, 16));
+    CHECK(original_refused(4, 1, 501, 0, 65, buffer, 49, 1, 3) && original_refused(4, 4, 501, 0, 65, buffer, 49, 1, 2) && original_refused(3, 4, 0, 0, 65, buffer, 49, 1, 1));
+
+    uint8_t *longest = get(4096 * 25);  /* as many blocks as there may be */
+    CHECK(plain_original_encode(4, 1, 5, 4096, longest, 4096 * 25, &place) == 0);
+    CHECK(plain_original_decode(4, 1, 5, 4096, 64, longest, 4096 * 25, counts, &place) == 0 && counts[0] == 1 && counts[2] == 0);
+    free(longest);
+
+    size_t length = 500 * 500;          /* rule 3 does not apply */
+    uint8_t *largest = get(length), *other = get(length);
+    random_bits(largest, length, &state);
+    ref d = ref_original(10, 3, 500);
+    memcpy(other, largest, length);
+    CHECK(plain_original_encode(10, 3, 500, 1, largest, length, &place) == 0);
+    ref_original_encode(&d, 1, other);
+    CHECK(memcmp(largest, other, length) == 0);
+    for (unsigned a = 0; a < 500; a++)  /* three wrong bits in each word */
+        for (unsigned i = 0; i < 3; i++)
+            largest[500 * a + (7 * a + 100 * i) % 500] ^= 1;
+    CHECK(plain_original_decode(10, 3, 500, 1, 0, largest, length, counts, &place) == 0 && memcmp(largest, other, length) == 0);
+    CHECK(counts[0] == 2 && counts[1] == 1500 && counts[2] == 0 && counts[3] == 0);
+    free(largest);
+    free(other);
+    group_done("original frames", start);
+}
+
 int main(void)
 {
     test_rows();
+    test_originals();
     test_load();
     test_second_kit();
     test_generators();

@@ -1,7 +1,7 @@
-/* See strong.h. The field, the locator of errors, the sums of a group's words and the rules are those of plain.c, which is included whole: a program
-   is linked with strong.c or with plain.c, not with both. */
+/* See strong.h. The field, the locator of errors, the sums of words and the rules are those of plain.c and plain_original.c, which are included whole: a
+   program is linked with strong.c or with one of these, not with two. */
 
-#include "plain.c"
+#include "plain_original.c"
 #include "strong.h"
 
 /* ---- The kit check ---- */
@@ -265,5 +265,93 @@ int strong_window(unsigned m, unsigned t, unsigned M, unsigned L, unsigned round
     for (unsigned position = 1; position <= last_position(L, window); position++)
         rounds_kept(&k, position, last_held(L, window, position), rounds, counts);
     count_kept(&k, counts);
+    return 0;
+}
+
+/* ---- Original staircase frames ---- */
+
+typedef struct {
+    original o;
+    locator l;
+    uint32_t *kept;                     /* word a of the block that b blocks precede: b M + a */
+} stair_keeper;
+
+static void make_stair_keeper(stair_keeper *k, unsigned m, unsigned t, unsigned M, unsigned L, uint8_t *buffer)
+{
+    make_original(&k->o, m, t, M, L, buffer);
+    make_locator(&k->o.c, &k->l);
+    k->kept = zeroed((size_t)L * M, sizeof *k->kept);
+    for (unsigned b = 0; b < L; b++) {
+        original_remainders(&k->o, b);
+        memcpy(k->kept + (size_t)b * M, k->o.rem, M * sizeof *k->kept);
+    }
+}
+
+/* Turns position j of word a of the block that b blocks precede; `row` are the kept remainders of its words. A bit of the last block stands in one word. */
+static void turn_in_stair(stair_keeper *k, uint32_t *row, unsigned b, unsigned a, unsigned j)
+{
+    unsigned M = k->o.c.M;
+    *original_bit(&k->o, b, a, j) ^= 1;
+    if (j < M) {
+        uint32_t *other = row - M + j;
+        *other = (*other & ~stuck) ^ k->o.c.rem[M + a];
+    } else if (b + 1 < k->o.L) {
+        uint32_t *other = row + M + (j - M);
+        *other = (*other & ~stuck) ^ k->o.c.rem[a];
+    }
+}
+
+/* Mends the words of a block and counts the stuck ones; returns the number of bits turned. */
+static unsigned mend_stair(stair_keeper *k, unsigned b, uint64_t *stuck_words)
+{
+    unsigned M = k->o.c.M, turned = 0, position[MAX_T];
+    uint32_t *row = k->kept + (size_t)b * M;
+    for (unsigned a = 0; a < M; a++) {
+        if (row[a] == 0)
+            continue;
+        if (row[a] >= stuck) {
+            ++*stuck_words;
+            continue;
+        }
+        unsigned count = locate(&k->o.c, &k->l, row[a], position), sent = count;
+        for (unsigned e = 0; e < count; e++)
+            if (b == 0 && position[e] < M)
+                sent = 0;
+        if (!sent) {
+            row[a] |= stuck;
+            ++*stuck_words;
+            continue;
+        }
+        keep_original(&k->o);
+        row[a] = 0;
+        turned += count;
+        for (unsigned e = 0; e < count; e++)
+            turn_in_stair(k, row, b, a, position[e]);
+    }
+    return turned;
+}
+
+int strong_original_decode(unsigned m, unsigned t, unsigned M, unsigned L, unsigned rounds, uint8_t *buffer, size_t length, uint64_t counts[PLAIN_COUNTS],
+                           uint64_t *place)
+{
+    stair_keeper k;
+    uint64_t turned;
+    memset(counts, 0, PLAIN_COUNTS * sizeof *counts);
+    int rule = judge_original(m, t, M, L, rounds, length, place);
+    if (!rule)
+        rule = judge_bits(buffer, length, place);
+    if (rule)
+        return rule;
+    make_stair_keeper(&k, m, t, M, L, buffer);
+    do {
+        turned = counts[3] = 0;
+        for (unsigned b = 0; b < L; b++)
+            turned += mend_stair(&k, b, &counts[3]);
+        counts[0]++;
+    } while (turned && counts[0] < (rounds ? rounds : ORIGINAL_DEFAULT_ROUNDS));
+    counts[1] = original_changed(&k.o);
+    for (size_t w = 0; w < (size_t)L * M; w++)
+        counts[2] += k.kept[w] != 0;
+    free(k.kept);
     return 0;
 }

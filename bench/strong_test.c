@@ -1,4 +1,4 @@
-/* Test of strong.c: its answers, places, bits and counts beside those of plain.c, which plain_test.c tests by itself.
+/* Test of strong.c: its answers, places, bits and counts beside those of plain.c and plain_original.c, which plain_test.c tests by itself.
    Prints a line a group, returns 1 on a failure. gcc -O3 -o strong_test strong_test.c strong.c */
 
 #include "strong.h"
@@ -70,7 +70,7 @@ static void free_kit(kit k)
 
 /* ---- Kits ---- */
 
-static unsigned rules_seen[19];
+static unsigned rules_seen[20];
 
 static void same_verdict(const kit *k)
 {
@@ -308,12 +308,79 @@ static void test_refusals(void)
     group_done("refusals of frames");
 }
 
+/* ---- Original staircase frames ---- */
+
+static void same_original(unsigned m, unsigned t, unsigned M, unsigned L, unsigned rounds, const uint8_t *buffer, size_t length)
+{
+    uint8_t *mine = get(length), *other = get(length);
+    uint64_t counts[PLAIN_COUNTS] = { 7, 7, 7, 7 }, want[PLAIN_COUNTS] = { 9, 9, 9, 9 }, place = 77, want_place = 77;
+    memcpy(mine, buffer, length);
+    memcpy(other, buffer, length);
+    int rule = strong_original_decode(m, t, M, L, rounds, mine, length, counts, &place);
+    int wanted = plain_original_decode(m, t, M, L, rounds, other, length, want, &want_place);
+    CHECK(rule == wanted && place == want_place && memcmp(counts, want, sizeof counts) == 0 && memcmp(mine, other, length) == 0);
+    rules_seen[wanted]++;
+    left_outside += want[2] > 0;
+    several_rounds += want[0] > 2;
+    fewer_stuck += want[3] < want[2];
+    more_stuck += want[3] > want[2];
+    free(mine);
+    free(other);
+}
+
+static void originals_of(unsigned m, unsigned t, unsigned M, unsigned most_blocks, uint64_t *state)
+{
+    static const unsigned per_mille[] = { 0, 2, 5, 10, 20, 40, 80, 200, 500, 1000 }, rounds[] = { 0, 1, 2, 12, 64 };
+    for (unsigned L = 1; L <= most_blocks; L++)
+        for (unsigned i = 0; i < sizeof rounds / sizeof *rounds; i++)
+            for (unsigned e = 0; e < sizeof per_mille / sizeof *per_mille; e++) {
+                size_t length = (size_t)L * M * M;
+                uint64_t place;
+                uint8_t *buffer = get(length);
+                for (size_t bit = 0; bit < length; bit++)
+                    buffer[bit] = plain_random(state) & 1;
+                CHECK(plain_original_encode(m, t, M, L, buffer, length, &place) == 0);
+                for (size_t bit = 0; bit < length; bit++)
+                    buffer[bit] ^= plain_random(state) % 1000 < per_mille[e];
+                same_original(m, t, M, L, rounds[i], buffer, length);
+                free(buffer);
+            }
+}
+
+/* All pairs of m and t that have original frames: the smallest M and the next, and the greatest up to 63; the design for benchmarks; refusals. */
+static void test_originals(void)
+{
+    uint64_t state = 15;
+    left_outside = several_rounds = fewer_stuck = more_stuck = 0;
+    memset(rules_seen, 0, sizeof rules_seen);
+    for (unsigned m = 4; m <= 10; m++)
+        for (unsigned t = 1; t <= 3; t++) {
+            unsigned least = m * t + 1, greatest = ((1u << m) - 1) / 2;
+            for (unsigned M = least; M <= greatest && M <= 63; M++)
+                if (M <= least + 1 || M == greatest)
+                    originals_of(m, t, M, M <= 20 ? 6 : 3, &state);
+        }
+    originals_of(8, 3, 127, 2, &state);
+    CHECK(left_outside > 1000 && several_rounds > 500 && fewer_stuck > 100 && more_stuck > 50);
+
+    static const unsigned number[][5] = { { 4, 1, 5, 2, 0 }, { 4, 1, 5, 2, 65 }, { 4, 1, 5, 0, 65 }, { 4, 1, 5, 4097, 65 }, { 4, 1, 4, 0, 65 }, { 4, 1, 8, 0, 65 },
+        { 4, 2, 8, 0, 65 }, { 4, 1, 501, 0, 65 }, { 4, 4, 501, 0, 65 }, { 11, 4, 501, 0, 65 } };
+    uint8_t buffer[51] = { 0 };
+    buffer[49] = 2;
+    for (unsigned i = 0; i < sizeof number / sizeof *number; i++)
+        for (size_t length = 50; length <= 51; length++)
+            same_original(number[i][0], number[i][1], number[i][2], number[i][3], number[i][4], buffer, length);
+    CHECK(rules_seen[1] == 6 && rules_seen[2] == 4 && rules_seen[19] == 2 && rules_seen[4] == 4 && rules_seen[5] == 2 && rules_seen[6] == 1 && rules_seen[10] == 1);
+    group_done("original frames");
+}
+
 int main(void)
 {
     test_kits();
     test_frames();
     test_large();
     test_refusals();
+    test_originals();
     printf("%u checks, %u failed\n", checks, failures);
     return failures != 0;
 }

@@ -9,6 +9,7 @@
 //! counts compared calls and checks.
 
 mod host;
+mod original;
 mod reference;
 
 use reference::*;
@@ -203,8 +204,7 @@ struct Lent {
 impl Lent {
     /// A kit with buffers of the right lengths for L blocks.
     fn new(kit: &Kit, blocks: usize, info: Vec<u8>, red: Vec<u8>) -> Lent {
-        let (order, side, groups) = ((kit.m * kit.t * kit.size) as usize, kit.size as usize, (blocks + 1) / 2);
-        let frame_work = 8 * side * groups + blocks * side * side + groups * 2 * order;
+        let d = Design { m: kit.m, t: kit.t, size: kit.size };
         Lent {
             m: kit.m,
             t: kit.t,
@@ -218,11 +218,11 @@ impl Lent {
             inverse: kit.inverse.clone(),
             info,
             red,
-            kit_work: order * ((order + 7) / 8),
-            make_work: (2 * order + 512) * ((order + 7) / 8),
-            word_work: order,
-            decoder_work: order + frame_work,
-            loopback_work: order * ((order + 7) / 8) + frame_work,
+            kit_work: d.kit_work(),
+            make_work: d.make_work(),
+            word_work: d.word_work(),
+            decoder_work: d.decoder_work(blocks),
+            loopback_work: d.loopback_work(blocks),
             info_errors: vec![],
             red_errors: vec![],
         }
@@ -274,6 +274,19 @@ fn answered<T>(result: &Answer<T>, told: impl Fn(&T) -> Vec<u64>, entries: usize
     }
 }
 
+/// The bytes of a report.
+const REPORT: usize = 40;
+
+/// A rule whose refusal is told before that of a report of another length.
+fn before_report(number: u64) -> bool {
+    matches!(number, 1..=6 | 17 | 18)
+}
+
+/// The numbers of a report: place, rounds, turned, outside, stuck.
+fn report_numbers(report: [u8; REPORT]) -> [u64; 5] {
+    [0, 1, 2, 3, 4].map(|at| u64::from_le_bytes(report[8 * at..][..8].try_into().unwrap()))
+}
+
 /// What decoder and loopback tell.
 fn counted((_, _, counts): &(Vec<u8>, Vec<u8>, Counts)) -> Vec<u64> {
     vec![counts.rounds, counts.turned, counts.outside, counts.stuck]
@@ -293,7 +306,7 @@ struct Case<'a> {
     rng: Rng,
     passed: u64,
     failed: u64,
-    /// how much longer `answer` is than it should be
+    /// how much longer `answer` is than it should be, in entries, or a report, in bytes
     answer_extra: isize,
     /// how often each rule's number (0: none) was the right answer
     numbers: BTreeMap<u64, u64>,
@@ -341,7 +354,7 @@ impl Case<'_> {
             run(&mut inner, &mut working[GUARD..GUARD + work], &mut answer)
         };
         let told = if self.answer_extra == 0 { expected.told } else { old };
-        if !name.contains(' ') || name.starts_with("design") || name.starts_with("show") {
+        if !name.contains(' ') || name.starts_with("design") || name.starts_with("sizes") || name.starts_with("show") {
             *self.numbers.entry(expected.number).or_default() += 1;
         }
         if number != expected.number || answer != told {
@@ -360,6 +373,29 @@ impl Case<'_> {
         self.passed += 1;
     }
 
+    /// The same for a call that is lent a report: 40 bytes, the numbers that are told and zeros. One of another length is refused by 6, behind
+    /// rules 1 to 5, 17 and 18 and the other slices of rule 6 but the tally; then nothing is written.
+    fn call_reporting(
+        &mut self, name: &str, buffers: &[&[u8]], work: usize, expected: Expected,
+        run: impl FnOnce(&mut [&mut [u8]], &mut [u8], &mut [u8]) -> u64,
+    ) {
+        let old = self.rng.bytes((REPORT as isize + self.answer_extra).max(0) as usize);
+        let Expected { mut number, told, buffers: mut left } = expected;
+        let mut report: Vec<u8> = told.iter().flat_map(|number| number.to_le_bytes()).collect();
+        report.resize(REPORT, 0);
+        if old.len() != REPORT {
+            number = if before_report(number) { number } else { 6 };
+            left = buffers.iter().map(|bytes| bytes.to_vec()).collect();
+            report = old.clone();
+        }
+        left.push(report);
+        let lent: Vec<&[u8]> = buffers.iter().copied().chain([&old[..]]).collect();
+        self.call(name, &lent, work, Expected { number, told: vec![], buffers: left }, |b, w, _| {
+            let (report, lent) = b.split_last_mut().unwrap();
+            run(lent, w, report)
+        });
+    }
+
     // The calls on numbers and buffers.
 
     fn design(&mut self, m: u64, t: u64, size: u64) {
@@ -369,10 +405,18 @@ impl Case<'_> {
             host::design(m, t, size, a)
         });
     }
+    /// Every length for a design and a number of blocks.
+    fn sizes(&mut self, (m, t, size): (u64, u64, u64), blocks: u64) {
+        let result = all_sizes(m, t, size, blocks);
+        let (number, told) = answered(&result, |sizes| sizes.to_vec(), 16);
+        self.call(&format!("sizes {m} {t} {size} {blocks}"), &[], 0, Expected { number, told, buffers: vec![] }, |_, _, a| {
+            host::sizes(m, t, size, blocks, a)
+        });
+    }
     fn check_kit(&mut self, l: &Lent) {
         let (number, told) = answered(&check_kit(&l.kit(), l.kit_work), |_| vec![], 1);
         let buffers = vec![l.own.clone(), l.parity.clone(), l.inverse.clone()];
-        self.call("check_kit", &[&l.own, &l.parity, &l.inverse], l.kit_work, Expected { number, told, buffers }, |b, w, a| {
+        self.call_reporting("check_kit", &[&l.own, &l.parity, &l.inverse], l.kit_work, Expected { number, told, buffers }, |b, w, a| {
             host::check_kit(l.design(), b[0], b[1], b[2], w, a)
         });
     }
@@ -382,7 +426,7 @@ impl Case<'_> {
         let red = result.unwrap_or(l.red.clone());
         let buffers = vec![l.own.clone(), l.parity.clone(), l.inverse.clone(), l.info.clone(), red];
         let lent: [&[u8]; 5] = [&l.own, &l.parity, &l.inverse, &l.info, &l.red];
-        self.call("encode", &lent, l.kit_work, Expected { number, told, buffers }, |b, w, a| {
+        self.call_reporting("encode", &lent, l.kit_work, Expected { number, told, buffers }, |b, w, a| {
             let [own, parity, inverse, info, red] = b else { unreachable!() };
             host::encode(l.design(), l.blocks, own, parity, inverse, info, red, w, a)
         });
@@ -394,7 +438,7 @@ impl Case<'_> {
         let left = result.unwrap_or(l.red.clone());
         let buffers = vec![l.own.clone(), l.parity.clone(), l.inverse.clone(), l.info.clone(), left.clone()];
         let lent: [&[u8]; 5] = [&l.own, &l.parity, &l.inverse, &l.info, &l.red];
-        self.call("encode_batch", &lent, l.kit_work, Expected { number, told, buffers }, |b, w, a| {
+        self.call_reporting("encode_batch", &lent, l.kit_work, Expected { number, told, buffers }, |b, w, a| {
             let [own, parity, inverse, info, red] = b else { unreachable!() };
             host::encode_batch(l.design(), l.blocks, l.frames, own, parity, inverse, info, red, w, a)
         });
@@ -415,7 +459,7 @@ impl Case<'_> {
         let (info, red) = result.map_or((l.info.clone(), l.red.clone()), |(info, red, _)| (info, red));
         let buffers = vec![l.own.clone(), l.parity.clone(), info.clone(), red.clone()];
         let lent: [&[u8]; 4] = [&l.own, &l.parity, &l.info, &l.red];
-        self.call("decode", &lent, l.decoder_work, Expected { number, told, buffers }, |b, w, a| {
+        self.call_reporting("decode", &lent, l.decoder_work, Expected { number, told, buffers }, |b, w, a| {
             let [own, parity, info, red] = b else { unreachable!() };
             host::decode(l.design(), l.blocks, l.rounds, own, parity, info, red, w, a)
         });
@@ -428,7 +472,7 @@ impl Case<'_> {
         let (info, red) = result.as_ref().map_or((&l.info, &l.red), |(info, red, _)| (info, red));
         let buffers = vec![l.own.clone(), l.parity.clone(), info.clone(), red.clone()];
         let lent: [&[u8]; 4] = [&l.own, &l.parity, &l.info, &l.red];
-        self.call("decode_window", &lent, l.decoder_work, Expected { number, told, buffers }, |b, w, a| {
+        self.call_reporting("decode_window", &lent, l.decoder_work, Expected { number, told, buffers }, |b, w, a| {
             let [own, parity, info, red] = b else { unreachable!() };
             host::decode_window(l.design(), l.blocks, l.rounds, l.window, own, parity, info, red, w, a)
         });
@@ -439,12 +483,12 @@ impl Case<'_> {
         let result = decode_tallied(&l.received(), l.rounds, l.decoder_work, tally);
         let (number, told) = answered(&result, |(decoded, _)| counted(decoded), 5);
         let (info, red) = result.as_ref().map_or((l.info.clone(), l.red.clone()), |((info, red, _), _)| (info.clone(), red.clone()));
-        let left = result.as_ref().map_or(tally.to_vec(), |(_, after)| after.to_vec());
+        let left = result.as_ref().ok().filter(|_| self.answer_extra == 0).map_or(tally.to_vec(), |(_, after)| after.to_vec());
         let buffers = vec![l.own.clone(), l.parity.clone(), info, red];
         let lent: [&[u8]; 4] = [&l.own, &l.parity, &l.info, &l.red];
         let guarded = |totals: &[u64]| [&[0xEEEE][..], totals, &[0xEEEE][..]].concat();
         let mut totals = guarded(tally);
-        self.call("decode_tallied", &lent, l.decoder_work, Expected { number, told, buffers }, |b, w, a| {
+        self.call_reporting("decode_tallied", &lent, l.decoder_work, Expected { number, told, buffers }, |b, w, a| {
             let [own, parity, info, red] = b else { unreachable!() };
             let end = totals.len() - 1;
             host::decode_tallied(l.design(), l.blocks, l.rounds, own, parity, info, red, w, &mut totals[1..end], a)
@@ -793,6 +837,7 @@ impl Case<'_> {
 // ---------------------------------------------------------------- The run
 
 mod groups;
+mod original_cases;
 mod tally;
 mod window;
 

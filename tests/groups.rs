@@ -14,6 +14,8 @@ pub const GROUPS: &[Group] = &[
     ("nearest", || 4, nearest),
     ("dependent", || 400, dependent),
     ("design", || 13 * 5, design_rules),
+    ("sizes", || 13 * 5, every_size),
+    ("reports", || 24, reports),
     ("kits", || 4 * designs(1000).len(), kits),
     ("inverses", || 2 * designs(400).len(), inverses),
     ("inverse-everywhere", || designs(40).len(), inverse_everywhere),
@@ -33,6 +35,14 @@ pub const GROUPS: &[Group] = &[
     ("window-few", || 3 * designs(400).len(), window::few_wrong),
     ("window-refusals", || 24, window::refusals),
     ("window-long", || window::LONG, window::long),
+    ("original-rows", || 1, original_cases::rows),
+    ("original-design", || 13 * 5, original_cases::design_rules),
+    ("original", || 5 * original_cases::original_designs(40).len(), original_cases::frames),
+    ("original-bytes", || 4, original_cases::bytes),
+    ("original-few", || 6 * original_cases::original_designs(40).len(), original_cases::few_wrong),
+    ("original-noise", || 20 * original_cases::original_designs(40).len(), original_cases::noise),
+    ("original-refusals", || 20, original_cases::refusals),
+    ("original-large", || original_cases::LARGE, original_cases::large),
     ("tally-rows", || 1, tally::rows),
     ("tally", || 200, tally::lists_of_decodes),
     ("tally-full", || 6, tally::full),
@@ -411,6 +421,71 @@ fn design_rules(case: &mut Case) {
     }
 }
 
+/// Every length for every M from 0 to 502 and other numbers, with 1 to 4,096 blocks, none and more; in answers of other lengths too.
+fn every_size(case: &mut Case) {
+    let (m, t) = (case.index as u64 % 13, case.index as u64 / 13);
+    for size in (0..=502).chain(NUMBERS) {
+        let some = 1 + case.rng.below(4096) as u64;
+        for blocks in [1, 2, some, 4096, 0, 4097] {
+            case.sizes((m, t, size), blocks);
+        }
+    }
+    for blocks in NUMBERS {
+        case.sizes((m, t, 3), blocks);
+    }
+    for extra in [-16, -1, 1, 16] {
+        case.answer_extra = extra;
+        case.sizes((m, t, 3), 3);
+    }
+    case.answer_extra = 0;
+}
+
+/// Reports of 0, 39, 40 and 41 bytes and others beside every refusal before and after place 8 of rule 6, and accepted calls.
+fn reports(case: &mut Case) {
+    let good = case.small();
+    let mut right = case.frame(&good, 1 + case.index % 4);
+    case.turn_bits(&mut right, 30);
+    let wrong: [fn(&mut Lent); 21] = [
+        |_| {},
+        |l| l.m = 3,
+        |l| l.t = 4,
+        |l| l.size = 0,
+        |l| (l.m, l.t, l.size) = (4, 1, 4),
+        |l| (l.m, l.t, l.size) = (10, 2, 205),
+        |l| l.blocks = 4097,
+        |l| l.frames = 0,
+        |l| l.rounds = 65,
+        |l| l.window = 65,
+        |l| l.own.push(0),
+        |l| l.parity.truncate(l.parity.len() - 1),
+        |l| l.inverse.push(0),
+        |l| l.info.truncate(l.info.len() - 1),
+        |l| l.red.push(0),
+        |l| (l.kit_work, l.decoder_work) = (l.kit_work - 1, l.decoder_work + 1),
+        |l| l.own[1] = 255,
+        |l| *l.inverse.last_mut().unwrap() |= 0x80,
+        |l| l.info[0] = 2,
+        |l| *l.red.last_mut().unwrap() = 255,
+        |l| l.inverse[0] ^= 1,
+    ];
+    for extra in [0, -40, -39, -1, 1, 40, 280] {
+        case.answer_extra = extra;
+        for spoil in wrong {
+            let mut lent = right.clone();
+            spoil(&mut lent);
+            case.check_kit(&lent);
+            case.encode(&lent);
+            case.encode_batch(&lent);
+            case.decode(&lent);
+            let _ = case.decode_window(&lent);
+            for tally in [vec![0; 6], vec![0; 5], vec![u64::MAX; 6]] {
+                let _ = case.decode_tallied(&lent, &tally);
+            }
+        }
+    }
+    case.answer_extra = 0;
+}
+
 /// Kits that pass: every call, with odd and even numbers of blocks.
 fn kits(case: &mut Case) {
     let all = designs(1000);
@@ -575,10 +650,12 @@ fn lengths(case: &mut Case) {
     std::mem::swap(&mut lent.kit_work, &mut lent.word_work);
     std::mem::swap(&mut lent.loopback_work, &mut lent.decoder_work);
     case.all(&lent);
-    // the working lengths without the words' numbers and the copy, without the copy, and without its redundancy
+    // the working lengths without the words' numbers and the marks, without the marks, without those of the redundancy or of the information, and
+    // with a byte for each bit
     case.all(&Lent { decoder_work: right.word_work, loopback_work: right.kit_work, ..right.clone() });
-    for less in [right.info.len() + right.red.len(), right.red.len(), right.info.len()] {
-        let (decoder_work, loopback_work) = (right.decoder_work - less, right.loopback_work - less);
+    let (bits, marks) = (right.info.len() + right.red.len(), (right.info.len() + right.red.len() + 7) / 8);
+    for kept in [0, (right.info.len() + 7) / 8, (right.red.len() + 7) / 8, bits / 8, bits] {
+        let (decoder_work, loopback_work) = (right.decoder_work - marks + kept, right.loopback_work - marks + kept);
         case.all(&Lent { decoder_work, loopback_work, ..right.clone() });
     }
     case.make_inverse(&Lent { make_work: right.kit_work, ..right.clone() });
@@ -696,10 +773,10 @@ fn batches(case: &mut Case) {
         for f in 0..joined {
             let alone = Lent { info: lent.info[f * info..][..info].to_vec(), red: vec![255; red], ..lent.clone() };
             let mut made = alone.red.clone();
-            let (mut work, mut answer) = (vec![0; lent.kit_work], [9]);
+            let (mut work, mut report) = (vec![0; lent.kit_work], [9; REPORT]);
             let number =
-                host::encode(lent.design(), lent.blocks, &lent.own, &lent.parity, &lent.inverse, &alone.info, &mut made, &mut work, &mut answer);
-            case.same("a frame alone", (0, [0], &left[f * red..][..red]), (number, answer, &made[..]));
+                host::encode(lent.design(), lent.blocks, &lent.own, &lent.parity, &lent.inverse, &alone.info, &mut made, &mut work, &mut report);
+            case.same("a frame alone", (0, [0; 5], &left[f * red..][..red]), (number, report_numbers(report), &made[..]));
         }
     } else {
         case.check("refused by 17, untouched", left == lent.red);
@@ -840,7 +917,7 @@ fn received_frames(case: &mut Case) {
     let mut copy = sent.clone();
     copy.red = frame.split_off(sent.info.len());
     copy.info = frame;
-    copy.rounds = case.rng.pick(&[0, 0, 1, 2, 3, 7, 64, 65]);
+    copy.rounds = case.rng.pick(&[0, 0, 1, 2, 3, 12, 64, 65]);
     case.check_words(&copy);
     let (info, red) = case.decode(&copy);
     if kind <= 4 && kind != 1 && copy.rounds <= 64 {
@@ -882,7 +959,7 @@ fn rounds(case: &mut Case) {
     let mut lent = case.frame(&good, blocks);
     let odds = 4 + case.rng.below(60) as u64;
     case.turn_bits(&mut lent, odds);
-    for rounds in [0, 1, 2, 3, 4, 5, 6, 7, 8, 63, 64, 65, 66, u64::MAX] {
+    for rounds in [0, 1, 2, 3, 4, 5, 6, 7, 8, 11, 12, 13, 63, 64, 65, 66, u64::MAX] {
         lent.rounds = rounds;
         case.decode(&lent);
     }
@@ -897,7 +974,7 @@ fn rows_of_second_kit(case: &mut Case) {
     kit.inverse = make_inverse(&kit, design(4, 1, 2).unwrap().make_work()).unwrap();
     for (info, places, rounds, counts, turned, restored) in [
         ("1010 0010 1100", [0, 6, 27], 0, (3, 3, 0, 0), 5, true),
-        ("1010", [0, 11, 14], 0, (7, 3, 1, 0), 13, false),
+        ("1010", [0, 11, 14], 0, (12, 3, 1, 0), 23, false),
         ("1010", [0, 11, 14], 1, (1, 1, 2, 2), 1, false),
         ("1010", [0, 11, 14], 2, (2, 3, 1, 0), 3, false),
         ("1010", [0, 11, 14], 64, (64, 3, 1, 0), 127, false),
@@ -1135,7 +1212,7 @@ fn loads(case: &mut Case) {
     }
 }
 
-/// Answers of other lengths are left as they are; everything else is as always.
+/// Answers of other lengths are left as they are, and everything else is as always; reports of other lengths are refused.
 fn answers(case: &mut Case) {
     let good = case.small();
     let lent = case.frame(&good, 3);
@@ -1267,16 +1344,16 @@ fn made_kit(case: &mut Case, good: &Good) {
     let (d, blocks) = (good.d, 1 + case.rng.below(3));
     let mut lent = case.to_encode(good, blocks);
     lent.inverse.fill(0xAA);
-    let (mut answer, mut counts) = ([1], [1; 5]);
+    let (mut answer, mut report) = ([1], [1; REPORT]);
     let (d3, mut work) = (lent.design(), vec![0; lent.make_work]);
     let number = host::make_inverse(d3, &lent.own, &lent.parity, &mut lent.inverse, &mut work, &mut answer);
     case.same("made", (0, [0]), (number, answer));
     work.truncate(lent.kit_work);
-    let number = host::check_kit(d3, &lent.own, &lent.parity, &lent.inverse, &mut work, &mut answer);
-    case.same("passed", (0, [0]), (number, answer));
+    let number = host::check_kit(d3, &lent.own, &lent.parity, &lent.inverse, &mut work, &mut report);
+    case.same("passed", (0, [0; REPORT]), (number, report));
     let number =
-        host::encode(d3, lent.blocks, &lent.own, &lent.parity, &lent.inverse, &lent.info, &mut lent.red, &mut work, &mut answer);
-    case.same("encoded", (0, [0]), (number, answer));
+        host::encode(d3, lent.blocks, &lent.own, &lent.parity, &lent.inverse, &lent.info, &mut lent.red, &mut work, &mut report);
+    case.same("encoded", (0, [0; REPORT]), (number, report));
     let sent = lent.clone();
     let shape = Shape::new(d, blocks, entries(&lent.own), entries(&lent.parity));
     for place in within(&mut case.rng, &shape, 50) {
@@ -1284,8 +1361,9 @@ fn made_kit(case: &mut Case, good: &Good) {
     }
     work.resize(lent.decoder_work, 0);
     let number =
-        host::decode(d3, lent.blocks, 0, &lent.own, &lent.parity, &mut lent.info, &mut lent.red, &mut work, &mut counts);
-    case.same("decoded, none outside, none stuck", (0, 0, 0, 0), (number, counts[0], counts[3], counts[4]));
+        host::decode(d3, lent.blocks, 0, &lent.own, &lent.parity, &mut lent.info, &mut lent.red, &mut work, &mut report);
+    let [place, _, _, outside, stuck] = report_numbers(report);
+    case.same("decoded, none outside, none stuck", (0, 0, 0, 0), (number, place, outside, stuck));
     case.check("recovered", lent.info == sent.info && lent.red == sent.red);
 }
 

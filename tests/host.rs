@@ -1,6 +1,7 @@
 //! The library's C interface: the declarations, and a safe function for each that lends slices.
 //! A slice is a pointer and a length. Every function answers 0 or the number of a rule; `answer`
-//! takes the place and what the call tells.
+//! takes the place and what the call tells. The kit checker, the encoders and the decoders take a
+//! `report` in its place: bytes, five numbers of eight each.
 
 /// A shared slice as a pointer and a length.
 macro_rules! lend {
@@ -22,8 +23,9 @@ type Told = *mut u64;
 
 extern "C" {
     fn bauchleton_design(m: u64, t: u64, size: u64, a: Told, al: usize) -> u64;
+    fn bauchleton_sizes(m: u64, t: u64, size: u64, blocks: u64, a: Told, al: usize) -> u64;
     fn bauchleton_check_kit(
-        m: u64, t: u64, size: u64, o: In, ol: usize, p: In, pl: usize, v: In, vl: usize, w: Out, wl: usize, a: Told, al: usize,
+        m: u64, t: u64, size: u64, o: In, ol: usize, p: In, pl: usize, v: In, vl: usize, w: Out, wl: usize, q: Out, ql: usize,
     ) -> u64;
     fn bauchleton_make_inverse(
         m: u64, t: u64, size: u64, o: In, ol: usize, p: In, pl: usize, v: Out, vl: usize, w: Out, wl: usize, a: Told, al: usize,
@@ -31,11 +33,11 @@ extern "C" {
     fn bauchleton_spread_lists(m: u64, t: u64, size: u64, o: Out, ol: usize, p: Out, pl: usize, a: Told, al: usize) -> u64;
     fn bauchleton_encode(
         m: u64, t: u64, size: u64, blocks: u64, o: In, ol: usize, p: In, pl: usize, v: In, vl: usize, i: In, il: usize,
-        r: Out, rl: usize, w: Out, wl: usize, a: Told, al: usize,
+        r: Out, rl: usize, w: Out, wl: usize, q: Out, ql: usize,
     ) -> u64;
     fn bauchleton_encode_batch(
         m: u64, t: u64, size: u64, blocks: u64, frames: u64, o: In, ol: usize, p: In, pl: usize, v: In, vl: usize, i: In, il: usize,
-        r: Out, rl: usize, w: Out, wl: usize, a: Told, al: usize,
+        r: Out, rl: usize, w: Out, wl: usize, q: Out, ql: usize,
     ) -> u64;
     fn bauchleton_check_words(
         m: u64, t: u64, size: u64, blocks: u64, o: In, ol: usize, p: In, pl: usize, i: In, il: usize, r: In, rl: usize,
@@ -43,15 +45,15 @@ extern "C" {
     ) -> u64;
     fn bauchleton_decode(
         m: u64, t: u64, size: u64, blocks: u64, rounds: u64, o: In, ol: usize, p: In, pl: usize, i: Out, il: usize,
-        r: Out, rl: usize, w: Out, wl: usize, a: Told, al: usize,
+        r: Out, rl: usize, w: Out, wl: usize, q: Out, ql: usize,
     ) -> u64;
     fn bauchleton_decode_window(
         m: u64, t: u64, size: u64, blocks: u64, rounds: u64, window: u64, o: In, ol: usize, p: In, pl: usize, i: Out, il: usize,
-        r: Out, rl: usize, w: Out, wl: usize, a: Told, al: usize,
+        r: Out, rl: usize, w: Out, wl: usize, q: Out, ql: usize,
     ) -> u64;
     fn bauchleton_decode_tallied(
         m: u64, t: u64, size: u64, blocks: u64, rounds: u64, o: In, ol: usize, p: In, pl: usize, i: Out, il: usize,
-        r: Out, rl: usize, w: Out, wl: usize, y: Told, yl: usize, a: Told, al: usize,
+        r: Out, rl: usize, w: Out, wl: usize, y: Told, yl: usize, q: Out, ql: usize,
     ) -> u64;
     fn bauchleton_report(y: *const u64, yl: usize, a: Told, al: usize) -> u64;
     fn bauchleton_loopback(
@@ -76,13 +78,18 @@ pub fn design(m: u64, t: u64, size: u64, answer: &mut [u64]) -> u64 {
     unsafe { bauchleton_design(m, t, size, a, al) }
 }
 
+pub fn sizes(m: u64, t: u64, size: u64, blocks: u64, answer: &mut [u64]) -> u64 {
+    let (a, al) = lend_mut!(answer);
+    unsafe { bauchleton_sizes(m, t, size, blocks, a, al) }
+}
+
 #[allow(clippy::too_many_arguments)]
 pub fn check_kit(
-    (m, t, size): (u64, u64, u64), own: &[u8], parity: &[u8], inverse: &[u8], work: &mut [u8], answer: &mut [u64],
+    (m, t, size): (u64, u64, u64), own: &[u8], parity: &[u8], inverse: &[u8], work: &mut [u8], report: &mut [u8],
 ) -> u64 {
     let ((o, ol), (p, pl), (v, vl)) = (lend!(own), lend!(parity), lend!(inverse));
-    let ((w, wl), (a, al)) = (lend_mut!(work), lend_mut!(answer));
-    unsafe { bauchleton_check_kit(m, t, size, o, ol, p, pl, v, vl, w, wl, a, al) }
+    let ((w, wl), (q, ql)) = (lend_mut!(work), lend_mut!(report));
+    unsafe { bauchleton_check_kit(m, t, size, o, ol, p, pl, v, vl, w, wl, q, ql) }
 }
 
 #[allow(clippy::too_many_arguments)]
@@ -102,21 +109,21 @@ pub fn spread_lists((m, t, size): (u64, u64, u64), own: &mut [u8], parity: &mut 
 #[allow(clippy::too_many_arguments)]
 pub fn encode(
     (m, t, size): (u64, u64, u64), blocks: u64, own: &[u8], parity: &[u8], inverse: &[u8], info: &[u8], red: &mut [u8],
-    work: &mut [u8], answer: &mut [u64],
+    work: &mut [u8], report: &mut [u8],
 ) -> u64 {
     let ((o, ol), (p, pl), (v, vl), (i, il)) = (lend!(own), lend!(parity), lend!(inverse), lend!(info));
-    let ((r, rl), (w, wl), (a, al)) = (lend_mut!(red), lend_mut!(work), lend_mut!(answer));
-    unsafe { bauchleton_encode(m, t, size, blocks, o, ol, p, pl, v, vl, i, il, r, rl, w, wl, a, al) }
+    let ((r, rl), (w, wl), (q, ql)) = (lend_mut!(red), lend_mut!(work), lend_mut!(report));
+    unsafe { bauchleton_encode(m, t, size, blocks, o, ol, p, pl, v, vl, i, il, r, rl, w, wl, q, ql) }
 }
 
 #[allow(clippy::too_many_arguments)]
 pub fn encode_batch(
     (m, t, size): (u64, u64, u64), blocks: u64, frames: u64, own: &[u8], parity: &[u8], inverse: &[u8], info: &[u8],
-    red: &mut [u8], work: &mut [u8], answer: &mut [u64],
+    red: &mut [u8], work: &mut [u8], report: &mut [u8],
 ) -> u64 {
     let ((o, ol), (p, pl), (v, vl), (i, il)) = (lend!(own), lend!(parity), lend!(inverse), lend!(info));
-    let ((r, rl), (w, wl), (a, al)) = (lend_mut!(red), lend_mut!(work), lend_mut!(answer));
-    unsafe { bauchleton_encode_batch(m, t, size, blocks, frames, o, ol, p, pl, v, vl, i, il, r, rl, w, wl, a, al) }
+    let ((r, rl), (w, wl), (q, ql)) = (lend_mut!(red), lend_mut!(work), lend_mut!(report));
+    unsafe { bauchleton_encode_batch(m, t, size, blocks, frames, o, ol, p, pl, v, vl, i, il, r, rl, w, wl, q, ql) }
 }
 
 #[allow(clippy::too_many_arguments)]
@@ -132,31 +139,31 @@ pub fn check_words(
 #[allow(clippy::too_many_arguments)]
 pub fn decode(
     (m, t, size): (u64, u64, u64), blocks: u64, rounds: u64, own: &[u8], parity: &[u8], info: &mut [u8], red: &mut [u8],
-    work: &mut [u8], answer: &mut [u64],
+    work: &mut [u8], report: &mut [u8],
 ) -> u64 {
     let ((o, ol), (p, pl)) = (lend!(own), lend!(parity));
-    let ((i, il), (r, rl), (w, wl), (a, al)) = (lend_mut!(info), lend_mut!(red), lend_mut!(work), lend_mut!(answer));
-    unsafe { bauchleton_decode(m, t, size, blocks, rounds, o, ol, p, pl, i, il, r, rl, w, wl, a, al) }
+    let ((i, il), (r, rl), (w, wl), (q, ql)) = (lend_mut!(info), lend_mut!(red), lend_mut!(work), lend_mut!(report));
+    unsafe { bauchleton_decode(m, t, size, blocks, rounds, o, ol, p, pl, i, il, r, rl, w, wl, q, ql) }
 }
 
 #[allow(clippy::too_many_arguments)]
 pub fn decode_window(
     (m, t, size): (u64, u64, u64), blocks: u64, rounds: u64, window: u64, own: &[u8], parity: &[u8], info: &mut [u8],
-    red: &mut [u8], work: &mut [u8], answer: &mut [u64],
+    red: &mut [u8], work: &mut [u8], report: &mut [u8],
 ) -> u64 {
     let ((o, ol), (p, pl)) = (lend!(own), lend!(parity));
-    let ((i, il), (r, rl), (w, wl), (a, al)) = (lend_mut!(info), lend_mut!(red), lend_mut!(work), lend_mut!(answer));
-    unsafe { bauchleton_decode_window(m, t, size, blocks, rounds, window, o, ol, p, pl, i, il, r, rl, w, wl, a, al) }
+    let ((i, il), (r, rl), (w, wl), (q, ql)) = (lend_mut!(info), lend_mut!(red), lend_mut!(work), lend_mut!(report));
+    unsafe { bauchleton_decode_window(m, t, size, blocks, rounds, window, o, ol, p, pl, i, il, r, rl, w, wl, q, ql) }
 }
 
 #[allow(clippy::too_many_arguments)]
 pub fn decode_tallied(
     (m, t, size): (u64, u64, u64), blocks: u64, rounds: u64, own: &[u8], parity: &[u8], info: &mut [u8], red: &mut [u8],
-    work: &mut [u8], tally: &mut [u64], answer: &mut [u64],
+    work: &mut [u8], tally: &mut [u64], report: &mut [u8],
 ) -> u64 {
     let ((o, ol), (p, pl), (y, yl)) = (lend!(own), lend!(parity), lend_mut!(tally));
-    let ((i, il), (r, rl), (w, wl), (a, al)) = (lend_mut!(info), lend_mut!(red), lend_mut!(work), lend_mut!(answer));
-    unsafe { bauchleton_decode_tallied(m, t, size, blocks, rounds, o, ol, p, pl, i, il, r, rl, w, wl, y, yl, a, al) }
+    let ((i, il), (r, rl), (w, wl), (q, ql)) = (lend_mut!(info), lend_mut!(red), lend_mut!(work), lend_mut!(report));
+    unsafe { bauchleton_decode_tallied(m, t, size, blocks, rounds, o, ol, p, pl, i, il, r, rl, w, wl, y, yl, q, ql) }
 }
 
 pub fn report(tally: &[u64], answer: &mut [u64]) -> u64 {

@@ -39,9 +39,12 @@ static void *get(size_t bytes) {
 
 // A frame of zeros under a reversed self list and a parity list turned by three.
 static lent make(unsigned m, unsigned t, unsigned M, unsigned L) {
-    unsigned order = m * t * M, groups = (L + 1) / 2;
-    lent l = {.m = m, .t = t, .M = M, .L = L, .list = 2 * order, .info = (size_t)L * M * M, .red = (size_t)groups * 2 * order, .words_work = order};
-    l.decoder_work = order + 8 * (size_t)M * groups + l.info + l.red;
+    uint64_t sizes[BAUCHLETON_SIZES_ENTRIES];
+    if (bauchleton_sizes(m, t, M, L, sizes, BAUCHLETON_SIZES_ENTRIES) != 0)
+        exit(2);
+    unsigned order = m * t * M;
+    lent l = {.m = m, .t = t, .M = M, .L = L, .list = sizes[BAUCHLETON_SIZES_LIST], .info = sizes[BAUCHLETON_SIZES_INFO], .red = sizes[BAUCHLETON_SIZES_RED],
+              .words_work = sizes[BAUCHLETON_SIZES_CHECK_WORDS_WORK], .decoder_work = sizes[BAUCHLETON_SIZES_DECODE_WORK]};
     l.self = get(l.list);
     l.parity = get(l.list);
     l.frame = get(l.info + l.red);
@@ -54,10 +57,11 @@ static lent make(unsigned m, unsigned t, unsigned M, unsigned L) {
 }
 
 static uint64_t call(const lent *l, int decoder) {
-    uint64_t answer[5];
+    uint64_t answer[2];
+    uint8_t report[BAUCHLETON_REPORT_BYTES];
     if (decoder)
         return bauchleton_decode(l->m, l->t, l->M, l->L, 0, l->self, l->list, l->parity, l->list, l->frame, l->info, l->frame + l->info, l->red, l->work,
-                                 l->decoder_work, answer, 5);
+                                 l->decoder_work, report, sizeof report);
     return bauchleton_check_words(l->m, l->t, l->M, l->L, l->self, l->list, l->parity, l->list, l->frame, l->info, l->frame + l->info, l->red, l->work,
                                   l->words_work, answer, 2);
 }

@@ -2,7 +2,7 @@
 //! It shares nothing with the library. Everything that they define is a function here:
 //!
 //! - `design`, `powers`, `minimal`, `generator`, `remainder`: rules 1 to 3 and BCH words
-//! - `Shape`, `check_word`, `words_outside`: where each bit of each word of a frame stands; words that are checked
+//! - `Shape`, `check_word`, `words_outside`, `outside`: where each bit of each word of a frame stands; words that are checked
 //! - `sums`, `system`, `check_kit`: A y + c, A, and the verdict on a kit
 //! - `first_dependent`, `inverse`, `make_inverse`: rule 14's column, W by elimination, and the maker
 //! - `turned`, `spread_lists`: spread lists
@@ -14,6 +14,7 @@
 //! - `read_kit`, `read_blocks`, `read_frame`: the texts and the place of rules 11 and 12
 //! - `kit_text`, `kit_text_length`, `write_kit`: kit text, its length, and the writer
 //! - `block_line` .. `count_lines`, `frame_prints`, `mend_prints`, `makekit_prints`: what is printed
+//! - `all_sizes`: every length that a caller from C is told
 //!
 //! A frame is kept as one vector: the information, then the redundancy. A sent bit is its place in it.
 
@@ -71,9 +72,9 @@ impl Design {
     pub fn word_work(&self) -> usize {
         self.order()
     }
-    /// what decoder and loopback want beside the others: a number of four bytes for each of the 2 M words of each group, and the copy
+    /// what decoder and loopback want beside the others: a number of four bytes for each of the 2 M words of each group, and a mark for each bit, eight in a byte
     pub fn frame_work(&self, blocks: usize) -> usize {
-        4 * 2 * self.side() * groups(blocks) + info_len(self, blocks) + red_len(self, blocks)
+        4 * 2 * self.side() * groups(blocks) + (info_len(self, blocks) + red_len(self, blocks) + 7) / 8
     }
     /// working bytes of the decoder
     pub fn decoder_work(&self, blocks: usize) -> usize {
@@ -280,7 +281,12 @@ pub fn check_word(shape: &Shape, word: &[Option<usize>], mut load: impl FnMut(us
 
 /// "The word checker counts the words outside the code": those that the generator doesn't divide.
 pub fn words_outside(shape: &Shape, frame: &[u8]) -> u64 {
-    shape.words().iter().filter(|word| check_word(shape, word, |place| frame[place]) != 0).count() as u64
+    outside(shape.g, &shape.words(), frame)
+}
+
+/// Those of any words.
+pub fn outside(g: u64, words: &[Word], frame: &[u8]) -> u64 {
+    words.iter().filter(|word| remainder(read(word, frame), g) != 0).count() as u64
 }
 
 // ---------------------------------------------------------------- System and kit
@@ -590,7 +596,7 @@ pub fn spread_lists(m: u64, t: u64, size: u64, own: usize, parity: usize) -> Ans
 }
 
 /// Rule 4 for L.
-fn block_count(blocks: u64) -> Answer<usize> {
+pub fn block_count(blocks: u64) -> Answer<usize> {
     if blocks < 1 || blocks > 4096 {
         return Err((4, blocks));
     }
@@ -731,16 +737,19 @@ pub struct Patterns {
 
 impl Patterns {
     pub fn new(d: &Design, g: u64) -> Patterns {
+        Patterns::of_length(d.n(), d.t, g)
+    }
+    pub fn of_length(n: usize, t: u64, g: u64) -> Patterns {
         // "Position j of an n-bit word carries x^(n-1-j)."
-        let single: Vec<u64> = (0..d.n()).map(|j| power_remainder(d.n() - 1 - j, g)).collect();
+        let single: Vec<u64> = (0..n).map(|j| power_remainder(n - 1 - j, g)).collect();
         let mut kept = HashMap::new();
-        for i in 0..d.n() {
+        for i in 0..n {
             kept.insert(single[i], (i, i)); // one change
-            for j in 0..if d.t >= 2 { i } else { 0 } {
+            for j in 0..if t >= 2 { i } else { 0 } {
                 kept.insert(single[i] ^ single[j], (i, j)); // two changes
             }
         }
-        Patterns { t: d.t, single, kept }
+        Patterns { t, single, kept }
     }
     fn at_most_two(&self, rest: u64) -> Option<Vec<usize>> {
         self.kept.get(&rest).map(|&(i, j)| if i == j { vec![i] } else { vec![i, j] })
@@ -801,7 +810,7 @@ pub struct Turns {
 }
 
 /// The number of bits in which two frames differ.
-fn differing(frame: &[u8], other: &[u8]) -> u64 {
+pub fn differing(frame: &[u8], other: &[u8]) -> u64 {
     frame.iter().zip(other).filter(|(a, b)| a != b).count() as u64
 }
 
@@ -821,8 +830,8 @@ pub fn turns(lent: &Received, rounds: u64, work: usize) -> Answer<Turns> {
 
 /// "Mending a word: if a codeword lies within t changes and touches no bit of an unsent block, the word becomes it [..];
 /// otherwise it stays." A redundancy bit is kept once, so a turn reaches both of its words.
-fn mend_word(shape: &Shape, patterns: &Patterns, word: &Word, frame: &mut [u8]) -> Verdict {
-    let rest = check_word(shape, word, |place| frame[place]);
+fn mend_word(g: u64, patterns: &Patterns, word: &Word, frame: &mut [u8]) -> Verdict {
+    let rest = remainder(read(word, frame), g);
     if rest == 0 {
         return Verdict::Clean;
     }
@@ -834,18 +843,18 @@ fn mend_word(shape: &Shape, patterns: &Patterns, word: &Word, frame: &mut [u8]) 
     Verdict::Mended(sent.len() as u64)
 }
 
-/// The number of rounds that a number stands for: "0 stands for 7".
+/// The number of rounds that a number stands for: "A rounds number of 0 now stands for 12".
 pub fn allowed(rounds: u64) -> u64 {
-    if rounds == 0 { 7 } else { rounds }
+    if rounds == 0 { 12 } else { rounds }
 }
 
 /// Rounds over these words: how many are made, and the stuck verdicts of the last one. "Rounds end after one that turns
 /// no bit, or when all are made": also after document 02, by turns and not by the bits in which the frame differs.
-fn make_rounds(shape: &Shape, patterns: &Patterns, words: &[Word], frame: &mut [u8], rounds: u64) -> (u64, u64, Turns) {
+pub fn make_rounds(g: u64, patterns: &Patterns, words: &[Word], frame: &mut [u8], rounds: u64) -> (u64, u64, Turns) {
     let (mut made, mut all) = (0, Turns::default());
     loop {
         let before = frame.to_vec();
-        let verdicts: Vec<Verdict> = words.iter().map(|word| mend_word(shape, patterns, word, frame)).collect();
+        let verdicts: Vec<Verdict> = words.iter().map(|word| mend_word(g, patterns, word, frame)).collect();
         let turns: u64 = verdicts.iter().map(Verdict::bits).sum();
         made += 1;
         all.turns += turns;
@@ -861,7 +870,7 @@ fn make_rounds(shape: &Shape, patterns: &Patterns, words: &[Word], frame: &mut [
 fn mend(shape: &Shape, frame: &mut [u8], rounds: u64) -> (Counts, Turns) {
     let patterns = Patterns::new(&shape.d, shape.g);
     let copy = frame.to_vec();
-    let (rounds, stuck, all) = make_rounds(shape, &patterns, &shape.words(), frame, rounds);
+    let (rounds, stuck, all) = make_rounds(shape.g, &patterns, &shape.words(), frame, rounds);
     (Counts { rounds, turned: differing(&copy, frame), outside: words_outside(shape, frame), stuck }, all)
 }
 
@@ -903,7 +912,7 @@ fn slide(shape: &Shape, frame: &mut [u8], rounds: u64, window: u64) -> (Counts, 
     let (mut all, mut last_stuck) = (vec![], 0);
     for position in 1..=last_position(shape.blocks, window) {
         let words = shape.words_of(held(shape.blocks, window, position));
-        let (made, stuck, turns) = make_rounds(shape, &patterns, &words, frame, rounds);
+        let (made, stuck, turns) = make_rounds(shape.g, &patterns, &words, frame, rounds);
         all.push((made, turns.turns));
         last_stuck = stuck;
     }
@@ -1407,4 +1416,31 @@ pub fn mend_prints(kit: &[u8], text: &[u8]) -> String {
 /// What `makekit` prints for standard input.
 pub fn makekit_prints(list_text: &[u8]) -> String {
     printed(makekit_program(list_text))
+}
+
+// ---------------------------------------------------------------- Lengths
+
+/// r, n, k, G and the lengths in bytes: a list, the inverse, information, redundancy, the working bytes of kit checker, maker, encoder, word
+/// checker, decoder and loopback, and a row of the inverse. Rules 1 to 4.
+pub fn all_sizes(m: u64, t: u64, size: u64, blocks: u64) -> Answer<[u64; 15]> {
+    let d = design(m, t, size)?;
+    let blocks = block_count(blocks)?;
+    let sizes = [
+        d.r(),
+        d.n(),
+        d.k(),
+        groups(blocks),
+        2 * d.order(),
+        d.order() * d.row_bytes(),
+        info_len(&d, blocks),
+        red_len(&d, blocks),
+        d.kit_work(),
+        d.make_work(),
+        d.kit_work(),
+        d.word_work(),
+        d.decoder_work(blocks),
+        d.loopback_work(blocks),
+        d.row_bytes(),
+    ];
+    Ok(sizes.map(|length| length as u64))
 }

@@ -1,4 +1,4 @@
-"""Document 01 read literally, with document 02's stuck words and line errors: the values of crates/staircase/specs/SecondKit.antt.
+"""Document 01 read literally, with document 02's stuck words, line errors and twelve rounds by default: the values of crates/staircase/specs/SecondKit.antt.
 
 Blocks, X, Q, Y and P are matrices, lists of rows. Y and P are made as document 01 says: a list is applied to X or Q, and the outcome is
 transposed. A is read off one unit vector after the other, W is found by elimination, and a word is corrected by trying all changes.
@@ -246,7 +246,7 @@ def decode(frame, rounds):
     """Rounds made, sent bits in which the frame differs from the copy, words outside the code at the end, stuck words of the last round made."""
     copy = frame.information() + frame.redundancy()
     turns = 0
-    for made in range(1, (rounds or 7) + 1):
+    for made in range(1, (rounds or 12) + 1):
         earlier = turns
         stuck = 0
         for i in frame.groups:

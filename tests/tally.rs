@@ -77,11 +77,11 @@ pub fn lists_of_decodes(case: &mut Case) {
         let lent = some_frame(case, &good);
         let (after, counts) = case.decode_tallied(&lent, &tally);
         let (mut info, mut red, mut work) = (lent.info.clone(), lent.red.clone(), vec![0; lent.decoder_work]);
-        let mut answer = [0; 5];
+        let mut report = [0; REPORT];
         let number =
-            host::decode(lent.design(), lent.blocks, lent.rounds, &lent.own, &lent.parity, &mut info, &mut red, &mut work, &mut answer);
+            host::decode(lent.design(), lent.blocks, lent.rounds, &lent.own, &lent.parity, &mut info, &mut red, &mut work, &mut report);
         if number == 0 && sums.iter().all(|&sum| sum <= LIMIT) {
-            let [_, rounds, turned, outside, stuck] = answer;
+            let [_, rounds, turned, outside, stuck] = report_numbers(report);
             let bits = (lent.info.len() + lent.red.len()) as u64;
             sums.iter_mut().zip([1, bits, turned, rounds, outside, stuck]).for_each(|(sum, more)| *sum += more);
         }

@@ -31,7 +31,7 @@ pub fn rows(case: &mut Case) {
         (first, 0, (3, 1, 0, 0), (2, 1, 0, 0), true),
         (first, 1, (2, 1, 0, 0), (1, 1, 0, 0), true),
         (second, 0, (3, 1, 0, 0), (2, 1, 0, 0), true),
-        (unsent, 0, (4, 0, 2, 0), (7, 0, 2, 1), false),
+        (unsent, 0, (4, 0, 2, 0), (12, 0, 2, 1), false),
         (unsent, 1, (2, 0, 2, 0), (1, 0, 2, 1), false),
     ] {
         let lent = Lent { rounds, ..Lent::new(&kit_k(), 4, received.0.to_vec(), received.1.to_vec()) };
@@ -222,8 +222,8 @@ pub fn refusals(case: &mut Case) {
             refused(case, &Lent { decoder_work: work, ..right.clone() }, (6, 6));
         }
     }
-    // an answer of another length is left, and the frame is corrected all the same
-    for extra in [-5, -1, 1, 35] {
+    // a report of another length is refused at place 8, behind rule 18, and frame and report are left
+    for extra in [-40, -1, 1, 280] {
         case.answer_extra = extra;
         let _ = case.decode_window(&right);
         let _ = case.decode_window(&Lent { window: 0, ..right.clone() });

@@ -1,6 +1,6 @@
 -- Laws of what the calls tell.
 --   design-made, design-refused       a design's answer
---   corrected-told                    a call that decodes
+--   corrected-left, corrected-told    a call that decodes: the frame that it leaves, and what it tells, whichever numbers of its result
 --   show-told                         showing
 --   part-block, part-group            what is shown
 --   pasted-none                       a stretch that does not fit
@@ -33,7 +33,7 @@ use Rattle.rules_verdict.specs.declared.Judged.{Judged}
 use Rattle.rules_verdict.specs.Number.{number, placeOf, judgedOf, told}
 use Rattle.rules_verdict.proofs.Refused.{refusal-whole}
 use Rattle.rules_verdict.proofs.Stores.{told-alike, judged-told}
-use Rattle.bauchleton.specs.Answers.{designAnswer, correctedAnswer, showAnswer, shownPart, pasted}
+use Rattle.bauchleton.specs.Answers.{designAnswer, showAnswer, shownPart, pasted}
 
 -- ---- designs
 
@@ -61,16 +61,16 @@ design-refused a r m t M e v =
 -- ---- from what a call answers to what a host is told
 
 -- the frame of the decoder's result is the one that the call leaves
-corrected-left : (d : Decoding) (f : Frame) → correctedOf d f .frame ≡ f
+pub corrected-left : (d : Decoding) (f : Frame) → correctedOf d f .frame ≡ f
 unfolding correctedOf refusedFrame
 corrected-left (decoding.Decoded c) f = refl
 corrected-left (decoding.Refused r) f = refl
 
-pub corrected-told : (l : List ℕ) (d : Decoding) {f : Frame} {y : Corrected} {a : ℕ} {k : List ℕ} → correctedOf d f ≡ y
-    → (a ≡ number (correctedOf d f .verdict)) × (k ≡ told (correctedAnswer (correctedOf d f)) l)
-    → (a ≡ number (y .verdict)) × (f ≡ y .frame) × (k ≡ told (correctedAnswer y) l)
-corrected-told l d {f = f} e h =
-    let t = told-alike (λ (z : Corrected). number (z .verdict)) correctedAnswer l e h in
+pub corrected-told : (answer : Corrected → List ℕ) (l : List ℕ) (d : Decoding) {f : Frame} {y : Corrected} {a : ℕ} {k : List ℕ} → correctedOf d f ≡ y
+    → (a ≡ number (correctedOf d f .verdict)) × (k ≡ told (answer (correctedOf d f)) l)
+    → (a ≡ number (y .verdict)) × (f ≡ y .frame) × (k ≡ told (answer y) l)
+corrected-told answer l d {f = f} e h =
+    let t = told-alike (λ (z : Corrected). number (z .verdict)) answer l e h in
     (t .0, sym (corrected-left d f) ∙ ap (λ (z : Corrected). z .frame) e, t .1)
 
 -- ---- showing

@@ -1,5 +1,9 @@
 pub mod Answers
+pub mod Report
 pub mod Demand1
 pub mod LentTally
 pub mod LoadTold
 pub mod LoadDemand1
+pub mod FrameSizes
+pub mod OriginalReport
+pub mod OriginalDemand1

@@ -7,20 +7,25 @@
 //   bauchleton_loopback      the bench's self test
 //   bauchleton_show          showing a block or a group
 ghost use mathlib.Core.Path.{_≡_};
-ghost use mathlib.Core.List.{[], _∷_};
 ghost use lib.ListN.{length};
 ghost use Rattle.staircase.specs.Frame.{frameOf};
-ghost use Rattle.staircase.specs.Calls.{encodeCall, wordsCall, decodeCall, showCall};
-ghost use Rattle.staircase.specs.Batch.{batchCall};
-ghost use Rattle.staircase.specs.Window.{windowCall};
+ghost use Rattle.staircase.specs.Calls.{wordsCall, showCall};
+ghost use Rattle.staircase.specs.Tally.{decodeWith};
 ghost use Rattle.loopback.specs.Link.{loopbackCall};
 ghost use Rattle.show.specs.Answers.{partOf};
-ghost use Rattle.rules_verdict.specs.Number.{number, placeOf, told};
+ghost use Rattle.rules_verdict.specs.Number.{number, told};
 ghost use Rattle.bauchleton.specs.Answers.{wordsAnswer, correctedAnswer, showAnswer, shownPart, pasted};
-use crate::tells::tell_check;
+ghost use Rattle.bauchleton.specs.Report.{encodeReported, batchReported, decodeReported, windowReported, checkReport, reportBytes};
+use crate::refusals::refuse_batch;
+use crate::refusals::refuse_decode;
+use crate::reports::REPORT;
+use crate::reports::REPORT_PLACE;
+use crate::reports::report_check;
+use crate::reports::report_decoding;
 use crate::tells::tell_decoding;
 use crate::tells::tell_words;
 use encoder_batch::encode_batch;
+use rules::Lengths;
 use rules_verdict::of_check;
 use rules_verdict::tell_two;
 use show::Part;
@@ -47,7 +52,7 @@ fn paste(stretch: &[u8], out: &mut [u8])
     }
 }
 
-// Makes the redundancy of a frame. `answer` has one entry: the place.
+// Makes the redundancy of a frame, and reports the place.
 #[no_mangle]
 pub extern "C" fn bauchleton_encode(
     m: u64,
@@ -60,18 +65,29 @@ pub extern "C" fn bauchleton_encode(
     info: &[u8],
     red: &mut [u8],
     work: &mut [u8],
-    answer: &mut [u64],
+    report: &mut [u8],
 ) -> u64
     ensures { λ a.
-        let e = encodeCall m t size blocks (now (own .entry)) (now (parity .entry)) (now (inverse .entry)) (now (info .entry))
+        let e = encodeReported (now (report .entry)) m t size blocks (now (own .entry)) (now (parity .entry)) (now (inverse .entry)) (now (info .entry))
         (now (red .entry)) (length (now (work .entry))) in
-        ⌜ (a ≡ number (e .verdict)) × (now (red .exit) ≡ e .red) × (now (answer .exit) ≡ told (placeOf (e .verdict) ∷ []) (now (answer .entry))) ⌝ }
+        ⌜ (a ≡ number (e .verdict)) × (now (red .exit) ≡ e .red) × (now (report .exit) ≡ told (reportBytes (checkReport (e .verdict))) (now (report .entry))) ⌝ }
 {
+    if report.len() != REPORT {
+        let have = Lengths {
+            own: own.len(),
+            parity: parity.len(),
+            inverse: inverse.len(),
+            info: info.len(),
+            red: red.len(),
+            work: work.len(),
+        };
+        return of_check(refuse_batch(m, t, size, blocks, 1, have, REPORT_PLACE)).rule;
+    }
     let c = encoder::encode(m, t, size, blocks, own, parity, inverse, info, red, work);
-    tell_check(c, answer)
+    report_check(c, report)
 }
 
-// Makes the redundancy of `frames` frames of `blocks` blocks each, joined. `answer` has one entry: the place.
+// Makes the redundancy of `frames` frames of `blocks` blocks each, joined, and reports the place.
 #[no_mangle]
 pub extern "C" fn bauchleton_encode_batch(
     m: u64,
@@ -85,13 +101,24 @@ pub extern "C" fn bauchleton_encode_batch(
     info: &[u8],
     red: &mut [u8],
     work: &mut [u8],
-    answer: &mut [u64],
+    report: &mut [u8],
 ) -> u64
     ensures { λ a.
-        let e = batchCall m t size blocks frames (now (own .entry)) (now (parity .entry)) (now (inverse .entry)) (now (info .entry))
+        let e = batchReported (now (report .entry)) m t size blocks frames (now (own .entry)) (now (parity .entry)) (now (inverse .entry)) (now (info .entry))
         (now (red .entry)) (length (now (work .entry))) in
-        ⌜ (a ≡ number (e .verdict)) × (now (red .exit) ≡ e .red) × (now (answer .exit) ≡ told (placeOf (e .verdict) ∷ []) (now (answer .entry))) ⌝ }
+        ⌜ (a ≡ number (e .verdict)) × (now (red .exit) ≡ e .red) × (now (report .exit) ≡ told (reportBytes (checkReport (e .verdict))) (now (report .entry))) ⌝ }
 {
+    if report.len() != REPORT {
+        let have = Lengths {
+            own: own.len(),
+            parity: parity.len(),
+            inverse: inverse.len(),
+            info: info.len(),
+            red: red.len(),
+            work: work.len(),
+        };
+        return of_check(refuse_batch(m, t, size, blocks, frames, have, REPORT_PLACE)).rule;
+    }
     let c = encode_batch(
         m,
         t,
@@ -105,7 +132,7 @@ pub extern "C" fn bauchleton_encode_batch(
         red,
         work,
     );
-    tell_check(c, answer)
+    report_check(c, report)
 }
 
 // Counts the words of a frame that are outside the code. `answer` has two entries: the place and the count.
@@ -131,8 +158,7 @@ pub extern "C" fn bauchleton_check_words(
     tell_words(a, answer)
 }
 
-// Corrects a frame in place. `answer` has five entries: the place, rounds made, bits turned, words outside the code at the end, stuck words of the
-// last round made.
+// Corrects a frame in place, and reports the place, rounds made, bits turned, words outside the code at the end, stuck words of the last round made.
 #[no_mangle]
 pub extern "C" fn bauchleton_decode(
     m: u64,
@@ -145,19 +171,30 @@ pub extern "C" fn bauchleton_decode(
     info: &mut [u8],
     red: &mut [u8],
     work: &mut [u8],
-    answer: &mut [u64],
+    report: &mut [u8],
 ) -> u64
     ensures { λ a.
-        let d = decodeCall m t size blocks rounds (now (own .entry)) (now (parity .entry)) (now (info .entry)) (now (red .entry))
-        (length (now (work .entry))) in
+        let d = decodeReported (now (report .entry)) (decodeWith m t size blocks rounds (now (own .entry)) (now (parity .entry)) (now (info .entry)) (now (red .entry))
+        (length (now (work .entry)))) in
         ⌜ (a ≡ number (d .verdict)) × (frameOf (now (info .exit)) (now (red .exit)) ≡ d .frame)
-        × (now (answer .exit) ≡ told (correctedAnswer d) (now (answer .entry))) ⌝ }
+        × (now (report .exit) ≡ told (reportBytes (correctedAnswer d)) (now (report .entry))) ⌝ }
 {
+    if report.len() != REPORT {
+        let have = Lengths {
+            own: own.len(),
+            parity: parity.len(),
+            inverse: 0,
+            info: info.len(),
+            red: red.len(),
+            work: work.len(),
+        };
+        return of_check(refuse_decode(m, t, size, blocks, rounds, 1, have, REPORT_PLACE)).rule;
+    }
     let a = decoder::decode(m, t, size, blocks, rounds, own, parity, info, red, work);
-    tell_decoding(a, answer)
+    report_decoding(a, report)
 }
 
-// Corrects a frame in place, with a window of `window` groups that slides over it. `answer` is as the decoder's.
+// Corrects a frame in place, with a window of `window` groups that slides over it, and reports as the decoder does.
 #[no_mangle]
 pub extern "C" fn bauchleton_decode_window(
     m: u64,
@@ -171,14 +208,25 @@ pub extern "C" fn bauchleton_decode_window(
     info: &mut [u8],
     red: &mut [u8],
     work: &mut [u8],
-    answer: &mut [u64],
+    report: &mut [u8],
 ) -> u64
     ensures { λ a.
-        let d = windowCall m t size blocks rounds window (now (own .entry)) (now (parity .entry)) (now (info .entry)) (now (red .entry))
-        (length (now (work .entry))) in
+        let d = windowReported (now (report .entry)) window (decodeWith m t size blocks rounds (now (own .entry)) (now (parity .entry)) (now (info .entry))
+        (now (red .entry)) (length (now (work .entry)))) in
         ⌜ (a ≡ number (d .verdict)) × (frameOf (now (info .exit)) (now (red .exit)) ≡ d .frame)
-        × (now (answer .exit) ≡ told (correctedAnswer d) (now (answer .entry))) ⌝ }
+        × (now (report .exit) ≡ told (reportBytes (correctedAnswer d)) (now (report .entry))) ⌝ }
 {
+    if report.len() != REPORT {
+        let have = Lengths {
+            own: own.len(),
+            parity: parity.len(),
+            inverse: 0,
+            info: info.len(),
+            red: red.len(),
+            work: work.len(),
+        };
+        return of_check(refuse_decode(m, t, size, blocks, rounds, window, have, REPORT_PLACE)).rule;
+    }
     let a = decoder::decode_window(
         m,
         t,
@@ -192,10 +240,10 @@ pub extern "C" fn bauchleton_decode_window(
         red,
         work,
     );
-    tell_decoding(a, answer)
+    report_decoding(a, report)
 }
 
-// Encodes, turns the bits that the patterns name, and decodes. `answer` has five entries, as the decoder's.
+// Encodes, turns the bits that the patterns name, and decodes. `answer` has five entries, the numbers that the decoder reports.
 #[no_mangle]
 pub extern "C" fn bauchleton_loopback(
     m: u64,

@@ -8,15 +8,21 @@ ghost use mathlib.Core.List.{[], _∷_};
 ghost use lib.ListN.{length};
 ghost use Rattle.staircase.specs.Design.{params};
 ghost use Rattle.staircase.specs.Rules.{designRules};
-ghost use Rattle.staircase.specs.Calls.{kitVerdict};
 ghost use Rattle.staircase.specs.Maker.{makeCall};
 ghost use Rattle.staircase.specs.Spread.{spreadCall};
 ghost use Rattle.rules_verdict.specs.Number.{number, placeOf, told};
 ghost use Rattle.bauchleton.specs.Answers.{designAnswer};
+ghost use Rattle.bauchleton.specs.Report.{kitReported, checkReport, reportBytes};
+use crate::refusals::refuse_kit;
+use crate::reports::REPORT;
+use crate::reports::REPORT_PLACE;
+use crate::reports::report_check;
 use crate::tells::tell_check;
 use design::Design;
 use design::Designed;
+use rules::Lengths;
 use rules_verdict::Judged;
+use rules_verdict::of_check;
 use rules_verdict::of_refusal;
 use rules_verdict::tell_four;
 
@@ -38,7 +44,7 @@ pub extern "C" fn bauchleton_design(m: u64, t: u64, size: u64, answer: &mut [u64
     }
 }
 
-// Judges a kit. `answer` has one entry: the place.
+// Judges a kit, and reports the place.
 #[no_mangle]
 pub extern "C" fn bauchleton_check_kit(
     m: u64,
@@ -48,14 +54,25 @@ pub extern "C" fn bauchleton_check_kit(
     parity: &[u8],
     inverse: &[u8],
     work: &mut [u8],
-    answer: &mut [u64],
+    report: &mut [u8],
 ) -> u64
     ensures { λ a.
-        let v = kitVerdict m t size (now (own .entry)) (now (parity .entry)) (now (inverse .entry)) (length (now (work .entry))) in
-        ⌜ (a ≡ number v) × (now (answer .exit) ≡ told (placeOf v ∷ []) (now (answer .entry))) ⌝ }
+        let v = kitReported (now (report .entry)) m t size (now (own .entry)) (now (parity .entry)) (now (inverse .entry)) (length (now (work .entry))) in
+        ⌜ (a ≡ number v) × (now (report .exit) ≡ told (reportBytes (checkReport v)) (now (report .entry))) ⌝ }
 {
+    if report.len() != REPORT {
+        let have = Lengths {
+            own: own.len(),
+            parity: parity.len(),
+            inverse: inverse.len(),
+            info: 0,
+            red: 0,
+            work: work.len(),
+        };
+        return of_check(refuse_kit(m, t, size, have, REPORT_PLACE)).rule;
+    }
     let c = kit::check_kit(m, t, size, own, parity, inverse, work);
-    tell_check(c, answer)
+    report_check(c, report)
 }
 
 // Makes the inverse of a kit from its lists. `answer` has one entry: the place.

@@ -3,28 +3,24 @@
 //   bauchleton_decode_tallied   the decoder with a tally
 //   bauchleton_report           each total, and the share of turned bits in lowest terms
 //
-// A tally of another length is refused by rule 6 at place 9, behind the places of the decoder's own slices.
+// A tally of another length is refused by rule 6 at place 9, behind the places of the decoder's own slices and of its report.
 ghost use mathlib.Core.Path.{_≡_};
 ghost use mathlib.Core.List.{[], _∷_};
 ghost use lib.ListN.{length};
-ghost use Rattle.staircase.specs.Design.{params};
 ghost use Rattle.staircase.specs.Frame.{frameOf};
-ghost use Rattle.staircase.specs.Rules.{_then_, designRules};
-ghost use Rattle.staircase.specs.Rules.Verdict.{refused};
 ghost use Rattle.staircase.specs.Tally.{decodeWith, totals};
-ghost use Rattle.design.specs.Answers.{verdictOf};
-ghost use Rattle.rules.specs.Lengths.{decoderDue, frameRules};
 ghost use Rattle.tally.specs.Answers.{totalsOf};
 ghost use Rattle.rules_verdict.specs.Number.{number, told};
 ghost use Rattle.bauchleton.specs.Answers.{correctedAnswer};
+ghost use Rattle.bauchleton.specs.Report.{reportBytes};
 ghost use Rattle.bauchleton.specs.LentTally.{tallyIn, tallyLength, lentTallyCall, reportAnswer};
-use crate::tells::tell_decoding;
-use design::Check;
-use design::Design;
-use design::Designed;
-use design::Refusal;
+use crate::refusals::refuse_decode;
+use crate::reports::REPORT;
+use crate::reports::REPORT_PLACE;
+use crate::reports::report_decoding;
 use rules::Lengths;
 use rules_verdict::Judged;
+use rules_verdict::of_check;
 use tally::Tally;
 use tally::TallyReport;
 
@@ -61,21 +57,7 @@ fn put_totals(tally: Tally, out: &mut [u64])
     out[5] = tally.stuck;
 }
 
-// Rules 1 to 6 of a decode whose tally has another length: where none of them refuses, the tally's place does.
-fn refuse_tally(m: u64, t: u64, size: u64, blocks: u64, rounds: u64, have: Lengths) -> Check
-    ensures { λ a. ⌜ verdictOf a ≡ (designRules m t size then frameRules (params m t size) blocks rounds have (decoderDue (params m t size) blocks)
-        then refused 6 9) ⌝ }
-{
-    let designed = Design::new(m, t, size);
-    let Designed::Made(d) = designed else {
-        return design::design_check(designed);
-    };
-    let due = rules::decoder_due(d, blocks);
-    let judged = rules::check_frame(d, blocks, rounds, have, due);
-    rules::first(judged, Check::Refused(Refusal::Length(PLACE)))
-}
-
-// Corrects a frame in place, and brings the lent tally up to date. `answer` is the decoder's.
+// Corrects a frame in place, brings the lent tally up to date, and reports as the decoder does.
 #[no_mangle]
 pub extern "C" fn bauchleton_decode_tallied(
     m: u64,
@@ -89,25 +71,28 @@ pub extern "C" fn bauchleton_decode_tallied(
     red: &mut [u8],
     work: &mut [u8],
     tally: &mut [u64],
-    answer: &mut [u64],
+    report: &mut [u8],
 ) -> u64
     ensures { λ a.
-        let d = lentTallyCall (now (tally .entry)) (decodeWith m t size blocks rounds (now (own .entry)) (now (parity .entry)) (now (info .entry))
-        (now (red .entry)) (length (now (work .entry)))) in
+        let d = lentTallyCall (now (report .entry)) (now (tally .entry)) (decodeWith m t size blocks rounds (now (own .entry)) (now (parity .entry))
+        (now (info .entry)) (now (red .entry)) (length (now (work .entry)))) in
         ⌜ (a ≡ number (d .corrected .verdict)) × (frameOf (now (info .exit)) (now (red .exit)) ≡ d .corrected .frame) × (now (tally .exit) ≡ d .tally)
-        × (now (answer .exit) ≡ told (correctedAnswer (d .corrected)) (now (answer .entry))) ⌝ }
+        × (now (report .exit) ≡ told (reportBytes (correctedAnswer (d .corrected))) (now (report .entry))) ⌝ }
 {
+    let have = Lengths {
+        own: own.len(),
+        parity: parity.len(),
+        inverse: 0,
+        info: info.len(),
+        red: red.len(),
+        work: work.len(),
+    };
+    if report.len() != REPORT {
+        return of_check(refuse_decode(m, t, size, blocks, rounds, 1, have, REPORT_PLACE)).rule;
+    }
     if tally.len() != TOTALS {
-        let have = Lengths {
-            own: own.len(),
-            parity: parity.len(),
-            inverse: 0,
-            info: info.len(),
-            red: red.len(),
-            work: work.len(),
-        };
-        let refused = refuse_tally(m, t, size, blocks, rounds, have);
-        return tell_decoding(decoder::refused_frame(refused), answer);
+        let refused = refuse_decode(m, t, size, blocks, rounds, 1, have, PLACE);
+        return report_decoding(decoder::refused_frame(refused), report);
     }
     let x = tally::decode_counted(
         tally_in(&tally[..]),
@@ -124,7 +109,7 @@ pub extern "C" fn bauchleton_decode_tallied(
     );
     let decoding = x.decoding;
     put_totals(x.tally, tally);
-    tell_decoding(decoding, answer)
+    report_decoding(decoding, report)
 }
 
 // Stores the place, the six totals and the two numbers of the share into a slice of nine entries, and answers the rule's number.

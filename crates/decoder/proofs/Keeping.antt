@@ -1,81 +1,68 @@
--- The kept numbers of a frame and its copy in one buffer, the numbers first.
---   keptAt-take       a number is the same where what follows the numbers is left out
---   keptAt-front      and where something follows them
---   numbers-lent, copy-lent, copy-same   the buffer when the copy is made: the numbers, the copy, and its length
---   corrected-made    the counts of a frame that was copied, corrected and compared
+-- The kept numbers of a frame with the marks of its bits behind them, and the counts.
+--   cleared-marks     marks that are cleared are those of a frame beside itself
+--   marks-few         they can be counted
+--   marks-errors      the marks that are set at the end are the line errors
+--   corrected-made    the counts of a frame that was corrected
 --   corrected-idle    those of a frame whose words are all in the code
 -- Assumes nothing.
-use mathlib.Core.Path.{_≡_, sym, ap, _∙_}
+use mathlib.Core.Path.{_≡_, sym, ap, _∙_, subst⁻¹}
 use mathlib.Core.Bool.{true}
 use mathlib.Core.List.{List, _++_}
-use Prim.Native.Nat.{ℕ, _+_, _-_, _*_, _≤_, _<_}
+use Prim.Native.Nat.{ℕ, _-_, _*_, _≤_, _<_}
 use native.Mathlib.Omega.{arith}
-use lib.ListN.{length, take, drop, length-append, length-drop}
-use lib.Seq.{take-at, drop-at, getD-take, length-take-le}
+use lib.ListN.{length, take, drop, replicate, length-replicate, length-drop}
+use lib.Seq.{length-take-le}
+use Rattle.bch.proofs.Systematic.{append-bits}
 use Rattle.staircase.specs.Design.{Params, Interleavers}
-use Rattle.staircase.specs.Frame.{Frame, Site, groups, words, outside, inCode}
+use Rattle.staircase.specs.Frame.{Frame, Site, groups, frameOf, words, outside, inCode}
 use Rattle.staircase.specs.LineErrors.{lineErrors}
 use Rattle.staircase.specs.Decoder.{Decoded, roundsAllowed}
+use Rattle.staircase.specs.Lines.{wordCount}
 use Rattle.staircase.specs.Rules.Verdict.{accepted}
 use Rattle.staircase.specs.Window.{positions, windowWords, slide, slideStuck, windowed, windowStuck, windowCounts}
 use Rattle.staircase.proofs.Member.{In}
 use Rattle.staircase.proofs.Outside.{all-inside}
 use Rattle.staircase.proofs.Window.{windowed-stays, windowCounts-stays}
-use Rattle.words_positions.proofs.Parts.{part-is}
-use Rattle.decoder_kept.specs.Numbers.{keptAt}
+use Rattle.design.specs.Sizes.{paramsOf}
+use Rattle.rules.proofs.Accepted.{kept-small}
+use Rattle.words_lines.specs.declared.Line.{Line}
+use Rattle.words_lines.specs.Lines.{LineFits}
+use Rattle.decoder_marks.specs.Marks.{setMarks, Marked}
+use Rattle.decoder_marks.proofs.Marks.{cleared-marked, marked-errors}
+use Rattle.decoder_words.specs.Ready.{FrameKept, marksIn}
+use Rattle.decoder_words.proofs.Marks.{kept-split, rest-is, flippable, flipped-kept, marks-back}
 use Rattle.decoder_frame.proofs.Limit.{allowed-itself}
 use Rattle.decoder.specs.declared.Counts.{Counts}
 use Rattle.decoder.specs.declared.Decoding.the-variants as decoding
 use Rattle.decoder.specs.Answers.{correctedOf, correctedFrame}
 
-pub keptAt-take : (b : List ℕ) (n w : ℕ) → w < n → keptAt (take (4 * n) b) w ≡ keptAt b w
-unfolding keptAt
-keptAt-take b n w h =
-    rw (
-      getD-take (4 * n) b (4 * w) 0 (omega arith),
-      getD-take (4 * n) b (4 * w + 1) 0 (omega arith),
-      getD-take (4 * n) b (4 * w + 2) 0 (omega arith),
-      getD-take (4 * n) b (4 * w + 3) 0 (omega arith),
-    )
+-- ---- the marks behind the numbers
 
--- b has n numbers
-pub keptAt-front : (b rest : List ℕ) (n w : ℕ) → length b ≡ 4 * n → w < n → keptAt (b ++ rest) w ≡ keptAt b w
-keptAt-front b rest n w e h = sym (keptAt-take (b ++ rest) n w h) ∙ ap (λ (x : List ℕ). keptAt x w) (take-at b rest (4 * n) e)
-
--- ---- the copy behind the numbers
-
-module _ (K C : List ℕ) (n all : ℕ) (ea : all ≡ length K) (h : n ≤ all) where
-  -- the numbers that are lent when the copy is made
-  pub numbers-lent : take (n - 0) (drop 0 (take n K ++ (C ++ drop (all - n) (drop n K)))) ≡ take n K
-  numbers-lent = part-is (take n K) (C ++ drop (all - n) (drop n K)) n (length-take-le n K (omega arith))
-
-  -- and the copy, behind numbers that came back
-  pub copy-lent : (N : List ℕ) → length N ≡ n → length C ≡ all - n
-      → take (all - n) (drop n (N ++ drop (n - 0) (take n K ++ (C ++ drop (all - n) (drop n K))))) ≡ C
-  copy-lent N e l =
-      let t = length-take-le n K (omega arith) in
-      let t₀ : length (take n K) ≡ n - 0 = omega (arith, t) in
-      ap (take (all - n)) (drop-at N (drop (n - 0) (take n K ++ (C ++ drop (all - n) (drop n K)))) n e
-      ∙ drop-at (take n K) (C ++ drop (all - n) (drop n K)) (n - 0) t₀)
-      ∙ take-at C (drop (all - n) (drop n K)) (all - n) l
-
-  pub copy-same : (N : List ℕ) → length N ≡ n → length C ≡ all - n
-      → length (N ++ drop (n - 0) (take n K ++ (C ++ drop (all - n) (drop n K)))) ≡ all
-  copy-same N e l =
-      let t : length (take n K) ≡ n = length-take-le n K (omega arith) in
-      let K₁ : List ℕ = take n K ++ (C ++ drop (all - n) (drop n K)) in
-      omega (
-        arith,
-        e,
-        l,
-        t,
-        length-append N (drop (n - 0) K₁),
-        length-drop (n - 0) K₁,
-        length-append (take n K) (C ++ drop (all - n) (drop n K)),
-        length-append C (drop (all - n) (drop n K)),
-        length-drop (all - n) (drop n K),
-        length-drop n K,
+module _ {line : Line} (F : LineFits line) {links info red kept : List ℕ} (K : FrameKept (line .d) (line .blocks) links info red kept)
+    (n : ℕ) (e : n ≡ 4 * wordCount (paramsOf (line .d)) (line .blocks)) where
+  -- the part of the marks came back as zeros
+  pub cleared-marks : (ys : List ℕ) → ys ≡ replicate (length (take (length kept - n) (drop n kept))) 0
+      → FrameKept (line .d) (line .blocks) links info red (take n kept ++ (ys ++ drop (length kept - n) (drop n kept)))
+      × Marked (frameOf info red) (frameOf info red) (marksIn line (take n kept ++ (ys ++ drop (length kept - n) (drop n kept))))
+  cleared-marks ys z =
+      let l : length ys ≡ length (take (length kept - n) (drop n kept)) = ap length z ∙ length-replicate (length (take (length kept - n) (drop n kept))) 0 in (
+        flipped-kept F K n e ys l,
+        subst⁻¹ (Marked (frameOf info red) (frameOf info red)) (marks-back F K n e ys l ∙ z)
+            (cleared-marked (frameOf info red) (length (take (length kept - n) (drop n kept))) (append-bits info red (K .frame .infoBits) (K .frame .redBits))),
       )
+
+  pub marks-few : length (take (length kept - n) (drop n kept)) < 1152921504606846976
+  marks-few =
+      let l = length-take-le (length kept - n) (drop n kept) (omega (arith, length-drop n kept)) in
+      let small = kept-small (line .d) (line .blocks) (F .allowed) (F .few-blocks) in
+      omega (arith, l, K .long, kept-split (paramsOf (line .d)) (line .blocks), e, small .1)
+
+  -- they are lent once more, to be counted
+  pub marks-errors : {x : ℕ} (f : Frame) → x ≡ setMarks (take (length kept - n) (drop n kept)) → Marked f (frameOf info red) (marksIn line kept)
+      → x ≡ lineErrors f (frameOf info red)
+  marks-errors {x} f q M =
+      q ∙ marked-errors f (frameOf info red) (take (length kept - n) (drop n kept))
+      (omega (arith, flippable F K n e .room, M .infoLength, M .redLength)) (subst⁻¹ (Marked f (frameOf info red)) (rest-is F K n e) M)
 
 -- ---- the counts
 

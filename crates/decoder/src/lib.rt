@@ -6,9 +6,9 @@
 //   decode_window   the same, with a window that slides over the frame
 //   refused_frame   a refusal as the decoder's answer
 ghost use mathlib.Core.Path.{_≡_};
-ghost use Prim.Native.Nat.{_+_, _*_, _≤_};
-ghost use lib.ListN.{length, take, drop};
-ghost use Rattle.staircase.specs.Design.{most-blocks, most-rounds, wordLength};
+ghost use Prim.Native.Nat.{_+_, _≤_};
+ghost use lib.ListN.{length};
+ghost use Rattle.staircase.specs.Design.{most-blocks, most-rounds};
 ghost use Rattle.staircase.specs.Frame.{Frame, frameOf, groups};
 ghost use Rattle.staircase.specs.Decoder.{roundsAllowed};
 ghost use Rattle.staircase.specs.Lines.{wordCount};
@@ -20,7 +20,7 @@ ghost use Rattle.staircase.specs.Window.{positions, windowGroups, windowCall};
 ghost use Rattle.design.specs.Answers.{Allowed, verdictOf};
 ghost use Rattle.design.specs.Sizes.{paramsOf, orderOf, listsOf};
 ghost use Rattle.rules.specs.Received.{Received};
-ghost use Rattle.words_blocks.specs.Blocks.{Powers};
+ghost use Rattle.words_lines.specs.Lines.{LineFits};
 ghost use Rattle.decoder_lines.specs.Links.{listsIn};
 ghost use Rattle.decoder_words.specs.Ready.{LineReady, FrameKept};
 ghost use Rattle.decoder_frame.specs.Filled.{Filled};
@@ -62,9 +62,15 @@ pub enum Decoding {
     Refused(Refusal),
 }
 
-// Working entries for the positions of a word with their values and those of four bits, for a field, and for the table of links. Only their lengths
-// are told: the most that a design needs, or more. A word has at most 2^10 - 1 bits, and behind the values of its positions stand 128 of four bits; a
-// field has four tables of at most 2^10 entries; a list has at most 4,096 entries.
+// Working entries for the positions of a word, for these with their values and those of four bits, for a field, and for the table of links. Only their
+// lengths are told: the most that a design needs, or more. A word has at most 2^10 - 1 bits, and behind the values of its positions stand 128 of four
+// bits; a field has four tables of at most 2^10 entries; a list has at most 4,096 entries.
+fn position_entries() -> [u32; 1024]
+    ensures { λ a. ⌜ 1024 ≡ length a ⌝ }
+{
+    [0; 1024]
+}
+
 fn table_entries() -> [u32; 2304]
     ensures { λ a. ⌜ 2304 ≡ length a ⌝ }
 {
@@ -96,8 +102,8 @@ fn idle_counts(blocks: usize, window: Window) -> Counts
     }
 }
 
-// Runs the rounds of a window over a frame, and counts. The kept numbers of its words stand first in `kept`, and behind them is room for a copy of the
-// frame. Where all words are in the code, nothing is copied and no round is run: each position would have a single idle one. The line is any of the frame.
+// Runs the rounds of a window over a frame with all tables, and counts. The kept numbers of its words stand first in `kept`, and behind them is room for
+// the marks of its bits. The line is any of the frame.
 fn correct_lines(
     line: Line,
     window: Window,
@@ -109,32 +115,17 @@ fn correct_lines(
     kept: &mut [u8],
 ) -> Counts
     requires { ⌜ LineReady line (now links) (now tables) (now field) × WindowFits (line .blocks) window
-        × FrameKept (line .d) (line .blocks) (now links) (now info) (now red) (take (4 * wordCount (paramsOf (line .d)) (line .blocks)) (now kept))
-        × (length (now kept) ≡ 4 * wordCount (paramsOf (line .d)) (line .blocks) + (length (now info) + length (now red))) ⌝ }
-    ensures { λ a. ⌜ (correctedOf (Decoding.Decoded a) (frameOf (now (info .exit)) (now (red .exit)))
+        × FrameKept (line .d) (line .blocks) (now links) (now info) (now red) (now kept) ⌝ }
+    ensures { λ a. ⌜ correctedOf (Decoding.Decoded a) (frameOf (now (info .exit)) (now (red .exit)))
         ≡ correctedFrame (paramsOf (line .d)) (listsIn (line .d) (now (links .entry))) (line .blocks) (window .groups) (window .limit)
-        (frameOf (now (info .entry)) (now (red .entry))))
-        × (length (now (kept .exit)) ≡ length (now (kept .entry))) ⌝ }
+        (frameOf (now (info .entry)) (now (red .entry))) ⌝ }
 {
+    let n = decoder_words::number_bytes(line);
     let all = kept.len();
-    let n = all - info.len() - red.len();
-    let wrong = decoder_kept::count(&kept[0..n], n / 4);
-    if wrong == 0 {
-        return idle_counts(line.blocks, window);
-    }
-    decoder_copy::keep_frame(&info[..], &red[..], &mut kept[n..all]);
-    let made = decoder_frame::run_window(
-        line,
-        window,
-        links,
-        tables,
-        field,
-        info,
-        red,
-        &mut kept[0..n],
-    );
-    let turned = decoder_copy::line_errors(&info[..], &red[..], &kept[n..all]);
-    let outside = decoder_kept::count(&kept[0..n], n / 4);
+    decoder_marks::clear(&mut kept[n..all]);
+    let made = decoder_frame::run_window(line, window, links, tables, field, info, red, kept);
+    let turned = decoder_marks::count(&kept[n..all]);
+    let outside = decoder_kept::count(&kept[..], n / 4);
     Counts {
         rounds: made.rounds as u64,
         turned: turned,
@@ -143,39 +134,95 @@ fn correct_lines(
     }
 }
 
-// Fills the kept numbers of a frame behind the first bytes of `work`, one for each entry of a list, with all tables of the design lent. What follows
-// the numbers is room for a copy of the frame, and stays.
-fn fill_kept(
+// Corrects a frame whose words are not all in the code, from the kept numbers of its words, and counts. The tables are filled here, so that a frame
+// without errors does not pay for them. The line is any of the frame.
+fn correct_words(
     line: Line,
+    window: Window,
     own: &[u8],
     parity: &[u8],
-    info: &[u8],
-    red: &[u8],
-    tables: &[u32],
-    work: &mut [u8],
-)
-    requires { ⌜ Received (line .d) (line .blocks) (now own) (now parity) (now info) (now red)
-        × Powers (paramsOf (line .d)) (take (wordLength (paramsOf (line .d))) (now tables)) × (wordLength (paramsOf (line .d)) ≤ length (now tables))
-        × (length (now work) ≡ orderOf (line .d) + 4 * wordCount (paramsOf (line .d)) (line .blocks) + (length (now info) + length (now red))) ⌝ }
-    ensures { λ u. ⌜ (length (now (work .exit)) ≡ length (now (work .entry)))
+    info: &mut [u8],
+    red: &mut [u8],
+    kept: &mut [u8],
+) -> Counts
+    requires { ⌜ Received (line .d) (line .blocks) (now own) (now parity) (now info) (now red) × LineFits line × WindowFits (line .blocks) window
+        × (length (now kept) ≡ keptWork (paramsOf (line .d)) (line .blocks))
+        × Filled line (now own) (now parity) (frameOf (now info) (now red)) (now kept) (wordCount (paramsOf (line .d)) (line .blocks)) ⌝ }
+    ensures { λ a. ⌜ correctedOf (Decoding.Decoded a) (frameOf (now (info .exit)) (now (red .exit)))
+        ≡ correctedFrame (paramsOf (line .d)) (listsOf (line .d) (now (own .entry)) (now (parity .entry))) (line .blocks) (window .groups) (window .limit)
+        (frameOf (now (info .entry)) (now (red .entry))) ⌝ }
+{
+    let d = line.d;
+    let n = d.order();
+    let due = 2 * d.n() + 128;
+    let powers = 1 << d.m();
+    let mut tables = table_entries();
+    let mut field = field_entries();
+    let mut links = link_entries();
+    decoder_frame::fill_tables(d, &mut tables[0..due], &mut field[0..4 * powers]);
+    decoder_lines::fill_links(d, own, parity, &mut links[0..4 * n]);
+    correct_lines(
+        line,
+        window,
+        &links[0..4 * n],
+        &tables[0..due],
+        &field[0..4 * powers],
+        info,
+        red,
+        kept,
+    )
+}
+
+// Fills the kept numbers of a frame. What follows them is room for the marks of its bits, and stays. The line is any of the frame.
+fn fill_kept(line: Line, own: &[u8], parity: &[u8], info: &[u8], red: &[u8], kept: &mut [u8])
+    requires { ⌜ Received (line .d) (line .blocks) (now own) (now parity) (now info) (now red) × LineFits line
+        × (length (now kept) ≡ keptWork (paramsOf (line .d)) (line .blocks)) ⌝ }
+    ensures { λ u. ⌜ (length (now (kept .exit)) ≡ length (now (kept .entry)))
         × Filled line (now (own .entry)) (now (parity .entry)) (frameOf (now (info .entry)) (now (red .entry)))
-        (drop (orderOf (line .d)) (now (work .exit))) (wordCount (paramsOf (line .d)) (line .blocks)) ⌝ }
+        (now (kept .exit)) (wordCount (paramsOf (line .d)) (line .blocks)) ⌝ }
 {
     let bits = line.d.n();
-    let n = line.d.order();
-    let front = work.len() - info.len() - red.len();
+    let n = decoder_words::number_bytes(line);
+    let mut positions = position_entries();
+    words_positions::fill_table(line.d, &mut positions[0..bits]);
     decoder_frame::fill_numbers(
         line,
         own,
         parity,
         info,
         red,
-        &tables[0..bits],
-        &mut work[n..front],
+        &positions[0..bits],
+        &mut kept[0..n],
     );
 }
 
-// Corrects a received frame whose arguments have passed all rules, and counts.
+// Fills the kept numbers of a frame, and corrects it where not all words are in the code. Where they are, no round is run and only the numbers are
+// filled: each position of the window would have a single idle round. The line is any of the frame.
+fn correct_kept(
+    line: Line,
+    window: Window,
+    own: &[u8],
+    parity: &[u8],
+    info: &mut [u8],
+    red: &mut [u8],
+    kept: &mut [u8],
+) -> Counts
+    requires { ⌜ Received (line .d) (line .blocks) (now own) (now parity) (now info) (now red) × LineFits line × WindowFits (line .blocks) window
+        × (length (now kept) ≡ keptWork (paramsOf (line .d)) (line .blocks)) ⌝ }
+    ensures { λ a. ⌜ correctedOf (Decoding.Decoded a) (frameOf (now (info .exit)) (now (red .exit)))
+        ≡ correctedFrame (paramsOf (line .d)) (listsOf (line .d) (now (own .entry)) (now (parity .entry))) (line .blocks) (window .groups) (window .limit)
+        (frameOf (now (info .entry)) (now (red .entry))) ⌝ }
+{
+    fill_kept(line, own, parity, &info[..], &red[..], kept);
+    let n = decoder_words::number_bytes(line);
+    let wrong = decoder_kept::count(&kept[..], n / 4);
+    if wrong == 0 {
+        return idle_counts(line.blocks, window);
+    }
+    correct_words(line, window, own, parity, info, red, kept)
+}
+
+// Corrects a received frame whose arguments have passed all rules, and counts. The working bytes that follow those of the lists are what the decoder keeps.
 fn correct_frame(
     d: Design,
     blocks: usize,
@@ -195,32 +242,7 @@ fn correct_frame(
     let line = words_lines::first_line(d, blocks);
     let n = d.order();
     let all = work.len();
-    let due = 2 * d.n() + 128;
-    let powers = 1 << d.m();
-    let mut tables = table_entries();
-    let mut field = field_entries();
-    let mut links = link_entries();
-    decoder_frame::fill_tables(d, &mut tables[0..due], &mut field[0..4 * powers]);
-    decoder_lines::fill_links(d, own, parity, &mut links[0..4 * n]);
-    fill_kept(
-        line,
-        own,
-        parity,
-        &info[..],
-        &red[..],
-        &tables[0..due],
-        work,
-    );
-    correct_lines(
-        line,
-        window,
-        &links[0..4 * n],
-        &tables[0..due],
-        &field[0..4 * powers],
-        info,
-        red,
-        &mut work[n..all],
-    )
+    correct_kept(line, window, own, parity, info, red, &mut work[n..all])
 }
 
 // The groups of a frame that stand in a window of `window` groups, and the rounds that are allowed at each of its positions.
@@ -404,8 +426,8 @@ pub fn decode_window(
     answer_call(call, own, parity, info, red, work)
 }
 
-// Corrects the lent frame of `blocks` blocks in place, in at most `rounds` rounds, 0 standing for 7, or refuses it by the first of rules 1 to 7 and
-// 10; a refused frame is left as it was. The working bytes are one for each entry of a list, four for each word and one for each bit of the frame, and
+// Corrects the lent frame of `blocks` blocks in place, in at most `rounds` rounds, 0 standing for 12, or refuses it by the first of rules 1 to 7 and
+// 10; a refused frame is left as it was. The working bytes are one for each entry of a list, four for each word and one for eight bits of the frame, and
 // free afterwards. The work is one step for each bit of the words, and some more for each word that is outside the code when a round meets it.
 pub fn decode(
     m: u64,

@@ -97,7 +97,7 @@ module _ (ws : List Word) where
               h .0 l ∙ ap (λ (j : ℕ). lastStuck ws j g) s ∙ lastStuck-last ws g ∙ sym told,
         )
 
--- "0 stands for 7", and any other number for itself
+-- "0 now stands for 12", and any other number for itself
 pub allowed-itself : (k : ℕ) → k ≢ 0 → k ≡ roundsAllowed k
 allowed-itself zero d = absurd (d refl)
 allowed-itself (suc k) d = refl

@@ -1,16 +1,15 @@
 -- The kept numbers of a frame, filled, and counted.
---   put-more                 one number more
 --   line-filled, line-stored a line more
 --   filled-keeps             the remainders of all words, as kept numbers
---   kept-outside             the words outside the code are those whose number is not 0
+--   numbers-outside          words whose numbers are right are outside the code where the number is not 0
+--   filled-outside, kept-outside   the words outside the code are those whose number is not 0
 -- Assumes nothing.
 use mathlib.Core.Path.{_≡_, refl, sym, ap, ap₂, _∙_, subst}
 use mathlib.Core.Bool.{true, cond, true≢false}
-use mathlib.Core.Logic.{_≢_}
 use mathlib.Core.List.{List, [], _∷_, _++_}
 use Prim.Native.Nat.{ℕ, zero, suc, _+_, _-_, _*_, _%_, _^_, _≤_, _<_}
 use native.Mathlib.Nat.{mod-eq-of-lt, add-zero}
-use native.Mathlib.Decide.{decLt, ℕ-discrete}
+use native.Mathlib.Decide.{decLt}
 use native.Mathlib.Omega.{arith}
 use lib.Dec.{eqb, leb}
 use lib.Pow.{pow-mono}
@@ -22,6 +21,7 @@ use Rattle.bch.proofs.Word.{remainder-below}
 use Rattle.staircase.specs.Lists.{tabulate}
 use Rattle.staircase.specs.Design.{Params, Interleavers}
 use Rattle.staircase.specs.Frame.{Frame, Site, frameOf, read, outsideEach, outsideAmong, outside}
+use Rattle.staircase.specs.Rules.{keptWork}
 use Rattle.staircase.specs.Lines.{wordCount, frameWord}
 use Rattle.staircase.proofs.Tabulate.{tabulate-length, tabulate-at, tabulate-last}
 use Rattle.staircase.proofs.Flip.{read-bits}
@@ -34,27 +34,15 @@ use Rattle.design.specs.Sizes.{paramsOf, listsOf}
 use Rattle.design.proofs.Allowed.{proper-of, r-small}
 use Rattle.rules.specs.Received.{FrameFits}
 use Rattle.words_positions.proofs.Parts.{part-is}
-use Rattle.decoder_kept.specs.Numbers.{keptAt, numberAt, OnlyAt, nonzeroNumbers}
+use Rattle.decoder_kept.specs.Numbers.{keptAt, numberAt, PutFrom, nonzeroNumbers}
 use Rattle.words_lines.specs.declared.Line.{Line}
 use Rattle.words_lines.specs.Lines.{lineRemainder}
 use Rattle.decoder_lines.specs.Links.{listsIn}
 use Rattle.decoder_words.specs.Ready.{FrameKept}
-use Rattle.decoder_words.proofs.Flips.{received}
-use Rattle.decoder_frame.specs.Filled.{Filled, PutFrom}
+use Rattle.decoder_flips.proofs.Flips.{received}
+use Rattle.decoder_frame.specs.Filled.{Filled}
 
 -- ---- a line's numbers
-
-pub put-more : (sums : List ℕ) (from n : ℕ) (b m a : List ℕ) → ((k : ℕ) → k < n → keptAt m (from + k) ≡ getD sums k 0) → ((w : ℕ) → w < from → keptAt m w ≡ keptAt b w)
-    → OnlyAt m a (from + n) (getD sums n 0)
-    → ((k : ℕ) → k < n + 1 → keptAt a (from + k) ≡ getD sums k 0) × ((w : ℕ) → w < from → keptAt a w ≡ keptAt b w)
-put-more sums from n b m a here before O = (more, λ w h. O .others w (λ e. omega (arith, e, h)) ∙ before w h)
-  where
-    more : (k : ℕ) → k < n + 1 → keptAt a (from + k) ≡ getD sums k 0
-    more k h = go (ℕ-discrete k n)
-      where
-        go : Dec (k ≡ n) → keptAt a (from + k) ≡ getD sums k 0
-        go (yes e) = ap (λ (j : ℕ). keptAt a (from + j)) e ∙ O .here ∙ ap (λ (j : ℕ). getD sums j 0) (sym e)
-        go (no e) = O .others (from + k) (λ d. e (omega (arith, d))) ∙ here k (omega arith)
 
 pub line-filled : (line : Line) (own parity : List ℕ) (f : Frame) {sums b a : List ℕ} {from : ℕ} → from ≡ line .k * line .d .size
     → sums ≡ tabulate (line .d .size) (lineRemainder line own parity f) → PutFrom sums from b a → Filled line own parity f b (line .k * line .d .size)
@@ -93,10 +81,27 @@ line-stored line own parity f S E b a size from em ef es P F =
     let long : length S ≡ size = ap length es ∙ tabulate-length (line .d .size) (lineRemainder line own parity f) ∙ sym em in
     line-filled line own parity f ef es (subst (λ (u : List ℕ). PutFrom u from b a) (part-is S E size long) P) F
 
+-- ---- words outside the code
+
+abbrev one : ℕ → ℕ
+one n = cond (eqb n 0) 0 1
+
+module _ (s₂ : Params) (f₂ : Frame) (b₂ : List ℕ) (W : ℕ → List Site) where
+  outside-one : (w : List Site) → one (remainder (s₂ .g) (s₂ .r) (read f₂ w)) ≡ outsideAmong s₂ f₂ (w ∷ [])
+  unfolding outsideAmong outsideEach isCodeword
+  outside-one w = sym (add-zero (one (remainder (s₂ .g) (s₂ .r) (read f₂ w))))
+
+  pub numbers-outside : (n : ℕ) → ((w : ℕ) → w < n → numberAt b₂ w ≡ remainder (s₂ .g) (s₂ .r) (read f₂ (W w)))
+      → nonzeroNumbers b₂ n ≡ outsideAmong s₂ f₂ (tabulate n W)
+  unfolding nonzeroNumbers outsideAmong outsideEach tabulate
+  numbers-outside zero h = refl
+  numbers-outside (suc n) h =
+      ap₂ _+_ (numbers-outside n (λ w k. h w (omega arith))) (ap one (h n (omega arith)) ∙ outside-one (W n))
+      ∙ sym (outside-append s₂ f₂ (tabulate n W) (W n ∷ [])) ∙ ap (outsideAmong s₂ f₂) (sym (tabulate-last n W))
+
 -- ---- all numbers
 
-module _ (line : Line) (own parity links : List ℕ) {info red : List ℕ} (A : Allowed (line .d)) (F : FrameFits (line .d) (line .blocks) info red)
-    (same : listsIn (line .d) links ≡ listsOf (line .d) own parity) where
+module _ (line : Line) (own parity : List ℕ) {info red : List ℕ} (A : Allowed (line .d)) (F : FrameFits (line .d) (line .blocks) info red) where
   abbrev q : Params
   q = paramsOf (line .d)
 
@@ -113,45 +118,36 @@ module _ (line : Line) (own parity links : List ℕ) {info red : List ℕ} (A : 
       let high : 2 ^ (line .d .m * line .d .t) ≤ 2 ^ 31 = pow-mono {i = line .d .m * line .d .t} {j = 31} (omega (arith, r-small (line .d) A)) in
       omega (arith, low, high)
 
-  pub filled-keeps : {b : List ℕ} → length b ≡ 4 * wordCount (paramsOf (line .d)) (line .blocks)
-      → Filled line own parity (frameOf info red) b (wordCount (paramsOf (line .d)) (line .blocks)) → FrameKept (line .d) (line .blocks) links info red b
-  filled-keeps {b} long H =
-      record {
-        frame = F;
-        long = long;
-        kept =
-            λ w hw.
-            let e : keptAt b w ≡ left (frameWord q (listsIn (line .d) links) (line .blocks) w .sites) =
-            H w hw ∙ ap (λ (z : Interleavers). left (frameWord q z (line .blocks) w .sites)) (sym same) in
-            let small = left-small (frameWord q (listsIn (line .d) links) (line .blocks) w .sites) in
-            record {
-              number = ap (λ (n : ℕ). n % 2147483648) e ∙ mod-eq-of-lt small;
-              mark = λ m. absurd (true≢false (sym m ∙ ap (leb 2147483648) e ∙ lt-leb 2147483648 _ small));
-            };
-      }
+  module _ (b : List ℕ) (H : Filled line own parity (frameOf info red) b (wordCount (paramsOf (line .d)) (line .blocks))) where
+    filled-number : (w : ℕ) → w < wordCount q (line .blocks) → numberAt b w ≡ left (frameWord q (listsOf (line .d) own parity) (line .blocks) w .sites)
+    filled-number w hw = ap (λ (n : ℕ). n % 2147483648) (H w hw) ∙ mod-eq-of-lt (left-small (frameWord q (listsOf (line .d) own parity) (line .blocks) w .sites))
 
--- ---- words outside the code
+    pub filled-keeps : (links : List ℕ) → listsIn (line .d) links ≡ listsOf (line .d) own parity → length b ≡ keptWork (paramsOf (line .d)) (line .blocks)
+        → FrameKept (line .d) (line .blocks) links info red b
+    filled-keeps links same long =
+        record {
+          frame = F;
+          long = long;
+          numbers =
+              λ w hw.
+              let small = left-small (frameWord q (listsOf (line .d) own parity) (line .blocks) w .sites) in
+              record {
+                number = filled-number w hw ∙ ap (λ (z : Interleavers). left (frameWord q z (line .blocks) w .sites)) (sym same);
+                mark = λ m. absurd (true≢false (sym m ∙ ap (leb 2147483648) (H w hw) ∙ lt-leb 2147483648 _ small));
+              };
+        }
 
-abbrev one : ℕ → ℕ
-one n = cond (eqb n 0) 0 1
-
-module _ (s₂ : Params) (f₂ : Frame) (b₂ : List ℕ) (W : ℕ → List Site) where
-  outside-one : (w : List Site) → one (remainder (s₂ .g) (s₂ .r) (read f₂ w)) ≡ outsideAmong s₂ f₂ (w ∷ [])
-  unfolding outsideAmong outsideEach isCodeword
-  outside-one w = sym (add-zero (one (remainder (s₂ .g) (s₂ .r) (read f₂ w))))
-
-  numbers-outside : (n : ℕ) → ((w : ℕ) → w < n → numberAt b₂ w ≡ remainder (s₂ .g) (s₂ .r) (read f₂ (W w)))
-      → nonzeroNumbers b₂ n ≡ outsideAmong s₂ f₂ (tabulate n W)
-  unfolding nonzeroNumbers outsideAmong outsideEach tabulate
-  numbers-outside zero h = refl
-  numbers-outside (suc n) h =
-      ap₂ _+_ (numbers-outside n (λ w k. h w (omega arith))) (ap one (h n (omega arith)) ∙ outside-one (W n))
-      ∙ sym (outside-append s₂ f₂ (tabulate n W) (W n ∷ [])) ∙ ap (outsideAmong s₂ f₂) (sym (tabulate-last n W))
+    pub filled-outside : nonzeroNumbers b (wordCount (paramsOf (line .d)) (line .blocks))
+        ≡ outside (paramsOf (line .d)) (listsOf (line .d) own parity) (line .blocks) (frameOf info red)
+    unfolding outside
+    filled-outside =
+        numbers-outside q f b (λ w. frameWord q (listsOf (line .d) own parity) (line .blocks) w .sites) (wordCount q (line .blocks)) filled-number
+        ∙ ap (outsideAmong q f) (sym (words-numbered q (listsOf (line .d) own parity) (line .blocks)))
 
 pub kept-outside : {d : Design} {L : ℕ} {links info red b : List ℕ} → FrameKept d L links info red b
     → nonzeroNumbers b (wordCount (paramsOf d) L) ≡ outside (paramsOf d) (listsIn d links) L (frameOf info red)
 unfolding outside
 kept-outside {d} {L} {links} {info} {red} {b} K =
     numbers-outside (paramsOf d) (frameOf info red) b (λ w. frameWord (paramsOf d) (listsIn d links) L w .sites) (wordCount (paramsOf d) L)
-    (λ w h. K .kept w h .number)
+    (λ w h. K .numbers w h .number)
     ∙ ap (outsideAmong (paramsOf d) (frameOf info red)) (sym (words-numbered (paramsOf d) (listsIn d links) L))

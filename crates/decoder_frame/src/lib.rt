@@ -7,9 +7,9 @@
 //   run_window      the same at each position of a window that slides over a frame; one that has all groups has one position
 //
 // The remainders of all words are summed once, line by line, in the order in which their bits stand in memory (crate `words`), and kept in working
-// bytes (crate `decoder_kept`). A round takes the lines one after the other and corrects the words whose kept number is not 0 (crate `decoder_words`),
-// which keeps all numbers right. Rounds end after one that flips nothing. The words outside the code at the end are those whose number is not 0; the
-// stuck words are counted by each round, and those of the last one are told.
+// bytes (crate `decoder_kept`), behind which stand the marks of the frame's bits. A round takes the lines one after the other and corrects the words
+// whose kept number is not 0 (crate `decoder_words`), which keeps all numbers and marks right. Rounds end after one that flips nothing. The words
+// outside the code at the end are those whose number is not 0; the stuck words are counted by each round, and those of the last one are told.
 //
 // Numbers are right for all words of the frame, whichever lines are corrected. So a window has its numbers from those that are filled once, wherever it
 // stands: what a position costs is a look at the numbers of its words, and the words that are outside the code.
@@ -30,14 +30,14 @@ ghost use Rattle.words.specs.Words.{WordTable};
 ghost use Rattle.decoder_locator.specs.Located.{SumTable};
 ghost use Rattle.words_lines.specs.Lines.{LineFits};
 ghost use Rattle.decoder_lines.specs.Links.{listsIn};
-ghost use Rattle.decoder_words.specs.Ready.{WordTables, LineReady, FrameKept};
-ghost use Rattle.decoder_frame.specs.Filled.{Filled, PutFrom};
+ghost use Rattle.decoder_words.specs.Ready.{WordTables, LineReady, FrameKept, LineMarks};
+ghost use Rattle.decoder_frame.specs.Filled.{Filled};
 ghost use Rattle.decoder_frame.specs.Stretch.{stretchWords, WindowFits};
 use design::Design;
 use words_lines::Line;
 
-// "0 stands for 7"
-const DEFAULT_ROUNDS: usize = 7;
+// "A rounds number of 0 now stands for 12"
+const DEFAULT_ROUNDS: usize = 12;
 
 // Rounds made, bits flipped, and words that were stuck in the last round made.
 pub struct Made {
@@ -88,16 +88,6 @@ pub fn rounds_allowed(rounds: u64) -> usize
     rounds as usize
 }
 
-// Makes the numbers from `from` on those of the lent list, without marks.
-fn put_numbers(sums: &[u32], from: usize, numbers: &mut [u8])
-    requires { ⌜ (4 * (from + length (now sums)) ≤ length (now numbers)) × (length (now numbers) ≤ 16777216) ⌝ }
-    ensures { λ u. ⌜ PutFrom (now (sums .entry)) from (now (numbers .entry)) (now (numbers .exit)) ⌝ }
-{
-    for a in 0..sums.len() {
-        decoder_kept::put(numbers, from + a, sums[a]);
-    }
-}
-
 // Working entries for the remainders of a line; only their number is told: the most that a line has, or more.
 fn sum_entries() -> [u32; 512]
     ensures { λ a. ⌜ 512 ≡ length a ⌝ }
@@ -126,7 +116,7 @@ fn fill_line(
     let from = decoder_lines::word_number(line, 0);
     let mut sums = sum_entries();
     words::line_remainders(line, own, parity, info, red, positions, &mut sums[0..size]);
-    put_numbers(&sums[0..size], from, numbers);
+    decoder_kept::put_numbers(&sums[0..size], from, numbers);
 }
 
 // Fills the kept numbers of all words of a frame. One step for each bit of the words. The line is any of the frame.
@@ -161,31 +151,23 @@ pub fn run_rounds(
     field: &[u16],
     info: &mut [u8],
     red: &mut [u8],
-    numbers: &mut [u8],
+    kept: &mut [u8],
 ) -> Made
     requires { ⌜ LineReady line (now links) (now tables) (now field) × (line .k + 2 * window .groups ≤ 2 * groups (line .blocks))
-        × (1 ≤ window .limit) × (window .limit ≤ most-rounds) × FrameKept (line .d) (line .blocks) (now links) (now info) (now red) (now numbers) ⌝ }
+        × (1 ≤ window .limit) × (window .limit ≤ most-rounds) × FrameKept (line .d) (line .blocks) (now links) (now info) (now red) (now kept) ⌝ }
     ensures { λ a. ⌜ (record { frame = frameOf (now (info .exit)) (now (red .exit)); rounds = a .rounds; flips = a .flips }
         ≡ runEach (stretchWords line (now (links .entry)) (2 * window .groups)) (window .limit) (frameOf (now (info .entry)) (now (red .entry))))
         × (a .stuck ≡ lastStuck (stretchWords line (now (links .entry)) (2 * window .groups)) (window .limit) (frameOf (now (info .entry)) (now (red .entry))))
-        × FrameKept (line .d) (line .blocks) (now (links .entry)) (now (info .exit)) (now (red .exit)) (now (numbers .exit))
-        × (a .rounds ≤ most-rounds) × (a .flips ≤ most-rounds * 6147000) ⌝ }
+        × FrameKept (line .d) (line .blocks) (now (links .entry)) (now (info .exit)) (now (red .exit)) (now (kept .exit))
+        × (a .rounds ≤ most-rounds) × (a .flips ≤ most-rounds * 6147000)
+        × LineMarks line (now (info .entry)) (now (red .entry)) (now (kept .entry)) (now (info .exit)) (now (red .exit)) (now (kept .exit)) ⌝ }
 {
     let lines = 2 * window.groups;
     let limit = window.limit;
     let mut flips = 0;
     let mut stuck = 0;
     for k in 0..limit {
-        let more = decoder_words::correct_lines(
-            line,
-            lines,
-            links,
-            tables,
-            field,
-            info,
-            red,
-            numbers,
-        );
+        let more = decoder_words::correct_lines(line, lines, links, tables, field, info, red, kept);
         flips += more.flips;
         stuck = more.stuck;
         if more.flips == 0 {
@@ -221,16 +203,17 @@ pub fn run_window(
     field: &[u16],
     info: &mut [u8],
     red: &mut [u8],
-    numbers: &mut [u8],
+    kept: &mut [u8],
 ) -> Made
     requires { ⌜ LineReady line (now links) (now tables) (now field) × WindowFits (line .blocks) window
-        × FrameKept (line .d) (line .blocks) (now links) (now info) (now red) (now numbers) ⌝ }
+        × FrameKept (line .d) (line .blocks) (now links) (now info) (now red) (now kept) ⌝ }
     ensures { λ a. ⌜ (record { frame = frameOf (now (info .exit)) (now (red .exit)); rounds = a .rounds; flips = a .flips }
         ≡ slide (windowWords (paramsOf (line .d)) (listsIn (line .d) (now (links .entry))) (line .blocks) (window .groups))
         (positions (groups (line .blocks)) (window .groups)) (window .limit) (frameOf (now (info .entry)) (now (red .entry))))
         × (a .stuck ≡ slideStuck (windowWords (paramsOf (line .d)) (listsIn (line .d) (now (links .entry))) (line .blocks) (window .groups))
         (groups (line .blocks) - window .groups) (window .limit) (frameOf (now (info .entry)) (now (red .entry))))
-        × FrameKept (line .d) (line .blocks) (now (links .entry)) (now (info .exit)) (now (red .exit)) (now (numbers .exit)) ⌝ }
+        × FrameKept (line .d) (line .blocks) (now (links .entry)) (now (info .exit)) (now (red .exit)) (now (kept .exit))
+        × LineMarks line (now (info .entry)) (now (red .entry)) (now (kept .entry)) (now (info .exit)) (now (red .exit)) (now (kept .exit)) ⌝ }
 {
     let count = position_count(line.blocks, window);
     let mut rounds = 0;
@@ -238,7 +221,7 @@ pub fn run_window(
     let mut stuck = 0;
     for p in 0..count {
         let here = words_lines::line_at(line, 2 * p);
-        let made = run_rounds(here, window, links, tables, field, info, red, numbers);
+        let made = run_rounds(here, window, links, tables, field, info, red, kept);
         rounds += made.rounds;
         flips += made.flips;
         stuck = made.stuck;

@@ -2,16 +2,17 @@
 --   keptAt          number k
 --   numberAt        without its mark
 --   markedAt        its mark
---   OnlyAt          number k is x, and all others are as they were
+--   OnlyAt          number k is x, and all others and the bytes behind are as they were
+--   PutFrom         the entries of a list are the numbers from one on, and those before it are as they were
 --   nonzeroNumbers  how many of the first n numbers are not 0, whatever their marks
 -- Assumes nothing.
 use mathlib.Core.Path.{_≡_}
 use mathlib.Core.Bool.{Bool, cond}
 use mathlib.Core.Logic.{_≢_}
 use mathlib.Core.List.{List}
-use Prim.Native.Nat.{ℕ, zero, suc, _+_, _*_, _%_}
+use Prim.Native.Nat.{ℕ, zero, suc, _+_, _*_, _%_, _<_}
 use lib.Dec.{eqb, leb}
-use lib.ListN.{length, getD}
+use lib.ListN.{length, getD, drop}
 
 unfoldable pub keptAt : List ℕ → ℕ → ℕ
 keptAt b k = getD b (4 * k) 0 + 256 * getD b (4 * k + 1) 0 + 65536 * getD b (4 * k + 2) 0 + 16777216 * getD b (4 * k + 3) 0
@@ -26,6 +27,12 @@ pub record OnlyAt (b a : List ℕ) (k x : ℕ) : Type 0 where
   pub long : length a ≡ length b
   pub here : keptAt a k ≡ x
   pub others : (j : ℕ) → j ≢ k → keptAt a j ≡ keptAt b j
+  pub behind : drop (4 * k + 4) a ≡ drop (4 * k + 4) b
+
+pub record PutFrom (sums : List ℕ) (from : ℕ) (b a : List ℕ) : Type 0 where
+  pub long : length a ≡ length b
+  pub here : (k : ℕ) → k < length sums → keptAt a (from + k) ≡ getD sums k 0
+  pub before : (w : ℕ) → w < from → keptAt a w ≡ keptAt b w
 
 unfoldable pub nonzeroNumbers : List ℕ → ℕ → ℕ
 nonzeroNumbers b zero = 0

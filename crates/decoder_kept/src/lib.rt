@@ -1,6 +1,7 @@
 // Numbers kept in working bytes, four bytes each, the lowest byte first; the highest bit is a mark.
 //   get(kept, k)      number k with its mark
 //   put(kept, k, x)   stores it
+//   put_numbers       stores some, from one on
 //   add(kept, k, x)   adds x to it and takes the mark away
 //   count(kept, n)    how many of the first n are not 0, whatever their marks
 ghost use mathlib.Core.Path.{_≡_};
@@ -9,7 +10,7 @@ ghost use Prim.Native.Nat.{_+_, _*_, _%_, _≤_, _<_};
 ghost use lib.Dec.{eqb};
 ghost use lib.ListN.{length};
 ghost use Rattle.bch.specs.Polynomial.{_⊕_};
-ghost use Rattle.decoder_kept.specs.Numbers.{keptAt, numberAt, OnlyAt, nonzeroNumbers};
+ghost use Rattle.decoder_kept.specs.Numbers.{keptAt, numberAt, OnlyAt, PutFrom, nonzeroNumbers};
 
 fn wide(x: u8) -> u32
     ensures { λ a. ⌜ (a ≡ x) × (a < 256) ⌝ }
@@ -39,6 +40,16 @@ pub fn put(kept: &mut [u8], k: usize, x: u32)
     kept[at + 1] = (x / 256 % 256) as u8;
     kept[at + 2] = (x / 65536 % 256) as u8;
     kept[at + 3] = (x / 16777216) as u8;
+}
+
+// Makes the numbers from `from` on those of the lent list, without marks.
+pub fn put_numbers(sums: &[u32], from: usize, numbers: &mut [u8])
+    requires { ⌜ (4 * (from + length (now sums)) ≤ length (now numbers)) × (length (now numbers) ≤ 16777216) ⌝ }
+    ensures { λ u. ⌜ PutFrom (now (sums .entry)) from (now (numbers .entry)) (now (numbers .exit)) ⌝ }
+{
+    for a in 0..sums.len() {
+        put(numbers, from + a, sums[a]);
+    }
 }
 
 // Adds x to number k and takes its mark away.

@@ -32,6 +32,7 @@ use Rattle.design.specs.declared.Design.{Design}
 use Rattle.design.specs.Sizes.{paramsOf, orderOf}
 use Rattle.design.proofs.Allowed.{proper-of, r-small}
 use Rattle.words_blocks.specs.Blocks.{Powers}
+use Rattle.decoder_kept.proofs.Numbers.{only-behind}
 use Rattle.decoder_kept.specs.Numbers.{keptAt, numberAt, markedAt, OnlyAt}
 use Rattle.words_lines.specs.declared.Line.{Line}
 use Rattle.decoder_lines.specs.declared.WordBit.{WordBit}
@@ -70,13 +71,14 @@ module _ (line : Line) {links : List ℕ} (T : LinksFit (line .d) links) (a p q 
 -- ---- the crossing word's number
 
 module _ (s : Params) (N : ℕ) (c : Incidence) (b : List ℕ) where
-  crossed : (a : List ℕ) (v x : ℕ) → v ≡ c .line * s .M + c .word → x ≡ powerMod (s .g) (s .r) (wordLength s - 1 - c .position) → x < 2147483648
+  crossed : (a : List ℕ) (v x : ℕ) → v < N → v ≡ c .line * s .M + c .word → x ≡ powerMod (s .g) (s .r) (wordLength s - 1 - c .position) → x < 2147483648
       → OnlyAt b a v (numberAt b v ⊕ x) → Crossed s N c b a
-  crossed a v x ev ex hx O =
+  crossed a v x hv ev ex hx O =
       record {
         long = O .long;
         here = λ w hw e. at w (e ∙ sym ev);
         others = λ w hw d. let q = O .others w (λ e. d (e ∙ ev)) in (ap (λ (z : ℕ). z % 2147483648) q, ap (leb 2147483648) q);
+        behind = only-behind N hv O;
       }
     where
       small : numberAt b v ⊕ x < 2147483648
@@ -96,6 +98,7 @@ module _ (s : Params) (N : ℕ) (c : Incidence) (b : List ℕ) where
         long = refl;
         here = λ w hw q. let m : n * s .M ≤ c .line * s .M = mul-le-mul h (le-refl (s .M)) in absurd (absurd-of w hw q m);
         others = λ w hw d. (refl, refl);
+        behind = refl;
       }
     where
       absurd-of : (w : ℕ) → w < N → w ≡ c .line * s .M + c .word → n * s .M ≤ c .line * s .M → ⊥
@@ -142,12 +145,12 @@ module _ {line : Line} {links : List ℕ} (F : LineFits line) (T : LinksFit (lin
           let high : 2 ^ (d .m * d .t) ≤ 2 ^ 31 = pow-mono {i = d .m * d .t} {j = 31} (omega (arith, r-small d (F .allowed))) in
           omega (arith, power-is, low, high)
 
-      pub power-added : {b b' : List ℕ} (v : ℕ) → v ≡ h .line * line .d .size + h .word
+      pub power-added : {b b' : List ℕ} (v : ℕ) → v < wordCount (paramsOf (line .d)) (line .blocks) → v ≡ h .line * line .d .size + h .word
           → OnlyAt b b' v (numberAt b v ⊕ getD positions (h .position) 0)
           → Crossed (paramsOf (line .d)) (wordCount (paramsOf (line .d)) (line .blocks)) (crossing (paramsOf (line .d)) (listsIn (line .d) links) (line .k) a p) b b'
-      power-added {b} {b'} v q O =
+      power-added {b} {b'} v hv q O =
           subst (λ (c : Incidence). Crossed (paramsOf d) (wordCount (paramsOf d) (line .blocks)) c b b') e
-          (crossed (paramsOf d) (wordCount (paramsOf d) (line .blocks)) (incidenceOf h) b b' v (getD positions (h .position) 0) q power-is power-small O)
+          (crossed (paramsOf d) (wordCount (paramsOf d) (line .blocks)) (incidenceOf h) b b' v (getD positions (h .position) 0) hv q power-is power-small O)
 
     pub none-added : {b : List ℕ} → 2 * groups (line .blocks) ≤ h .line
         → Crossed (paramsOf (line .d)) (wordCount (paramsOf (line .d)) (line .blocks)) (crossing (paramsOf (line .d)) (listsIn (line .d) links) (line .k) a p) b b

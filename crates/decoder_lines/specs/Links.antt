@@ -4,7 +4,7 @@
 --   LinksFit           a table of links, of lists that are permutations
 --   incidenceOf        a position of a word, from code's answer
 --   keptOf             the kept numbers and marks
---   Crossed            the crossing word's number has got its power and lost its mark, and no other has changed
+--   Crossed            the crossing word's number has got its power and lost its mark; no other has changed, nor what is behind the numbers
 -- Assumes nothing.
 use mathlib.Core.Path.{_≡_}
 use mathlib.Core.Bool.{true, false, cond}
@@ -12,7 +12,7 @@ use mathlib.Core.Logic.{_≢_}
 use mathlib.Core.List.{List}
 use Prim.Native.Nat.{ℕ, _+_, _-_, _*_, _<_}
 use lib.Dec.{ltb}
-use lib.ListN.{length, getD}
+use lib.ListN.{length, getD, drop}
 use Rattle.bch.specs.Polynomial.{_⊕_}
 use Rattle.bch.specs.Powers.{powerMod}
 use Rattle.staircase.specs.Lists.{tabulate}
@@ -51,3 +51,4 @@ pub record Crossed (s : Params) (N : ℕ) (c : Incidence) (b a : List ℕ) : Typ
   pub here : (w : ℕ) → w < N → w ≡ c .line * s .M + c .word
       → (numberAt a w ≡ numberAt b w ⊕ powerMod (s .g) (s .r) (wordLength s - 1 - c .position)) × (markedAt a w ≡ false)
   pub others : (w : ℕ) → w < N → w ≢ c .line * s .M + c .word → (numberAt a w ≡ numberAt b w) × (markedAt a w ≡ markedAt b w)
+  pub behind : drop (4 * N) a ≡ drop (4 * N) b

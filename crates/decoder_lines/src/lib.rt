@@ -22,8 +22,9 @@ ghost use Rattle.design.specs.Sizes.{paramsOf, orderOf, listsOf};
 ghost use Rattle.rules.specs.Received.{ListsFit};
 ghost use Rattle.words_blocks.specs.Blocks.{Powers};
 ghost use Rattle.words_lines.specs.Lines.{LineFits};
-ghost use Rattle.decoder_lines.specs.Sites.{sitesOf, Inside};
+ghost use Rattle.decoder_flips.specs.Sites.{sitesOf, Inside};
 ghost use Rattle.decoder_lines.specs.Links.{listsIn, LinksFit, incidenceOf, Crossed};
+use decoder_flips::BitSite;
 use design::Design;
 use words_lines::Line;
 
@@ -32,14 +33,6 @@ pub struct WordBit {
     pub line: usize,
     pub word: usize,
     pub position: usize,
-}
-
-// Where a bit of a word stands: in a block that is not sent, in a byte of the information or in a byte of the redundancy. `Absent` is no bit.
-pub enum BitSite {
-    Absent,
-    Unsent,
-    Info(usize),
-    Red(usize),
 }
 
 fn wide(x: u16) -> usize
@@ -219,7 +212,7 @@ pub fn add_power(
 )
     requires { ⌜ LineFits line × LinksFit (line .d) (now links) × Powers (paramsOf (line .d)) (now positions)
         × (a < line .d .size) × (p < wordLength (paramsOf (line .d)))
-        × (length (now numbers) ≡ 4 * wordCount (paramsOf (line .d)) (line .blocks))
+        × (4 * wordCount (paramsOf (line .d)) (line .blocks) ≤ length (now numbers))
         × (allSent (getD (lineSites (paramsOf (line .d)) (listsIn (line .d) (now links)) (line .blocks) (line .k) a) p unsent ∷ []) ≡ true) ⌝ }
     ensures { λ u. ⌜ Crossed (paramsOf (line .d)) (wordCount (paramsOf (line .d)) (line .blocks))
         (crossing (paramsOf (line .d)) (listsIn (line .d) (now (links .entry))) (line .k) a p) (now (numbers .entry)) (now (numbers .exit)) ⌝ }

@@ -6,3 +6,4 @@ pub mod Fours
 pub mod Roots
 pub mod Triples
 pub mod Values
+pub mod Correction

@@ -2,6 +2,7 @@
 --   number-below, number-is          the number of a word, and its remainder
 --   turned, turned-all               one flipped bit, and all flips of a word: the numbers of all words but this one
 --   one-sent .., none-goes ..        the answers of `locate`
+--   crossed-behind                   what stands behind the numbers
 --   zero-clean, marked-stuck         a word that is passed over
 --   other-outcome                    a word that is not clean, by its correction
 --   sent-found, flips-is             the located positions of a word that is corrected
@@ -15,7 +16,7 @@ use Prim.Native.Nat.{ℕ, _+_, _*_, _%_, _<_, _≤_}
 use native.Mathlib.Nat.{suc-ne-zero, mod-lt}
 use native.Mathlib.Omega.{arith}
 use lib.Dec.{leb}
-use lib.ListN.{length, getD, length-map}
+use lib.ListN.{length, getD, drop, length-map}
 use borrow.Author.Tests.{le-leb, eq-eqb, ne-eqb}
 use Rattle.bch.specs.Polynomial.{remainder}
 use Rattle.bch.specs.Code.{isCodeword}
@@ -47,9 +48,9 @@ use Rattle.decoder_kept.specs.Numbers.{keptAt, numberAt, markedAt, OnlyAt}
 use Rattle.words_lines.specs.declared.Line.{Line}
 use Rattle.words_lines.specs.Lines.{LineFits}
 use Rattle.decoder_lines.specs.Links.{listsIn, LinksFit, keptOf, Crossed}
-use Rattle.decoder_words.specs.Sites.{Below}
+use Rattle.decoder_flips.specs.Sites.{Below}
 use Rattle.decoder_words.specs.Ready.{FrameKept, lineWord, correctionAt, KeptBut, SentAt, CrossedAll}
-use Rattle.decoder_words.proofs.Flips.{received}
+use Rattle.decoder_flips.proofs.Flips.{received}
 
 pub fits-after : {d : Design} {L : ℕ} {info red : List ℕ} (c : List Site) → FrameFits d L info red → {info' red' : List ℕ} → frameOf info' red' ≡ flipAll c (frameOf info red)
     → FrameFits d L info' red'
@@ -160,6 +161,13 @@ module _ (line : Line) (links : List ℕ) (a : ℕ) where
     unfolding CrossedAll positionsOf
     three-goes {p} {q} {u} {b} {m} {n} {b'} e h k j = back b b' e (n, (m, (b, refl, h), k), j)
 
+-- what stands behind the numbers stays
+pub crossed-behind : (line : Line) (links : List ℕ) (a : ℕ) (ps b b' : List ℕ) → CrossedAll line links a ps b b'
+    → drop (4 * wordCount (paramsOf (line .d)) (line .blocks)) b' ≡ drop (4 * wordCount (paramsOf (line .d)) (line .blocks)) b
+unfolding CrossedAll
+crossed-behind line links a [] b b' C = ap (drop (4 * wordCount (paramsOf (line .d)) (line .blocks))) (sym C)
+crossed-behind line links a (p ∷ ps) b b' C = C .2 .behind ∙ crossed-behind line links a ps b (C .0) (C .1)
+
 -- ---- a word
 
 module _ {line : Line} (L : LineFits line) {links : List ℕ} (T : LinksFit (line .d) links) (a : ℕ) (ha : a < line .d .size)
@@ -191,7 +199,7 @@ module _ {line : Line} (L : LineFits line) {links : List ℕ} (T : LinksFit (lin
   pub number-is : {x : ℕ} → x ≡ keptAt b (line .k * line .d .size + a)
       → x % 2147483648 ≡ remainder (paramsOf (line .d) .g) (paramsOf (line .d) .r) (read (frameOf info red) (lineWord line links a))
   number-is {x} e =
-      ap (λ (z : ℕ). z % 2147483648) e ∙ K .kept u below .number ∙ ap (λ (w : List Site). remainder (s₂ .g) (s₂ .r) (read f w)) word-is
+      ap (λ (z : ℕ). z % 2147483648) e ∙ K .numbers u below .number ∙ ap (λ (w : List Site). remainder (s₂ .g) (s₂ .r) (read f w)) word-is
 
   -- a word that is passed over stays; it is clean or stuck
   abbrev Over : Outcome → Type 0
@@ -218,7 +226,7 @@ module _ {line : Line} (L : LineFits line) {links : List ℕ} (T : LinksFit (lin
     pub marked-stuck : x % 2147483648 ≢ 0 → 2147483648 ≤ x → Over stuck
     marked-stuck d z =
         let r : correction s₂ f word ≡ [] =
-        ap (correction s₂ f) (sym word-is) ∙ K .kept u below .mark (ap (leb 2147483648) (sym e) ∙ le-leb 2147483648 x z) in
+        ap (correction s₂ f) (sym word-is) ∙ K .numbers u below .mark (ap (leb 2147483648) (sym e) ∙ le-leb 2147483648 x z) in
         (stays r, other-outcome d (ap length (sym r)))
 
   module _ (z : Located) (c : correctionAt line links (frameOf info red) a ≡ map (λ j. getD (lineWord line links a) j unsent) (positionsOf z)) where
@@ -247,9 +255,9 @@ module _ {line : Line} (L : LineFits line) {links : List ℕ} (T : LinksFit (lin
         record {
           frame = fits-after (correction s₂ f word) (K .frame) q;
           long = O .long ∙ K .long;
-          kept =
+          numbers =
               subst (λ (g : Frame). (w : ℕ) → w < N → Holds (W w) (numberAt b' w) (markedAt b' w) g) (sym same)
-              (stuck-keeps W N f u (ap (correction s₂ f) word-is ∙ none) (keptOf b) (keptOf b') (K .kept) here
+              (stuck-keeps W N f u (ap (correction s₂ f) word-is ∙ none) (keptOf b) (keptOf b') (K .numbers) here
               (λ w hw d. let o = O .others w d in (ap (λ (n : ℕ). n % 2147483648) o, ap (leb 2147483648) o)));
         }
 
@@ -265,11 +273,11 @@ module _ {line : Line} (L : LineFits line) {links : List ℕ} (T : LinksFit (lin
         let same = ap (correction s₂ f) word-is in
         let some : correction (W u .code) f (W u .sites) ≢ [] =
         λ y. d (ek ∙ ap length (no-positions (λ p. getD word p unsent) (positionsOf z) (sym c ∙ sym same ∙ y))) in
-        let rest = turned-all L T a ha (positionsOf z) F b b' (sent-found bounds) C (λ w hw e. K .kept w hw) in
+        let rest = turned-all L T a ha (positionsOf z) F b b' (sent-found bounds) C (λ w hw e. K .numbers w hw) in
         record {
           frame = fits-after (correction s₂ f word) F q;
           long = O .long ∙ long ∙ K .long;
-          kept =
+          numbers =
               corrected-keeps W N f (frameOf info' red') u g
               (λ hu y sent i. word-within L T a ha F y sent (subst (λ (v : List Site). In y v) word-is i)) some
               (q ∙ ap (λ (v : List Site). flipAll v f) (sym same)) (keptOf b'')

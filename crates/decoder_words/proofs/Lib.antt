@@ -1,5 +1,4 @@
-pub mod Flips
 pub mod Word
 pub mod Tables
 pub mod Corrected
-pub mod Passes
+pub mod Marks

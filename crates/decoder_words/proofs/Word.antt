@@ -1,15 +1,14 @@
 -- What the located positions of a word say of its correction.
 --   remainder-small            the remainder of a word of a received frame has r bits
 --   inside-frame               bits inside a frame's lengths are bytes of its buffers
---   listed-none, listed-one, listed-two, listed-three   the sites of the positions that an answer of `locate` names
+--   ready-at                   what is asked of a later line
 --   located-below              these are positions of the word
 --   table-powers               the table's first part has the powers of x
 --   none-found, all-found      the correction, by whether all of them are sent
 -- Assumes nothing.
-use mathlib.Core.Path.{_≡_, refl, sym, ap, ap₂, _∙_, subst}
+use mathlib.Core.Path.{_≡_, sym, ap, _∙_, subst}
 use mathlib.Core.Bool.{Bool, true, false, cond}
-use mathlib.Core.Logic.{inl, inr}
-use mathlib.Core.List.{List, [], _∷_, _++_, map}
+use mathlib.Core.List.{List, [], map}
 use Prim.Native.Nat.{ℕ, _*_, _^_, _<_}
 use native.Mathlib.Omega.{arith}
 use lib.ListN.{length, getD, take}
@@ -30,70 +29,31 @@ use Rattle.design.specs.declared.Design.{Design}
 use Rattle.design.specs.Sizes.{paramsOf, orderOf}
 use Rattle.design.proofs.Allowed.{proper-of}
 use Rattle.decoder_locator.specs.declared.Located.{Located}
-use Rattle.decoder_locator.specs.declared.Located.the-variants.{Nowhere, One, Two, Three}
+use Rattle.decoder_locator.specs.declared.Located.the-variants.{Nowhere}
 use Rattle.decoder_locator.specs.Located.{located, positionsOf}
 use Rattle.decoder_locator.proofs.ErrorPositions.{errorPositions-located}
-use Rattle.decoder_lines.specs.declared.BitSite.{BitSite}
-use Rattle.decoder_lines.specs.declared.BitSite.the-variants.{Absent, Unsent, Info, Red}
-use Rattle.decoder_words.specs.declared.Spots.{Spots}
+use Rattle.decoder_flips.specs.declared.Spots.{Spots}
 use Rattle.words_lines.specs.declared.Line.{Line}
-use Rattle.decoder_lines.specs.Sites.{Inside}
+use Rattle.decoder_flips.specs.Sites.{AllInside, Below}
 use Rattle.decoder_lines.specs.Links.{listsIn}
-use Rattle.decoder_words.specs.Sites.{AllInside, Below}
 use Rattle.rules.specs.Received.{FrameFits}
 use Rattle.words_blocks.specs.Blocks.{Powers}
 use Rattle.decoder_words.specs.Ready.{LineReady, lineWord, correctionAt}
-use Rattle.decoder_words.proofs.Flips.{received}
-
--- bits inside a frame's lengths are bytes of its buffers
-inside : (x : BitSite) {n k a b : ℕ} → n ≡ a → k ≡ b → Inside x a b → Inside x n k
-unfolding Inside
-inside Absent e f h = tt
-inside Unsent e f h = tt
-inside (Info j) e f h = omega (arith, h, e)
-inside (Red j) e f h = omega (arith, h, f)
+use Rattle.decoder_flips.proofs.Flips.{received}
+use Rattle.decoder_flips.proofs.Located.{all-inside, below-all}
 
 pub inside-frame : (s : Spots) {d : Design} {L : ℕ} {info red : List ℕ} → FrameFits d L info red
     → AllInside s (L * (d .size * d .size)) (groups L * (2 * orderOf d)) → AllInside s (length info) (length red)
-inside-frame s F h = (
-  inside (s .x) (F .infoLength) (F .redLength) (h .0),
-  inside (s .y) (F .infoLength) (F .redLength) (h .1),
-  inside (s .z) (F .infoLength) (F .redLength) (h .2),
-)
+inside-frame s F h = all-inside s (F .infoLength) (F .redLength) h
 
-below-all : {n : ℕ} (c : List ℕ) → ((j : ℕ) → In j c → j < n) → Below n c
-unfolding Below
-below-all [] h = tt
-below-all (j ∷ c) h = (h j (inl refl), below-all c (λ k m. h k (inr m)))
-
--- v has the sites of a word's positions
-module _ (v : ℕ → Site) {z : Located} where
-  pub listed-none : z ≡ Nowhere → ([] ≡ map v (positionsOf z)) × (0 ≡ length (positionsOf z))
-  unfolding positionsOf
-  listed-none e = (ap (λ (y : Located). map v (positionsOf y)) (sym e), ap (λ (y : Located). length (positionsOf y)) (sym e))
-
-  pub listed-one : {p : ℕ} {a : List Site} → z ≡ One p → a ≡ v p ∷ [] → (a ++ [] ≡ map v (positionsOf z)) × (1 ≡ length (positionsOf z))
-  unfolding positionsOf
-  listed-one e f = (
-    ap (λ (c : List Site). c ++ []) f ∙ ap (λ (y : Located). map v (positionsOf y)) (sym e),
-    ap (λ (y : Located). length (positionsOf y)) (sym e),
-  )
-
-  pub listed-two : {p q : ℕ} {a b : List Site} → z ≡ Two p q → a ≡ v p ∷ [] → b ≡ v q ∷ []
-      → (a ++ (b ++ []) ≡ map v (positionsOf z)) × (2 ≡ length (positionsOf z))
-  unfolding positionsOf
-  listed-two e f g = (
-    ap₂ (λ (c d : List Site). c ++ (d ++ [])) f g ∙ ap (λ (y : Located). map v (positionsOf y)) (sym e),
-    ap (λ (y : Located). length (positionsOf y)) (sym e),
-  )
-
-  pub listed-three : {p q u : ℕ} {a b c : List Site} → z ≡ Three p q u → a ≡ v p ∷ [] → b ≡ v q ∷ [] → c ≡ v u ∷ []
-      → (a ++ (b ++ c) ≡ map v (positionsOf z)) × (3 ≡ length (positionsOf z))
-  unfolding positionsOf
-  listed-three e f g h = (
-    ap₂ (λ (c d : List Site). c ++ d) f (ap₂ (λ (c d : List Site). c ++ d) g h) ∙ ap (λ (y : Located). map v (positionsOf y)) (sym e),
-    ap (λ (y : Located). length (positionsOf y)) (sym e),
-  )
+pub ready-at : {line : Line} {links tables field : List ℕ} (k : ℕ) → LineReady line links tables field → k < 2 * groups (line .blocks)
+    → LineReady (record { d = line .d; blocks = line .blocks; k = k }) links tables field
+ready-at k R h =
+    record {
+      fits = record { allowed = R .fits .allowed; few-blocks = R .fits .few-blocks; within = h };
+      linked = R .linked;
+      word-tables = R .word-tables;
+    }
 
 module _ {line : Line} {links tables field : List ℕ} (R : LineReady line links tables field) where
   abbrev s : Params

@@ -1,3 +1,1 @@
-pub mod Sites
 pub mod Ready
-pub mod Told

@@ -1,7 +1,9 @@
 -- What is asked of the arguments with which the words of a line are corrected, and what is left: steps of the decoder, which no promise names.
 --   WordTables    the tables of a design: the powers of x at the positions of a word, behind them their values and those of four bits, and the field's
 --   LineReady     a line of a frame, the table of links and the tables of the design
---   FrameKept     a received frame with the kept numbers of all its words
+--   FrameKept     a frame with the kept numbers of all its words and, behind them, the marks of its bits
+--   marksIn       the marks
+--   LineMarks     marks that were right are right again
 --   lineWord      word a of a line
 --   correctionAt  its correction
 --   SentAt        positions of a word that are sent
@@ -17,6 +19,7 @@ use Rattle.staircase.specs.Frame.{Frame, Site, frameOf}
 use Rattle.staircase.specs.Frame.Site.{unsent}
 use Rattle.staircase.specs.Decoder.{allSent, correction}
 use Rattle.staircase.specs.Kept.{Keeps, KeepsBut}
+use Rattle.staircase.specs.Rules.{keptWork}
 use Rattle.staircase.specs.Lines.{lineSites, wordCount, frameWord, crossing}
 use Rattle.design.specs.declared.Design.{Design}
 use Rattle.design.specs.Sizes.{paramsOf}
@@ -24,6 +27,7 @@ use Rattle.rules.specs.Received.{FrameFits}
 use Rattle.decoder_locator.specs.Located.{LocatorTables}
 use Rattle.words_lines.specs.declared.Line.{Line}
 use Rattle.words_lines.specs.Lines.{LineFits}
+use Rattle.decoder_marks.specs.Marks.{MarksKept}
 use Rattle.decoder_lines.specs.Links.{listsIn, LinksFit, keptOf, Crossed}
 
 pub record WordTables (d : Design) (tables field : List ℕ) : Type 0 where
@@ -35,10 +39,16 @@ pub record LineReady (line : Line) (links tables field : List ℕ) : Type 0 wher
   pub linked : LinksFit (line .d) links
   pub word-tables : WordTables (line .d) tables field
 
-pub record FrameKept (d : Design) (L : ℕ) (links info red numbers : List ℕ) : Type 0 where
+pub record FrameKept (d : Design) (L : ℕ) (links info red kept : List ℕ) : Type 0 where
   pub frame : FrameFits d L info red
-  pub long : length numbers ≡ 4 * wordCount (paramsOf d) L
-  pub kept : Keeps (frameWord (paramsOf d) (listsIn d links) L) (wordCount (paramsOf d) L) (frameOf info red) (keptOf numbers)
+  pub long : length kept ≡ keptWork (paramsOf d) L
+  pub numbers : Keeps (frameWord (paramsOf d) (listsIn d links) L) (wordCount (paramsOf d) L) (frameOf info red) (keptOf kept)
+
+abbrev pub marksIn : Line → List ℕ → List ℕ
+marksIn line kept = drop (4 * wordCount (paramsOf (line .d)) (line .blocks)) kept
+
+abbrev pub LineMarks : Line → List ℕ → List ℕ → List ℕ → List ℕ → List ℕ → List ℕ → Type 0
+LineMarks line info red kept info' red' kept' = MarksKept (frameOf info red) (marksIn line kept) (frameOf info' red') (marksIn line kept')
 
 abbrev pub lineWord : Line → List ℕ → ℕ → List Site
 lineWord line links a = lineSites (paramsOf (line .d)) (listsIn (line .d) links) (line .blocks) (line .k) a

@@ -1,61 +1,40 @@
 // Corrects the words of a frame's lines, in the buffers that hold them, on kept remainders.
-//   Outcome          what correcting a word comes to: clean, corrected or stuck
+//   number_bytes     the bytes of the kept numbers, behind which the marks stand
 //   correct_word     corrects a word from its kept number
 //   correct_line     corrects the words of a line
 //   correct_lines    the words of some lines, one line after the other: a round, or a part of one
 //
 // A word is never copied, and nothing is summed. The kept number of a word is its remainder, which says at which positions its errors are (crate
-// `decoder_locator`). `decoder_lines::site_at` says where these stand in the two lent buffers, and `flip_at` flips the bits there. A bit of Y or of P
-// is one byte, whichever word it is read by, so both its places change. Then the other word that has the bit gets the power of the bit's position in
-// it, and the own number becomes 0. A word that has no correction is marked, until one of its bits is flipped: a word whose number is 0 and a marked
-// word are passed over; the first is clean, the second is stuck.
+// `decoder_locator`). `decoder_lines::site_at` says where these stand in the two lent buffers, and `decoder_flips::flip_all` flips the bits there, each
+// with its mark in the bytes behind the numbers. Then the other word that has the bit gets the power of the bit's position in it, and the own number
+// becomes 0. A word that has no correction is marked in its number, until one of its bits is flipped: a word whose number is 0 and a marked word are
+// passed over; the first is clean, the second is stuck.
 ghost use mathlib.Core.Path.{_≡_};
 ghost use mathlib.Core.List.{map};
 ghost use Prim.Native.Nat.{_+_, _*_, _^_, _≤_, _<_};
 ghost use lib.ListN.{length, getD, take};
-ghost use Rattle.bch.specs.Polynomial.{Bits, remainder};
 ghost use Rattle.staircase.specs.Lists.{tabulate, concat};
 ghost use Rattle.staircase.specs.Design.{wordLength};
-ghost use Rattle.staircase.specs.Frame.{groups, frameOf, read};
+ghost use Rattle.staircase.specs.Frame.{groups, frameOf};
 ghost use Rattle.staircase.specs.Frame.Site.{unsent};
-ghost use Rattle.staircase.specs.Decoder.{allSent, flipAll, round};
-ghost use Rattle.staircase.specs.Outcomes.{correctedBits, outcome, flipsOf, stuckOf, stuckAmong};
+ghost use Rattle.staircase.specs.Decoder.{flipAll, round};
+ghost use Rattle.staircase.specs.Outcomes.{outcome, stuckAmong};
 ghost use Rattle.staircase.specs.Lines.{lineSites, wordCount};
 ghost use Rattle.design.specs.Sizes.{paramsOf, orderOf};
-ghost use Rattle.rules.specs.Received.{FrameFits};
 ghost use Rattle.words_blocks.specs.Blocks.{Powers};
-ghost use Rattle.decoder_lines.specs.Sites.{sitesOf, Inside};
+ghost use Rattle.decoder_flips.specs.Sites.{listed, AllInside, Below};
+ghost use Rattle.decoder_flips.specs.Told.{outcomeOf};
 ghost use Rattle.words_lines.specs.Lines.{LineFits};
 ghost use Rattle.decoder_lines.specs.Links.{listsIn, LinksFit};
 ghost use Rattle.decoder_locator.specs.Located.{positionsOf, located};
-ghost use Rattle.decoder_words.specs.Sites.{listed, AllInside, Below};
-ghost use Rattle.decoder_words.specs.Ready.{WordTables, LineReady, FrameKept, lineWord, correctionAt, SentAt, CrossedAll};
-ghost use Rattle.decoder_words.specs.Told.{outcomeOf};
-use decoder_lines::BitSite;
+ghost use Rattle.decoder_words.specs.Ready.{WordTables, LineReady, FrameKept, LineMarks, lineWord, correctionAt, SentAt, CrossedAll};
+use decoder_flips::BitSite;
+use decoder_flips::Outcome;
+use decoder_flips::Pass;
+use decoder_flips::Spots;
 use decoder_locator::Located;
 use design::Design;
 use words_lines::Line;
-
-// Where at most three bits of a word stand, and how many there are.
-struct Spots {
-    count: usize,
-    x: BitSite,
-    y: BitSite,
-    z: BitSite,
-}
-
-// What correcting a word comes to: it was in the code, so many bits of it were flipped, or it has no correction and stays outside the code.
-pub enum Outcome {
-    Clean,
-    Corrected(usize),
-    Stuck,
-}
-
-// What correcting some words has done: bits flipped, and words that were stuck.
-pub struct Pass {
-    pub flips: usize,
-    pub stuck: usize,
-}
 
 // Where the located positions of word a of a line stand.
 fn sites_of(line: Line, links: &[u16], a: usize, found: Located) -> Spots
@@ -104,60 +83,6 @@ fn sites_of(line: Line, links: &[u16], a: usize, found: Located) -> Spots
     }
 }
 
-// Whether a bit is in a block that is sent.
-fn is_sent(at: BitSite) -> bool
-    ensures { λ a. ⌜ a ≡ allSent (sitesOf at) ⌝ }
-{
-    match at {
-        BitSite::Absent => true,
-        BitSite::Unsent => false,
-        BitSite::Info(_) => true,
-        BitSite::Red(_) => true,
-    }
-}
-
-// Whether all of the bits are.
-fn all_sent(s: Spots) -> bool
-    ensures { λ a. ⌜ a ≡ allSent (listed s) ⌝ }
-{
-    let x = s.x;
-    if !is_sent(x) {
-        return false;
-    }
-    let y = s.y;
-    if !is_sent(y) {
-        return false;
-    }
-    let z = s.z;
-    is_sent(z)
-}
-
-// Flips a bit of the lent buffers.
-fn flip_at(info: &mut [u8], red: &mut [u8], at: BitSite)
-    requires { ⌜ Inside at (length (now info)) (length (now red)) × Bits (now info) × Bits (now red) ⌝ }
-    ensures { λ u. ⌜ frameOf (now (info .exit)) (now (red .exit)) ≡ flipAll (sitesOf at) (frameOf (now (info .entry)) (now (red .entry))) ⌝ }
-{
-    match at {
-        BitSite::Absent => {}
-        BitSite::Unsent => {}
-        BitSite::Info(k) => info[k] = 1 - info[k],
-        BitSite::Red(k) => red[k] = 1 - red[k],
-    }
-}
-
-// Flips all of the bits.
-fn flip_all(info: &mut [u8], red: &mut [u8], s: Spots)
-    requires { ⌜ AllInside s (length (now info)) (length (now red)) × Bits (now info) × Bits (now red) ⌝ }
-    ensures { λ u. ⌜ frameOf (now (info .exit)) (now (red .exit)) ≡ flipAll (listed s) (frameOf (now (info .entry)) (now (red .entry))) ⌝ }
-{
-    let x = s.x;
-    let y = s.y;
-    let z = s.z;
-    flip_at(info, red, z);
-    flip_at(info, red, y);
-    flip_at(info, red, x);
-}
-
 // The positions of at most t errors of a word, from its remainder.
 fn locate_errors(d: Design, x: u32, tables: &[u32], field: &[u16]) -> Located
     requires { ⌜ WordTables d (now tables) (now field) × (x < 2 ^ (d .m * d .t)) ⌝ }
@@ -168,31 +93,46 @@ fn locate_errors(d: Design, x: u32, tables: &[u32], field: &[u16]) -> Located
     decoder_locator::locate(d.m(), d.t(), x, &tables[0..n], &tables[n..all], field)
 }
 
-// Corrects word a of a line, whose remainder is lent, and answers the positions at which it flipped bits.
+// The bytes of the kept numbers of a frame, behind which its marks stand.
+pub fn number_bytes(line: Line) -> usize
+    requires { ⌜ LineFits line ⌝ }
+    ensures { λ n. ⌜ (n ≡ 4 * wordCount (paramsOf (line .d)) (line .blocks)) × (n ≤ 8196000) ⌝ }
+{
+    let d = line.d;
+    4 * (words_lines::line_count(line.blocks) * d.size())
+}
+
+// Flips the bits at which word a of a line is wrong, each with its mark, and answers their positions. The kept numbers stay those of the frame before.
 fn flip_found(
     line: Line,
     a: usize,
-    x: u32,
     links: &[u16],
     tables: &[u32],
     field: &[u16],
     info: &mut [u8],
     red: &mut [u8],
+    kept: &mut [u8],
 ) -> Located
-    requires { ⌜ LineReady line (now links) (now tables) (now field) × FrameFits (line .d) (line .blocks) (now info) (now red) × (a < line .d .size)
-        × (x ≡ remainder (paramsOf (line .d) .g) (paramsOf (line .d) .r) (read (frameOf (now info) (now red)) (lineWord line (now links) a))) ⌝ }
+    requires { ⌜ LineReady line (now links) (now tables) (now field) × (a < line .d .size)
+        × FrameKept (line .d) (line .blocks) (now links) (now info) (now red) (now kept) ⌝ }
     ensures { λ z. ⌜ (frameOf (now (info .exit)) (now (red .exit))
         ≡ flipAll (correctionAt line (now (links .entry)) (frameOf (now (info .entry)) (now (red .entry))) a) (frameOf (now (info .entry)) (now (red .entry))))
         × (correctionAt line (now (links .entry)) (frameOf (now (info .entry)) (now (red .entry))) a
         ≡ map (λ j. getD (lineWord line (now (links .entry)) a) j unsent) (positionsOf z))
-        × Below (wordLength (paramsOf (line .d))) (positionsOf z) ⌝ }
+        × Below (wordLength (paramsOf (line .d))) (positionsOf z)
+        × FrameKept (line .d) (line .blocks) (now (links .entry)) (now (info .entry)) (now (red .entry)) (now (kept .exit))
+        × LineMarks line (now (info .entry)) (now (red .entry)) (now (kept .entry)) (now (info .exit)) (now (red .exit)) (now (kept .exit)) ⌝ }
 {
+    let w = decoder_lines::word_number(line, a);
+    let x = decoder_kept::get(&kept[..], w) % 2147483648;
     let found = locate_errors(line.d, x, tables, field);
     let spots = sites_of(line, links, a, found);
-    if !all_sent(spots) {
+    if !decoder_flips::all_sent(spots) {
         return Located::Nowhere;
     }
-    flip_all(info, red, spots);
+    let n = number_bytes(line);
+    let all = kept.len();
+    decoder_flips::flip_all(info, red, &mut kept[n..all], spots);
     found
 }
 
@@ -206,7 +146,7 @@ fn add_powers(
     numbers: &mut [u8],
 )
     requires { ⌜ LineFits line × LinksFit (line .d) (now links) × Powers (paramsOf (line .d)) (now positions) × (a < line .d .size)
-        × SentAt line (now links) a (positionsOf found) × (length (now numbers) ≡ 4 * wordCount (paramsOf (line .d)) (line .blocks)) ⌝ }
+        × SentAt line (now links) a (positionsOf found) × (4 * wordCount (paramsOf (line .d)) (line .blocks) ≤ length (now numbers)) ⌝ }
     ensures { λ u. ⌜ CrossedAll line (now (links .entry)) a (positionsOf found) (now (numbers .entry)) (now (numbers .exit))
         × (length (now (numbers .exit)) ≡ length (now (numbers .entry))) ⌝ }
 {
@@ -227,18 +167,6 @@ fn add_powers(
     }
 }
 
-// How many positions there are.
-fn count_of(found: Located) -> usize
-    ensures { λ k. ⌜ (k ≡ length (positionsOf found)) × (k ≤ 3) ⌝ }
-{
-    match found {
-        Located::Nowhere => 0,
-        Located::One(_) => 1,
-        Located::Two(_, _) => 2,
-        Located::Three(_, _, _) => 3,
-    }
-}
-
 // Corrects word a of a line from its kept number, and answers how many bits it flipped. A word that cannot be corrected is marked.
 pub fn correct_word(
     line: Line,
@@ -248,37 +176,28 @@ pub fn correct_word(
     field: &[u16],
     info: &mut [u8],
     red: &mut [u8],
-    numbers: &mut [u8],
+    kept: &mut [u8],
 ) -> usize
     requires { ⌜ LineReady line (now links) (now tables) (now field) × (a < line .d .size)
-        × FrameKept (line .d) (line .blocks) (now links) (now info) (now red) (now numbers) ⌝ }
+        × FrameKept (line .d) (line .blocks) (now links) (now info) (now red) (now kept) ⌝ }
     ensures { λ k. ⌜ (frameOf (now (info .exit)) (now (red .exit))
         ≡ flipAll (correctionAt line (now (links .entry)) (frameOf (now (info .entry)) (now (red .entry))) a) (frameOf (now (info .entry)) (now (red .entry))))
         × (k ≡ length (correctionAt line (now (links .entry)) (frameOf (now (info .entry)) (now (red .entry))) a))
-        × FrameKept (line .d) (line .blocks) (now (links .entry)) (now (info .exit)) (now (red .exit)) (now (numbers .exit)) ⌝ }
+        × FrameKept (line .d) (line .blocks) (now (links .entry)) (now (info .exit)) (now (red .exit)) (now (kept .exit))
+        × LineMarks line (now (info .entry)) (now (red .entry)) (now (kept .entry)) (now (info .exit)) (now (red .exit)) (now (kept .exit)) ⌝ }
 {
+    let found = flip_found(line, a, links, tables, field, info, red, kept);
+    let count = decoder_flips::count_of(found);
     let w = decoder_lines::word_number(line, a);
-    let x = decoder_kept::get(&numbers[..], w) % 2147483648;
-    let found = flip_found(line, a, x, links, tables, field, info, red);
-    let count = count_of(found);
     if count == 0 {
-        decoder_kept::put(numbers, w, x + 2147483648);
+        let x = decoder_kept::get(&kept[..], w) % 2147483648;
+        decoder_kept::put(kept, w, x + 2147483648);
         return 0;
     }
     let n = line.d.n();
-    add_powers(line, a, found, links, &tables[0..n], numbers);
-    decoder_kept::put(numbers, w, 0);
+    add_powers(line, a, found, links, &tables[0..n], kept);
+    decoder_kept::put(kept, w, 0);
     count
-}
-
-// What a word that is outside the code comes to, by the number of bits that were flipped.
-fn by_count(count: usize) -> Outcome
-    ensures { λ a. ⌜ outcomeOf a ≡ correctedBits count ⌝ }
-{
-    match count {
-        0 => Outcome::Stuck,
-        _ => Outcome::Corrected(count),
-    }
 }
 
 // Corrects word a of a line, unless its number is 0 or it is marked.
@@ -290,47 +209,26 @@ pub fn visit_word(
     field: &[u16],
     info: &mut [u8],
     red: &mut [u8],
-    numbers: &mut [u8],
+    kept: &mut [u8],
 ) -> Outcome
     requires { ⌜ LineReady line (now links) (now tables) (now field) × (a < line .d .size)
-        × FrameKept (line .d) (line .blocks) (now links) (now info) (now red) (now numbers) ⌝ }
+        × FrameKept (line .d) (line .blocks) (now links) (now info) (now red) (now kept) ⌝ }
     ensures { λ z. ⌜ (frameOf (now (info .exit)) (now (red .exit))
         ≡ flipAll (correctionAt line (now (links .entry)) (frameOf (now (info .entry)) (now (red .entry))) a) (frameOf (now (info .entry)) (now (red .entry))))
         × (outcomeOf z ≡ outcome (paramsOf (line .d)) (frameOf (now (info .entry)) (now (red .entry))) (lineWord line (now (links .entry)) a))
-        × FrameKept (line .d) (line .blocks) (now (links .entry)) (now (info .exit)) (now (red .exit)) (now (numbers .exit)) ⌝ }
+        × FrameKept (line .d) (line .blocks) (now (links .entry)) (now (info .exit)) (now (red .exit)) (now (kept .exit))
+        × LineMarks line (now (info .entry)) (now (red .entry)) (now (kept .entry)) (now (info .exit)) (now (red .exit)) (now (kept .exit)) ⌝ }
 {
     let w = decoder_lines::word_number(line, a);
-    let x = decoder_kept::get(&numbers[..], w);
+    let x = decoder_kept::get(&kept[..], w);
     if x % 2147483648 == 0 {
         return Outcome::Clean;
     }
     if 2147483648 <= x {
         return Outcome::Stuck;
     }
-    let count = correct_word(line, a, links, tables, field, info, red, numbers);
-    by_count(count)
-}
-
-// The bits that were flipped.
-fn flips_of(told: Outcome) -> usize
-    ensures { λ k. ⌜ k ≡ flipsOf (outcomeOf told) ⌝ }
-{
-    match told {
-        Outcome::Clean => 0,
-        Outcome::Corrected(n) => n,
-        Outcome::Stuck => 0,
-    }
-}
-
-// 1 for a word that is stuck.
-fn stuck_of(told: Outcome) -> usize
-    ensures { λ k. ⌜ (k ≡ stuckOf (outcomeOf told)) × (k ≤ 1) ⌝ }
-{
-    match told {
-        Outcome::Clean => 0,
-        Outcome::Corrected(_) => 0,
-        Outcome::Stuck => 1,
-    }
+    let count = correct_word(line, a, links, tables, field, info, red, kept);
+    decoder_flips::by_count(count)
 }
 
 // Corrects the words of a line that are outside the code and not marked, one after the other, and answers how many bits it flipped and how many words
@@ -342,23 +240,24 @@ pub fn correct_line(
     field: &[u16],
     info: &mut [u8],
     red: &mut [u8],
-    numbers: &mut [u8],
+    kept: &mut [u8],
 ) -> Pass
     requires { ⌜ LineReady line (now links) (now tables) (now field)
-        × FrameKept (line .d) (line .blocks) (now links) (now info) (now red) (now numbers) ⌝ }
+        × FrameKept (line .d) (line .blocks) (now links) (now info) (now red) (now kept) ⌝ }
     ensures { λ k. ⌜ (record { frame = frameOf (now (info .exit)) (now (red .exit)); flips = k .flips }
         ≡ round (paramsOf (line .d)) (tabulate (line .d .size) (lineWord line (now (links .entry)))) (frameOf (now (info .entry)) (now (red .entry))))
-        × FrameKept (line .d) (line .blocks) (now (links .entry)) (now (info .exit)) (now (red .exit)) (now (numbers .exit)) × (k .flips ≤ 1500)
+        × FrameKept (line .d) (line .blocks) (now (links .entry)) (now (info .exit)) (now (red .exit)) (now (kept .exit)) × (k .flips ≤ 1500)
         × (k .stuck ≡ stuckAmong (paramsOf (line .d)) (frameOf (now (info .entry)) (now (red .entry)))
-        (tabulate (line .d .size) (lineWord line (now (links .entry))))) × (k .stuck ≤ 500) ⌝ }
+        (tabulate (line .d .size) (lineWord line (now (links .entry))))) × (k .stuck ≤ 500)
+        × LineMarks line (now (info .entry)) (now (red .entry)) (now (kept .entry)) (now (info .exit)) (now (red .exit)) (now (kept .exit)) ⌝ }
 {
     let size = line.d.size();
     let mut flips = 0;
     let mut stuck = 0;
     for a in 0..size {
-        let told = visit_word(line, a, links, tables, field, info, red, numbers);
-        flips += flips_of(told);
-        stuck += stuck_of(told);
+        let told = visit_word(line, a, links, tables, field, info, red, kept);
+        flips += decoder_flips::flips_of(told);
+        stuck += decoder_flips::stuck_of(told);
     }
     Pass {
         flips: flips,
@@ -376,22 +275,23 @@ pub fn correct_lines(
     field: &[u16],
     info: &mut [u8],
     red: &mut [u8],
-    numbers: &mut [u8],
+    kept: &mut [u8],
 ) -> Pass
     requires { ⌜ LineReady line (now links) (now tables) (now field) × (line .k + count ≤ 2 * groups (line .blocks))
-        × FrameKept (line .d) (line .blocks) (now links) (now info) (now red) (now numbers) ⌝ }
+        × FrameKept (line .d) (line .blocks) (now links) (now info) (now red) (now kept) ⌝ }
     ensures { λ k. ⌜ (record { frame = frameOf (now (info .exit)) (now (red .exit)); flips = k .flips }
         ≡ round (paramsOf (line .d)) (concat count (λ i. tabulate (line .d .size)
         (lineSites (paramsOf (line .d)) (listsIn (line .d) (now (links .entry))) (line .blocks) (line .k + i)))) (frameOf (now (info .entry)) (now (red .entry))))
-        × FrameKept (line .d) (line .blocks) (now (links .entry)) (now (info .exit)) (now (red .exit)) (now (numbers .exit)) × (k .flips ≤ 1500 * count)
+        × FrameKept (line .d) (line .blocks) (now (links .entry)) (now (info .exit)) (now (red .exit)) (now (kept .exit)) × (k .flips ≤ 1500 * count)
         × (k .stuck ≡ stuckAmong (paramsOf (line .d)) (frameOf (now (info .entry)) (now (red .entry))) (concat count (λ i. tabulate (line .d .size)
-        (lineSites (paramsOf (line .d)) (listsIn (line .d) (now (links .entry))) (line .blocks) (line .k + i))))) × (k .stuck ≤ 500 * count) ⌝ }
+        (lineSites (paramsOf (line .d)) (listsIn (line .d) (now (links .entry))) (line .blocks) (line .k + i))))) × (k .stuck ≤ 500 * count)
+        × LineMarks line (now (info .entry)) (now (red .entry)) (now (kept .entry)) (now (info .exit)) (now (red .exit)) (now (kept .exit)) ⌝ }
 {
     let mut flips = 0;
     let mut stuck = 0;
     for i in 0..count {
         let here = words_lines::line_at(line, line.k + i);
-        let more = correct_line(here, links, tables, field, info, red, numbers);
+        let more = correct_line(here, links, tables, field, info, red, kept);
         flips += more.flips;
         stuck += more.stuck;
     }

@@ -1,4 +1,3 @@
-pub mod Constants
 pub mod Finish
 pub mod FrameGroups
 pub mod GroupMade

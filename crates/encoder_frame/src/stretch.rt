@@ -56,7 +56,8 @@ fn add_constants(red: &[u8], count: usize, preimages: &[u16], words: &mut [u64])
         × ((q : ℕ) → q < length (now words) → getD (now preimages) q 0 < length (now words)) × ((q : ℕ) → getD (now words) q 0 ≡ 0) × (length (now words) ≤ most-order) ⌝ }
     ensures { λ u. ⌜ (length (now (words .exit)) ≡ length (now (words .entry)))
         × ((g q : ℕ) → g < count → q < length (now (words .entry)) → getD (now (words .exit)) q 0 / 2 ^ g % 2
-        ≡ placeConstant (frameAt (2 * length (now (words .entry))) (now (red .entry)) g) (now (preimages .entry)) (length (now (words .entry))) q) ⌝ }
+        ≡ placeConstant (frameAt (2 * length (now (words .entry))) (now (red .entry)) g) (now (preimages .entry)) (length (now (words .entry))) q)
+        × ((g q : ℕ) → count ≤ g → q < length (now (words .entry)) → getD (now (words .exit)) q 0 / 2 ^ g % 2 ≡ 0) ⌝ }
 {
     let w = 2 * words.len();
     for g in 0..count {
@@ -98,7 +99,7 @@ fn solve_groups(
     let size = sizes.size;
     let r = sizes.r;
     add_constants(&red[..], count, preimages, words);
-    encoder_solution::solve(inverse, size, r, words);
+    encoder_solution::solve(inverse, size, r, count, words);
     finish_groups(
         &words[..],
         count,

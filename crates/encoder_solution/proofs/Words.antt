@@ -3,13 +3,15 @@
 --   sums-none, sums-doubled               a table of the sums of no word; of one word more
 --   table-is                              one of several tables
 --   product-none, product-more            the product of a row with no words; with those of n bytes more
+--   product-same, product-spare           by words that are equal; words that are 0 add nothing
+--   product-bit                           a bit of it
 --   sum-of-eight                          eight terms, one after the other
 --   xorSum-bit                            a bit of a sum is the sum of bits
 -- Assumes nothing.
 use mathlib.Core.Path.{_≡_, refl, sym, ap, ap₂, _∙_}
 use mathlib.Core.List.{List}
-use Prim.Native.Nat.{ℕ, zero, suc, _+_, _-_, _*_, _/_, _%_, _^_, _<_}
-use native.Mathlib.Nat.{zero-mul, one-mul}
+use Prim.Native.Nat.{ℕ, zero, suc, _+_, _-_, _*_, _/_, _%_, _^_, _≤_, _<_}
+use native.Mathlib.Nat.{zero-mul, mul-zero, one-mul}
 use native.Mathlib.Numerals.{add-one}
 use native.Mathlib.Decide.{decLt}
 use native.Mathlib.Omega.{arith}
@@ -18,9 +20,9 @@ use lib.Pow.{low, high}
 use lib.ListN.{length, getD, set, take, drop}
 use Rattle.bch.specs.Polynomial.{_⊕_}
 use Rattle.bch.specs.Powers.{xorSum}
-use Rattle.bch.proofs.Sum.{bit-ind, ⊕-zero-right, ⊕-assoc}
+use Rattle.bch.proofs.Sum.{bit-ind, mod2-bit, ⊕-zero-right, ⊕-assoc}
 use Rattle.bch.proofs.Store.{set-each}
-use Rattle.bch.proofs.PowerSum.{xorSum-same, xorSum-append}
+use Rattle.bch.proofs.PowerSum.{xorSum-same, xorSum-zero, xorSum-append}
 use Rattle.staircase.specs.Lists.{bitSum, sumBits}
 use Rattle.staircase.proofs.Entries.{sumBits-last}
 use Rattle.matrix.proofs.Bits.{bit, bit-zero, bit-above, bit-low, bit-xor}
@@ -110,6 +112,21 @@ module _ (m : List ℕ) (w : ℕ) (c : ℕ → ℕ) (e : ℕ) where
   unfolding rowProduct xorSum
   product-none x = sym (⊕-zero-right x)
 
+  pub product-spare : (n k : ℕ) → n ≤ k → ((i : ℕ) → n ≤ i → c i ≡ 0) → rowProduct m w c e k ≡ rowProduct m w c e n
+  unfolding rowProduct
+  product-spare n k h zeros =
+      let f : ℕ → ℕ = λ i. rowEntry m w e i * c i in
+      let d : k ≡ n + (k - n) = omega arith in
+      ap (λ (z : ℕ). xorSum z f) d ∙ xorSum-append n (k - n) f
+      ∙ ap (λ (z : ℕ). xorSum n f ⊕ z)
+      (xorSum-zero (k - n) (λ i. f (n + i)) (λ i l. ap (λ (z : ℕ). rowEntry m w e (n + i) * z) (zeros (n + i) (omega arith)) ∙ mul-zero (rowEntry m w e (n + i))))
+      ∙ ⊕-zero-right (xorSum n f)
+
+  pub product-same : (n : ℕ) (d : ℕ → ℕ) → ((k : ℕ) → k < n → c k ≡ d k) → rowProduct m w c e n ≡ rowProduct m w d e n
+  unfolding rowProduct
+  product-same n d same =
+      xorSum-same n (λ k. rowEntry m w e k * c k) (λ k. rowEntry m w e k * d k) (λ k h. ap (λ (z : ℕ). rowEntry m w e k * z) (same k h))
+
   -- n bytes of the row from byte b on, by the tables of their words
   module _ (b n : ℕ) (part : ℕ → ℕ) (tables : List ℕ) (same : (k : ℕ) → k < 8 * n → part k ≡ c (8 * b + k))
       (by-tables : (q : ℕ) → q < 256 * n → getD tables q 0 ≡ tableEntry part q) (bytes : (q : ℕ) → getD m q 0 < 256) where
@@ -152,3 +169,7 @@ xorSum-bit zero g b x h = bit-zero g
 xorSum-bit (suc n) g b x h =
     bit-xor (xorSum n (λ k. b k * x k)) (b n * x n) g ∙ ap₂ bitSum (xorSum-bit n g b x h) (bit-times (b n) (x n) g (h n))
     ∙ sym (sumBits-last n (λ k. b k * (x k / 2 ^ g % 2)))
+
+pub product-bit : (m : List ℕ) (w : ℕ) (c : ℕ → ℕ) (e n g : ℕ) → bit (rowProduct m w c e n) g ≡ sumBits n (λ k. rowEntry m w e k * bit (c k) g)
+unfolding rowProduct
+product-bit m w c e n g = xorSum-bit n g (rowEntry m w e) c (λ k. mod2-bit (getD m (e * w + k / 8) 0 / 2 ^ (k % 8)))

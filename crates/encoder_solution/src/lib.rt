@@ -8,22 +8,23 @@
 // The digits of the remainders of a group's words without Y are P and Q as they would be for Y = 0, and the constant is the one plus the other where
 // the parity list brings it. So y = W c, with W the inverse of A that the kit has.
 //
-// W has (size × r)² bits and is most of what is read, so it is read once for 64 groups (module `product`): bit g of a word belongs to group g. Words are
-// in the order of places, as Y and P are, so that bits go in and come out side by side and without a division; `solve` brings them into the order of the
+// W has (size × r)² bits and is most of what is read, so it is read once for up to 64 groups: bit g of a word belongs to group g. For many groups the
+// product goes by tables of sums (module `product`), for few by the parity of each row and each constant (module `rows`). Words are in the order of places, as Y and P are, so that bits go in and come out side by side and without a division; `solve` brings them into the order of the
 // stack and back, once for all groups.
 mod product;
+mod rows;
 
 ghost use mathlib.Core.Path.{_≡_};
 ghost use mathlib.Core.Bool.{cond};
 ghost use Prim.Native.Nat.{ℕ, _+_, _-_, _*_, _/_, _%_, _^_, _≤_, _<_};
 ghost use lib.Dec.{eqb};
 ghost use lib.ListN.{length, getD};
-ghost use Rattle.bch.specs.Polynomial.{Bits};
+ghost use Rattle.bch.specs.Polynomial.{Bits, _⊕_};
 ghost use Rattle.staircase.specs.Lists.{bitSum, tabulate};
 ghost use Rattle.staircase.specs.Design.{most-order};
 ghost use Rattle.staircase.specs.System.{rowBytes};
 ghost use Rattle.encoder_solution.specs.Bits.{placeConstant};
-ghost use Rattle.encoder_solution.specs.Words.{solutionWord};
+ghost use Rattle.encoder_solution.specs.Words.{rowProduct, solutionWord};
 
 // Makes `out` digit `shift` of each entry of `columns`.
 fn digits(columns: &[u32], shift: usize, out: &mut [u8])
@@ -81,41 +82,63 @@ fn transpose(from: &[u64], n: usize, m: usize, to: &mut [u64])
     }
 }
 
-// `solve` with its working words lent: `constants` for those of the stack, 0 behind it, and `products`, 0 at first.
+// Adds to each lent word of `products` the product of its row of the inverse, of order n, and the words of the stack. Behind the stack's the words are 0,
+// and so are the bits of all words from `count` on. Rows are quicker below a group for each 16 bytes of a row: the more bytes it has, the more tables
+// there are to be made and the less of the inverse stays in the cache from one pass to the next.
+fn multiply(inverse: &[u8], n: usize, count: usize, constants: &[u64], products: &mut [u64])
+    requires { ⌜ (length (now inverse) ≡ n * rowBytes n) × (length (now products) ≡ n) × (0 < n) × (n ≤ most-order) × (length (now constants) ≡ 4096)
+        × ((k : ℕ) → n ≤ k → getD (now constants) k 0 ≡ 0) × ((k j : ℕ) → count ≤ j → getD (now constants) k 0 / 2 ^ j % 2 ≡ 0) ⌝ }
+    ensures { λ u. ⌜ (length (now (products .exit)) ≡ length (now (products .entry)))
+        × ((e : ℕ) → e < n → getD (now (products .exit)) e 0 ≡ getD (now (products .entry)) e 0
+        ⊕ rowProduct (now (inverse .entry)) (rowBytes n) (λ k. getD (now (constants .entry)) k 0) e n) ⌝ }
+{
+    let w = (n + 7) / 8;
+    if count < w / 16 {
+        let p = (w + 31) / 32 * 32;
+        rows::multiply(inverse, w, &constants[0..8 * p], p, count, products);
+        return;
+    }
+    product::multiply(inverse, w, &constants[0..8 * w], products);
+}
+
+// `solve` with its working words lent, all 0 at first: `constants` for those of the stack, and `products`.
 fn solve_in(
     inverse: &[u8],
     size: usize,
     r: usize,
+    count: usize,
     constants: &mut [u64],
     products: &mut [u64],
     words: &mut [u64],
 )
     requires { ⌜ (length (now inverse) ≡ size * r * rowBytes (size * r)) × (length (now words) ≡ size * r) × (0 < size) × (0 < r) × (size * r ≤ most-order)
-        × (length (now constants) ≡ 8 * rowBytes (size * r)) × ((k : ℕ) → getD (now constants) k 0 ≡ 0)
-        × (length (now products) ≡ size * r) × ((k : ℕ) → getD (now products) k 0 ≡ 0) ⌝ }
+        × (length (now constants) ≡ 4096) × ((k : ℕ) → getD (now constants) k 0 ≡ 0)
+        × (length (now products) ≡ size * r) × ((k : ℕ) → getD (now products) k 0 ≡ 0)
+        × ((q j : ℕ) → q < size * r → count ≤ j → getD (now words) q 0 / 2 ^ j % 2 ≡ 0) ⌝ }
     ensures { λ u. ⌜ now (words .exit) ≡ tabulate (size * r) (solutionWord (now (inverse .entry)) (now (words .entry)) size r) ⌝ }
 {
     let n = size * r;
     transpose(&words[..], size, r, &mut constants[0..n]);
-    product::multiply(inverse, (n + 7) / 8, &constants[..], products);
+    multiply(inverse, n, count, &constants[..], products);
     transpose(&products[..], r, size, words);
 }
 
-// Multiplies the constants of up to 64 groups by the inverse: bit g of the lent words, one for each place, is the constant of group g before and its
-// solution Y afterwards. One step for each byte of the inverse, for all groups.
-pub fn solve(inverse: &[u8], size: usize, r: usize, words: &mut [u64])
-    requires { ⌜ (length (now inverse) ≡ size * r * rowBytes (size * r)) × (length (now words) ≡ size * r) × (0 < size) × (0 < r) × (size * r ≤ most-order) ⌝ }
+// Multiplies the constants of `count` groups, at most 64, by the inverse: bit g of the lent words, one for each place, is the constant of group g before
+// and its solution Y afterwards. The bits of no group are 0 and stay so. One step for each byte of the inverse: for all groups, or for each of few.
+pub fn solve(inverse: &[u8], size: usize, r: usize, count: usize, words: &mut [u64])
+    requires { ⌜ (length (now inverse) ≡ size * r * rowBytes (size * r)) × (length (now words) ≡ size * r) × (0 < size) × (0 < r) × (size * r ≤ most-order)
+        × ((q j : ℕ) → q < size * r → count ≤ j → getD (now words) q 0 / 2 ^ j % 2 ≡ 0) ⌝ }
     ensures { λ u. ⌜ now (words .exit) ≡ tabulate (size * r) (solutionWord (now (inverse .entry)) (now (words .entry)) size r) ⌝ }
 {
     let n = size * r;
-    let padded = (n + 7) / 8 * 8;
     let mut constants = [0u64; 4096];
     let mut products = [0u64; 4096];
     solve_in(
         inverse,
         size,
         r,
-        &mut constants[0..padded],
+        count,
+        &mut constants[..],
         &mut products[0..n],
         words,
     );

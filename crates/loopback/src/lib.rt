@@ -69,7 +69,7 @@ fn check_numbers(m: u64, t: u64, size: u64, blocks: u64, rounds: u64) -> Check
     design::check_rounds(rounds)
 }
 
-// The working bytes of what the decoder keeps: four for each word of a frame, and one for each bit.
+// The working bytes of what the decoder keeps: four for each word of a frame, and one for eight bits.
 fn kept_bytes(m: u64, t: u64, size: u64, blocks: u64) -> usize
     requires { ⌜ (designRules m t size ≡ accepted) × (blocks ≤ most-blocks) ⌝ }
     ensures { λ a. ⌜ (a ≡ keptWork (params m t size) blocks) × (a ≤ 1100000000) ⌝ }
@@ -92,9 +92,9 @@ fn bytes_before(all: usize, more: usize) -> usize
 }
 
 // Encodes the lent information, turns the bits of the frame that the two patterns name, and decodes it in at most `rounds` rounds, 0 standing for
-// 7. Byte k of a pattern that is not 0 turns bit k of its buffer; a pattern may have any length. The answer is the decoder's: its counts, or the
+// 12. Byte k of a pattern that is not 0 turns bit k of its buffer; a pattern may have any length. The answer is the decoder's: its counts, or the
 // first of rules 1 to 10 that refuses; a refused call leaves both buffers as they were. The working bytes are as many as the inverse's, and four for each
-// word and one for each bit of the frame: the encoder is lent all but these. The work is that of the two calls.
+// word and one for eight bits of the frame: the encoder is lent all but these. The work is that of the two calls.
 pub fn loopback(
     m: u64,
     t: u64,

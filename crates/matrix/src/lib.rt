@@ -103,7 +103,7 @@ fn identity_entry(i: usize, j: usize) -> u32
 
 // The ones of a byte, counted by additions of neighbouring bits: each two bits become their sum, then each four, then all eight (H. Warren, "Hacker's
 // Delight", section 5-1). A fixed number of steps.
-fn ones_of(v: u8) -> u8
+pub fn ones_of(v: u8) -> u8
     ensures { λ c. ⌜ c ≡ ones v ⌝ }
 {
     let pairs = v - ((v >> 1) & 0x55);

@@ -6,3 +6,5 @@ pub mod Demand1
 pub mod Demand
 pub mod Vectors
 pub mod Words
+pub mod Crossing
+pub mod KeptRows

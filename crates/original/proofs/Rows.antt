@@ -13,7 +13,7 @@ use native.Mathlib.Nat.{mul-le-mul-right, mod-lt, div-add-mod', mul-pos, zero-lt
 use native.Mathlib.Decide.{decLt}
 use native.Mathlib.Omega.{arith}
 use lib.Arith.{digits-lt, digits-div, digits-mod}
-use lib.ListN.{length, getD, length-append, List·getD-eq-default}
+use lib.ListN.{length, getD, List·getD-eq-default}
 use lib.Seq.{ext-getD}
 use Rattle.bch.proofs.Bch.{degree, bch-bound}
 use Rattle.staircase.specs.Lists.{tabulate, concat}
@@ -27,6 +27,7 @@ use Rattle.staircase.proofs.Member.{In, in-left, in-right, in-cases, in-tabulat
 use Rattle.staircase.proofs.Flip.{Within}
 use Rattle.staircase.proofs.Occurrences.{Single}
 use Rattle.staircase.proofs.Correction.{CodeDistance, Sound, Covers}
+use Rattle.original.proofs.Crossing.{row-length}
 use Rattle.original.proofs.Encoder.{Fresh, After, Alike, encode-in-code, encode-only, encode-reach, encodeEach-alike}
 
 -- ---- the order of words in lists of lists
@@ -375,22 +376,6 @@ module _ (s : Params) (rpos : 0 < s .r) (thin : s .r < s .M) (deg : s .g / 2 ^ s
             subst S (sym q) (below b a (0 + i) hb ha (omega (arith, hi)))
 
     -- copies with at most t wrong bits a word are recovered
-    row-length : (b a : ℕ) → length (rowOf s b a .info ++ rowOf s b a .end) ≡ 2 * s .M
-    unfolding rowOf
-    row-length b a =
-        let A = tabulate (s .M) (λ j. blockSite s b (j * s .M + a)) in
-        let B = tabulate (s .M - s .r) (λ j. blockSite s (suc b) (a * s .M + j)) in
-        let C = tabulate (s .r) (λ j. blockSite s (suc b) (a * s .M + (s .M - s .r + j))) in
-        let p : length (A ++ B ++ C) ≡ length A + length B + length C = length-append (A ++ B) C ∙ ap (λ (n : ℕ). n + length C) (length-append A B) in
-        omega (
-          arith,
-          p,
-          tabulate-length (s .M) (λ j. blockSite s b (j * s .M + a)),
-          tabulate-length (s .M - s .r) (λ j. blockSite s (suc b) (a * s .M + j)),
-          tabulate-length (s .r) (λ j. blockSite s (suc b) (a * s .M + (s .M - s .r + j))),
-          thin,
-        )
-
     module _ (distant : CodeDistance s (2 * s .M)) where
       pub rows-sound : (w : Word) → In w (rowWords s L) → Sound (encodeEach f (rows s L)) w
       unfolding rowWords
@@ -400,7 +385,7 @@ module _ (s : Params) (rpos : 0 < s .r) (thin : s .r < s .M) (deg : s .g / 2 ^ s
             coded = rows-in-code v iv;
             apart = each-row L (λ v. CodeDistance (v .code) (length (v .info ++ v .end)))
                 (λ b a hb ha. subst (λ (p : Params). CodeDistance p (length (rowOf s b a .info ++ rowOf s b a .end))) (sym (code-is b a))
-                (subst (CodeDistance s) (sym (row-length b a)) distant)) v iv;
+                (subst (CodeDistance s) (sym (row-length s (omega (arith, thin)) b a)) distant)) v iv;
           })
 
       pub rows-cover : Covers (encodeEach f (rows s L)) (rowWords s L)

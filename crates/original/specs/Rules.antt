@@ -8,7 +8,7 @@
 -- Assumes nothing.
 use mathlib.Core.Bool.{Bool, false, cond}
 use mathlib.Core.List.{List}
-use Prim.Native.Nat.{ℕ, _+_, _-_, _*_, _%_, _^_, _≤_, _<_}
+use Prim.Native.Nat.{ℕ, _+_, _-_, _*_, _/_, _%_, _^_, _≤_, _<_}
 use lib.Dec.{ltb, leb}
 use lib.ListN.{getD, length}
 use Rattle.staircase.specs.Design.{Params, params, least-m, most-m, most-t, most-M}
@@ -38,9 +38,9 @@ inInformation s k = ltb (k % s .M) (s .M - s .r)
 unfoldable pub infoBits : Params → List ℕ → Verdict
 infoBits s l = refuseFirst 10 0 (length l) (λ k. cond (inInformation s k) (ltb 1 (getD l k 0)) false)
 
--- four bytes for each word, and a byte for each bit of the copy
+-- four bytes for each word, and a mark for each bit, eight in a byte
 unfoldable pub originalWork : Params → ℕ → ℕ
-originalWork s L = 4 * (L * s .M) + infoLength s L
+originalWork s L = 4 * (L * s .M) + (infoLength s L + 7) / 8
 
 -- what rules 1, 2 and 19 let through
 pub record Original (m t M : ℕ) : Type 0 where

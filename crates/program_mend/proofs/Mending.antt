@@ -68,7 +68,7 @@ short d L kit text B =
 pub red-room : (d : Design) (L : ℕ) (kit text : List ℕ) → Scanned true d L kit text → (s : Sizes) → SizesAre s d L → s .red ≤ most-input
 red-room d L kit text B s z = omega (arith, z .red-is, short d L kit text B)
 
-pub work-room : (d : Design) (L : ℕ) (kit text : List ℕ) → Scanned true d L kit text → decoderWork (paramsOf d) L ≤ 65717
+pub work-room : (d : Design) (L : ℕ) (kit text : List ℕ) → Scanned true d L kit text → decoderWork (paramsOf d) L ≤ 37045
 unfolding decoderWork wordWork keptWork
 work-room d L kit text B =
     let A = B .started .allowed in

@@ -16,12 +16,12 @@ use design::Design;
 use program::Start;
 
 // The decoder's working bytes. Only their room is told: a kit text of at most 32,768 bytes has at most 181 rows, and a frame text of as many shows at most
-// 32,768 bits, all of which are copied; a word has 2 r of those of redundancy, and so 8 at least, and four working bytes.
-fn working_bytes(n: usize) -> [u8; 65717]
-    requires { ⌜ n ≤ 65717 ⌝ }
+// 32,768 bits, each of which has a mark, eight in a byte; a word has 2 r of those of redundancy, and so 8 at least, and four working bytes.
+fn working_bytes(n: usize) -> [u8; 37045]
+    requires { ⌜ n ≤ 37045 ⌝ }
     ensures { λ a. ⌜ RoomFor n a ⌝ }
 {
-    [0; 65717]
+    [0; 37045]
 }
 
 // Writes both texts of a corrected frame and the three counts.

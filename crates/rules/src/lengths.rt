@@ -226,14 +226,14 @@ fn blocks_allowed(blocks: u64) -> u64
     blocks
 }
 
-// The working bytes of what the decoder keeps of a frame of `blocks` blocks: four for each word, and one for each bit.
+// The working bytes of what the decoder keeps of a frame of `blocks` blocks: four for each word, and one for eight bits.
 pub fn kept_work(d: Design, blocks: u64) -> usize
     requires { ⌜ Allowed d × (blocks ≤ most-blocks) ⌝ }
     ensures { λ a. ⌜ (a ≡ keptWork (paramsOf d) blocks) × (a ≤ 1100000000) ⌝ }
 {
     let bits = frame_due(d, blocks, lists_due(d));
     let count = design::group_count(blocks) as usize;
-    8 * (count * d.size()) + (bits.info + bits.red)
+    8 * (count * d.size()) + (bits.info + bits.red + 7) / 8
 }
 
 // Of the lists of a kit, and of the working bytes of the decoder for a frame of `blocks` blocks, where rule 4 accepts them.

@@ -1,6 +1,7 @@
 -- The lines of a frame: their words, and what stands at each position.
 --   even-twice, odd-twice, even-next, line-ind   lines are row lines and column lines
 --   line-row, line-column                    the lines of a group
+--   concat-tabulate                          lists of M entries, one after the other, by the numbers of their entries
 --   words-lines, words-numbered              a frame's words, line by line, and by their numbers
 --   red-place, partner-y, partner-p, partner-below, partner-back   the places of the redundancy
 --   line-first, line-second, line-red        the sites of a word: block k, block k + 1, redundancy
@@ -77,7 +78,7 @@ concat-pairs {A} (suc n) f =
     ∙ sym (concat-last (suc (2 * n)) f) ∙ ap (λ (k : ℕ). concat k f) (sym e)
 
 -- lists of M entries, one after the other
-concat-tabulate : {A : Type 0} (M n : ℕ) (F : ℕ → ℕ → A) → concat n (λ k. tabulate M (F k)) ≡ tabulate (n * M) (λ w. F (w / M) (w % M))
+pub concat-tabulate : {A : Type 0} (M n : ℕ) (F : ℕ → ℕ → A) → concat n (λ k. tabulate M (F k)) ≡ tabulate (n * M) (λ w. F (w / M) (w % M))
 unfolding concat tabulate
 concat-tabulate M zero F = ap (λ (k : ℕ). tabulate k (λ w. F (w / M) (w % M))) (sym (zero-mul M))
 concat-tabulate {A} M (suc n) F =

@@ -133,9 +133,9 @@ runEach ws (suc k) f =
 unfoldable pub runRounds : Params → List (List Site) → ℕ → Frame → Decoded
 runRounds s ws k f = runEach (plain s ws) k f
 
--- "a number of rounds; 0 stands for 7"
+-- document 02: "A rounds number of 0 now stands for 12"
 abbrev pub default-rounds : ℕ
-default-rounds = 7
+default-rounds = 12
 
 abbrev pub roundsAllowed : ℕ → ℕ
 roundsAllowed zero = default-rounds

@@ -51,6 +51,8 @@ pub data Table (n p : ℕ) : Type 0 where
   batch : n ≡ 17 → (0 < p → most-frames < p) → Table n p
   -- document 02: "16 full .. the place is the first such total's position in the order above, from 1"
   full : n ≡ 16 → 1 ≤ p → p ≤ 6 → Table n p
+  -- document 02: the bytes of a report that a host in C lends "are place 8 of rule 6"
+  report : n ≡ 6 → p ≡ 8 → Table n p
   -- a tally that a host in C lends as a slice, behind the places of documents 01 and 02 (docs/DECISIONS.md)
   tally : n ≡ 6 → p ≡ 9 → Table n p
   -- document 02: "18 window .. when V is 0 or above 64; the place is V"

@@ -107,9 +107,9 @@ kitWork s = order s * rowBytes (order s)
 unfoldable pub wordWork : Params → ℕ
 wordWork s = order s
 
--- of what the decoder keeps: four bytes for each of the 2 M words of each group, and a byte for each bit of the copy
+-- of what the decoder keeps: four bytes for each of the 2 M words of each group, and a mark for each bit of the copy, eight in a byte
 unfoldable pub keptWork : Params → ℕ → ℕ
-keptWork s L = 8 * (groups L * s .M) + (infoLength s L + redLength s L)
+keptWork s L = 8 * (groups L * s .M) + (infoLength s L + redLength s L + 7) / 8
 
 -- of the decoder
 unfoldable pub decoderWork : Params → ℕ → ℕ

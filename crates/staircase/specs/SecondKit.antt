@@ -74,7 +74,7 @@ abbrev pub unsettledLeftS : Frame
 unsettledLeftS = record { info = 0 ∷ 0 ∷ 1 ∷ 0 ∷ []; red = 0 ∷ 1 ∷ 0 ∷ 0 ∷ 1 ∷ 1 ∷ 1 ∷ 0 ∷ 0 ∷ 1 ∷ 0 ∷ 1 ∷ 1 ∷ 0 ∷ 0 ∷ 1 ∷ [] }
 
 abbrev pub unsettledCountsS : Counts
-unsettledCountsS = record { rounds = 7; turned = 3; outside = 1; stuck = 0 }
+unsettledCountsS = record { rounds = 12; turned = 3; outside = 1; stuck = 0 }
 
 abbrev pub kitS : List ℕ → Verdict
 kitS w = kitVerdict 4 1 2 selfS parityS w (kitWork paramsS)
@@ -116,7 +116,7 @@ pub record SecondKit : Type 0 where
   -- is idle
   pub corrected : decodedS 3 receivedS ≡ record { verdict = accepted; frame = record { info = infoS; red = redS }; counts = countsS }
   -- in round 1 row word 0 would need a bit of B0 and column word 0 one of the block after the last, and both stay; from round 2 on column word 0
-  -- flips a bit that row word 1 flips back in the next round, so that no round is idle and all 7 are made; in the last one no word is stuck, and yet
+  -- flips a bit that row word 1 flips back in the next round, so that no round is idle and all 12 are made; in the last one no word is stuck, and yet
   -- one is outside at the end
   pub unsettled : decodedS 1 unsettledS ≡ record { verdict = accepted; frame = unsettledLeftS; counts = unsettledCountsS }
   -- two errors, one in X and one in Q

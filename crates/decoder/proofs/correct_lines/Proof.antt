@@ -1,157 +1,77 @@
--- Where no word is outside the code, one idle round would be made; else the frame is copied behind its numbers, the rounds keep the numbers right, and the
--- copy tells which bits differ.
+-- The marks are cleared, the rounds keep them and the numbers right, and then they tell which bits differ.
 -- Assumes nothing.
-use mathlib.Core.Path.{_≡_, refl, sym, ap, ap₂, _∙_, subst, subst⁻¹}
-use mathlib.Core.List.{List, _++_}
-use Prim.Native.Nat.{ℕ, _+_, _-_, _*_, _/_}
+use mathlib.Core.Path.{_≡_, sym, ap, _∙_}
+use Prim.Native.Nat.{ℕ, _-_, _/_}
 use native.Mathlib.Omega.{arith}
-use lib.ListN.{length, take, drop, length-append}
-use Rattle.staircase.specs.Frame.{Frame, frameOf}
-use Rattle.staircase.specs.LineErrors.{lineErrors}
+use lib.ListN.{length, take, drop}
+use Rattle.staircase.specs.Frame.{frameOf}
 use Rattle.staircase.specs.Lines.{wordCount}
 use Rattle.design.specs.Sizes.{paramsOf}
-use Rattle.words_positions.proofs.Parts.{part-fits, part-is}
 use Rattle.decoder_kept.specs.Numbers.{nonzeroNumbers}
-use Rattle.decoder_copy.specs.Copy.{frameIn}
-use Rattle.decoder_copy.proofs.Copies.{frameIn-append}
-use Rattle.decoder_words.specs.Ready.{FrameKept}
+use Rattle.decoder_marks.specs.Marks.{setMarks}
+use Rattle.decoder_words.proofs.Marks.{numbers-within}
 use Rattle.decoder_frame.proofs.Numbers.{kept-outside}
-use Rattle.decoder.proofs.Keeping.{numbers-lent, copy-lent, copy-same, corrected-made, corrected-idle}
+use Rattle.decoder.proofs.Keeping.{cleared-marks, marks-few, marks-errors, corrected-made}
 use borrow.Author.Needs.{needs}
 use Rattle.decoder.proofs.correct_lines.Statement.{statement}
 use Rattle.decoder.proofs.correct_lines.Tie as tie
 
-idle-counts-requires : tie.Need-idle-counts-requires
-idle-counts-requires c κs =
-    let p = c .before .before .before .before .before .before .before .before .before .before .pre in
-    (p .0 .fits .few-blocks, p .1)
+number-bytes-requires : tie.Need-number-bytes-requires
+number-bytes-requires c κs = c .before .before .before .before .before .before .pre .0 .fits
 
-returns : tie.Need-returns
-returns c =
-    let a = c .before .before .before .before .before .before .before .before .before .before .before .args in
-    let p = c .before .before .before .before .before .before .before .before .before .before .before .pre in
-    let K = a .kept .now in
-    let words = wordCount (paramsOf (a .line .d)) (a .line .blocks) in
-    let n = length K - length (a .info .now) - length (a .red .now) in
-    let en : n ≡ 4 * words = omega (arith, p .3) in
-    let e : n - 0 ≡ 4 * words = omega (arith, en) in
-    let all : n / 4 ≡ words = omega (arith, en) in
-    let out = ap₂ (λ (j k : ℕ). nonzeroNumbers (take j K) k) e all ∙ kept-outside (p .2) in
-    (corrected-idle _ _ _ (a .window .groups) (a .window .limit) _ _ (c .idle-counts .ensures) (sym out ∙ sym (c .before .before .count .ensures) ∙ c .before .if1 .taken), refl)
+sub-clear : tie.Need-sub-clear
+sub-clear c = omega (arith, c .number-bytes .ensures .0, numbers-within (c .before .before .before .before .before .before .before .pre .2))
+
+part-clear-start : tie.Need-part-clear-start
+part-clear-start c = omega (arith, c .number-bytes .ensures .0, numbers-within (c .before .before .before .before .before .before .before .pre .2))
 
 run-window-requires : tie.Need-run-window-requires
 run-window-requires c κs =
-    let a = c .before .before .before .before .before .before .before .before .before .before .before .before .before .before .before .before .before .before .before .args in
-    let p = c .before .before .before .before .before .before .before .before .before .before .before .before .before .before .before .before .before .before .before .pre in
-    let K = a .kept .now in
-    let words = wordCount (paramsOf (a .line .d)) (a .line .blocks) in
-    let n = length K - length (a .info .now) - length (a .red .now) in
-    let en : n ≡ 4 * words = omega (arith, p .3) in
-    let C = c .before .before .before .before .before .keep-frame .last .1 .1 .0 in (
-      p .0,
-      p .1,
-      subst⁻¹ (λ (x : List ℕ). FrameKept (a .line .d) (a .line .blocks) (a .links .now) (a .info .now) (a .red .now) x)
-          (numbers-lent K C n (length K) refl (omega arith)) (subst⁻¹ (λ (j : ℕ). FrameKept (a .line .d) (a .line .blocks) (a .links .now) (a .info .now) (a .red .now) (take j K)) en (p .2)),
-    )
+    let p = c .before .before .before .before .before .before .before .before .before .before .before .before .before .before .pre in
+    let n = c .before .before .before .before .before .before .before .number-bytes in
+    let y = c .before .before .before .before .before .clear in
+    (p .0, p .1, cleared-marks (p .0 .fits) (p .2) (n .result) (n .ensures .0) (y .last .0) (y .ensures) .0)
 
-line-errors-requires : tie.Need-line-errors-requires
-line-errors-requires c κs =
-    let a = c .before .before .before .before .before .before .before .before .before .before .before .before .before .before .before .before .before .before .before .before .before .before .before .before .before .before .before .before .before .before .args in
-    let p = c .before .before .before .before .before .before .before .before .before .before .before .before .before .before .before .before .before .before .before .before .before .before .before .before .before .before .before .before .before .before .pre in
-    let K = a .kept .now in
-    let words = wordCount (paramsOf (a .line .d)) (a .line .blocks) in
-    let n = length K - length (a .info .now) - length (a .red .now) in
-    let en : n ≡ 4 * words = omega (arith, p .3) in
-    let C = c .before .before .before .before .before .before .before .before .before .before .before .before .before .before .before .before .keep-frame .last .1 .1 .0 in
-    let ec = c .before .before .before .before .before .before .before .before .before .before .before .before .before .before .before .before .keep-frame .ensures in
-    let lc : length C ≡ length K - n = ap length ec ∙ length-append (a .info .now) (a .red .now) ∙ omega (arith, p .3) in
-    let N = c .before .before .before .before .before .before .before .before .before .before .run-window .last .1 .1 .1 .1 .1 .1 .1 .0 in
-    let F = c .before .before .before .before .before .before .before .before .before .before .run-window .ensures .2 in
-    let lN : length N ≡ n = F .long ∙ sym en in
-    let both = ap length (copy-lent K C n (length K) refl (omega arith) N lN lc) in
-    both ∙ lc ∙ omega (arith, p .3, F .frame .infoLength, F .frame .redLength, p .2 .frame .infoLength, p .2 .frame .redLength)
+sub-count : tie.Need-sub-count
+sub-count c = omega (arith, c .before .before .before .before .before .before .before .before .before .before .before .before .before .before .number-bytes .ensures .0, numbers-within (c .before .before .before .before .before .before .before .before .before .before .before .before .before .before .before .before .before .before .before .before .before .pre .2))
 
-part-count-end-2 : tie.Need-part-count-end-2
-part-count-end-2 c =
-    let a = c .before .before .before .before .before .before .before .before .before .before .before .before .before .before .before .before .before .before .before .before .before .before .before .before .before .before .before .before .before .before .before .before .args in
-    let p = c .before .before .before .before .before .before .before .before .before .before .before .before .before .before .before .before .before .before .before .before .before .before .before .before .before .before .before .before .before .before .before .before .pre in
-    let K = a .kept .now in
-    let words = wordCount (paramsOf (a .line .d)) (a .line .blocks) in
-    let n = length K - length (a .info .now) - length (a .red .now) in
-    let en : n ≡ 4 * words = omega (arith, p .3) in
-    let C = c .before .before .before .before .before .before .before .before .before .before .before .before .before .before .before .before .before .before .keep-frame .last .1 .1 .0 in
-    let ec = c .before .before .before .before .before .before .before .before .before .before .before .before .before .before .before .before .before .before .keep-frame .ensures in
-    let lc : length C ≡ length K - n = ap length ec ∙ length-append (a .info .now) (a .red .now) ∙ omega (arith, p .3) in
-    let N = c .before .before .before .before .before .before .before .before .before .before .before .before .run-window .last .1 .1 .1 .1 .1 .1 .1 .0 in
-    let F = c .before .before .before .before .before .before .before .before .before .before .before .before .run-window .ensures .2 in
-    let lN : length N ≡ n = F .long ∙ sym en in
-    part-fits N _ _ lN
+part-count-start : tie.Need-part-count-start
+part-count-start c = omega (arith, c .before .before .before .before .before .before .before .before .before .before .before .before .before .before .before .number-bytes .ensures .0, numbers-within (c .before .before .before .before .before .before .before .before .before .before .before .before .before .before .before .before .before .before .before .before .before .before .pre .2))
+
+part-count-end : tie.Need-part-count-end
+part-count-end c = omega (arith, c .before .before .before .before .before .before .before .before .before .before .before .before .before .before .before .before .before .before .before .before .before .before .pre .2 .long, c .before .before .before .before .before .before .before .run-window .ensures .2 .long)
+
+count-requires : tie.Need-count-requires
+count-requires c κs =
+    let p = c .before .before .before .before .before .before .before .before .before .before .before .before .before .before .before .before .before .before .before .before .before .before .before .pre in
+    let a = c .before .before .before .before .before .before .before .before .before .before .before .before .before .before .before .before .before .before .before .before .before .before .before .args in
+    let n = c .before .before .before .before .before .before .before .before .before .before .before .before .before .before .before .before .number-bytes in
+    let v = c .before .before .before .before .before .before .before .before .run-window in
+    let long : length (a .kept .now) ≡ length (v .last .1 .1 .1 .1 .1 .1 .1 .0) = p .2 .long ∙ sym (v .ensures .2 .long) in
+    rw long (marks-few (p .0 .fits) (v .ensures .2) (n .result) (n .ensures .0))
 
 count-requires-2 : tie.Need-count-requires-2
-count-requires-2 c κs =
-    let a = c .before .before .before .before .before .before .before .before .before .before .before .before .before .before .before .before .before .before .before .before .before .before .before .before .before .before .before .before .before .before .before .before .before .args in
-    let p = c .before .before .before .before .before .before .before .before .before .before .before .before .before .before .before .before .before .before .before .before .before .before .before .before .before .before .before .before .before .before .before .before .before .pre in
-    let K = a .kept .now in
-    let words = wordCount (paramsOf (a .line .d)) (a .line .blocks) in
-    let n = length K - length (a .info .now) - length (a .red .now) in
-    let en : n ≡ 4 * words = omega (arith, p .3) in
-    let C = c .before .before .before .before .before .before .before .before .before .before .before .before .before .before .before .before .before .before .before .keep-frame .last .1 .1 .0 in
-    let ec = c .before .before .before .before .before .before .before .before .before .before .before .before .before .before .before .before .before .before .before .keep-frame .ensures in
-    let lc : length C ≡ length K - n = ap length ec ∙ length-append (a .info .now) (a .red .now) ∙ omega (arith, p .3) in
-    let N = c .before .before .before .before .before .before .before .before .before .before .before .before .before .run-window .last .1 .1 .1 .1 .1 .1 .1 .0 in
-    let F = c .before .before .before .before .before .before .before .before .before .before .before .before .before .run-window .ensures .2 in
-    let lN : length N ≡ n = F .long ∙ sym en in
-    let e = ap length (part-is N (drop (n - 0) (take n K ++ (C ++ drop (length K - n) (drop n K)))) n lN) in
-    omega (arith, e, lN)
+count-requires-2 c κs = omega (arith, c .before .before .before .before .before .before .before .before .before .before .before .before .before .before .before .before .before .before .number-bytes .ensures .0, numbers-within (c .before .before .before .before .before .before .before .before .before .before .run-window .ensures .2))
 
-same-length-4 : tie.Need-same-length-4
-same-length-4 c =
-    let a = c .before .before .before .before .before .before .before .before .before .before .before .before .before .before .before .before .before .before .before .before .before .before .before .before .before .before .before .before .before .before .before .before .before .before .args in
-    let p = c .before .before .before .before .before .before .before .before .before .before .before .before .before .before .before .before .before .before .before .before .before .before .before .before .before .before .before .before .before .before .before .before .before .before .pre in
-    let K = a .kept .now in
-    let words = wordCount (paramsOf (a .line .d)) (a .line .blocks) in
-    let n = length K - length (a .info .now) - length (a .red .now) in
-    let en : n ≡ 4 * words = omega (arith, p .3) in
-    let C = c .before .before .before .before .before .before .before .before .before .before .before .before .before .before .before .before .before .before .before .before .keep-frame .last .1 .1 .0 in
-    let ec = c .before .before .before .before .before .before .before .before .before .before .before .before .before .before .before .before .before .before .before .before .keep-frame .ensures in
-    let lc : length C ≡ length K - n = ap length ec ∙ length-append (a .info .now) (a .red .now) ∙ omega (arith, p .3) in
-    let N = c .before .before .before .before .before .before .before .before .before .before .before .before .before .before .run-window .last .1 .1 .1 .1 .1 .1 .1 .0 in
-    let F = c .before .before .before .before .before .before .before .before .before .before .before .before .before .before .run-window .ensures .2 in
-    let lN : length N ≡ n = F .long ∙ sym en in
-    copy-same K C n (length K) refl (omega arith) N lN lc
-
-returns-2 : tie.Need-returns-2
-returns-2 c =
-    let a = c .before .before .before .before .before .before .before .before .before .before .before .before .before .before .before .before .before .before .before .before .before .before .before .before .before .before .before .before .before .before .before .before .before .before .args in
-    let p = c .before .before .before .before .before .before .before .before .before .before .before .before .before .before .before .before .before .before .before .before .before .before .before .before .before .before .before .before .before .before .before .before .before .before .pre in
-    let K = a .kept .now in
-    let words = wordCount (paramsOf (a .line .d)) (a .line .blocks) in
-    let n = length K - length (a .info .now) - length (a .red .now) in
-    let en : n ≡ 4 * words = omega (arith, p .3) in
-    let C = c .before .before .before .before .before .before .before .before .before .before .before .before .before .before .before .before .before .before .before .before .keep-frame .last .1 .1 .0 in
-    let ec = c .before .before .before .before .before .before .before .before .before .before .before .before .before .before .before .before .before .before .before .before .keep-frame .ensures in
-    let lc : length C ≡ length K - n = ap length ec ∙ length-append (a .info .now) (a .red .now) ∙ omega (arith, p .3) in
-    let N = c .before .before .before .before .before .before .before .before .before .before .before .before .before .before .run-window .last .1 .1 .1 .1 .1 .1 .1 .0 in
-    let F = c .before .before .before .before .before .before .before .before .before .before .before .before .before .before .run-window .ensures .2 in
-    let lN : length N ≡ n = F .long ∙ sym en in
-    let i = c .before .before .before .before .before .before .before .before .before .before .before .before .before .before .run-window .last .1 .1 .1 .1 .1 .0 in
-    let r = c .before .before .before .before .before .before .before .before .before .before .before .before .before .before .run-window .last .1 .1 .1 .1 .1 .1 .0 in
-    let same : length i ≡ length (a .info .now) = F .frame .infoLength ∙ sym (p .2 .frame .infoLength) in
-    let turned = ap (λ (x : List ℕ). lineErrors (frameIn (length i) x) (frameOf i r)) (copy-lent K C n (length K) refl (omega arith) N lN lc ∙ ec)
-    ∙ ap (λ (j : ℕ). lineErrors (frameIn j (a .info .now ++ a .red .now)) (frameOf i r)) same
-    ∙ ap (λ (f : Frame). lineErrors f (frameOf i r)) (frameIn-append (a .info .now) (a .red .now)) in
-    let all : n / 4 ≡ words = omega (arith, en) in
-    let outside = ap₂ nonzeroNumbers (part-is N (drop (n - 0) (take n K ++ (C ++ drop (length K - n) (drop n K)))) n lN) all ∙ kept-outside F in (
-      corrected-made _ _ _ (a .window .groups) (a .window .limit) _ _ _ _ (p .1 .some-rounds) (c .before .before .before .before .before .before .before .before .before .before .before .before .before .before .run-window .ensures .0) (c .before .before .before .line-errors .ensures ∙ turned)
-          (c .count2 .ensures ∙ outside) (c .before .before .before .before .before .before .before .before .before .before .before .before .before .before .run-window .ensures .1),
-      copy-same K C n (length K) refl (omega arith) N lN lc,
-    )
+returns : tie.Need-returns
+returns c =
+    let p = c .before .before .before .before .before .before .before .before .before .before .before .before .before .before .before .before .before .before .before .before .before .before .before .before .before .before .pre in
+    let a = c .before .before .before .before .before .before .before .before .before .before .before .before .before .before .before .before .before .before .before .before .before .before .before .before .before .before .args in
+    let n = c .before .before .before .before .before .before .before .before .before .before .before .before .before .before .before .before .before .before .before .number-bytes in
+    let y = c .before .before .before .before .before .before .before .before .before .before .before .before .before .before .before .before .before .clear in
+    let v = c .before .before .before .before .before .before .before .before .before .before .before .run-window in
+    let kept = v .last .1 .1 .1 .1 .1 .1 .1 .0 in
+    let f = frameOf (a .info .now) (a .red .now) in
+    let first = cleared-marks (p .0 .fits) (p .2) (n .result) (n .ensures .0) (y .last .0) (y .ensures) in
+    let long : length (a .kept .now) ≡ length kept = p .2 .long ∙ sym (v .ensures .2 .long) in
+    let set = c .before .before .count .ensures .0 ∙ ap (λ (z : ℕ). setMarks (take (z - n .result) (drop (n .result) kept))) long in
+    let turned = marks-errors (p .0 .fits) (v .ensures .2) (n .result) (n .ensures .0) f set (v .ensures .3 f (first .1)) in
+    let all : n .result / 4 ≡ wordCount (paramsOf (a .line .d)) (a .line .blocks) = omega (arith, n .ensures .0) in
+    corrected-made _ _ _ (a .window .groups) (a .window .limit) _ _ _ _ (p .1 .some-rounds) (v .ensures .0) turned
+    (c .count2 .ensures ∙ ap (nonzeroNumbers kept) all ∙ kept-outside (v .ensures .2)) (v .ensures .1)
 
 pub correct-lines-spec : {M : Type 1} → statement M
 correct-lines-spec =
     tie.close
-    (tie.spec (λ c. search needs) (λ c. search needs) (λ c. search needs) (λ c. search needs) (λ c. search needs) (λ c κs. search needs)
-    idle-counts-requires (λ c. search needs) returns (λ c. search needs) (λ c. search needs) (λ c. search needs)
-    (λ c κs. search needs) (λ c. search needs) (λ c. search needs) (λ c. search needs) run-window-requires (λ c. search needs) (λ c. search needs)
-    (λ c. search needs) line-errors-requires (λ c. search needs) (λ c. search needs) part-count-end-2 count-requires-2 (λ c. search needs)
-    (λ c. search needs) same-length-4 returns-2)
+    (tie.spec number-bytes-requires sub-clear part-clear-start (λ c. search needs) (λ c κs. search needs) run-window-requires sub-count
+    part-count-start part-count-end count-requires count-requires-2 (λ c. search needs) (λ c. search needs) (λ c. search needs) returns)

@@ -1,62 +1,70 @@
--- The powers of x stand first in the tables, and the numbers between the working bytes for the entries of a list and the room for the copy.
+-- The numbers stand first in what the decoder keeps.
 -- Assumes nothing.
-use mathlib.Core.Path.{_≡_, ap, _∙_, subst⁻¹}
-use mathlib.Core.List.{List, _++_}
-use Prim.Native.Nat.{ℕ, _-_, _*_}
+use mathlib.Core.Path.{_≡_, sym, _∙_, subst⁻¹}
+use mathlib.Core.List.{List}
+use Prim.Native.Nat.{ℕ, _-_, _*_, _≤_}
 use native.Mathlib.Omega.{arith}
-use lib.ListN.{length, take, drop, length-drop}
-use lib.Seq.{length-take-le, drop-at}
-use Rattle.staircase.specs.Design.{wordLength}
+use lib.ListN.{length, drop}
+use lib.Seq.{length-take-le}
 use Rattle.staircase.specs.Lines.{wordCount}
-use Rattle.design.specs.Sizes.{paramsOf, orderOf}
-use Rattle.words_blocks.specs.Blocks.{Powers}
-use Rattle.decoder_kept.specs.Numbers.{keptAt}
-use Rattle.decoder_words.proofs.Tables.{first-part}
-use Rattle.decoder.proofs.Keeping.{keptAt-front}
+use Rattle.design.specs.Sizes.{paramsOf}
+use Rattle.words_positions.proofs.Parts.{part-fits, part-is}
+use Rattle.words.specs.Words.{WordTable}
+use Rattle.decoder_kept.proofs.Numbers.{keptAt-front}
+use Rattle.decoder_words.proofs.Marks.{kept-split}
+use Rattle.decoder.proofs.Room.{positions-room}
+use Rattle.decoder.proofs.Rounds.{front-same}
 use borrow.Author.Needs.{needs}
 use Rattle.decoder.proofs.fill_kept.Statement.{statement}
 use Rattle.decoder.proofs.fill_kept.Tie as tie
 
+number-bytes-requires : tie.Need-number-bytes-requires
+number-bytes-requires c κs = c .before .before .before .before .before .before .pre .1
+
+part-positions-end : tie.Need-part-positions-end
+part-positions-end c = omega (arith, c .position-entries .ensures, positions-room (c .before .before .before .before .before .before .before .before .args .line .d) (c .before .before .before .before .before .before .before .before .pre .0 .allowed) (c .before .before .n .result) (c .before .before .n .ensures .0))
+
+fill-table-requires : tie.Need-fill-table-requires
+fill-table-requires c κs = c .before .before .before .before .before .before .before .before .before .pre .0 .allowed
+
+part-fill-numbers-end : tie.Need-part-fill-numbers-end
+part-fill-numbers-end c =
+    let l = length-take-le (c .before .before .before .before .before .before .n .result - 0) (c .before .before .before .before .position-entries .result) (omega (arith, c .before .before .before .before .position-entries .ensures, positions-room (c .before .before .before .before .before .before .before .before .before .before .before .before .args .line .d) (c .before .before .before .before .before .before .before .before .before .before .before .before .pre .0 .allowed) (c .before .before .before .before .before .before .n .result) (c .before .before .before .before .before .before .n .ensures .0))) in
+    part-fits (c .before .before .fill-table .last .1 .0) _ _ (c .before .before .fill-table .ensures .1 ∙ l ∙ omega arith)
+
+part-fill-numbers-end-2 : tie.Need-part-fill-numbers-end-2
+part-fill-numbers-end-2 c = omega (arith, c .before .before .before .before .before .before .number-bytes .ensures .0, c .before .before .before .before .before .before .before .before .before .before .before .before .before .pre .2, kept-split (paramsOf (c .before .before .before .before .before .before .before .before .before .before .before .before .before .args .line .d)) (c .before .before .before .before .before .before .before .before .before .before .before .before .before .args .line .blocks))
+
 fill-numbers-requires : tie.Need-fill-numbers-requires
 fill-numbers-requires c κs =
-    let s = c .before .before .before .before .before .before .before .before .before .before in
-    let bits = c .before .before .before .n in
-    let order = c .before .before .order in
-    let p = s .pre in
-    let a = s .args in
-    let front = length (a .work .now) - length (a .info .now) - length (a .red .now) in
-    let P = subst⁻¹ (λ (l : List ℕ). Powers (paramsOf (a .line .d)) l) (first-part (a .tables .now) (bits .result) (wordLength (paramsOf (a .line .d))) (bits .ensures .0)) (p .1) in
-    let behind = length-drop (order .result) (a .work .now) in
-    (p .0, P, length-take-le (front - order .result) (drop (order .result) (a .work .now)) (omega (arith, behind, order .ensures .0, p .3)) ∙ omega (arith, order .ensures .0, p .3))
-
-same-length : tie.Need-same-length
-same-length c = search needs
+    let p = c .before .before .before .before .before .before .before .before .before .before .before .before .before .before .pre in
+    let a = c .before .before .before .before .before .before .before .before .before .before .before .before .before .before .args in
+    let n = c .before .before .before .before .before .before .before .before .n in
+    let b = c .before .before .before .before .before .before .before .number-bytes in
+    let l = length-take-le (n .result - 0) (c .before .before .before .before .before .before .position-entries .result) (omega (arith, c .before .before .before .before .before .before .position-entries .ensures, positions-room (a .line .d) (p .0 .allowed) (n .result) (n .ensures .0))) in
+    let T = c .before .before .before .before .fill-table .last .1 .0 in
+    let lT : length T ≡ n .result = c .before .before .before .before .fill-table .ensures .1 ∙ l ∙ omega arith in
+    let P : WordTable (a .line .d) T = record { long = lT ∙ n .ensures .0; powers = c .before .before .before .before .fill-table .ensures .0 } in
+    let k = length-take-le (b .result - 0) (a .kept .now) (omega (arith, b .ensures .0, p .2, kept-split (paramsOf (a .line .d)) (a .line .blocks))) in
+    (p .0, subst⁻¹ (λ (x : List ℕ). WordTable (a .line .d) x) (part-is T (drop (n .result - 0) (c .before .before .before .before .before .before .position-entries .result)) (n .result) lT) P, omega (arith, k, b .ensures .0))
 
 returns : tie.Need-returns
 returns c =
-    let s = c .before .before .before .before .before .before .before .before .before .before .before .before .before in
-    let fill-numbers = c .before .before .fill-numbers in
-    let order = c .before .before .before .before .before .order in
-    let p = s .pre in
-    let a = s .args in
-    let W = a .work .now in
-    let B = fill-numbers .last .1 .1 .1 .1 .1 .1 .0 in
+    let p = c .before .before .before .before .before .before .before .before .before .before .before .before .before .before .before .before .before .pre in
+    let a = c .before .before .before .before .before .before .before .before .before .before .before .before .before .before .before .before .before .args in
+    let b = c .before .before .before .before .before .before .before .before .before .before .number-bytes in
+    let v = c .before .before .fill-numbers in
+    let B = v .last .1 .1 .1 .1 .1 .1 .0 in
     let N = wordCount (paramsOf (a .line .d)) (a .line .blocks) in
-    let front = length W - length (a .info .now) - length (a .red .now) in
-    let behind = length-drop (order .result) W in
-    let long : length B ≡ 4 * N =
-    fill-numbers .ensures .0 ∙ length-take-le (front - order .result) (drop (order .result) W) (omega (arith, behind, order .ensures .0, p .3)) ∙ omega (arith, order .ensures .0, p .3) in
-    let rest = drop (front - order .result) (drop (order .result) W) in (
-      same-length c,
-      λ w h.
-          ap (λ (x : List ℕ). keptAt x w)
-          (drop-at (take (order .result) W) (B ++ rest) (orderOf (a .line .d)) (length-take-le (order .result) W (omega (arith, order .ensures .0, p .3)) ∙ order .ensures .0))
-          ∙ keptAt-front B rest N w long h
-          ∙ fill-numbers .ensures .1 w h,
-    )
+    let within : b .result ≤ length (a .kept .now) = omega (arith, b .ensures .0, p .2, kept-split (paramsOf (a .line .d)) (a .line .blocks)) in
+    let k = length-take-le (b .result - 0) (a .kept .now) (omega (arith, within)) in
+    let long : length B ≡ 4 * N = v .ensures .0 ∙ k ∙ omega (arith, b .ensures .0) in
+    let rest = drop (b .result - 0) (a .kept .now) in
+    (front-same B (a .kept .now) (b .result) (long ∙ sym (b .ensures .0)) within, λ w h. keptAt-front B rest N w long h ∙ v .ensures .1 w h)
 
 pub fill-kept-spec : {M : Type 1} → statement M
 fill-kept-spec =
     tie.close
-    (tie.spec (λ c κs. search needs) (λ c κs. search needs) (λ c. search needs) (λ c. search needs) (λ c. search needs) (λ c. search needs) (λ c. search needs)
-    (λ c. search needs) (λ c. search needs) (λ c. search needs) fill-numbers-requires same-length returns)
+    (tie.spec (λ c κs. search needs) number-bytes-requires (λ c κs. search needs) (λ c. search needs) (λ c. search needs) part-positions-end
+    fill-table-requires (λ c. search needs) (λ c. search needs) part-fill-numbers-end (λ c. search needs) (λ c. search needs) part-fill-numbers-end-2
+    fill-numbers-requires (λ c. search needs) returns)

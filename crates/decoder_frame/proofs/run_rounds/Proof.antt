@@ -10,20 +10,21 @@ use Rattle.staircase.specs.Outcomes.{lastStuck}
 use Rattle.staircase.specs.Lines.{wordsFrom}
 use Rattle.design.specs.Sizes.{paramsOf}
 use Rattle.decoder_lines.specs.Links.{listsIn}
-use Rattle.decoder_words.specs.Ready.{FrameKept}
+use Rattle.decoder_words.specs.Ready.{FrameKept, LineMarks}
 use Rattle.decoder_frame.specs.Stretch.{stretchWords}
 use Rattle.decoder_frame.proofs.Limit.{round-each, stuck-each, after, rounds-start, rounds-more, rounds-idle, rounds-end, Last, last-start, last-more, last-idle}
 use Rattle.decoder_frame.proofs.run_rounds.Statement.{statement}
 use Rattle.decoder_frame.proofs.run_rounds.Tie as tie
 
 abbrev Inv-loop : tie.InvT-loop
-Inv-loop line links tables field info₀ red₀ numbers₀ lines limit flips₀ stuck₀ k₀ info red numbers flips stuck k =
-    (lines ≤ 4098) × (k ≤ limit) × FrameKept (line .d) (line .blocks) links info red numbers × (flips ≤ k * 6147000)
+Inv-loop line links tables field info₀ red₀ kept₀ lines limit flips₀ stuck₀ k₀ info red kept flips stuck k =
+    (lines ≤ 4098) × (k ≤ limit) × FrameKept (line .d) (line .blocks) links info red kept × (flips ≤ k * 6147000)
     × (runEach (stretchWords line links lines) limit (frameOf info₀ red₀) ≡ after k flips (runEach (stretchWords line links lines) (limit - k) (frameOf info red)))
     × Last (stretchWords line links lines) (lastStuck (stretchWords line links lines) limit (frameOf info₀ red₀)) limit k stuck (frameOf info red)
+    × LineMarks line info₀ red₀ kept₀ info red kept
 
 abbrev μ-loop : tie.MeasureT-loop
-μ-loop line links tables field info₀ red₀ numbers₀ lines limit flips₀ stuck₀ k₀ info red numbers flips stuck k = limit - k
+μ-loop line links tables field info₀ red₀ kept₀ lines limit flips₀ stuck₀ k₀ info red kept flips stuck k = limit - k
 
 mul-lines : tie.Need-mul-lines Inv-loop μ-loop
 mul-lines c = omega (arith, c .before .before .before .before .before .before .before .pre .1, c .before .before .before .before .before .before .before .pre .0 .fits .few-blocks)
@@ -40,6 +41,7 @@ loop-holds c =
       omega arith,
       rounds-start ws (a .window .limit) f,
       last-start ws (a .window .limit) 0 f (p .2),
+      λ y M. M,
     )
 
 correct-lines-requires : tie.Need-correct-lines-requires Inv-loop μ-loop
@@ -78,6 +80,7 @@ returns c =
       r .1,
       omega (arith, h, c .before .before .before .before .before .before .before .before .before .before .before .before .before .before .before .before .before .before .before .before .before .before .pre .3),
       omega (arith, r .2, l .inv .0, l .inv .3, h, c .before .before .before .before .before .before .before .before .before .before .before .before .before .before .before .before .before .before .before .before .before .before .pre .3),
+      λ y M. r .5 y (l .inv .6 y M),
     )
 
 add-k : tie.Need-add-k Inv-loop μ-loop
@@ -105,6 +108,7 @@ loop-again c =
       omega (arith, r .2, l .inv .0, l .inv .3),
       rounds-more ws (runEach ws (a .window .limit) f) (a .window .limit) (l .k) (l .flips) g (l .inv .4) h _ e (c .if1 .left),
       last-more ws (lastStuck ws (a .window .limit) f) (a .window .limit) (l .k) (l .stuck) g (l .inv .5) h _ e _ k (c .if1 .left),
+      λ y M. r .5 y (l .inv .6 y M),
     )
 
 same-length-4 : tie.Need-same-length-4 Inv-loop μ-loop
@@ -128,6 +132,7 @@ returns-2 c =
       l .inv .2,
       c .before .before .before .before .before .before .before .before .before .pre .3,
       omega (arith, l .inv .3, e, c .before .before .before .before .before .before .before .before .before .pre .3),
+      l .inv .6,
     )
 
 pub run-rounds-spec : {M : Type 1} → statement M

@@ -14,8 +14,8 @@ use Rattle.staircase.specs.Window.{windowWords, slide, slideStuck}
 use Rattle.design.specs.Sizes.{paramsOf}
 use Rattle.words_lines.specs.declared.Line.{Line}
 use Rattle.decoder_lines.specs.Links.{listsIn}
-use Rattle.decoder_words.specs.Ready.{LineReady, FrameKept}
-use Rattle.decoder_words.proofs.Passes.{ready-at}
+use Rattle.decoder_words.specs.Ready.{LineReady, FrameKept, LineMarks}
+use Rattle.decoder_words.proofs.Word.{ready-at}
 use Rattle.decoder_frame.specs.Stretch.{stretchWords}
 use Rattle.decoder_frame.proofs.Positions.{window-at, slide-none, slide-next, stuck-next}
 use borrow.Author.Needs.{needs}
@@ -23,16 +23,17 @@ use Rattle.decoder_frame.proofs.run_window.Statement.{statement}
 use Rattle.decoder_frame.proofs.run_window.Tie as tie
 
 abbrev Inv-loop : tie.InvT-loop
-Inv-loop line window links tables field info₀ red₀ numbers₀ count rounds₀ flips₀ stuck₀ p₀ info red numbers rounds flips stuck p =
-    (count ≡ groups (line .blocks) - window .groups + 1) × (count ≤ 2049) × (p ≤ count) × FrameKept (line .d) (line .blocks) links info red numbers
+Inv-loop line window links tables field info₀ red₀ kept₀ count rounds₀ flips₀ stuck₀ p₀ info red kept rounds flips stuck p =
+    (count ≡ groups (line .blocks) - window .groups + 1) × (count ≤ 2049) × (p ≤ count) × FrameKept (line .d) (line .blocks) links info red kept
     × (rounds ≤ p * 64) × (flips ≤ p * 393408000)
     × (record { frame = frameOf info red; rounds = rounds; flips = flips }
     ≡ slide (windowWords (paramsOf (line .d)) (listsIn (line .d) links) (line .blocks) (window .groups)) p (window .limit) (frameOf info₀ red₀))
     × ((q : ℕ) → p ≡ q + 1
     → stuck ≡ slideStuck (windowWords (paramsOf (line .d)) (listsIn (line .d) links) (line .blocks) (window .groups)) q (window .limit) (frameOf info₀ red₀))
+    × LineMarks line info₀ red₀ kept₀ info red kept
 
 abbrev μ-loop : tie.MeasureT-loop
-μ-loop line window links tables field info₀ red₀ numbers₀ count rounds₀ flips₀ stuck₀ p₀ info red numbers rounds flips stuck p = count - p
+μ-loop line window links tables field info₀ red₀ kept₀ count rounds₀ flips₀ stuck₀ p₀ info red kept rounds flips stuck p = count - p
 
 position-count-requires : tie.Need-position-count-requires Inv-loop μ-loop
 position-count-requires c κs = (c .before .before .before .before .before .before .pre .0 .fits .few-blocks, c .before .before .before .before .before .before .pre .1)
@@ -51,6 +52,7 @@ loop-holds c =
       slide-none (windowWords (paramsOf (a .line .d)) (listsIn (a .line .d) (a .links .now)) (a .line .blocks) (a .window .groups)) (a .window .limit)
           (frameOf (a .info .now) (a .red .now)),
       λ q e. absurd (omega (arith, e)),
+      λ y M. M,
     )
 
 mul-line-at : tie.Need-mul-line-at Inv-loop μ-loop
@@ -64,7 +66,7 @@ run-rounds-requires c κs =
     let hk : 2 * l .p < 2 * groups (a .line .blocks) = omega (arith, c .before .before .before .before .loop-test .taken, l .inv .0, p .1 .some-groups, p .1 .all-groups) in
     let fit : 2 * l .p + 2 * a .window .groups ≤ 2 * groups (a .line .blocks) = omega (arith, c .before .before .before .before .loop-test .taken, l .inv .0, p .1 .all-groups) in
     subst (λ (z : Line). LineReady z (a .links .now) (a .tables .now) (a .field .now) × (z .k + 2 * a .window .groups ≤ 2 * groups (z .blocks))
-    × (1 ≤ a .window .limit) × (a .window .limit ≤ most-rounds) × FrameKept (z .d) (z .blocks) (a .links .now) (l .info) (l .red) (l .numbers))
+    × (1 ≤ a .window .limit) × (a .window .limit ≤ most-rounds) × FrameKept (z .d) (z .blocks) (a .links .now) (l .info) (l .red) (l .kept))
     (sym (c .before .before .before .line-at .ensures)) (ready-at (2 * l .p) (p .0) hk, fit, p .1 .some-rounds, p .1 .few-rounds, l .inv .3)
 
 add-rounds : tie.Need-add-rounds Inv-loop μ-loop
@@ -96,8 +98,9 @@ loop-again c =
     let here = subst (λ (z : Line). (record { frame = frameOf (m .1 .1 .1 .1 .1 .0) (m .1 .1 .1 .1 .1 .1 .0); rounds = r .rounds; flips = r .flips }
     ≡ runEach (stretchWords z L (2 * g)) K (frameOf (l .info) (l .red)))
     × (r .stuck ≡ lastStuck (stretchWords z L (2 * g)) K (frameOf (l .info) (l .red)))
-    × FrameKept (z .d) (z .blocks) L (m .1 .1 .1 .1 .1 .0) (m .1 .1 .1 .1 .1 .1 .0) (m .1 .1 .1 .1 .1 .1 .1 .0))
-    (c .before .before .before .before .before .before .before .before .before .before .before .before .line-at .ensures) (v .0, v .1, v .2) in
+    × FrameKept (z .d) (z .blocks) L (m .1 .1 .1 .1 .1 .0) (m .1 .1 .1 .1 .1 .1 .0) (m .1 .1 .1 .1 .1 .1 .1 .0)
+    × LineMarks z (l .info) (l .red) (l .kept) (m .1 .1 .1 .1 .1 .0) (m .1 .1 .1 .1 .1 .1 .0) (m .1 .1 .1 .1 .1 .1 .1 .0))
+    (c .before .before .before .before .before .before .before .before .before .before .before .before .line-at .ensures) (v .0, v .1, v .2, v .5) in
     let same = window-at (a .line) L (l .p) g (p .1 .all-groups) in (
       l .inv .0,
       l .inv .1,
@@ -107,6 +110,7 @@ loop-again c =
       omega (arith, l .inv .5, v .4),
       slide-next W K f (l .p) x (l .inv .6) _ (here .0 ∙ ap (λ (ws : List Word). runEach ws K (frameOf (l .info) (l .red))) same),
       stuck-next W K f (l .p) x (l .inv .6) (r .stuck) (here .1 ∙ ap (λ (ws : List Word). lastStuck ws K (frameOf (l .info) (l .red))) same),
+      λ y M. here .3 y (l .inv .8 y M),
     )
 
 same-length : tie.Need-same-length Inv-loop μ-loop
@@ -126,7 +130,7 @@ returns c =
     let f = frameOf (a .info .now) (a .red .now) in
     let last = groups (a .line .blocks) - a .window .groups in
     let e : l .p ≡ last + 1 = omega (arith, c .loop-test .left, l .inv .0, l .inv .2) in
-    (l .inv .6 ∙ ap (λ (n : ℕ). slide W n (a .window .limit) f) (e ∙ add-one last), l .inv .7 last e, l .inv .3)
+    (l .inv .6 ∙ ap (λ (n : ℕ). slide W n (a .window .limit) f) (e ∙ add-one last), l .inv .7 last e, l .inv .3, l .inv .8)
 
 pub run-window-spec : {M : Type 1} → statement M
 run-window-spec =

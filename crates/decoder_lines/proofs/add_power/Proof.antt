@@ -56,7 +56,10 @@ returns c =
     let p = c .before .before .before .before .before .before .before .before .before .before .before .before .before .before .before .pre in
     let h = c .before .before .before .before .before .before .before .before .before .before .before .crossing-word in
     let v : c .before .before .before .before .before .place .result ≡ h .result .line * a .line .d .size + h .result .word = c .before .before .before .before .before .place .ensures .0 ∙ ap (λ (z : ℕ). h .result .line * z + h .result .word) (c .before .before .before .before .before .before .size .ensures) in
-    power-added (p .0) (p .1) (a .a) (a .p) (p .3) (p .4) (p .6) (h .ensures) (p .2) (c .before .before .before .before .before .place .result) v (c .before .before .add .ensures)
+    let w = crossing-word (p .0) (p .1) (a .a) (a .p) (p .3) (p .4) (p .6) (h .ensures) in
+    let n : h .result .line < 2 * groups (a .line .blocks) = omega (c .before .before .before .before .before .before .before .if1 .taken, c .before .before .before .before .before .before .before .before .before .line-count .ensures .0, arith) in
+    let e = stretch-end (h .result .line) (2 * groups (a .line .blocks)) (a .line .d .size) n in
+    power-added (p .0) (p .1) (a .a) (a .p) (p .3) (p .4) (p .6) (h .ensures) (p .2) (c .before .before .before .before .before .place .result) (omega (arith, w, e, v)) v (c .before .before .add .ensures)
 
 returns-2 : tie.Need-returns-2
 returns-2 c =

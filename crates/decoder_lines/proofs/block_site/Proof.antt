@@ -9,7 +9,7 @@ use Rattle.staircase.specs.Frame.{Site}
 use Rattle.staircase.specs.Frame.Site.{inInfo}
 use Rattle.staircase.proofs.Bounds.{small-product}
 use Rattle.design.specs.Sizes.{paramsOf}
-use Rattle.decoder_lines.specs.Sites.{sitesOf, Inside}
+use Rattle.decoder_flips.specs.Sites.{sitesOf, Inside}
 use Rattle.decoder_lines.proofs.Places.{block-none, block-past, block-one}
 use borrow.Author.Needs.{needs}
 use Rattle.decoder_lines.proofs.block_site.Statement.{statement}

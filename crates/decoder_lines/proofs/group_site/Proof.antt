@@ -9,7 +9,7 @@ use Rattle.staircase.specs.Frame.Site.{inRed}
 use lib.Arith.{digits-lt}
 use Rattle.staircase.proofs.Bounds.{small-product}
 use Rattle.design.specs.Sizes.{orderOf}
-use Rattle.decoder_lines.specs.Sites.{sitesOf, Inside}
+use Rattle.decoder_flips.specs.Sites.{sitesOf, Inside}
 use borrow.Author.Needs.{needs}
 use Rattle.decoder_lines.proofs.group_site.Statement.{statement}
 use Rattle.decoder_lines.proofs.group_site.Tie as tie

@@ -1,6 +1,7 @@
 -- Each arm is given which positions there are.
 -- Assumes nothing.
 use mathlib.Core.Path.{refl, _∙_}
+use native.Mathlib.Omega.{arith}
 use Rattle.decoder_words.proofs.Corrected.{one-sent, two-sent, three-sent, none-goes, one-goes, two-goes, three-goes}
 use borrow.Author.Needs.{needs}
 use Rattle.decoder_words.proofs.add_powers.Statement.{statement}
@@ -22,7 +23,7 @@ add-power-requires-3 : tie.Need-add-power-requires-3
 add-power-requires-3 c κs =
     let p = c .before .before .before .before .before .before .before .before .before .before .before .pre in
     let at = two-sent (c .before .before .before .before .before .before .before .before .before .before .before .args .line) _ (c .before .before .before .before .before .before .before .before .before .before .before .args .a) (c .before .before .before .before .before .before .found2 .given .1) (p .4) .0 in
-    (p .0, p .1, p .2, p .3, at .0, c .before .before .before .add-power2 .ensures .long ∙ p .5, at .1)
+    (p .0, p .1, p .2, p .3, at .0, omega (arith, c .before .before .before .add-power2 .ensures .long, p .5), at .1)
 
 add-power-requires-4 : tie.Need-add-power-requires-4
 add-power-requires-4 c κs =
@@ -34,13 +35,13 @@ add-power-requires-5 : tie.Need-add-power-requires-5
 add-power-requires-5 c κs =
     let p = c .before .before .before .before .before .before .before .before .before .before .before .pre in
     let at = three-sent (c .before .before .before .before .before .before .before .before .before .before .before .args .line) _ (c .before .before .before .before .before .before .before .before .before .before .before .args .a) (c .before .before .before .before .before .before .found3 .given .1) (p .4) .1 in
-    (p .0, p .1, p .2, p .3, at .0, c .before .before .before .add-power4 .ensures .long ∙ p .5, at .1)
+    (p .0, p .1, p .2, p .3, at .0, omega (arith, c .before .before .before .add-power4 .ensures .long, p .5), at .1)
 
 add-power-requires-6 : tie.Need-add-power-requires-6
 add-power-requires-6 c κs =
     let p = c .before .before .before .before .before .before .before .before .before .before .before .before .before .before .before .pre in
     let at = three-sent (c .before .before .before .before .before .before .before .before .before .before .before .before .before .before .before .args .line) _ (c .before .before .before .before .before .before .before .before .before .before .before .before .before .before .before .args .a) (c .before .before .before .before .before .before .before .before .before .before .found3 .given .1) (p .4) .0 in
-    (p .0, p .1, p .2, p .3, at .0, c .before .before .before .add-power5 .ensures .long ∙ (c .before .before .before .before .before .before .before .add-power4 .ensures .long ∙ p .5), at .1)
+    (p .0, p .1, p .2, p .3, at .0, omega (arith, c .before .before .before .add-power5 .ensures .long, c .before .before .before .before .before .before .before .add-power4 .ensures .long, p .5), at .1)
 
 returns : tie.Need-returns
 returns c =

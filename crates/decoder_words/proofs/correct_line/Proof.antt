@@ -9,22 +9,23 @@ use Rattle.staircase.specs.Frame.{frameOf}
 use Rattle.staircase.specs.Decoder.{Progress, round}
 use Rattle.staircase.specs.Outcomes.{stuckAmong}
 use Rattle.design.specs.Sizes.{paramsOf}
-use Rattle.decoder_words.specs.Ready.{FrameKept, lineWord}
-use Rattle.decoder_words.specs.Told.{outcomeOf}
-use Rattle.decoder_words.proofs.Passes.{flips-told, pass-none, pass-more, pass-few, stuck-none, stuck-more}
+use Rattle.decoder_words.specs.Ready.{FrameKept, LineMarks, lineWord}
+use Rattle.decoder_flips.specs.Told.{outcomeOf}
+use Rattle.decoder_flips.proofs.Passes.{flips-told, pass-none, pass-more, pass-few, stuck-none, stuck-more}
 use borrow.Author.Needs.{needs}
 use Rattle.decoder_words.proofs.correct_line.Statement.{statement}
 use Rattle.decoder_words.proofs.correct_line.Tie as tie
 
 abbrev Inv-loop : tie.InvT-loop
-Inv-loop line links tables field info₀ red₀ numbers₀ size flips₀ stuck₀ a₀ info red numbers flips stuck a =
+Inv-loop line links tables field info₀ red₀ kept₀ size flips₀ stuck₀ a₀ info red kept flips stuck a =
     (size ≡ line .d .size) × (a ≤ line .d .size)
     × (record { frame = frameOf info red; flips = flips } ≡ round (paramsOf (line .d)) (tabulate a (lineWord line links)) (frameOf info₀ red₀))
-    × FrameKept (line .d) (line .blocks) links info red numbers
+    × FrameKept (line .d) (line .blocks) links info red kept
     × (stuck ≡ stuckAmong (paramsOf (line .d)) (frameOf info₀ red₀) (tabulate a (lineWord line links))) × (stuck ≤ a)
+    × LineMarks line info₀ red₀ kept₀ info red kept
 
 abbrev μ-loop : tie.MeasureT-loop
-μ-loop line links tables field info₀ red₀ numbers₀ size flips₀ stuck₀ a₀ info red numbers flips stuck a = line .d .size - a
+μ-loop line links tables field info₀ red₀ kept₀ size flips₀ stuck₀ a₀ info red kept flips stuck a = line .d .size - a
 
 loop-holds : tie.Need-loop-holds Inv-loop μ-loop
 loop-holds c =
@@ -33,7 +34,7 @@ loop-holds c =
     let s = paramsOf (a .line .d) in
     let W = lineWord (a .line) (a .links .now) in
     let f = frameOf (a .info .now) (a .red .now) in
-    (c .size .ensures, omega arith, pass-none s W f, p .1, stuck-none s W f, omega arith)
+    (c .size .ensures, omega arith, pass-none s W f, p .1, stuck-none s W f, omega arith, λ g M. M)
 
 visit-word-requires : tie.Need-visit-word-requires Inv-loop μ-loop
 visit-word-requires c κs =
@@ -92,6 +93,7 @@ loop-again c =
       v .2,
       ap (λ (n : ℕ). l .stuck + n) (k .0) ∙ stuck-more s W f (l .a) (l .stuck) x o (l .inv .4) (l .inv .2) (v .1),
       omega (arith, l .inv .5, k .1),
+      λ g M. v .3 g (l .inv .6 g M),
     )
 
 same-length : tie.Need-same-length Inv-loop μ-loop
@@ -118,6 +120,7 @@ returns c =
       omega (arith, few, e, p .0 .fits .allowed .M-high),
       l .inv .4 ∙ ap (λ (n : ℕ). stuckAmong s f (tabulate n W)) e,
       omega (arith, l .inv .5, e, p .0 .fits .allowed .M-high),
+      l .inv .6,
     )
 
 pub correct-line-spec : {M : Type 1} → statement M

@@ -13,24 +13,25 @@ use Rattle.staircase.specs.Lines.{lineSites}
 use Rattle.design.specs.Sizes.{paramsOf}
 use Rattle.words_lines.specs.declared.Line.{Line}
 use Rattle.decoder_lines.specs.Links.{listsIn}
-use Rattle.decoder_words.specs.Ready.{LineReady, FrameKept, lineWord}
-use Rattle.decoder_words.proofs.Passes.{lines-none, lines-next, stuck-lines-none, stuck-lines-next, ready-at}
+use Rattle.decoder_words.specs.Ready.{LineReady, FrameKept, LineMarks, lineWord}
+use Rattle.decoder_flips.proofs.Passes.{lines-none, lines-next, stuck-lines-none, stuck-lines-next}
+use Rattle.decoder_words.proofs.Word.{ready-at}
 use borrow.Author.Needs.{needs}
 use Rattle.decoder_words.proofs.correct_lines.Statement.{statement}
 use Rattle.decoder_words.proofs.correct_lines.Tie as tie
 
 abbrev Inv-loop : tie.InvT-loop
-Inv-loop line count links tables field info₀ red₀ numbers₀ flips₀ stuck₀ i₀ info red numbers flips stuck i =
+Inv-loop line count links tables field info₀ red₀ kept₀ flips₀ stuck₀ i₀ info red kept flips stuck i =
     (i ≤ count)
     × (record { frame = frameOf info red; flips = flips } ≡ round (paramsOf (line .d))
     (concat i (λ j. tabulate (line .d .size) (lineSites (paramsOf (line .d)) (listsIn (line .d) links) (line .blocks) (line .k + j)))) (frameOf info₀ red₀))
-    × FrameKept (line .d) (line .blocks) links info red numbers × (flips ≤ 1500 * i)
+    × FrameKept (line .d) (line .blocks) links info red kept × (flips ≤ 1500 * i)
     × (stuck ≡ stuckAmong (paramsOf (line .d)) (frameOf info₀ red₀)
     (concat i (λ j. tabulate (line .d .size) (lineSites (paramsOf (line .d)) (listsIn (line .d) links) (line .blocks) (line .k + j)))))
-    × (stuck ≤ 500 * i)
+    × (stuck ≤ 500 * i) × LineMarks line info₀ red₀ kept₀ info red kept
 
 abbrev μ-loop : tie.MeasureT-loop
-μ-loop line count links tables field info₀ red₀ numbers₀ flips₀ stuck₀ i₀ info red numbers flips stuck i = count - i
+μ-loop line count links tables field info₀ red₀ kept₀ flips₀ stuck₀ i₀ info red kept flips stuck i = count - i
 
 loop-holds : tie.Need-loop-holds Inv-loop μ-loop
 loop-holds c =
@@ -39,7 +40,7 @@ loop-holds c =
     let s = paramsOf (a .line .d) in
     let W : ℕ → List (List Site) = λ j. tabulate (a .line .d .size) (lineSites s (listsIn (a .line .d) (a .links .now)) (a .line .blocks) (a .line .k + j)) in
     let f = frameOf (a .info .now) (a .red .now) in
-    (omega arith, lines-none s W f, p .2, omega arith, stuck-lines-none s W f, omega arith)
+    (omega arith, lines-none s W f, p .2, omega arith, stuck-lines-none s W f, omega arith, λ g M. M)
 
 add-line-at : tie.Need-add-line-at Inv-loop μ-loop
 add-line-at c = omega (arith, c .before .loop-test .taken, c .before .before .before .before .before .before .before .before .before .pre .1, c .before .before .before .before .before .before .before .before .before .pre .0 .fits .few-blocks)
@@ -51,7 +52,7 @@ correct-line-requires c κs =
     let l = c .before .before .before .before .before .before .loop in
     let k : ℕ = a .line .k + l .i in
     let hk : k < 2 * groups (a .line .blocks) = omega (arith, c .before .before .before .before .before .loop-test .taken, p .1) in
-    subst (λ (z : Line). LineReady z (a .links .now) (a .tables .now) (a .field .now) × FrameKept (z .d) (z .blocks) (a .links .now) (l .info) (l .red) (l .numbers))
+    subst (λ (z : Line). LineReady z (a .links .now) (a .tables .now) (a .field .now) × FrameKept (z .d) (z .blocks) (a .links .now) (l .info) (l .red) (l .kept))
     (sym (c .before .before .before .line-at .ensures)) (ready-at k (p .0) hk, l .inv .2)
 
 add-flips : tie.Need-add-flips Inv-loop μ-loop
@@ -97,14 +98,16 @@ loop-again c =
     let here = subst (λ (z : Line). (record { frame = frameOf (m .1 .1 .1 .1 .0) (m .1 .1 .1 .1 .1 .0); flips = r .flips }
     ≡ round (paramsOf (z .d)) (tabulate (z .d .size) (lineWord z (a .links .now))) (frameOf (l .info) (l .red)))
     × FrameKept (z .d) (z .blocks) (a .links .now) (m .1 .1 .1 .1 .0) (m .1 .1 .1 .1 .1 .0) (m .1 .1 .1 .1 .1 .1 .0)
-    × (r .stuck ≡ stuckAmong (paramsOf (z .d)) (frameOf (l .info) (l .red)) (tabulate (z .d .size) (lineWord z (a .links .now)))))
-    (c .before .before .before .before .before .before .before .before .before .before .before .before .line-at .ensures) (v .0, v .1, v .3) in (
+    × (r .stuck ≡ stuckAmong (paramsOf (z .d)) (frameOf (l .info) (l .red)) (tabulate (z .d .size) (lineWord z (a .links .now))))
+    × LineMarks z (l .info) (l .red) (l .kept) (m .1 .1 .1 .1 .0) (m .1 .1 .1 .1 .1 .0) (m .1 .1 .1 .1 .1 .1 .0))
+    (c .before .before .before .before .before .before .before .before .before .before .before .before .line-at .ensures) (v .0, v .1, v .3, v .5) in (
       omega (arith, c .before .before .before .before .before .before .before .before .before .before .before .before .before .before .loop-test .taken),
       lines-next s W f (l .i) x _ (l .inv .1) (here .0),
       here .1,
       omega (arith, l .inv .3, v .2),
       stuck-lines-next s W f (l .i) (l .stuck) (r .stuck) x (l .inv .4) (l .inv .1) (here .2),
       omega (arith, l .inv .5, v .4),
+      λ g M. here .3 g (l .inv .6 g M),
     )
 
 same-length : tie.Need-same-length Inv-loop μ-loop
@@ -129,6 +132,7 @@ returns c =
       omega (arith, l .inv .3, e),
       l .inv .4 ∙ ap (λ (n : ℕ). stuckAmong s f (concat n W)) e,
       omega (arith, l .inv .5, e),
+      l .inv .6,
     )
 
 pub correct-lines-spec : {M : Type 1} → statement M

@@ -9,10 +9,9 @@ use Rattle.staircase.specs.Frame.Site.{unsent}
 use Rattle.design.specs.Sizes.{paramsOf}
 use Rattle.decoder_locator.specs.declared.Located.{Located}
 use Rattle.decoder_locator.specs.Located.{positionsOf}
-use Rattle.decoder_lines.specs.Sites.{sitesOf, Inside}
-use Rattle.decoder_words.specs.Sites.{listed, Below}
+use Rattle.decoder_flips.specs.Sites.{sitesOf, Inside, listed, Below}
 use Rattle.decoder_words.specs.Ready.{lineWord}
-use Rattle.decoder_words.proofs.Word.{listed-none, listed-one, listed-two, listed-three}
+use Rattle.decoder_flips.proofs.Located.{listed-none, listed-one, listed-two, listed-three}
 use borrow.Author.Needs.{needs}
 use Rattle.decoder_words.proofs.sites_of.Statement.{statement}
 use Rattle.decoder_words.proofs.sites_of.Tie as tie

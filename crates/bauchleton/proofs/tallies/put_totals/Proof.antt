@@ -3,7 +3,7 @@
 use mathlib.Core.Path.{refl}
 use native.Mathlib.Omega.{arith}
 use lib.ListN.{length-set}
-use Rattle.bauchleton.proofs.LentTally.{stored-all}
+use Rattle.bauchleton.proofs.Report.{stored-all}
 use Rattle.staircase.specs.Tally.{totals}
 use Rattle.tally.specs.Answers.{totalsOf}
 use borrow.Author.Needs.{needs}

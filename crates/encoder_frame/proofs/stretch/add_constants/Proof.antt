@@ -3,7 +3,7 @@
 use mathlib.Core.Path.{_≡_, ap₂, _∙_}
 use mathlib.Core.Bool.{cond}
 use mathlib.Core.List.{List}
-use Prim.Native.Nat.{ℕ, _+_, _-_, _*_, _/_, _%_, _^_, _≤_}
+use Prim.Native.Nat.{ℕ, _+_, _-_, _*_, _/_, _%_, _^_, _≤_, _<_}
 use native.Mathlib.Omega.{arith}
 use lib.Dec.{eqb}
 use lib.ListN.{length, getD}
@@ -13,15 +13,15 @@ use Rattle.staircase.specs.Batch.{frameAt}
 use Rattle.staircase.proofs.Bounds.{stretch-end}
 use Rattle.bch_remainders.proofs.Rows.{row-length, row-bits}
 use Rattle.encoder_solution.specs.Bits.{placeConstant}
+use Rattle.encoder_solution.proofs.Gathered.{Gathered, gathered-none, gathered-more}
 use Rattle.encoder_frame.proofs.Lending.{part-of}
-use Rattle.encoder_frame.proofs.Constants.{Filled, filled-none, filled-more}
 use Rattle.encoder_frame.proofs.stretch.add_constants.Statement.{statement}
 use Rattle.encoder_frame.proofs.stretch.add_constants.Tie as tie
 
 abbrev Inv-loop : tie.InvT-loop
 Inv-loop red count preimages words₀ w g₀ words g =
     (w ≡ 2 * length words₀) × (g ≤ count) × (length words ≡ length words₀)
-    × Filled (length words₀) (λ j. placeConstant (frameAt (2 * length words₀) red j) preimages (length words₀)) words g
+    × ((q : ℕ) → q < length words₀ → Gathered (λ j. placeConstant (frameAt (2 * length words₀) red j) preimages (length words₀) q) (getD words q 0) g)
 
 abbrev μ-loop : tie.MeasureT-loop
 μ-loop red count preimages words₀ w g₀ words g = count - g
@@ -31,7 +31,7 @@ loop-holds c =
     let s = c .before .before .before in
     let a = s .args in
     let n = length (a .words .now) in
-    (omega arith, omega arith, omega arith, filled-none n (λ j. placeConstant (frameAt (2 * n) (a .red .now) j) (a .preimages .now) n) (a .words .now) (s .pre .5))
+    (omega arith, omega arith, omega arith, λ q h. gathered-none (λ j. placeConstant (frameAt (2 * n) (a .red .now) j) (a .preimages .now) n q) (getD (a .words .now) q 0) (s .pre .5 q))
 
 add-constant-requires : tie.Need-add-constant-requires Inv-loop μ-loop
 add-constant-requires c κs =
@@ -69,14 +69,14 @@ loop-again c =
       omega arith,
       omega arith,
       r .ensures .0 ∙ l .inv .2,
-      filled-more n f (l .words) (r .last .1 .1 .1 .0) (l .g) (λ q. mod2-bit _) (l .inv .3)
-          (λ q j h. r .ensures .1 q j (omega arith)
+      λ q h. gathered-more (λ j. f j q) (getD (l .words) q 0) (getD (r .last .1 .1 .1 .0) q 0) (l .g) (mod2-bit _) (l .inv .3 q h)
+          (λ j. r .ensures .1 q j (omega arith)
           ∙ ap₂ (λ (x : List ℕ) (k : ℕ). bitSum (getD (l .words) q 0 / 2 ^ j % 2) (cond (eqb (l .g) j) (placeConstant x (a .preimages .now) k q) 0))
           (part-of (a .red .now) (l .g) w) (l .inv .2)),
     )
 
 returns : tie.Need-returns Inv-loop μ-loop
-returns c = let i = c .before .loop .inv in (i .2, λ g q h l. i .3 q g l .0 (omega arith))
+returns c = let i = c .before .loop .inv in (i .2, λ g q h l. i .3 q l g .0 (omega arith), λ g q h l. i .3 q l g .1 (omega arith))
 
 pub add-constants-spec : {M : Type 1} → statement M
 add-constants-spec =

@@ -27,6 +27,14 @@ add-constants-requires c κs =
       omega (arith, T .words .small, p .2),
     )
 
+solve-requires : tie.Need-solve-requires
+solve-requires c κs =
+    let s = c .before .before .before .before .before .before .before .before .before .before .before in
+    let p = s .pre in
+    let T = p .0 in
+    let x = c .before .before .before .add-constants .ensures in
+    (T .packed, x .0 ∙ p .2, T .words .some-columns, T .words .some-rows, T .words .small, λ q j h l. x .2 j q l (omega (arith, p .2)))
+
 finish-groups-requires : tie.Need-finish-groups-requires
 finish-groups-requires c κs =
     let s = c .before .before .before .before .before .before .before .before .before .before .before .before .before .before .before .before .before in
@@ -56,12 +64,12 @@ returns c =
     let x = c .before .before .before .before .before .before .before .before .before .before .before .before .add-constants in
     let y = c .before .before .before .before .before .before .before .before .solve in
     c .before .before .finish-groups .ensures
-    ∙ groups-solved (a .positions .now) (a .preimages .now) (a .inverse .now) (x .last .1 .1 .1 .0) (y .last .1 .1 .1 .0) (a .red .now) (z .size) (z .r) (a .count)
+    ∙ groups-solved (a .positions .now) (a .preimages .now) (a .inverse .now) (x .last .1 .1 .1 .0) (y .last .1 .1 .1 .1 .0) (a .red .now) (z .size) (z .r) (a .count)
     (p .0 .words .some-columns) (p .0 .words .some-rows) (omega (arith, p .0 .words .powers)) (y .ensures)
     (λ g q h l. rw (p .2) at (x .ensures .1) g q h l)
 
 pub solve-groups-spec : {M : Type 1} → statement M
 solve-groups-spec =
     tie.close
-    (tie.spec add-constants-requires (λ c κs. search needs) (λ c. search needs) (λ c. search needs) (λ c. search needs) (λ c. search needs) (λ c.
+    (tie.spec add-constants-requires solve-requires (λ c. search needs) (λ c. search needs) (λ c. search needs) (λ c. search needs) (λ c.
     search needs) (λ c. search needs) (λ c. search needs) finish-groups-requires (λ c. search needs) (λ c. search needs) returns)

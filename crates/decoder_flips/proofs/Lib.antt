@@ -1,0 +1,4 @@
+pub mod Flips
+pub mod Located
+pub mod Passes
+pub mod Positions

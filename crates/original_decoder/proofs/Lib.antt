@@ -1,0 +1,5 @@
+pub mod Filled
+pub mod Kept
+pub mod Counted
+pub mod Rounds
+pub mod DecodeCall

@@ -1,0 +1,5 @@
+pub mod Places
+pub mod CrossingRow
+pub mod Parts
+pub mod Word
+pub mod Corrected
