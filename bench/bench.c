@@ -17,7 +17,7 @@
 #include <string.h>
 #include <time.h>
 
-enum { SHORT = 32, LONG = 32 + 512, TURNS = 3, KIT_TURNS = 5, BATCH = 256 };
+enum { SHORT = 32, LONG = 32 + 512, TURNS = 12, KIT_TURNS = 5, BATCH = 256 };
 
 static const struct { unsigned blocks, turns; } frames[] = { { 1, 200 }, { 32, 40 }, { 1024, 3 } };
 enum { FRAMES = sizeof frames / sizeof *frames };
