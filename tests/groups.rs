@@ -25,6 +25,7 @@ pub const GROUPS: &[Group] = &[
     ("huge", || 3 * NUMBERS.len(), huge),
     ("batches", || FRAMES.len() * designs(60).len(), batches),
     ("received", || 14 * designs(4096).len(), received_frames),
+    ("eights", || 2 * EIGHTS.len(), eights),
     ("rounds", || 200, rounds),
     ("second-kit", || 1, rows_of_second_kit),
     ("noise", || 12 * designs(60).len(), noise),
@@ -950,6 +951,38 @@ pub fn unencoded(case: &mut Case, d: Design, blocks: usize) -> Lent {
         }
     }
     Lent::new(&kit, blocks, info, red)
+}
+
+/// m, t, M and blocks. From 65,536 information bits on, sums are taken eight bits at a time: fewer and as many or more, and M with every remainder by eight.
+const EIGHTS: [(u64, u64, u64, usize); 14] = [
+    (5, 2, 5, 2621),
+    (5, 2, 5, 2622),
+    (4, 1, 3, 4096),
+    (8, 3, 72, 12),
+    (8, 3, 72, 13),
+    (8, 3, 73, 13),
+    (8, 2, 90, 9),
+    (8, 3, 75, 12),
+    (8, 3, 76, 12),
+    (9, 3, 125, 5),
+    (8, 3, 78, 11),
+    (9, 3, 135, 4),
+    (10, 2, 204, 2),
+    (10, 1, 409, 1),
+];
+
+/// Long frames without errors, with few and with many.
+fn eights(case: &mut Case) {
+    let (m, t, size, blocks) = EIGHTS[case.index % EIGHTS.len()];
+    let d = design(m, t, size).unwrap();
+    let mut lent = unencoded(case, d, blocks);
+    case.same("words outside", Ok(0), check_words(&lent.received(), lent.word_work));
+    case.check_words(&lent);
+    case.decode(&lent);
+    let odds = if case.index < EIGHTS.len() { 2000 } else { 80 };
+    case.turn_bits(&mut lent, odds);
+    case.check_words(&lent);
+    case.decode(&lent);
 }
 
 /// Noisy frames under small kits, the same one with many numbers of rounds.

@@ -95,8 +95,10 @@ static unsigned holders(const lent *l, size_t at) {
     return l->L % 2 == 0 && at < l->info && at >= l->info - (size_t)l->M * l->M ? 1 : 2;
 }
 
-static void check_loads(const lent *l, int decoder) {
-    for (size_t at = 0; at < l->info + l->red; at++) {
+// Of every `step`th byte of a frame, and of its last.
+static void check_loads(const lent *l, int decoder, size_t step) {
+    size_t end = l->info + l->red;
+    for (size_t at = 0; at < end; at = at + step < end || at == end - 1 ? at + step : end - 1) {
         uint64_t found = loads(l, at, decoder), right = 1 + holders(l, at);
         watched++;
         if (found != right && ++wrong <= 20)
@@ -105,8 +107,20 @@ static void check_loads(const lent *l, int decoder) {
     }
 }
 
+// Loads of the bytes of a frame whose words are all in the code, and of one of any bits.
+static void check_frame(const unsigned design[3], unsigned L, size_t step) {
+    lent l = make(design[0], design[1], design[2], L);
+    check_loads(&l, 1, step);
+    for (size_t at = 0; at < l.info + l.red; at++)
+        l.frame[at] = at * at % 7 % 2;
+    check_loads(&l, 0, step);
+    free(l.self), free(l.parity), free(l.frame), free(l.work);
+}
+
 int main(void) {
-    static const unsigned designs[][3] = {{4, 1, 1}, {4, 1, 3}, {5, 2, 5}, {6, 1, 9}, {7, 3, 8}};
+    static const unsigned small[][3] = {{4, 1, 1}, {4, 1, 3}, {5, 2, 5}, {6, 1, 9}, {7, 3, 8}};
+    // Frames of enough bits for sums of eight at a time, of which some bytes are watched.
+    static const struct { unsigned design[3], blocks; } large[] = {{{5, 2, 5}, 2622}, {{8, 3, 72}, 13}, {{9, 3, 135}, 4}};
     uint8_t byte = 0;
     int counter = watch(&byte);
     if (counter < 0) {
@@ -114,15 +128,11 @@ int main(void) {
         return 0;
     }
     close(counter);
-    for (unsigned i = 0; i < sizeof designs / sizeof *designs; i++)
-        for (unsigned L = 1; L <= 4; L++) {
-            lent l = make(designs[i][0], designs[i][1], designs[i][2], L);
-            check_loads(&l, 1);
-            for (size_t at = 0; at < l.info + l.red; at++)
-                l.frame[at] = at * at % 7 % 2;
-            check_loads(&l, 0);
-            free(l.self), free(l.parity), free(l.frame), free(l.work);
-        }
+    for (unsigned i = 0; i < sizeof small / sizeof *small; i++)
+        for (unsigned L = 1; L <= 4; L++)
+            check_frame(small[i], L, 1);
+    for (unsigned i = 0; i < sizeof large / sizeof *large; i++)
+        check_frame(large[i].design, large[i].blocks, 331);
     printf("loads of the word check: %u bytes watched, %u with another number of loads than rule 10 and their words take\n", watched, wrong);
     return wrong != 0;
 }

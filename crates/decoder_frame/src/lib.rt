@@ -14,8 +14,8 @@
 // Numbers are right for all words of the frame, whichever lines are corrected. So a window has its numbers from those that are filled once, wherever it
 // stands: what a position costs is a look at the numbers of its words, and the words that are outside the code.
 ghost use mathlib.Core.Path.{_≡_};
-ghost use Prim.Native.Nat.{_+_, _-_, _*_, _^_, _≤_};
-ghost use lib.ListN.{length, take, drop};
+ghost use Prim.Native.Nat.{_+_, _-_, _*_, _/_, _^_, _≤_};
+ghost use lib.ListN.{length};
 ghost use Rattle.staircase.specs.Design.{most-blocks, most-rounds, wordLength};
 ghost use Rattle.staircase.specs.Frame.{frameOf, groups};
 ghost use Rattle.staircase.specs.Decoder.{runEach, roundsAllowed};
@@ -25,9 +25,8 @@ ghost use Rattle.staircase.specs.Lines.{wordCount};
 ghost use Rattle.design.specs.Answers.{Allowed};
 ghost use Rattle.design.specs.Sizes.{paramsOf};
 ghost use Rattle.rules.specs.Received.{Received};
-ghost use Rattle.bch.specs.Locator.{FieldTables, SyndromeTable};
+ghost use Rattle.words_tables.specs.Tables.{MayHalves};
 ghost use Rattle.words.specs.Words.{WordTable};
-ghost use Rattle.decoder_locator.specs.Located.{SumTable};
 ghost use Rattle.words_lines.specs.Lines.{LineFits};
 ghost use Rattle.decoder_lines.specs.Links.{listsIn};
 ghost use Rattle.decoder_words.specs.Ready.{WordTables, LineReady, FrameKept, LineMarks};
@@ -52,29 +51,15 @@ pub struct Window {
     pub limit: usize,
 }
 
-// Fills the values of the positions of a word and, behind them, those of four bits, from the field's tables.
-fn fill_values(d: Design, field: &[u16], values: &mut [u32])
-    requires { ⌜ Allowed d × FieldTables (d .m) (now field) × (length (now values) ≡ wordLength (paramsOf d) + 128) ⌝ }
-    ensures { λ u. ⌜ SyndromeTable (d .m) (take (wordLength (paramsOf d)) (now (values .exit)))
-        × SumTable (d .m) (d .m * d .t) (drop (wordLength (paramsOf d)) (now (values .exit)))
-        × (length (now (values .exit)) ≡ length (now (values .entry))) ⌝ }
-{
-    let m = d.m();
-    let bits = d.n();
-    bch_field::fill_syndromes(m, field, &mut values[0..bits]);
-    decoder_locator::fill_sums(m, d.r(), bits, values);
-}
-
 // Fills the tables of a design: the powers of x at the positions of a word, behind them their values and then those of four bits, and the field's.
 pub fn fill_tables(d: Design, tables: &mut [u32], field: &mut [u16])
     requires { ⌜ Allowed d × (length (now tables) ≡ wordLength (paramsOf d) + (wordLength (paramsOf d) + 128)) × (length (now field) ≡ 4 * 2 ^ (d .m)) ⌝ }
     ensures { λ u. ⌜ WordTables d (now (tables .exit)) (now (field .exit)) ⌝ }
 {
+    let m = d.m();
+    let t = d.t();
     let bits = d.n();
-    let all = tables.len();
-    words_positions::fill_table(d, &mut tables[0..bits]);
-    bch_field::fill_field(d.m(), field);
-    fill_values(d, &field[..], &mut tables[bits..all]);
+    decoder_tables::fill_tables(m, t, bits, tables, field);
 }
 
 // The rounds that a number of rounds stands for.
@@ -88,13 +73,6 @@ pub fn rounds_allowed(rounds: u64) -> usize
     rounds as usize
 }
 
-// Working entries for the remainders of a line; only their number is told: the most that a line has, or more.
-fn sum_entries() -> [u32; 512]
-    ensures { λ a. ⌜ 512 ≡ length a ⌝ }
-{
-    [0; 512]
-}
-
 // Fills the kept numbers of a line, those of the lines before it being filled.
 fn fill_line(
     line: Line,
@@ -103,23 +81,91 @@ fn fill_line(
     info: &[u8],
     red: &[u8],
     positions: &[u32],
+    tables: &[u32],
     numbers: &mut [u8],
 )
     requires { ⌜ Received (line .d) (line .blocks) (now own) (now parity) (now info) (now red) × LineFits line × WordTable (line .d) (now positions)
         × (length (now numbers) ≡ 4 * wordCount (paramsOf (line .d)) (line .blocks))
-        × Filled line (now own) (now parity) (frameOf (now info) (now red)) (now numbers) (line .k * line .d .size) ⌝ }
+        × Filled line (now own) (now parity) (frameOf (now info) (now red)) (now numbers) (line .k * line .d .size)
+        × MayHalves (now positions) (line .d .size) (now tables) ⌝ }
     ensures { λ u. ⌜ (length (now (numbers .exit)) ≡ length (now (numbers .entry)))
         × Filled line (now (own .entry)) (now (parity .entry)) (frameOf (now (info .entry)) (now (red .entry)))
         (now (numbers .exit)) (line .k * line .d .size + line .d .size) ⌝ }
 {
     let size = line.d.size();
     let from = decoder_lines::word_number(line, 0);
-    let mut sums = sum_entries();
-    words::line_remainders(line, own, parity, info, red, positions, &mut sums[0..size]);
+    let mut sums = words::sum_entries();
+    words::line_remainders(
+        line,
+        own,
+        parity,
+        info,
+        red,
+        positions,
+        tables,
+        &mut sums[0..size],
+    );
     decoder_kept::put_numbers(&sums[0..size], from, numbers);
 }
 
-// Fills the kept numbers of all words of a frame. One step for each bit of the words. The line is any of the frame.
+// `fill_numbers` with tables of sums of the powers that the blocks of a word carry, or none.
+fn fill_lines(
+    line: Line,
+    own: &[u8],
+    parity: &[u8],
+    info: &[u8],
+    red: &[u8],
+    positions: &[u32],
+    tables: &[u32],
+    numbers: &mut [u8],
+)
+    requires { ⌜ Received (line .d) (line .blocks) (now own) (now parity) (now info) (now red) × WordTable (line .d) (now positions)
+        × (length (now numbers) ≡ 4 * wordCount (paramsOf (line .d)) (line .blocks)) × MayHalves (now positions) (line .d .size) (now tables) ⌝ }
+    ensures { λ u. ⌜ (length (now (numbers .exit)) ≡ length (now (numbers .entry)))
+        × Filled line (now (own .entry)) (now (parity .entry)) (frameOf (now (info .entry)) (now (red .entry)))
+        (now (numbers .exit)) (wordCount (paramsOf (line .d)) (line .blocks)) ⌝ }
+{
+    let lines = words_lines::line_count(line.blocks);
+    for k in 0..lines {
+        let here = words_lines::line_at(line, k);
+        fill_line(here, own, parity, info, red, positions, tables, numbers);
+    }
+}
+
+// `fill_numbers` with tables of sums, of which `due` entries are due.
+fn fill_by_tables(
+    line: Line,
+    own: &[u8],
+    parity: &[u8],
+    info: &[u8],
+    red: &[u8],
+    positions: &[u32],
+    due: usize,
+    numbers: &mut [u8],
+)
+    requires { ⌜ Received (line .d) (line .blocks) (now own) (now parity) (now info) (now red) × WordTable (line .d) (now positions)
+        × (length (now numbers) ≡ 4 * wordCount (paramsOf (line .d)) (line .blocks)) × (due ≤ 32768) × (due ≡ 2 * (256 * ((line .d .size + 7) / 8))) ⌝ }
+    ensures { λ u. ⌜ (length (now (numbers .exit)) ≡ length (now (numbers .entry)))
+        × Filled line (now (own .entry)) (now (parity .entry)) (frameOf (now (info .entry)) (now (red .entry)))
+        (now (numbers .exit)) (wordCount (paramsOf (line .d)) (line .blocks)) ⌝ }
+{
+    let size = line.d.size();
+    let mut tables = words_tables::entries();
+    words_tables::fill_halves(positions, size, &mut tables[0..due]);
+    fill_lines(
+        line,
+        own,
+        parity,
+        info,
+        red,
+        positions,
+        &tables[0..due],
+        numbers,
+    );
+}
+
+// Fills the kept numbers of all words of a frame, by tables of sums where they pay for themselves. One step for each bit of the words. The line is any of
+// the frame.
 pub fn fill_numbers(
     line: Line,
     own: &[u8],
@@ -135,11 +181,21 @@ pub fn fill_numbers(
         × Filled line (now (own .entry)) (now (parity .entry)) (frameOf (now (info .entry)) (now (red .entry)))
         (now (numbers .exit)) (wordCount (paramsOf (line .d)) (line .blocks)) ⌝ }
 {
-    let lines = words_lines::line_count(line.blocks);
-    for k in 0..lines {
-        let here = words_lines::line_at(line, k);
-        fill_line(here, own, parity, info, red, positions, numbers);
+    let due = words_tables::tables_due(line.blocks, line.d.size());
+    if due == 0 {
+        fill_lines(
+            line,
+            own,
+            parity,
+            info,
+            red,
+            positions,
+            &positions[0..0],
+            numbers,
+        );
+        return;
     }
+    fill_by_tables(line, own, parity, info, red, positions, due, numbers);
 }
 
 // Corrects the words of the groups of a window, of which `line` is the first, until a round flips nothing or the rounds that are allowed are made.

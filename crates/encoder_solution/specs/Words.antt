@@ -1,6 +1,4 @@
 -- Steps of the product W c for up to 64 groups: words, of which bit g belongs to group g, and their sums by exclusive or.
---   sumAt words n v        the sum of those of the first n words whose bit of v is one
---   tableEntry words q     entry q of tables of 256 sums each, of eight words after eight
 --   rowEntry m w e k       bit k of row e of a packed matrix of w bytes a row
 --   rowProduct m w c e n   the sum of those of the first n words at which row e has ones
 --   solutionWord           word q of the solutions: the inverse times the constants, both by their places in a matrix of r rows
@@ -10,12 +8,6 @@ use Prim.Native.Nat.{ℕ, _+_, _*_, _/_, _%_, _^_}
 use lib.ListN.{getD}
 use Rattle.bch.specs.Powers.{xorSum}
 use Rattle.staircase.specs.System.{inverseEntry}
-
-unfoldable pub sumAt : (ℕ → ℕ) → ℕ → ℕ → ℕ
-sumAt words n v = xorSum n (λ i. v / 2 ^ i % 2 * words i)
-
-unfoldable pub tableEntry : (ℕ → ℕ) → ℕ → ℕ
-tableEntry words q = sumAt (λ i. words (8 * (q / 256) + i)) 8 (q % 256)
 
 abbrev pub rowEntry : List ℕ → ℕ → ℕ → ℕ → ℕ
 rowEntry m w e k = getD m (e * w + k / 8) 0 / 2 ^ (k % 8) % 2

@@ -13,7 +13,8 @@ ghost use Prim.Native.Nat.{ℕ, _+_, _*_, _^_, _≤_, _<_};
 ghost use lib.ListN.{length, getD};
 ghost use Rattle.bch.specs.Polynomial.{_⊕_};
 ghost use Rattle.bch.specs.Powers.{xorSum};
-ghost use Rattle.encoder_solution.specs.Words.{sumAt, tableEntry, rowProduct};
+ghost use Rattle.words_tables.specs.Tables.{sumAt, tableEntry};
+ghost use Rattle.encoder_solution.specs.Words.{rowProduct};
 
 // Doubles a table of w sums: entry w + v is entry v plus x.
 fn double(table: &mut [u64], w: usize, x: u64)

@@ -1,5 +1,6 @@
 pub mod Bits
 pub mod Block
+pub mod Bytes
 pub mod Filled
 pub mod Ones
 pub mod Packed

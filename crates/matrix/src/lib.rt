@@ -17,8 +17,10 @@
 //
 // n is the order, 1 to 4,096, and a packed row has rowBytes n bytes. Every function leaves the lengths of what it is lent as they are.
 mod planes;
+mod tiles;
 
 pub use planes::planes_of_rows;
+pub use tiles::turn;
 ghost use mathlib.Core.Path.{_≡_};
 ghost use mathlib.Core.Bool.{cond, not};
 ghost use Prim.Native.Nat.{ℕ, _*_, _/_, _%_, _≤_, _<_};

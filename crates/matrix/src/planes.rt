@@ -41,7 +41,7 @@ fn block_at(w: &[u8], n: usize, rb: usize, b: usize, c: usize) -> u64
 }
 
 // A block with rows for columns. In its squares of two, of four and of eight rows the two quarters off the diagonal change places.
-fn transpose_block(x: u64) -> u64
+pub fn transpose_block(x: u64) -> u64
     ensures { λ y. ⌜ ((r s : ℕ) → r < 8 → s < 8 → y / 2 ^ (8 * s + r) % 2 ≡ x / 2 ^ (8 * r + s) % 2) ⌝ }
 {
     let a = (x ^ (x >> 7)) & 0x00AA00AA00AA00AA;

@@ -3,16 +3,18 @@
 //            the last round made
 //   check_sizes   rules 4 to 6 alone, which read no byte
 //
-// The remainders of all rows are summed once, block by block (crate `original_rows`), and kept in working bytes (crate `decoder_kept`). A round takes the
-// blocks in order and corrects the rows whose kept number is not 0 (crate `original_words`), which keeps all numbers right. The rows outside the code at
-// the end are those whose number is not 0. The bits that differ from those received are marked behind the numbers (crate `decoder_marks`).
+// The remainders of all rows are summed once, block by block (crate `original_rows`), and kept in working bytes (crate `decoder_kept`). Where a frame has
+// bits enough, tables of sums are made first, by which eight bits of a row are added at once (crate `words_tables`). A round takes the blocks in order and
+// corrects the rows whose kept number is not 0 (crate `original_words`), which keeps all numbers right. The rows outside the code at the end are those
+// whose number is not 0. The bits that differ from those received are marked behind the numbers (crate `decoder_marks`).
 ghost use mathlib.Core.Path.{_≡_};
-ghost use Prim.Native.Nat.{_+_, _*_, _^_, _≤_, _<_};
+ghost use Prim.Native.Nat.{_+_, _*_, _/_, _^_, _≤_, _<_};
 ghost use lib.ListN.{length};
 ghost use Rattle.staircase.specs.Design.{most-blocks, most-rounds};
 ghost use Rattle.staircase.specs.Decoder.{roundOf, runEach};
 ghost use Rattle.staircase.specs.Outcomes.{stuckEach, lastStuck};
 ghost use Rattle.design.specs.Answers.{verdictOf};
+ghost use Rattle.words_tables.specs.Tables.{MayHalves};
 ghost use Rattle.decoder_marks.specs.Marks.{MarksKept};
 ghost use Rattle.decoder.specs.declared.Decoding.the-variants as Decoding;
 ghost use Rattle.original.specs.Frame.{rowWords, bufferOf};
@@ -31,43 +33,107 @@ use design::Check;
 use original_design::OriginalDesign;
 use original_design::OriginalDesigned;
 
-// Fills the kept numbers of the rows of the block that b blocks precede, those of the blocks before it being filled.
+// Fills the kept numbers of the rows of the block that b blocks precede, those of the blocks before it being filled. The tables are those of the powers that
+// the two blocks of a row's word carry, or none.
 fn fill_rows(
     d: OriginalDesign,
     blocks: usize,
     b: usize,
     buffer: &[u8],
     positions: &[u32],
+    tables: &[u32],
     sums: &mut [u32],
     numbers: &mut [u8],
 )
     requires { ⌜ BufferFits d blocks (now buffer) × (b < blocks) × RowTable (paramsOf d) (now positions) × (length (now sums) ≡ d .size)
-        × (length (now numbers) ≡ 4 * (blocks * d .size)) × RowsFilled (paramsOf d) (now buffer) (now numbers) b ⌝ }
+        × (length (now numbers) ≡ 4 * (blocks * d .size)) × RowsFilled (paramsOf d) (now buffer) (now numbers) b
+        × MayHalves (now positions) (d .size) (now tables) ⌝ }
     ensures { λ u. ⌜ (length (now (numbers .exit)) ≡ length (now (numbers .entry)))
         × RowsFilled (paramsOf d) (now (buffer .entry)) (now (numbers .exit)) (b + 1) ⌝ }
 {
     let size = d.size();
-    original_rows::row_remainders(d, blocks, b, buffer, positions, sums);
+    original_rows::row_remainders(d, blocks, b, buffer, positions, tables, sums);
     decoder_kept::put_numbers(&sums[..], b * size, numbers);
 }
 
-// Fills the kept numbers of all rows of a buffer. One step for each bit of the rows.
+// Fills the kept numbers of all rows of a buffer, block by block. The tables are those of the powers that the two blocks of a row's word carry, or none.
+fn fill_blocks(
+    d: OriginalDesign,
+    blocks: usize,
+    buffer: &[u8],
+    positions: &[u32],
+    tables: &[u32],
+    sums: &mut [u32],
+    numbers: &mut [u8],
+)
+    requires { ⌜ BufferFits d blocks (now buffer) × RowTable (paramsOf d) (now positions) × (length (now sums) ≡ d .size)
+        × (length (now numbers) ≡ 4 * (blocks * d .size)) × MayHalves (now positions) (d .size) (now tables) ⌝ }
+    ensures { λ u. ⌜ (length (now (numbers .exit)) ≡ length (now (numbers .entry)))
+        × RowsFilled (paramsOf d) (now (buffer .entry)) (now (numbers .exit)) blocks ⌝ }
+{
+    for b in 0..blocks {
+        fill_rows(d, blocks, b, buffer, positions, tables, sums, numbers);
+    }
+}
+
+// `fill_numbers` by tables of sums, which are to have `due` entries.
+fn fill_by_tables(
+    d: OriginalDesign,
+    blocks: usize,
+    buffer: &[u8],
+    positions: &[u32],
+    due: usize,
+    numbers: &mut [u8],
+)
+    requires { ⌜ BufferFits d blocks (now buffer) × RowTable (paramsOf d) (now positions) × (length (now numbers) ≡ 4 * (blocks * d .size))
+        × (due ≤ 32768) × (due ≡ 2 * (256 * ((d .size + 7) / 8))) ⌝ }
+    ensures { λ u. ⌜ (length (now (numbers .exit)) ≡ length (now (numbers .entry)))
+        × RowsFilled (paramsOf d) (now (buffer .entry)) (now (numbers .exit)) blocks ⌝ }
+{
+    let size = d.size();
+    let mut tables = words_tables::entries();
+    words_tables::fill_halves(positions, size, &mut tables[0..due]);
+    let mut sums = words::sum_entries();
+    fill_blocks(
+        d,
+        blocks,
+        buffer,
+        positions,
+        &tables[0..due],
+        &mut sums[0..size],
+        numbers,
+    );
+}
+
+// Fills the kept numbers of all rows of a buffer, by tables of sums where the buffer has bits enough. One step for each bit of the rows, or for each eight
+// by the tables.
 fn fill_numbers(
     d: OriginalDesign,
     blocks: usize,
     buffer: &[u8],
     positions: &[u32],
-    sums: &mut [u32],
     numbers: &mut [u8],
 )
-    requires { ⌜ BufferFits d blocks (now buffer) × RowTable (paramsOf d) (now positions) × (length (now sums) ≡ d .size)
-        × (length (now numbers) ≡ 4 * (blocks * d .size)) ⌝ }
+    requires { ⌜ BufferFits d blocks (now buffer) × RowTable (paramsOf d) (now positions) × (length (now numbers) ≡ 4 * (blocks * d .size)) ⌝ }
     ensures { λ u. ⌜ (length (now (numbers .exit)) ≡ length (now (numbers .entry)))
         × RowsFilled (paramsOf d) (now (buffer .entry)) (now (numbers .exit)) blocks ⌝ }
 {
-    for b in 0..blocks {
-        fill_rows(d, blocks, b, buffer, positions, sums, numbers);
+    let size = d.size();
+    let due = words_tables::tables_due(blocks, size);
+    if due == 0 {
+        let mut sums = words::sum_entries();
+        fill_blocks(
+            d,
+            blocks,
+            buffer,
+            positions,
+            &positions[0..0],
+            &mut sums[0..size],
+            numbers,
+        );
+        return;
     }
+    fill_by_tables(d, blocks, buffer, positions, due, numbers);
 }
 
 // The working bytes: four for each row, and a mark for each bit of the buffer, eight in a byte.
@@ -270,16 +336,8 @@ fn fill_kept(d: OriginalDesign, blocks: usize, buffer: &[u8], work: &mut [u8])
     let t = d.t();
     let n = 4 * (blocks * size);
     let mut positions = [0u32; 1024];
-    let mut sums = [0u32; 512];
     words_positions::fill_code(m, t, &mut positions[0..bits]);
-    fill_numbers(
-        d,
-        blocks,
-        buffer,
-        &positions[0..bits],
-        &mut sums[0..size],
-        &mut work[0..n],
-    );
+    fill_numbers(d, blocks, buffer, &positions[0..bits], &mut work[0..n]);
 }
 
 // Corrects a received buffer whose arguments have passed all rules, and counts. Where all rows are in the code, no table of the field is made, no mark

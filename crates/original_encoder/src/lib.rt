@@ -3,11 +3,13 @@
 //
 // First the parity columns of all blocks are made 0. The remainder of a row whose parity is 0 has the parity as its digits, so block after block the
 // remainders of all its rows are taken at once (crate `original_rows`), and their digits written. The rows of a block share no bit, and a row has bits of
-// its own block and of the one before, whose parity is written by then.
+// its own block and of the one before, whose parity is written by then. Where a frame has bits enough, tables of sums are made first, by which eight bits of
+// a row are added at once (crate `words_tables`).
 ghost use mathlib.Core.Path.{_≡_};
-ghost use Prim.Native.Nat.{_+_, _-_, _*_, _%_, _≤_, _<_};
+ghost use Prim.Native.Nat.{_+_, _-_, _*_, _/_, _%_, _≤_, _<_};
 ghost use lib.ListN.{length, getD};
 ghost use Rattle.design.specs.Answers.{verdictOf};
+ghost use Rattle.words_tables.specs.Tables.{MayHalves};
 ghost use Rattle.original.specs.Frame.{encoded};
 ghost use Rattle.original.specs.Demand.{InfoBits};
 ghost use Rattle.original.specs.Calls.{originalEncodeCall};
@@ -49,39 +51,92 @@ fn clear_parity(size: usize, r: usize, rows: usize, buffer: &mut [u8])
     }
 }
 
-// Encodes the block that b blocks precede, whose parity is 0. `sums` are working entries, one for each row.
+// Encodes the block that b blocks precede, whose parity is 0. The tables are those of the powers that the two blocks of a row's word carry, or none. `sums` are
+// working entries, one for each row.
 fn encode_block(
     d: OriginalDesign,
     blocks: usize,
     b: usize,
     positions: &[u32],
+    tables: &[u32],
     sums: &mut [u32],
     buffer: &mut [u8],
 )
-    requires { ⌜ BufferFits d blocks (now buffer) × (b < blocks) × RowTable (paramsOf d) (now positions) × (length (now sums) ≡ d .size) ⌝ }
+    requires { ⌜ BufferFits d blocks (now buffer) × (b < blocks) × RowTable (paramsOf d) (now positions) × (length (now sums) ≡ d .size)
+        × MayHalves (now positions) (d .size) (now tables) ⌝ }
     ensures { λ u. ⌜ RowsAt (d .size) (d .size) (d .m * d .t) (b * (d .size * d .size)) (λ a. getD (rowRemainders (paramsOf d) (now (buffer .entry)) b) a 0)
         (now (buffer .entry)) (now (buffer .exit)) × (length (now (sums .exit)) ≡ length (now (sums .entry))) ⌝ }
 {
     let area = d.area();
     let r = d.r();
-    original_rows::row_remainders(d, blocks, b, &buffer[..], positions, sums);
+    original_rows::row_remainders(d, blocks, b, &buffer[..], positions, tables, sums);
     put_rows(&sums[..], r, b * area, buffer);
 }
 
-// Encodes all blocks of a buffer of bits whose parity is 0, one after the other.
+// Encodes all blocks of a buffer of bits whose parity is 0, one after the other. The tables are those of the powers that the two blocks of a row's word carry,
+// or none.
 fn encode_blocks(
     d: OriginalDesign,
     blocks: usize,
     positions: &[u32],
+    tables: &[u32],
     sums: &mut [u32],
     buffer: &mut [u8],
 )
-    requires { ⌜ BufferFits d blocks (now buffer) × RowTable (paramsOf d) (now positions) × (length (now sums) ≡ d .size) × ParityZero (paramsOf d) (now buffer) ⌝ }
+    requires { ⌜ BufferFits d blocks (now buffer) × RowTable (paramsOf d) (now positions) × (length (now sums) ≡ d .size) × ParityZero (paramsOf d) (now buffer)
+        × MayHalves (now positions) (d .size) (now tables) ⌝ }
     ensures { λ u. ⌜ now (buffer .exit) ≡ encoded (paramsOf d) blocks (now (buffer .entry)) ⌝ }
 {
     for b in 0..blocks {
-        encode_block(d, blocks, b, positions, sums, buffer);
+        encode_block(d, blocks, b, positions, tables, sums, buffer);
     }
+}
+
+// `encode_cleared` by tables of sums, which are to have `due` entries.
+fn encode_by_tables(
+    d: OriginalDesign,
+    blocks: usize,
+    positions: &[u32],
+    due: usize,
+    buffer: &mut [u8],
+)
+    requires { ⌜ BufferFits d blocks (now buffer) × RowTable (paramsOf d) (now positions) × ParityZero (paramsOf d) (now buffer) × (due ≤ 32768)
+        × (due ≡ 2 * (256 * ((d .size + 7) / 8))) ⌝ }
+    ensures { λ u. ⌜ now (buffer .exit) ≡ encoded (paramsOf d) blocks (now (buffer .entry)) ⌝ }
+{
+    let size = d.size();
+    let mut tables = words_tables::entries();
+    words_tables::fill_halves(positions, size, &mut tables[0..due]);
+    let mut sums = words::sum_entries();
+    encode_blocks(
+        d,
+        blocks,
+        positions,
+        &tables[0..due],
+        &mut sums[0..size],
+        buffer,
+    );
+}
+
+// Encodes a buffer of bits whose parity is 0, with the powers of x lent: by tables of sums where the buffer has bits enough.
+fn encode_cleared(d: OriginalDesign, blocks: usize, positions: &[u32], buffer: &mut [u8])
+    requires { ⌜ BufferFits d blocks (now buffer) × RowTable (paramsOf d) (now positions) × ParityZero (paramsOf d) (now buffer) ⌝ }
+    ensures { λ u. ⌜ now (buffer .exit) ≡ encoded (paramsOf d) blocks (now (buffer .entry)) ⌝ }
+{
+    let size = d.size();
+    let due = words_tables::tables_due(blocks, size);
+    if due == 0 {
+        let mut sums = words::sum_entries();
+        return encode_blocks(
+            d,
+            blocks,
+            positions,
+            &positions[0..0],
+            &mut sums[0..size],
+            buffer,
+        );
+    }
+    encode_by_tables(d, blocks, positions, due, buffer)
 }
 
 // Encodes a buffer of blocks whose information is bits.
@@ -95,10 +150,9 @@ fn encode_buffer(d: OriginalDesign, blocks: usize, buffer: &mut [u8])
     let m = d.m();
     let t = d.t();
     let mut positions = [0u32; 1024];
-    let mut sums = [0u32; 512];
     words_positions::fill_code(m, t, &mut positions[0..bits]);
     clear_parity(size, r, blocks * size, buffer);
-    encode_blocks(d, blocks, &positions[0..bits], &mut sums[0..size], buffer);
+    encode_cleared(d, blocks, &positions[0..bits], buffer);
 }
 
 // Rule 10 for the information of a buffer of rows.

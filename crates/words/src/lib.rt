@@ -15,7 +15,7 @@
 // `bch_remainders::dot`, once a row in `bch_remainders::read_rows` and in `add_listed`, where a row has one bit of each word.
 ghost use mathlib.Core.Path.{_≡_};
 ghost use mathlib.Core.Bool.{cond};
-ghost use Prim.Native.Nat.{ℕ, _+_, _*_, _≤_, _<_};
+ghost use Prim.Native.Nat.{ℕ, _+_, _*_, _/_, _≤_, _<_};
 ghost use lib.Dec.{eqb};
 ghost use lib.ListN.{length, getD};
 ghost use Rattle.bch.specs.Polynomial.{_⊕_, Bits};
@@ -28,6 +28,7 @@ ghost use Rattle.staircase.specs.Calls.{countedBy, wordsCall};
 ghost use Rattle.design.specs.Answers.{verdictOf, Allowed};
 ghost use Rattle.design.specs.Sizes.{paramsOf, listsOf};
 ghost use Rattle.rules.specs.Received.{Received};
+ghost use Rattle.words_tables.specs.Tables.{MayHalves};
 ghost use Rattle.words_blocks.specs.Blocks.{sent, blockReads, PartAdded};
 ghost use Rattle.words_lines.specs.Lines.{LineFits, lineRemainder};
 ghost use Rattle.words.specs.Words.{nonzeros, lineBlocks, entryAt, redPlace, WordTable, BlocksLent, Sends};
@@ -53,8 +54,15 @@ pub struct Asked {
 }
 
 // Makes `sums` the remainders of the two blocks of a line's words. Answers how many bits of each word it has read.
-fn line_blocks(line: Line, info: &[u8], positions: &[u32], sums: &mut [u32]) -> usize
-    requires { ⌜ BlocksLent (line .blocks) (length (now sums)) (now info) (now positions) × (line .k < 2 * groups (line .blocks)) ⌝ }
+fn line_blocks(
+    line: Line,
+    info: &[u8],
+    positions: &[u32],
+    tables: &[u32],
+    sums: &mut [u32],
+) -> usize
+    requires { ⌜ BlocksLent (line .blocks) (length (now sums)) (now info) (now positions) × (line .k < 2 * groups (line .blocks))
+        × MayHalves (now positions) (length (now sums)) (now tables) ⌝ }
     ensures { λ n. ⌜ (now (sums .exit) ≡ lineBlocks (now (positions .entry)) (length (now (sums .entry))) (line .blocks) (now (info .entry)) (line .k))
         × (n ≡ blockReads (sent (line .blocks) (line .k)) (length (now (sums .entry))) + blockReads (sent (line .blocks) (line .k + 1)) (length (now (sums .entry)))) ⌝ }
 {
@@ -65,7 +73,16 @@ fn line_blocks(line: Line, info: &[u8], positions: &[u32], sums: &mut [u32]) -> 
     let has_first = words_blocks::is_sent(line.blocks, k);
     let has_second = words_blocks::is_sent(line.blocks, k + 1);
     let rows = k % 2 == 0;
-    words_blocks::block_sums(first, has_first, second, has_second, !rows, positions, sums)
+    words_blocks::block_sums(
+        first,
+        has_first,
+        second,
+        has_second,
+        !rows,
+        positions,
+        tables,
+        sums,
+    )
 }
 
 // Adds to each of `sums` the r entries of the table from entry `from` on, at the ones of its column of r rows that stand in `bits` from byte `at`
@@ -151,8 +168,8 @@ fn add_stretch(
     add_columns(sums, red, at, positions, from, r)
 }
 
-// Makes `sums` the remainders of the words of a line. Answers how many bits of each word it has read, which is how many of them are sent. One step for
-// each of these bits.
+// Makes `sums` the remainders of the words of a line. The tables are those of the powers that the two blocks of a word carry, or none. Answers how many bits
+// of each word it has read, which is how many of them are sent. One step for each of these bits.
 pub fn line_remainders(
     line: Line,
     own: &[u8],
@@ -160,10 +177,11 @@ pub fn line_remainders(
     info: &[u8],
     red: &[u8],
     positions: &[u32],
+    tables: &[u32],
     sums: &mut [u32],
 ) -> usize
     requires { ⌜ Received (line .d) (line .blocks) (now own) (now parity) (now info) (now red) × LineFits line × WordTable (line .d) (now positions)
-        × (length (now sums) ≡ line .d .size) ⌝ }
+        × (length (now sums) ≡ line .d .size) × MayHalves (now positions) (line .d .size) (now tables) ⌝ }
     ensures { λ n. ⌜ (now (sums .exit) ≡ tabulate (line .d .size)
         (lineRemainder line (now (own .entry)) (now (parity .entry)) (frameOf (now (info .entry)) (now (red .entry)))))
         × ((a : ℕ) → a < line .d .size
@@ -176,7 +194,7 @@ pub fn line_remainders(
     let y = line.k / 2 * (2 * n);
     let x = 2 * d.size();
     let rows = line.k % 2 == 0;
-    let blocks = line_blocks(line, info, positions, sums);
+    let blocks = line_blocks(line, info, positions, tables, sums);
     let first = add_stretch(sums, rows, own, red, y, positions, x, r);
     let second = add_stretch(sums, rows, parity, red, y + n, positions, x + r, r);
     blocks + first + second
@@ -211,10 +229,11 @@ fn count_lines(
     info: &[u8],
     red: &[u8],
     positions: &[u32],
+    tables: &[u32],
     sums: &mut [u32],
 ) -> u64
     requires { ⌜ Received (line .d) (line .blocks) (now own) (now parity) (now info) (now red) × WordTable (line .d) (now positions)
-        × (length (now sums) ≡ line .d .size) ⌝ }
+        × (length (now sums) ≡ line .d .size) × MayHalves (now positions) (line .d .size) (now tables) ⌝ }
     ensures { λ a. ⌜ a ≡ outside (paramsOf (line .d)) (listsOf (line .d) (now (own .entry)) (now (parity .entry))) (line .blocks)
         (frameOf (now (info .entry)) (now (red .entry))) ⌝ }
 {
@@ -222,15 +241,72 @@ fn count_lines(
     let mut total: u64 = 0;
     for k in 0..lines {
         let here = words_lines::line_at(line, k);
-        line_remainders(here, own, parity, info, red, positions, sums);
+        line_remainders(here, own, parity, info, red, positions, tables, sums);
         total = total + count_nonzero(sums);
     }
     total
 }
 
-// How many words of a frame are outside the code; the line is any of the frame. Lent to read are the lists, the frame and the table of the powers of
-// x that the positions of a word carry. One step for each bit of the words.
-pub fn count_outside(
+// Working entries for the remainders of a line; only their number is told: the most that a line has, or more.
+pub fn sum_entries() -> [u32; 512]
+    ensures { λ a. ⌜ 512 ≡ length a ⌝ }
+{
+    [0; 512]
+}
+
+// How many words of a frame are outside the code; the line is any of the frame. Lent to read are the lists, the frame, the table of the powers of x
+// that the positions of a word carry, and tables of sums of those that its blocks carry, or none. One step for each bit of the words.
+fn count_outside(
+    line: Line,
+    own: &[u8],
+    parity: &[u8],
+    info: &[u8],
+    red: &[u8],
+    positions: &[u32],
+    tables: &[u32],
+) -> u64
+    requires { ⌜ Received (line .d) (line .blocks) (now own) (now parity) (now info) (now red) × WordTable (line .d) (now positions)
+        × MayHalves (now positions) (line .d .size) (now tables) ⌝ }
+    ensures { λ a. ⌜ a ≡ outside (paramsOf (line .d)) (listsOf (line .d) (now (own .entry)) (now (parity .entry))) (line .blocks)
+        (frameOf (now (info .entry)) (now (red .entry))) ⌝ }
+{
+    let size = line.d.size();
+    let mut sums = sum_entries();
+    count_lines(
+        line,
+        own,
+        parity,
+        info,
+        red,
+        positions,
+        tables,
+        &mut sums[0..size],
+    )
+}
+
+// `count_outside` with tables of sums, of which `due` entries are due.
+fn count_by_tables(
+    line: Line,
+    own: &[u8],
+    parity: &[u8],
+    info: &[u8],
+    red: &[u8],
+    positions: &[u32],
+    due: usize,
+) -> u64
+    requires { ⌜ Received (line .d) (line .blocks) (now own) (now parity) (now info) (now red) × WordTable (line .d) (now positions)
+        × (due ≤ 32768) × (due ≡ 2 * (256 * ((line .d .size + 7) / 8))) ⌝ }
+    ensures { λ a. ⌜ a ≡ outside (paramsOf (line .d)) (listsOf (line .d) (now (own .entry)) (now (parity .entry))) (line .blocks)
+        (frameOf (now (info .entry)) (now (red .entry))) ⌝ }
+{
+    let size = line.d.size();
+    let mut tables = words_tables::entries();
+    words_tables::fill_halves(positions, size, &mut tables[0..due]);
+    count_outside(line, own, parity, info, red, positions, &tables[0..due])
+}
+
+// How many words of a frame are outside the code, by tables of sums where they pay for themselves. The line is any of the frame.
+fn count_filled(
     line: Line,
     own: &[u8],
     parity: &[u8],
@@ -242,9 +318,11 @@ pub fn count_outside(
     ensures { λ a. ⌜ a ≡ outside (paramsOf (line .d)) (listsOf (line .d) (now (own .entry)) (now (parity .entry))) (line .blocks)
         (frameOf (now (info .entry)) (now (red .entry))) ⌝ }
 {
-    let size = line.d.size();
-    let mut sums = [0u32; 512];
-    count_lines(line, own, parity, info, red, positions, &mut sums[0..size])
+    let due = words_tables::tables_due(line.blocks, line.d.size());
+    if due == 0 {
+        return count_outside(line, own, parity, info, red, positions, &positions[0..0]);
+    }
+    count_by_tables(line, own, parity, info, red, positions, due)
 }
 
 // Rules 4 to 7 and 10, for a received frame of an allowed design. Of the working bytes, whose length is judged as it is asked, one is used for each
@@ -295,7 +373,7 @@ fn count_received(
     let bits = d.n();
     let mut positions = [0u32; 1024];
     words_positions::fill_table(d, &mut positions[0..bits]);
-    count_outside(line, own, parity, info, red, &positions[0..bits])
+    count_filled(line, own, parity, info, red, &positions[0..bits])
 }
 
 // A refused check as the word checker's answer; for calls that end in a count.

@@ -2,6 +2,8 @@
 --   row-sum               what `dot` answers for a row that is lent as a part of the block
 --   part-length, part-at, part-sum   a part of the table that is lent, and sums with it
 --   part-same             a sum over bits that agree
+--   part-sums             tables of a part that is lent
+--   first-half, second-half   the tables of the two blocks of a word, as halves that are lent
 --   square                a block of m × m bits
 --   Adds, adds-part       a sum added for each word, by a part that is lent, and by the table
 --   added-twice           two sums added for each word
@@ -12,10 +14,10 @@
 --   zeros-are             a list of zeros as a table
 --   blocks-added          the two blocks of a group's words, from 0
 -- Assumes nothing.
-use mathlib.Core.Path.{_≡_, refl, sym, ap, ap₂, _∙_}
+use mathlib.Core.Path.{_≡_, refl, sym, ap, ap₂, subst, subst₂, _∙_}
 use mathlib.Core.Bool.{Bool, true, false, cond}
 use mathlib.Core.List.{List, _∷_}
-use Prim.Native.Nat.{ℕ, zero, suc, _+_, _-_, _*_, _≤_, _<_}
+use Prim.Native.Nat.{ℕ, zero, suc, _+_, _-_, _*_, _/_, _≤_, _<_}
 use native.Mathlib.Nat.{zero-mul}
 use native.Mathlib.Decide.{decLt}
 use native.Mathlib.Omega.{arith}
@@ -29,6 +31,7 @@ use Rattle.staircase.specs.Lists.{tabulate}
 use Rattle.staircase.specs.System.{Contents}
 use Rattle.staircase.proofs.Tabulate.{tabulate-length, tabulate-at, tabulate-same}
 use Rattle.bch_remainders.proofs.Rows.{row-length, row-at}
+use Rattle.words_tables.specs.Tables.{MaySum, MayHalves, partOf}
 use Rattle.words_blocks.specs.Blocks.{sentBit, blockReads, partSum, bitPlace, blockSum, PartAdded}
 
 module _ (block part : List ℕ) (from : ℕ) (inside : from + length part ≤ length block) where
@@ -84,6 +87,26 @@ pub part-same : (positions : List ℕ) (from w : ℕ) (b c : ℕ → ℕ) → ((
 unfolding partSum
 part-same positions from w b c same =
     xorSum-same w (λ j. b j * getD positions (from + j) 0) (λ j. c j * getD positions (from + j) 0) (λ j l. ap (λ (x : ℕ). x * getD positions (from + j) 0) (same j l))
+
+-- ---- tables of sums
+
+-- a part as code lends it
+pub part-sums : (positions : List ℕ) (from n : ℕ) (tables : List ℕ) → MaySum (partOf positions from n) tables
+    → MaySum (take (from + n - from) (drop from positions)) tables
+part-sums positions from n tables =
+    let e : n ≡ from + n - from = omega arith in subst (λ (k : ℕ). MaySum (take k (drop from positions)) tables) e
+
+-- n words, of which w are lent
+module _ (positions : List ℕ) (n w : ℕ) (tables : List ℕ) (wide : w ≡ n) (H : MayHalves positions n tables) where
+  pub first-half : MaySum (partOf positions 0 w) (take (length tables / 2 - 0) (drop 0 tables))
+  first-half =
+      let e : length tables / 2 ≡ length tables / 2 - 0 = omega arith in
+      subst₂ (λ (k h : ℕ). MaySum (partOf positions 0 k) (take h (drop 0 tables))) (sym wide) e (H .first)
+
+  pub second-half : MaySum (partOf positions w w) (take (2 * (length tables / 2) - length tables / 2) (drop (length tables / 2) tables))
+  second-half =
+      let e : length tables / 2 ≡ 2 * (length tables / 2) - length tables / 2 = omega arith in
+      subst₂ (λ (k h : ℕ). MaySum (partOf positions k k) (take h (drop (length tables / 2) tables))) (sym wide) e (H .second)
 
 -- ---- the sums of all words
 

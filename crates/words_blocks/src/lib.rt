@@ -14,6 +14,7 @@ ghost use lib.ListN.{length, getD};
 ghost use Rattle.bch.specs.Polynomial.{_⊕_, Bits};
 ghost use Rattle.bch.specs.Powers.{xorSum};
 ghost use Rattle.staircase.specs.Lists.{tabulate};
+ghost use Rattle.words_tables.specs.Tables.{MaySum, MayHalves, partOf};
 ghost use Rattle.words_blocks.specs.Blocks.{sent, blockBytes, sentBit, Sent, blockReads, columnSum, rowSum, bitPlace, blockSum, PartAdded};
 
 // Whether block b of a frame of `blocks` blocks is sent.
@@ -59,8 +60,39 @@ fn add_dots(acc: &mut [u32], block: &[u8], part: &[u32]) -> usize
     reads
 }
 
+// Adds to each of `sums` the entries of `part` at the ones of its column of a block: eight rows at a time where there are tables of sums of `part`, else
+// row by row. Answers how many bits of each column it has read.
+fn add_columns(sums: &mut [u32], block: &[u8], part: &[u32], tables: &[u32]) -> usize
+    requires { ⌜ (length (now block) ≡ length (now part) * length (now sums)) × Bits (now block) × (length (now part) ≡ length (now sums))
+        × MaySum (now part) (now tables) ⌝ }
+    ensures { λ n. ⌜ (length (now (sums .exit)) ≡ length (now (sums .entry)))
+        × ((a : ℕ) → a < length (now (sums .entry)) → getD (now (sums .exit)) a 0 ≡ getD (now (sums .entry)) a 0
+        ⊕ xorSum (length (now (part .entry))) (λ j. getD (now (block .entry)) (j * length (now (sums .entry)) + a) 0 * getD (now (part .entry)) j 0))
+        × (n ≡ length (now (part .entry))) ⌝ }
+{
+    if tables.len() == 0 {
+        return bch_remainders::read_rows(sums, block, part);
+    }
+    words_sums::add_columns(sums, block, part, tables)
+}
+
+// The same for its row of the block.
+fn add_rows(sums: &mut [u32], block: &[u8], part: &[u32], tables: &[u32]) -> usize
+    requires { ⌜ (length (now block) ≡ length (now sums) * length (now part)) × Bits (now block) × MaySum (now part) (now tables) ⌝ }
+    ensures { λ n. ⌜ (length (now (sums .exit)) ≡ length (now (sums .entry)))
+        × ((a : ℕ) → a < length (now (sums .entry)) → getD (now (sums .exit)) a 0 ≡ getD (now (sums .entry)) a 0
+        ⊕ xorSum (length (now (part .entry))) (λ j. getD (now (block .entry)) (a * length (now (part .entry)) + j) 0 * getD (now (part .entry)) j 0))
+        × ((a : ℕ) → a < length (now (sums .entry)) → n ≡ length (now (part .entry))) × (n ≤ length (now (part .entry))) ⌝ }
+{
+    if tables.len() == 0 {
+        return add_dots(sums, block, part);
+    }
+    words_sums::add_rows(sums, block, part, tables)
+}
+
 // Adds to each of `sums` the entries of the table from entry `from` on, as many as there are sums, at the ones of its column of a block where
-// `column` is true, else of its row. A block that is not sent adds nothing. Answers how many bits it has read for each sum.
+// `column` is true, else of its row. A block that is not sent adds nothing. The tables are those of the sums of these entries, or none. Answers how many bits
+// it has read for each sum.
 pub fn add_block(
     sums: &mut [u32],
     block: &[u8],
@@ -68,8 +100,10 @@ pub fn add_block(
     column: bool,
     positions: &[u32],
     from: usize,
+    tables: &[u32],
 ) -> usize
-    requires { ⌜ Sent sent (now block) (length (now sums) * length (now sums)) × (from + length (now sums) ≤ length (now positions)) ⌝ }
+    requires { ⌜ Sent sent (now block) (length (now sums) * length (now sums)) × (from + length (now sums) ≤ length (now positions))
+        × MaySum (partOf (now positions) from (length (now sums))) (now tables) ⌝ }
     ensures { λ n. ⌜ PartAdded (now (positions .entry)) from (length (now (sums .entry)))
         (λ w a j. sentBit sent (now (block .entry)) (bitPlace column w a j)) (now (sums .entry)) (now (sums .exit))
         × (n ≡ blockReads sent (length (now (sums .entry)))) ⌝ }
@@ -79,13 +113,13 @@ pub fn add_block(
     }
     let part = &positions[from..from + sums.len()];
     if column {
-        return bch_remainders::read_rows(sums, block, part);
+        return add_columns(sums, block, part, tables);
     }
-    add_dots(sums, block, part)
+    add_rows(sums, block, part, tables)
 }
 
-// Makes `sums` the remainders of the two blocks of a group's column words where `column` is true, else of its row words. Answers how many bits it has
-// read for each word.
+// Makes `sums` the remainders of the two blocks of a group's column words where `column` is true, else of its row words. The tables are those of the powers
+// that the two blocks carry, or none. Answers how many bits it has read for each word.
 pub fn block_sums(
     first: &[u8],
     has_first: bool,
@@ -93,17 +127,29 @@ pub fn block_sums(
     has_second: bool,
     column: bool,
     positions: &[u32],
+    tables: &[u32],
     sums: &mut [u32],
 ) -> usize
     requires { ⌜ Sent «has_first» (now first) (length (now sums) * length (now sums)) × Sent «has_second» (now second) (length (now sums) * length (now sums))
-        × (2 * length (now sums) ≤ length (now positions)) ⌝ }
+        × (2 * length (now sums) ≤ length (now positions)) × MayHalves (now positions) (length (now sums)) (now tables) ⌝ }
     ensures { λ n. ⌜ (now (sums .exit) ≡ tabulate (length (now (sums .entry)))
         (blockSum column (now (positions .entry)) (length (now (sums .entry))) (sentBit «has_first» (now (first .entry))) (sentBit «has_second» (now (second .entry)))))
         × (n ≡ blockReads «has_first» (length (now (sums .entry))) + blockReads «has_second» (length (now (sums .entry)))) ⌝ }
 {
     bch_remainders::clear(sums);
-    let one = add_block(sums, first, has_first, column, positions, 0);
-    let two = add_block(sums, second, has_second, column, positions, sums.len());
+    let half = tables.len() / 2;
+    let ahead = &tables[0..half];
+    let behind = &tables[half..2 * half];
+    let one = add_block(sums, first, has_first, column, positions, 0, ahead);
+    let two = add_block(
+        sums,
+        second,
+        has_second,
+        column,
+        positions,
+        sums.len(),
+        behind,
+    );
     one + two
 }
 
@@ -114,7 +160,8 @@ pub fn column_sums(odd: &[u8], even: &[u8], has_even: bool, positions: &[u32], c
     ensures { λ u. ⌜ now (columns .exit) ≡ tabulate (length (now (columns .entry)))
         (columnSum (now (positions .entry)) (length (now (columns .entry))) (λ k. getD (now (odd .entry)) k 0) (sentBit «has_even» (now (even .entry)))) ⌝ }
 {
-    block_sums(odd, true, even, has_even, true, positions, columns);
+    let none = &positions[0..0];
+    block_sums(odd, true, even, has_even, true, positions, none, columns);
 }
 
 // Makes `rows` the remainders of the blocks of a group's row words.
@@ -124,5 +171,6 @@ pub fn row_sums(before: &[u8], has_before: bool, odd: &[u8], positions: &[u32], 
     ensures { λ u. ⌜ now (rows .exit) ≡ tabulate (length (now (rows .entry)))
         (rowSum (now (positions .entry)) (length (now (rows .entry))) (sentBit «has_before» (now (before .entry))) (λ k. getD (now (odd .entry)) k 0)) ⌝ }
 {
-    block_sums(before, has_before, odd, true, false, positions, rows);
+    let none = &positions[0..0];
+    block_sums(before, has_before, odd, true, false, positions, none, rows);
 }

@@ -20,16 +20,16 @@ line-remainders-requires : tie.Need-line-remainders-requires
 line-remainders-requires c κs =
     let size = c .before .before .before .size in
     let sum-entries = c .before .sum-entries in
-    let p = c .before .before .before .before .before .before .before .before .before .before .pre in
+    let p = c .before .before .before .before .before .before .before .before .before .before .before .pre in
     let long = length-take-le (size .result - 0) (sum-entries .result) (omega (arith, size .ensures, sum-entries .ensures, p .0 .allowed .M-high)) in
-    (p .0, p .1, p .2, omega (arith, long, size .ensures))
+    (p .0, p .1, p .2, omega (arith, long, size .ensures), p .5)
 
 part-put-numbers-end : tie.Need-part-put-numbers-end
 part-put-numbers-end c =
     let line-remainders = c .before .before .line-remainders in
     let size = c .before .before .before .before .before .before .size in
-    let a = c .before .before .before .before .before .before .before .before .before .before .before .before .before .args in
-    let S = line-remainders .last .1 .1 .1 .1 .1 .1 .0 in
+    let a = c .before .before .before .before .before .before .before .before .before .before .before .before .before .before .args in
+    let S = line-remainders .last .1 .1 .1 .1 .1 .1 .1 .0 in
     let long : length S ≡ size .result =
     ap length (line-remainders .ensures .0)
     ∙ tabulate-length (a .line .d .size) (lineRemainder (a .line) (a .own .now) (a .parity .now) (frameOf (a .info .now) (a .red .now))) ∙ sym (size .ensures) in
@@ -37,13 +37,13 @@ part-put-numbers-end c =
 
 put-numbers-requires : tie.Need-put-numbers-requires
 put-numbers-requires c κs =
-    let s = c .before .before .before .before .before .before .before .before .before .before .before .before .before .before .before in
+    let s = c .before .before .before .before .before .before .before .before .before .before .before .before .before .before .before .before in
     let line-remainders = c .before .before .before .before .line-remainders in
     let size = c .before .before .before .before .before .before .before .before .size in
     let p = s .pre in
     let a = s .args in
     let M = a .line .d .size in
-    let S = line-remainders .last .1 .1 .1 .1 .1 .1 .0 in
+    let S = line-remainders .last .1 .1 .1 .1 .1 .1 .1 .0 in
     let n = size .result in
     let E = drop (n - 0) (c .before .before .before .before .before .before .sum-entries .result) in
     let long : length S ≡ n =
@@ -56,13 +56,13 @@ put-numbers-requires c κs =
 
 returns : tie.Need-returns
 returns c =
-    let s = c .before .before .before .before .before .before .before .before .before .before .before .before .before .before .before .before .before .before in
+    let s = c .before .before .before .before .before .before .before .before .before .before .before .before .before .before .before .before .before .before .before in
     let line-remainders = c .before .before .before .before .before .before .before .line-remainders in
     let size = c .before .before .before .before .before .before .before .before .before .before .before .size in
     let word-number = c .before .before .before .before .before .before .before .before .before .before .word-number in
     let p = s .pre in
     let a = s .args in
-    let S = line-remainders .last .1 .1 .1 .1 .1 .1 .0 in
+    let S = line-remainders .last .1 .1 .1 .1 .1 .1 .1 .0 in
     let put = c .before .before .put-numbers in (
       put .ensures .long,
       line-stored (a .line) (a .own .now) (a .parity .now) (frameOf (a .info .now) (a .red .now)) S (drop (size .result - 0) (c .before .before .before .before .before .before .before .before .before .sum-entries .result)) (a .numbers .now)

@@ -1,57 +1,34 @@
--- The loop's invariant: the numbers of the rows of the first b blocks are filled. The measure is the number of blocks left.
+-- Tables that pay for themselves have the length that is due.
 -- Assumes nothing.
-use mathlib.Core.Path.{_≡_, refl, _∙_, subst}
-use Prim.Native.Nat.{ℕ, _-_, _≤_}
+use borrow.Author.Needs.{needs}
 use native.Mathlib.Omega.{arith}
-use lib.ListN.{length}
-use Rattle.original_design.specs.Answers.{paramsOf}
-use Rattle.original_decoder.specs.Filled.{RowsFilled}
-use Rattle.original_decoder.proofs.Filled.{rows-none}
+use mathlib.Core.Path.{refl, _∙_}
+use Rattle.words_tables.proofs.Tables.{no-halves}
+use Rattle.words_blocks.proofs.Sums.{part-length}
 use Rattle.original_decoder.proofs.fill_numbers.Statement.{statement}
 use Rattle.original_decoder.proofs.fill_numbers.Tie as tie
 
-abbrev Inv-loop : tie.InvT-loop
-Inv-loop d blocks buffer positions sums₀ numbers₀ b₀ sums numbers b =
-    (b ≤ blocks) × (length sums ≡ length sums₀) × (length numbers ≡ length numbers₀) × RowsFilled (paramsOf d) buffer numbers b
+fill-blocks-requires : tie.Need-fill-blocks-requires
+fill-blocks-requires c κs =
+    let s = c .before .before .before .before .before .before .before .before .before .before in
+    let p = s .pre in
+    let size = c .before .before .before .before .before .before .size in (
+      p .0,
+      p .1,
+      part-length _ 0 (size .result) (size .result) (omega arith) (omega (arith, p .0 .allowed .M-high, size .ensures)) ∙ size .ensures,
+      p .2,
+      no-halves (s .args .positions .now) (s .args .d .size) _ refl,
+    )
 
-abbrev μ-loop : tie.MeasureT-loop
-μ-loop d blocks buffer positions sums₀ numbers₀ b₀ sums numbers b = blocks - b
-
-loop-holds : tie.Need-loop-holds Inv-loop μ-loop
-loop-holds c = let a = c .before .before .before .before .args in (omega arith, refl, refl, rows-none (paramsOf (a .d)) (a .buffer .now) (a .numbers .now))
-
-fill-rows-requires : tie.Need-fill-rows-requires Inv-loop μ-loop
-fill-rows-requires c κs =
-    let p = c .before .before .before .before .before .before .before .before .pre in
-    let l = c .before .before .before .loop in
-    (p .0, omega arith, p .1, l .inv .1 ∙ p .2, l .inv .2 ∙ p .3, l .inv .3)
-
-add-b : tie.Need-add-b Inv-loop μ-loop
-add-b c = omega arith
-
-loop-less : tie.Need-loop-less Inv-loop μ-loop
-loop-less c = omega arith
-
-loop-again : tie.Need-loop-again Inv-loop μ-loop
-loop-again c =
-    let l = c .before .before .before .before .before .before .before .before .loop in
-    let rows = c .before .before .before .before .fill-rows in
-    (omega arith, omega arith, rows .ensures .0 ∙ l .inv .2, rows .ensures .1)
-
-same-length : tie.Need-same-length Inv-loop μ-loop
-same-length c = omega arith
-
-same-length-2 : tie.Need-same-length-2 Inv-loop μ-loop
-same-length-2 c = omega arith
-
-returns : tie.Need-returns Inv-loop μ-loop
-returns c =
-    let a = c .before .before .before .before .before .before .args in
-    let l = c .before .loop in
-    let e : l .b ≡ a .blocks = omega arith in
-    (l .inv .2, subst (λ (n : ℕ). RowsFilled (paramsOf (a .d)) (a .buffer .now) (l .numbers) n) e (l .inv .3))
+fill-by-tables-requires : tie.Need-fill-by-tables-requires
+fill-by-tables-requires c κs =
+    let p = c .before .before .before .before .before .before .before .pre in
+    let due = c .before .before .tables-due .ensures in
+    (p .0, p .1, p .2, due .0, omega (arith, due .1 (omega arith), c .before .before .before .size .ensures))
 
 pub fill-numbers-spec : {M : Type 1} → statement M
 fill-numbers-spec =
     tie.close
-    (tie.spec Inv-loop μ-loop loop-holds fill-rows-requires add-b loop-less loop-again same-length same-length-2 returns)
+    (tie.spec (λ c κs. search needs) (λ c κs. search needs) (λ c κs. search needs) (λ c. search needs) (λ c. search needs) (λ c. search needs)
+    (λ c. search needs) (λ c. search needs) (λ c. search needs) fill-blocks-requires (λ c. search needs) (λ c. search needs) fill-by-tables-requires
+    (λ c. search needs) (λ c. search needs))

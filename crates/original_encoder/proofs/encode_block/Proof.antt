@@ -14,38 +14,38 @@ use Rattle.original_encoder.proofs.encode_block.Statement.{statement}
 use Rattle.original_encoder.proofs.encode_block.Tie as tie
 
 row-remainders-requires : tie.Need-row-remainders-requires
-row-remainders-requires c κs = c .before .before .before .before .before .before .before .pre
+row-remainders-requires c κs = c .before .before .before .before .before .before .before .before .pre
 
 mul-put-rows : tie.Need-mul-put-rows
 mul-put-rows c =
-    let a = c .before .before .before .before .before .before .before .before .before .before .before .args in
-    let F = c .before .before .before .before .before .before .before .before .before .before .before .pre .0 in
+    let a = c .before .before .before .before .before .before .before .before .before .before .before .before .args in
+    let F = c .before .before .before .before .before .before .before .before .before .before .before .before .pre .0 in
     let e : a .b * c .before .before .before .before .before .before .before .area .result ≡ a .b * (a .d .size * a .d .size) = ap (λ (z : ℕ). a .b * z) (c .before .before .before .before .before .before .before .area .ensures .0) in
-    omega (arith, stretch-end (a .b) (a .blocks) (a .d .size * a .d .size) (c .before .before .before .before .before .before .before .before .before .before .before .pre .1), buffer-small (a .d) (F .allowed) (a .blocks) (F .few-blocks), e)
+    omega (arith, stretch-end (a .b) (a .blocks) (a .d .size * a .d .size) (c .before .before .before .before .before .before .before .before .before .before .before .before .pre .1), buffer-small (a .d) (F .allowed) (a .blocks) (F .few-blocks), e)
 
 put-rows-requires : tie.Need-put-rows-requires
 put-rows-requires c κs =
-    let a = c .before .before .before .before .before .before .before .before .before .before .before .before .args in
-    let F = c .before .before .before .before .before .before .before .before .before .before .before .before .pre .0 in
+    let a = c .before .before .before .before .before .before .before .before .before .before .before .before .before .args in
+    let F = c .before .before .before .before .before .before .before .before .before .before .before .before .before .pre .0 in
     let M = a .d .size in
     let rows = c .before .before .before .before .row-remainders in
-    let n : length (rows .last .1 .1 .1 .1 .1 .0) ≡ M = ap length (rows .ensures) ∙ remainders-long (paramsOf (a .d)) (a .buffer .now) (a .b) in
+    let n : length (rows .last .1 .1 .1 .1 .1 .1 .0) ≡ M = ap length (rows .ensures) ∙ remainders-long (paramsOf (a .d)) (a .buffer .now) (a .b) in
     let e : a .b * c .before .before .before .before .before .before .before .before .area .result ≡ a .b * (M * M) = ap (λ (z : ℕ). a .b * z) (c .before .before .before .before .before .before .before .before .area .ensures .0) in
-    let q : length (rows .last .1 .1 .1 .1 .1 .0) * length (rows .last .1 .1 .1 .1 .1 .0) ≡ M * M = ap (λ (z : ℕ). z * z) n in
+    let q : length (rows .last .1 .1 .1 .1 .1 .1 .0) * length (rows .last .1 .1 .1 .1 .1 .1 .0) ≡ M * M = ap (λ (z : ℕ). z * z) n in
     let r : a .d .m * a .d .t ≤ 30 = small-product (a .d .m) (a .d .t) 10 3 (F .allowed .m-high) (F .allowed .t-high) in (
       omega (arith, r, c .before .before .before .before .before .before .before .r .ensures .0),
       omega (arith, c .before .before .before .before .before .before .before .r .ensures .0, n, F .allowed .thin),
       omega (arith, n, F .allowed .M-high),
-      omega (arith, stretch-end (a .b) (a .blocks) (M * M) (c .before .before .before .before .before .before .before .before .before .before .before .before .pre .1), F .long, e, q),
+      omega (arith, stretch-end (a .b) (a .blocks) (M * M) (c .before .before .before .before .before .before .before .before .before .before .before .before .before .pre .1), F .long, e, q),
     )
 
 returns : tie.Need-returns
 returns c =
-    let a = c .before .before .before .before .before .before .before .before .before .before .before .before .before .before .before .args in
+    let a = c .before .before .before .before .before .before .before .before .before .before .before .before .before .before .before .before .args in
     let rows = c .before .before .before .before .before .before .before .row-remainders in
-    let n : length (rows .last .1 .1 .1 .1 .1 .0) ≡ a .d .size = ap length (rows .ensures) ∙ remainders-long (paramsOf (a .d)) (a .buffer .now) (a .b) in (
+    let n : length (rows .last .1 .1 .1 .1 .1 .1 .0) ≡ a .d .size = ap length (rows .ensures) ∙ remainders-long (paramsOf (a .d)) (a .buffer .now) (a .b) in (
       rows-named n (c .before .before .before .before .before .before .before .before .before .before .r .ensures .0) (ap (λ (z : ℕ). a .b * z) (c .before .before .before .before .before .before .before .before .before .before .before .area .ensures .0)) (ap {B = ℕ → ℕ} (λ (l : List ℕ) (i : ℕ). getD l i 0) (rows .ensures)) (c .before .before .put-rows .ensures),
-      omega (arith, n, c .before .before .before .before .before .before .before .before .before .before .before .before .before .before .before .pre .3),
+      omega (arith, n, c .before .before .before .before .before .before .before .before .before .before .before .before .before .before .before .before .pre .3),
     )
 
 pub encode-block-spec : {M : Type 1} → statement M

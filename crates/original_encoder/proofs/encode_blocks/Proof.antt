@@ -11,26 +11,27 @@ use Rattle.original_encoder.proofs.encode_blocks.Statement.{statement}
 use Rattle.original_encoder.proofs.encode_blocks.Tie as tie
 
 abbrev Inv-loop : tie.InvT-loop
-Inv-loop d blocks positions sums₀ buffer₀ b₀ sums buffer b = (b ≤ blocks) × (length sums ≡ length sums₀) × Done (paramsOf d) buffer₀ b buffer
+Inv-loop d blocks positions tables sums₀ buffer₀ b₀ sums buffer b = (b ≤ blocks) × (length sums ≡ length sums₀) × Done (paramsOf d) buffer₀ b buffer
 
 abbrev μ-loop : tie.MeasureT-loop
-μ-loop d blocks positions sums₀ buffer₀ b₀ sums buffer b = blocks - b
+μ-loop d blocks positions tables sums₀ buffer₀ b₀ sums buffer b = blocks - b
 
 loop-holds : tie.Need-loop-holds Inv-loop μ-loop
 loop-holds c =
-    let a = c .before .before .before .args in
-    let p = c .before .before .before .pre in
+    let a = c .before .before .before .before .args in
+    let p = c .before .before .before .before .pre in
     let d = p .0 .allowed in
     (omega arith, omega arith, done-none (paramsOf (a .d)) (degree-some d) (d .thin) (degree-of d) (a .blocks) (a .buffer .now) (p .0 .long) (p .0 .bits) (p .3))
 
 encode-block-requires : tie.Need-encode-block-requires Inv-loop μ-loop
 encode-block-requires c κs =
-    let p = c .before .before .before .before .before .before .before .pre in
+    let p = c .before .before .before .before .before .before .before .before .pre in
     let D = c .before .before .before .loop .inv .2 in (
       record { allowed = p .0 .allowed; few-blocks = p .0 .few-blocks; long = D .same-length ∙ p .0 .long; bits = D .binary },
       omega arith,
       p .1,
       omega (arith, p .2, c .before .before .before .loop .inv .1),
+      p .4,
     )
 
 add-b : tie.Need-add-b Inv-loop μ-loop
@@ -41,8 +42,8 @@ loop-less c = omega arith
 
 loop-again : tie.Need-loop-again Inv-loop μ-loop
 loop-again c =
-    let a = c .before .before .before .before .before .before .before .before .before .before .before .before .args in
-    let p = c .before .before .before .before .before .before .before .before .before .before .before .before .pre in
+    let a = c .before .before .before .before .before .before .before .before .before .before .before .before .before .args in
+    let p = c .before .before .before .before .before .before .before .before .before .before .before .before .before .pre in
     let d = p .0 .allowed in
     let l = c .before .before .before .before .before .before .before .before .loop in
     let one = c .before .before .before .before .encode-block in
@@ -56,8 +57,8 @@ same-length-2 c = c .before .loop .inv .2 .same-length
 
 returns : tie.Need-returns Inv-loop μ-loop
 returns c =
-    let a = c .before .before .before .before .before .args in
-    let p = c .before .before .before .before .before .pre in
+    let a = c .before .before .before .before .before .before .args in
+    let p = c .before .before .before .before .before .before .pre in
     let d = p .0 .allowed in
     let l = c .before .loop in
     let e : l .b ≡ a .blocks = omega arith in

@@ -2,7 +2,7 @@
 -- Assumes nothing.
 use native.Mathlib.Omega.{arith}
 use borrow.Author.Needs.{needs}
-use mathlib.Core.Path.{_≡_, sym, ap, _∙_, subst, subst⁻¹, subst₂}
+use mathlib.Core.Path.{_≡_, sym, ap, _∙_, subst⁻¹, subst₂}
 use mathlib.Core.List.{List}
 use Prim.Native.Nat.{ℕ, _*_, _≤_, _<_}
 use native.Mathlib.Nat.{mul-assoc}
@@ -11,7 +11,6 @@ use Rattle.bch.specs.Code.{generator}
 use Rattle.bch.specs.Powers.{PositionPowers}
 use Rattle.staircase.proofs.Bounds.{small-product}
 use Rattle.words_positions.proofs.Parts.{part-fits, part-is}
-use Rattle.words_blocks.proofs.Sums.{part-length}
 use Rattle.original.specs.Frame.{encoded}
 use Rattle.original.specs.Steps.{cleared}
 use Rattle.original.proofs.Buffer.{cleared-length, cleared-bits, encoded-cleared}
@@ -32,65 +31,75 @@ mul-clear-parity : tie.Need-mul-clear-parity
 mul-clear-parity c =
     let a = c .before .before .before .before .before .before .before .before .before .args in
     let F = c .before .before .before .before .before .before .before .before .before .pre .0 in
-    omega (arith, small-product (a .blocks) (c .before .before .before .before .before .before .before .size .result) 4096 500 (F .few-blocks) (omega (arith, c .before .before .before .before .before .before .before .size .ensures, F .allowed .M-high)))
+    let size = c .before .before .before .before .before .before .before .size in
+    omega (arith, small-product (a .blocks) (size .result) 4096 500 (F .few-blocks) (omega (arith, size .ensures, F .allowed .M-high)))
 
 clear-parity-requires : tie.Need-clear-parity-requires
 clear-parity-requires c κs =
     let a = c .before .before .before .before .before .before .before .before .before .before .args in
     let F = c .before .before .before .before .before .before .before .before .before .before .pre .0 in
+    let size = c .before .before .before .before .before .before .before .before .size in
+    let r = c .before .before .before .before .before .before .r in
     let small = buffer-small (a .d) (F .allowed) (a .blocks) (F .few-blocks) in
-    let r : a .d .m * a .d .t ≤ 30 = small-product (a .d .m) (a .d .t) 10 3 (F .allowed .m-high) (F .allowed .t-high) in
-    let e : a .blocks * c .before .before .before .before .before .before .before .before .size .result * c .before .before .before .before .before .before .before .before .size .result ≡ a .blocks * (a .d .size * a .d .size) =
-    mul-assoc (a .blocks) (c .before .before .before .before .before .before .before .before .size .result) (c .before .before .before .before .before .before .before .before .size .result) ∙ ap (λ (z : ℕ). a .blocks * (z * z)) (c .before .before .before .before .before .before .before .before .size .ensures) in
-    (omega (arith, r, c .before .before .before .before .before .before .r .ensures .0), omega (arith, c .before .before .before .before .before .before .r .ensures .0, c .before .before .before .before .before .before .before .before .size .ensures, F .allowed .thin), e ∙ sym (F .long), omega (arith, small, F .long))
+    let few : a .d .m * a .d .t ≤ 30 = small-product (a .d .m) (a .d .t) 10 3 (F .allowed .m-high) (F .allowed .t-high) in
+    let e : a .blocks * size .result * size .result ≡ a .blocks * (a .d .size * a .d .size) =
+    mul-assoc (a .blocks) (size .result) (size .result) ∙ ap (λ (z : ℕ). a .blocks * (z * z)) (size .ensures) in
+    (omega (arith, few, r .ensures .0), omega (arith, r .ensures .0, size .ensures, F .allowed .thin), e ∙ sym (F .long), omega (arith, small, F .long))
 
-part-encode-blocks-end : tie.Need-part-encode-blocks-end
-part-encode-blocks-end c =
+part-encode-cleared-end : tie.Need-part-encode-cleared-end
+part-encode-cleared-end c =
     let x = c .before .before .before .before .before .before .fill-code in
     let e : length (x .last .1 .1 .0) ≡ c .before .before .before .before .before .before .before .before .before .before .before .n .result = omega arith in
     part-fits (x .last .1 .1 .0) _ _ e
 
-encode-blocks-requires : tie.Need-encode-blocks-requires
-encode-blocks-requires c κs =
-    let a = c .before .before .before .before .before .before .before .before .before .before .before .before .before .before .before .before .before .args in
-    let F = c .before .before .before .before .before .before .before .before .before .before .before .before .before .before .before .before .before .pre .0 in
+encode-cleared-requires : tie.Need-encode-cleared-requires
+encode-cleared-requires c κs =
+    let a = c .before .before .before .before .before .before .before .before .before .before .before .before .before .before .before .before .args in
+    let p = c .before .before .before .before .before .before .before .before .before .before .before .before .before .before .before .before .pre in
+    let F = p .0 in
     let s = paramsOf (a .d) in
-    let x = c .before .before .before .before .before .before .before .before .before .fill-code in
-    let all : length (x .last .1 .1 .0) ≡ c .before .before .before .before .before .before .before .before .before .before .before .before .before .before .n .result = omega arith in
-    let positions = part-is (x .last .1 .1 .0) _ _ all in
-    let size = c .before .before .before .before .before .before .before .before .before .before .before .before .before .before .before .size in
-    let clear = c .before .before .before .before .before .before .clear-parity in
+    let x = c .before .before .before .before .before .before .before .before .fill-code in
+    let n = c .before .before .before .before .before .before .before .before .before .before .before .before .before .n in
+    let m = c .before .before .before .before .before .before .before .before .before .before .before .m in
+    let t = c .before .before .before .before .before .before .before .before .before .before .t in
+    let size = c .before .before .before .before .before .before .before .before .before .before .before .before .before .before .size in
+    let r = c .before .before .before .before .before .before .before .before .before .before .before .before .r in
+    let clear = c .before .before .before .before .before .clear-parity in
     let same : clear .last .1 .1 .1 .0 ≡ cleared s (a .buffer .now) =
-    rows-cleared s (let t = F .allowed .thin in omega (arith, t)) (let t = F .allowed .thin in omega (arith, t)) (a .blocks * size .result) (a .buffer .now) (clear .last .1 .1 .1 .0)
-    (mul-assoc (a .blocks) (size .result) (a .d .size) ∙ ap (λ (z : ℕ). a .blocks * (z * a .d .size)) (size .ensures) ∙ sym (F .long))
-    (subst₂ (λ (n r : ℕ). RowsAt (a .blocks * size .result) n r 0 (λ i. 0) (a .buffer .now) (clear .last .1 .1 .1 .0)) (size .ensures) (c .before .before .before .before .before .before .before .before .before .before .before .before .before .r .ensures .0) (clear .ensures)) in (
+    rows-cleared s (let t = F .allowed .thin in omega (arith, t)) (let t = F .allowed .thin in omega (arith, t)) (a .blocks * size .result) (a .buffer .now)
+    (clear .last .1 .1 .1 .0) (mul-assoc (a .blocks) (size .result) (a .d .size) ∙ ap (λ (z : ℕ). a .blocks * (z * a .d .size)) (size .ensures) ∙ sym (F .long))
+    (subst₂ (λ (n r : ℕ). RowsAt (a .blocks * size .result) n r 0 (λ i. 0) (a .buffer .now) (clear .last .1 .1 .1 .0)) (size .ensures)
+    (r .ensures .0) (clear .ensures)) in
+    let all : length (x .last .1 .1 .0) ≡ n .result = omega arith in
+    let positions = part-is (x .last .1 .1 .0) _ _ all in (
       record {
         allowed = F .allowed;
         few-blocks = F .few-blocks;
         long = ap length same ∙ cleared-length s (a .buffer .now) ∙ F .long;
-        bits = subst⁻¹ (λ (l : List ℕ). (k : ℕ) → getD l k 0 < 2) same (cleared-bits s (a .buffer .now) (c .before .before .before .before .before .before .before .before .before .before .before .before .before .before .before .before .before .pre .1));
+        bits = subst⁻¹ (λ (l : List ℕ). (k : ℕ) → getD l k 0 < 2) same (cleared-bits s (a .buffer .now) (p .1));
       },
       record {
-        long = ap length positions ∙ all ∙ c .before .before .before .before .before .before .before .before .before .before .before .before .before .before .n .ensures .0;
+        long = ap length positions ∙ all ∙ n .ensures .0;
         powers = subst⁻¹ (PositionPowers (generator (a .d .m) (a .d .t)) (a .d .m * a .d .t)) positions
-            (subst₂ (λ (m t : ℕ). PositionPowers (generator m t) (m * t) (x .last .1 .1 .0)) (c .before .before .before .before .before .before .before .before .before .before .before .before .m .ensures) (c .before .before .before .before .before .before .before .before .before .before .before .t .ensures) (x .ensures .0));
+            (subst₂ (λ (m t : ℕ). PositionPowers (generator m t) (m * t) (x .last .1 .1 .0)) (m .ensures) (t .ensures) (x .ensures .0));
       },
-      part-length _ 0 (size .result) (size .result) (omega arith) (omega (arith, F .allowed .M-high)) ∙ size .ensures,
       λ k h. ap (λ (l : List ℕ). getD l k 0) same ∙ cleared-zero s (a .buffer .now) k h,
     )
 
 returns : tie.Need-returns
 returns c =
-    let a = c .before .before .before .before .before .before .before .before .before .before .before .before .before .before .before .before .before .before .before .before .before .args in
-    let F = c .before .before .before .before .before .before .before .before .before .before .before .before .before .before .before .before .before .before .before .before .before .pre .0 in
+    let a = c .before .before .before .before .before .before .before .before .before .before .before .before .before .before .before .before .before .before .before .args in
+    let F = c .before .before .before .before .before .before .before .before .before .before .before .before .before .before .before .before .before .before .before .pre .0 in
     let s = paramsOf (a .d) in
-    let size = c .before .before .before .before .before .before .before .before .before .before .before .before .before .before .before .before .before .before .before .size in
-    let clear = c .before .before .before .before .before .before .before .before .before .before .clear-parity in
+    let size = c .before .before .before .before .before .before .before .before .before .before .before .before .before .before .before .before .before .size in
+    let r = c .before .before .before .before .before .before .before .before .before .before .before .before .before .before .before .r in
+    let clear = c .before .before .before .before .before .before .before .before .clear-parity in
     let same : clear .last .1 .1 .1 .0 ≡ cleared s (a .buffer .now) =
-    rows-cleared s (let t = F .allowed .thin in omega (arith, t)) (let t = F .allowed .thin in omega (arith, t)) (a .blocks * size .result) (a .buffer .now) (clear .last .1 .1 .1 .0)
-    (mul-assoc (a .blocks) (size .result) (a .d .size) ∙ ap (λ (z : ℕ). a .blocks * (z * a .d .size)) (size .ensures) ∙ sym (F .long))
-    (subst₂ (λ (n r : ℕ). RowsAt (a .blocks * size .result) n r 0 (λ i. 0) (a .buffer .now) (clear .last .1 .1 .1 .0)) (size .ensures) (c .before .before .before .before .before .before .before .before .before .before .before .before .before .before .before .before .before .r .ensures .0) (clear .ensures)) in
-    c .before .before .before .encode-blocks .ensures ∙ ap (encoded s (a .blocks)) same
+    rows-cleared s (let t = F .allowed .thin in omega (arith, t)) (let t = F .allowed .thin in omega (arith, t)) (a .blocks * size .result) (a .buffer .now)
+    (clear .last .1 .1 .1 .0) (mul-assoc (a .blocks) (size .result) (a .d .size) ∙ ap (λ (z : ℕ). a .blocks * (z * a .d .size)) (size .ensures) ∙ sym (F .long))
+    (subst₂ (λ (n r : ℕ). RowsAt (a .blocks * size .result) n r 0 (λ i. 0) (a .buffer .now) (clear .last .1 .1 .1 .0)) (size .ensures)
+    (r .ensures .0) (clear .ensures)) in
+    c .before .before .encode-cleared .ensures ∙ ap (encoded s (a .blocks)) same
     ∙ sym (encoded-cleared s (degree-some (F .allowed)) (F .allowed .thin) (degree-of (F .allowed)) (a .blocks) (a .buffer .now) (F .long))
 
 pub encode-buffer-spec : {M : Type 1} → statement M
@@ -98,4 +107,4 @@ encode-buffer-spec =
     tie.close
     (tie.spec (λ c κs. search needs) (λ c κs. search needs) (λ c κs. search needs) (λ c κs. search needs) (λ c κs. search needs) (λ c. search needs)
     (λ c. search needs) (λ c. search needs) fill-code-requires mul-clear-parity clear-parity-requires (λ c. search needs) (λ c. search needs)
-    part-encode-blocks-end (λ c. search needs) (λ c. search needs) (λ c. search needs) encode-blocks-requires (λ c. search needs) returns)
+    part-encode-cleared-end encode-cleared-requires (λ c. search needs) returns)

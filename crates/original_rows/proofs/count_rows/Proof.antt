@@ -14,21 +14,21 @@ use Rattle.original_rows.proofs.count_rows.Statement.{statement}
 use Rattle.original_rows.proofs.count_rows.Tie as tie
 
 abbrev Inv-loop : tie.InvT-loop
-Inv-loop d blocks buffer positions sums₀ total₀ b₀ sums total b =
+Inv-loop d blocks buffer positions tables sums₀ total₀ b₀ sums total b =
     (b ≤ blocks) × (length sums ≡ length sums₀) × (total ≤ 500 * b) × (total ≡ outsideAmong (paramsOf d) (bufferOf buffer) (concat b (blockRows (paramsOf d))))
 
 abbrev μ-loop : tie.MeasureT-loop
-μ-loop d blocks buffer positions sums₀ total₀ b₀ sums total b = blocks - b
+μ-loop d blocks buffer positions tables sums₀ total₀ b₀ sums total b = blocks - b
 
 loop-holds : tie.Need-loop-holds Inv-loop μ-loop
-loop-holds c = let a = c .before .before .before .args in (omega arith, omega arith, omega arith, none-yet (paramsOf (a .d)) (a .buffer .now))
+loop-holds c = let a = c .before .before .before .before .args in (omega arith, omega arith, omega arith, none-yet (paramsOf (a .d)) (a .buffer .now))
 
 row-remainders-requires : tie.Need-row-remainders-requires Inv-loop μ-loop
-row-remainders-requires c κs = let p = c .before .before .before .before .before .before .pre in (p .0, omega arith, p .1, omega (arith, p .2))
+row-remainders-requires c κs = let p = c .before .before .before .before .before .before .before .pre in (p .0, omega arith, p .1, omega (arith, p .2), p .3)
 
 add-total : tie.Need-add-total Inv-loop μ-loop
 add-total c =
-    let p = c .before .before .before .before .before .before .before .before .before .before .before .pre in
+    let p = c .before .before .before .before .before .before .before .before .before .before .before .before .pre in
     let rows = c .before .before .before .before .row-remainders in
     omega (arith, p .0 .few-blocks, c .count-nonzero .ensures .1, p .0 .allowed .M-high, p .2)
 
@@ -40,14 +40,14 @@ loop-less c = omega arith
 
 loop-again : tie.Need-loop-again Inv-loop μ-loop
 loop-again c =
-    let a = c .before .before .before .before .before .before .before .before .before .before .before .args in
-    let p = c .before .before .before .before .before .before .before .before .before .before .before .pre in
+    let a = c .before .before .before .before .before .before .before .before .before .before .before .before .args in
+    let p = c .before .before .before .before .before .before .before .before .before .before .before .before .pre in
     let l = c .before .before .before .before .before .before .before .loop in
     let rows = c .before .before .before .before .row-remainders in (
       omega arith,
       omega arith,
       omega (arith, c .count-nonzero .ensures .1, p .0 .allowed .M-high, p .2),
-      next-block (paramsOf (a .d)) (a .buffer .now) (l .b) (l .total) (c .count-nonzero .result) (rows .last .1 .1 .1 .1 .1 .0) (l .inv .3) (rows .ensures)
+      next-block (paramsOf (a .d)) (a .buffer .now) (l .b) (l .total) (c .count-nonzero .result) (rows .last .1 .1 .1 .1 .1 .1 .0) (l .inv .3) (rows .ensures)
           (c .count-nonzero .ensures .0),
     )
 
@@ -56,7 +56,7 @@ same-length c = omega arith
 
 returns : tie.Need-returns Inv-loop μ-loop
 returns c =
-    let a = c .before .before .before .before .before .args in
+    let a = c .before .before .before .before .before .before .args in
     let l = c .before .loop in
     all-blocks (paramsOf (a .d)) (a .buffer .now) (a .blocks) (l .b) (l .total) (l .inv .3) (omega arith)
 

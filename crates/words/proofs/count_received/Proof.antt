@@ -21,14 +21,14 @@ part-positions-end c =
     let s = c .before .before .before .before .before .before in
     omega (arith, bits-small (s .args .d) (s .pre .allowed))
 
-part-count-outside-end : tie.Need-part-count-outside-end
-part-count-outside-end c =
+part-count-filled-end : tie.Need-part-count-filled-end
+part-count-filled-end c =
     let fill-table = c .before .before .fill-table in
     let d : length (fill-table .last .1 .0) ≡ c .before .before .before .before .n .result = omega arith in
     part-fits (fill-table .last .1 .0) _ _ d
 
-count-outside-requires : tie.Need-count-outside-requires
-count-outside-requires c κs =
+count-filled-requires : tie.Need-count-filled-requires
+count-filled-requires c κs =
     let s = c .before .before .before .before .before .before .before .before .before .before .before in
     let fill-table = c .before .before .before .fill-table in
     let bits = c .before .before .before .before .before .n in
@@ -49,11 +49,11 @@ count-outside-requires c κs =
 returns : tie.Need-returns
 returns c =
     let a = c .before .before .before .before .before .before .before .before .before .before .before .before .args in
-    c .count-outside .ensures
+    c .count-filled .ensures
     ∙ ap (λ (z : Line). outside (paramsOf (z .d)) (listsOf (z .d) (a .own .now) (a .parity .now)) (z .blocks) (frameOf (a .info .now) (a .red .now))) (c .before .before .before .before .before .before .before .first-line .ensures)
 
 pub count-received-spec : {M : Type 1} → statement M
 count-received-spec =
     tie.close
     (tie.spec (λ c κs. search needs) (λ c κs. search needs) (λ c. search needs) (λ c. search needs) part-positions-end (λ c κs. search needs) (λ c. search needs)
-    (λ c. search needs) part-count-outside-end count-outside-requires returns)
+    (λ c. search needs) part-count-filled-end count-filled-requires returns)

@@ -12,13 +12,13 @@ use Rattle.words.proofs.line_blocks.Tie as tie
 
 mul-area : tie.Need-mul-area
 mul-area c =
-    let s = c .before .before .before in
+    let s = c .before .before .before .before in
     let n = length (s .args .sums .now) in
     omega (arith, small-product n n 512 512 (s .pre .0 .few-columns) (s .pre .0 .few-columns))
 
 block-sums-requires : tie.Need-block-sums-requires
 block-sums-requires c κs =
-    let s = c .before .before .before .before .before .before .before .before in
+    let s = c .before .before .before .before .before .before .before .before .before in
     let block-of = c .before .before .before .before .block-of in
     let block-of2 = c .before .before .before .block-of2 in
     let a = s .args in
@@ -26,12 +26,13 @@ block-sums-requires c κs =
       λ e. lent (a .line .k) (block-of .result .now) (block-of .ensures) (sym (c .before .before .is-sent .ensures) ∙ e),
       λ e. lent (a .line .k + 1) (block-of2 .result .now) (block-of2 .ensures) (sym (c .before .is-sent2 .ensures) ∙ e),
       s .pre .0 .powers,
+      s .pre .2,
     )
 
 returns : tie.Need-returns
 returns c =
     let block-sums = c .before .before .block-sums in
-    let a = c .before .before .before .before .before .before .before .before .before .before .before .args in
+    let a = c .before .before .before .before .before .before .before .before .before .before .before .before .args in
     let n = length (a .sums .now) in
     let x = c .before .before .before .before .before .before .before .block-of in
     let y = c .before .before .before .before .before .before .block-of2 in

@@ -12,4 +12,4 @@ returns c = c .before .before .block-sums .ensures .0
 pub column-sums-spec : {M : Type 1} → statement M
 column-sums-spec =
     tie.close
-    (tie.spec (λ c κs. search needs) (λ c. search needs) returns)
+    (tie.spec (λ c. search needs) (λ c. search needs) (λ c. search needs) (λ c κs. search needs) (λ c. search needs) returns)

@@ -4,7 +4,7 @@ use mathlib.Core.Path.{_≡_, refl}
 use Prim.Native.Nat.{_-_, _≤_}
 use native.Mathlib.Omega.{arith}
 use lib.ListN.{length, length-set}
-use Rattle.encoder_solution.proofs.Words.{Doubled, doubled-none, doubled-more}
+use Rattle.words_tables.proofs.Tables.{Doubled, doubled-none, doubled-more}
 use Rattle.encoder_solution.proofs.product.double.Statement.{statement}
 use Rattle.encoder_solution.proofs.product.double.Tie as tie
 

@@ -6,8 +6,8 @@ use native.Mathlib.Numerals.{add-one}
 use native.Mathlib.Omega.{arith}
 use lib.Pow.{pow-mono}
 use lib.ListN.{length, getD, length-set}
-use Rattle.encoder_solution.specs.Words.{sumAt}
-use Rattle.encoder_solution.proofs.Words.{sums-none, sums-doubled}
+use Rattle.words_tables.specs.Tables.{sumAt}
+use Rattle.words_tables.proofs.Tables.{sums-none, sums-doubled}
 use Rattle.encoder_solution.proofs.product.fill_table.Statement.{statement}
 use Rattle.encoder_solution.proofs.product.fill_table.Tie as tie
 

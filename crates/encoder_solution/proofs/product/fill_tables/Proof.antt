@@ -5,9 +5,9 @@ use Prim.Native.Nat.{ℕ, _+_, _-_, _*_, _≤_, _<_}
 use native.Mathlib.Omega.{arith}
 use lib.ListN.{length, getD}
 use Rattle.staircase.proofs.Fill.{each-part}
-use Rattle.bch_remainders.proofs.Rows.{row-length, row-at}
-use Rattle.encoder_solution.specs.Words.{tableEntry}
-use Rattle.encoder_solution.proofs.Words.{table-is}
+use Rattle.bch_remainders.proofs.Rows.{row-length}
+use Rattle.words_tables.specs.Tables.{tableEntry}
+use Rattle.encoder_solution.proofs.Words.{table-of-part}
 use Rattle.encoder_solution.proofs.product.fill_tables.Statement.{statement}
 use Rattle.encoder_solution.proofs.product.fill_tables.Tie as tie
 
@@ -38,7 +38,7 @@ loop-again c =
       omega arith,
       omega arith,
       λ q h. each-part (λ q z. z ≡ tableEntry (λ k. getD (a .words .now) k 0) q) (l .tables) (r .last .1 .0) (256 * l .j) k (omega arith) long (l .inv .2)
-          (λ s m. table-is (a .words .now) (l .j) s _ (omega arith) (row-at (a .words .now) (8 * l .j) 8) (r .ensures .1 s (omega arith))) q (omega arith),
+          (λ s m. r .ensures .1 s (omega arith) ∙ table-of-part (a .words .now) (l .j) s (omega arith)) q (omega arith),
     )
 
 returns : tie.Need-returns Inv-loop μ-loop

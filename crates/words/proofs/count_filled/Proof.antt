@@ -1,0 +1,18 @@
+-- There are no tables, or those that are due have the length of two halves.
+-- Assumes nothing.
+use borrow.Author.Needs.{needs}
+use native.Mathlib.Omega.{arith}
+use Rattle.words.proofs.count_filled.Statement.{statement}
+use Rattle.words.proofs.count_filled.Tie as tie
+
+count-by-tables-requires : tie.Need-count-by-tables-requires
+count-by-tables-requires c κs =
+    let p = c .before .before .before .before .before .before .before .before .pre in
+    let due = c .before .tables-due .ensures in
+    (p .0, p .1, due .0, omega (arith, due .1 (omega (arith, c .if1 .left)), c .before .before .size .ensures))
+
+pub count-filled-spec : {M : Type 1} → statement M
+count-filled-spec =
+    tie.close
+    (tie.spec (λ c κs. search needs) (λ c κs. search needs) (λ c. search needs) (λ c. search needs) (λ c. search needs) (λ c κs. search needs)
+    (λ c. search needs) count-by-tables-requires (λ c. search needs))
