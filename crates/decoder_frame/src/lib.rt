@@ -6,10 +6,11 @@
 //   position_count  the positions of a window that slides over a frame
 //   run_window      the same at each position of a window that slides over a frame; one that has all groups has one position
 //
-// The remainders of all words are summed once, line by line, in the order in which their bits stand in memory (crate `words`), and kept in working
-// bytes (crate `decoder_kept`), behind which stand the marks of the frame's bits. A round takes the lines one after the other and corrects the words
-// whose kept number is not 0 (crate `decoder_words`), which keeps all numbers and marks right. Rounds end after one that flips nothing. The words
-// outside the code at the end are those whose number is not 0; the stuck words are counted by each round, and those of the last one are told.
+// The remainders of all words are summed once, line by line, in the order in which their bits stand in memory (crate `words`): in a frame of many bits by
+// tables of sums, which are made before (crate `words_tables`). They are kept in working bytes (crate `decoder_kept`), behind which stand the marks of the
+// frame's bits. A round takes the lines one after the other and corrects the words whose kept number is not 0 (crate `decoder_words`), which keeps all
+// numbers and marks right. Rounds end after one that flips nothing. The words outside the code at the end are those whose number is not 0; the stuck
+// words are counted by each round, and those of the last one are told.
 //
 // Numbers are right for all words of the frame, whichever lines are corrected. So a window has its numbers from those that are filled once, wherever it
 // stands: what a position costs is a look at the numbers of its words, and the words that are outside the code.
@@ -25,7 +26,7 @@ ghost use Rattle.staircase.specs.Lines.{wordCount};
 ghost use Rattle.design.specs.Answers.{Allowed};
 ghost use Rattle.design.specs.Sizes.{paramsOf};
 ghost use Rattle.rules.specs.Received.{Received};
-ghost use Rattle.words_tables.specs.Tables.{MayHalves};
+ghost use Rattle.words_tables.specs.Tables.{MayParts, tableLength};
 ghost use Rattle.words.specs.Words.{WordTable};
 ghost use Rattle.words_lines.specs.Lines.{LineFits};
 ghost use Rattle.decoder_lines.specs.Links.{listsIn};
@@ -87,7 +88,7 @@ fn fill_line(
     requires { ⌜ Received (line .d) (line .blocks) (now own) (now parity) (now info) (now red) × LineFits line × WordTable (line .d) (now positions)
         × (length (now numbers) ≡ 4 * wordCount (paramsOf (line .d)) (line .blocks))
         × Filled line (now own) (now parity) (frameOf (now info) (now red)) (now numbers) (line .k * line .d .size)
-        × MayHalves (now positions) (line .d .size) (now tables) ⌝ }
+        × MayParts (now positions) (line .d .size) (line .d .m * line .d .t) (now tables) ⌝ }
     ensures { λ u. ⌜ (length (now (numbers .exit)) ≡ length (now (numbers .entry)))
         × Filled line (now (own .entry)) (now (parity .entry)) (frameOf (now (info .entry)) (now (red .entry)))
         (now (numbers .exit)) (line .k * line .d .size + line .d .size) ⌝ }
@@ -108,7 +109,7 @@ fn fill_line(
     decoder_kept::put_numbers(&sums[0..size], from, numbers);
 }
 
-// `fill_numbers` with tables of sums of the powers that the blocks of a word carry, or none.
+// `fill_numbers` with the tables of sums of the powers that the parts of a word carry, or none.
 fn fill_lines(
     line: Line,
     own: &[u8],
@@ -120,7 +121,7 @@ fn fill_lines(
     numbers: &mut [u8],
 )
     requires { ⌜ Received (line .d) (line .blocks) (now own) (now parity) (now info) (now red) × WordTable (line .d) (now positions)
-        × (length (now numbers) ≡ 4 * wordCount (paramsOf (line .d)) (line .blocks)) × MayHalves (now positions) (line .d .size) (now tables) ⌝ }
+        × (length (now numbers) ≡ 4 * wordCount (paramsOf (line .d)) (line .blocks)) × MayParts (now positions) (line .d .size) (line .d .m * line .d .t) (now tables) ⌝ }
     ensures { λ u. ⌜ (length (now (numbers .exit)) ≡ length (now (numbers .entry)))
         × Filled line (now (own .entry)) (now (parity .entry)) (frameOf (now (info .entry)) (now (red .entry)))
         (now (numbers .exit)) (wordCount (paramsOf (line .d)) (line .blocks)) ⌝ }
@@ -132,7 +133,7 @@ fn fill_lines(
     }
 }
 
-// `fill_numbers` with tables of sums, of which `due` entries are due.
+// `fill_numbers` by tables of sums, which are to have `due` entries.
 fn fill_by_tables(
     line: Line,
     own: &[u8],
@@ -144,14 +145,15 @@ fn fill_by_tables(
     numbers: &mut [u8],
 )
     requires { ⌜ Received (line .d) (line .blocks) (now own) (now parity) (now info) (now red) × WordTable (line .d) (now positions)
-        × (length (now numbers) ≡ 4 * wordCount (paramsOf (line .d)) (line .blocks)) × (due ≤ 32768) × (due ≡ 2 * (256 * ((line .d .size + 7) / 8))) ⌝ }
+        × (length (now numbers) ≡ 4 * wordCount (paramsOf (line .d)) (line .blocks)) × (due ≤ 36864) × (due ≡ 2 * tableLength (line .d .size) + 2 * tableLength (line .d .m * line .d .t)) ⌝ }
     ensures { λ u. ⌜ (length (now (numbers .exit)) ≡ length (now (numbers .entry)))
         × Filled line (now (own .entry)) (now (parity .entry)) (frameOf (now (info .entry)) (now (red .entry)))
         (now (numbers .exit)) (wordCount (paramsOf (line .d)) (line .blocks)) ⌝ }
 {
     let size = line.d.size();
+    let r = line.d.r();
     let mut tables = words_tables::entries();
-    words_tables::fill_halves(positions, size, &mut tables[0..due]);
+    words_tables::fill_parts(positions, size, r, &mut tables[0..due]);
     fill_lines(
         line,
         own,
@@ -181,7 +183,7 @@ pub fn fill_numbers(
         × Filled line (now (own .entry)) (now (parity .entry)) (frameOf (now (info .entry)) (now (red .entry)))
         (now (numbers .exit)) (wordCount (paramsOf (line .d)) (line .blocks)) ⌝ }
 {
-    let due = words_tables::tables_due(line.blocks, line.d.size());
+    let due = words_tables::parts_due(line.blocks, line.d.size(), line.d.r());
     if due == 0 {
         fill_lines(
             line,

@@ -8,3 +8,4 @@ pub mod Vectors
 pub mod Words
 pub mod Crossing
 pub mod KeptRows
+pub mod Next

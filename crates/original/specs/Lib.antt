@@ -6,3 +6,4 @@ pub mod Steps
 pub mod Crossing
 pub mod Demand
 pub mod RowsOriginal
+pub mod Next

@@ -5,19 +5,17 @@
 --   redPlace      where the bit at a place of X or Q, or of Y or P, stands in Y or P
 --   WordTable     the table has the powers of x that the positions of a word carry
 --   BlocksLent    what is asked of the information and of the table for the blocks
---   Sends list n  a list of n entries, each below n
 -- Assumes nothing.
 use mathlib.Core.Path.{_≡_}
 use mathlib.Core.Bool.{Bool, not, cond}
 use mathlib.Core.List.{List, [], _∷_}
-use Prim.Native.Nat.{ℕ, _+_, _*_, _≤_, _<_}
+use Prim.Native.Nat.{ℕ, _+_, _*_, _≤_}
 use lib.Dec.{eqb}
 use lib.ListN.{length, getD}
 use Rattle.bch.specs.Polynomial.{Bits}
 use Rattle.staircase.specs.Lists.{tabulate}
 use Rattle.staircase.specs.Design.{most-blocks}
 use Rattle.staircase.specs.Lines.{even}
-use Rattle.staircase.specs.Rules.{entries}
 use Rattle.design.specs.declared.Design.{Design}
 use Rattle.design.specs.Sizes.{paramsOf}
 use Rattle.words_blocks.specs.Blocks.{sent, blockBytes, sentBit, blockSum, Powers}
@@ -49,6 +47,3 @@ pub record BlocksLent (L size : ℕ) (info positions : List ℕ) : Type 0 where
   pub blocks : length info ≡ L * (size * size)
   pub bits : Bits info
   pub powers : 2 * size ≤ length positions
-
-abbrev pub Sends : List ℕ → ℕ → Type 0
-Sends list n = (length list ≡ 2 * n) × ((p : ℕ) → p < n → getD (entries n list) p 0 < n)

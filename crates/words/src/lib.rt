@@ -1,7 +1,7 @@
 // The words of a frame as it is received: their remainders, and how many are outside the code.
 //   line_remainders   the remainders of all words of a line, and how many bits of each word were read
 //   count_nonzero     how many of some remainders are not 0
-//   count_outside     how many words of a frame are outside the code
+//   sum_entries       working entries for the remainders of a line
 //   check_received    rules 4 to 7 and 10 for a frame and its lists
 //   refused_count     a refusal as the word checker's answer
 //   check_words       the word checker: rules 1 to 4, 6, 7 and 10, then the count
@@ -11,14 +11,19 @@
 // P stand in the redundancy row by row, a row for each position and a column for each word. X and Q have the same form: byte b × M + a is row a,
 // column b, and is read in Y or P where the list sends it. Nothing of the frame is changed or copied.
 //
+// In a frame of many bits eight of a word's bits are summed at once, by tables of the sums of eight powers (crates `words_tables`, `words_sums`), which are
+// made once a call; in others they are summed bit by bit.
+//
 // Each sent bit of a word is read once for its remainder and no other bit is. The reads are counted in the loops that make them: once a bit in
-// `bch_remainders::dot`, once a row in `bch_remainders::read_rows` and in `add_listed`, where a row has one bit of each word.
+// `bch_remainders::dot`, once a row in `bch_remainders::read_rows` and in `add_listed_rows`, where a row has one bit of each word, and in those of
+// `words_packed` and `words_sums`.
 ghost use mathlib.Core.Path.{_≡_};
 ghost use mathlib.Core.Bool.{cond};
 ghost use Prim.Native.Nat.{ℕ, _+_, _*_, _/_, _≤_, _<_};
 ghost use lib.Dec.{eqb};
 ghost use lib.ListN.{length, getD};
 ghost use Rattle.bch.specs.Polynomial.{_⊕_, Bits};
+ghost use Rattle.bch.specs.Powers.{xorSum};
 ghost use Rattle.staircase.specs.Lists.{tabulate};
 ghost use Rattle.staircase.specs.Frame.{groups, outside, frameOf};
 ghost use Rattle.staircase.specs.Lines.{lineSites};
@@ -28,10 +33,11 @@ ghost use Rattle.staircase.specs.Calls.{countedBy, wordsCall};
 ghost use Rattle.design.specs.Answers.{verdictOf, Allowed};
 ghost use Rattle.design.specs.Sizes.{paramsOf, listsOf};
 ghost use Rattle.rules.specs.Received.{Received};
-ghost use Rattle.words_tables.specs.Tables.{MayHalves};
-ghost use Rattle.words_blocks.specs.Blocks.{sent, blockReads, PartAdded};
+ghost use Rattle.words_tables.specs.Tables.{MaySum, MayHalves, MayParts, tableLength};
+ghost use Rattle.words_blocks.specs.Blocks.{sent, blockReads};
 ghost use Rattle.words_lines.specs.Lines.{LineFits, lineRemainder};
-ghost use Rattle.words.specs.Words.{nonzeros, lineBlocks, entryAt, redPlace, WordTable, BlocksLent, Sends};
+ghost use Rattle.words_sums.specs.Listed.{Sends, listedBit};
+ghost use Rattle.words.specs.Words.{nonzeros, lineBlocks, entryAt, redPlace, WordTable, BlocksLent};
 ghost use Rattle.words.specs.Checks.{receivedRules, ListsAsked, countedOf};
 use design::Check;
 use design::Design;
@@ -85,63 +91,50 @@ fn line_blocks(
     )
 }
 
-// Adds to each of `sums` the r entries of the table from entry `from` on, at the ones of its column of r rows that stand in `bits` from byte `at`
-// on. A row has a column for each of `sums`. Answers how many bits it has read for each sum.
-fn add_columns(
-    sums: &mut [u32],
-    bits: &[u8],
-    at: usize,
-    positions: &[u32],
-    from: usize,
-    r: usize,
-) -> usize
-    requires { ⌜ (at + r * length (now sums) ≤ length (now bits)) × Bits (now bits) × (from + r ≤ length (now positions)) ⌝ }
-    ensures { λ n. ⌜ PartAdded (now (positions .entry)) from r (λ w a j. getD (now (bits .entry)) (at + (j * w + a)) 0) (now (sums .entry)) (now (sums .exit))
-        × (n ≡ r) ⌝ }
-{
-    let n = r * sums.len();
-    bch_remainders::read_rows(sums, &bits[at..at + n], &positions[from..from + r])
-}
-
-// Adds x to each of `sums` at the ones of a row of X or of Q: bit a of it is the byte of `bits`, counted from byte `at` on, to which the list sends
-// place p + a. One step for each sum.
-fn add_listed_row(sums: &mut [u32], list: &[u8], p: usize, bits: &[u8], at: usize, x: u32)
+// Adds x to each of `sums` at the ones of a row of X or of Q: bit a of it is the byte of `bits` to which the list sends place p + a. One step for each sum.
+fn add_listed_row(sums: &mut [u32], list: &[u8], p: usize, bits: &[u8], x: u32)
     requires { ⌜ (2 * (p + length (now sums)) ≤ length (now list)) × Bits (now bits)
-        × ((a : ℕ) → a < length (now sums) → at + entryAt (now list) (p + a) < length (now bits)) ⌝ }
+        × ((a : ℕ) → a < length (now sums) → entryAt (now list) (p + a) < length (now bits)) ⌝ }
     ensures { λ u. ⌜ (length (now (sums .exit)) ≡ length (now (sums .entry)))
         × ((a : ℕ) → a < length (now (sums .entry)) → getD (now (sums .exit)) a 0
-        ≡ getD (now (sums .entry)) a 0 ⊕ getD (now (bits .entry)) (at + entryAt (now (list .entry)) (p + a)) 0 * x) ⌝ }
+        ≡ getD (now (sums .entry)) a 0 ⊕ getD (now (bits .entry)) (entryAt (now (list .entry)) (p + a)) 0 * x) ⌝ }
 {
     for a in 0..sums.len() {
         let e = rules::entry(list, p + a);
-        sums[a] = sums[a] ^ bch_remainders::masked(bits[at + e], x);
+        sums[a] = sums[a] ^ bch_remainders::masked(bits[e], x);
     }
 }
 
-// As `add_columns`, for columns of X, which the self list makes of Y's bytes, or of Q, by the parity list from P's. Answers how many bits it has read
-// for each sum, one for each row.
-fn add_listed(
-    sums: &mut [u32],
-    list: &[u8],
-    bits: &[u8],
-    at: usize,
-    positions: &[u32],
-    from: usize,
-    r: usize,
-) -> usize
-    requires { ⌜ Sends (now list) (r * length (now sums)) × (at + r * length (now sums) ≤ length (now bits)) × Bits (now bits)
-        × (from + r ≤ length (now positions)) ⌝ }
-    ensures { λ n. ⌜ PartAdded (now (positions .entry)) from r
-        (λ w a j. getD (now (bits .entry)) (at + getD (entries (r * w) (now (list .entry))) (j * w + a) 0) 0) (now (sums .entry)) (now (sums .exit))
-        × (n ≡ r) ⌝ }
+// Adds to each of `sums` the entries of `part` at the ones of its column of X, which the self list makes of Y's bytes, or of Q, by the parity list from P's:
+// row by row. Answers how many bits it has read for each sum, one for each row.
+fn add_listed_rows(sums: &mut [u32], list: &[u8], bits: &[u8], part: &[u32]) -> usize
+    requires { ⌜ Sends (now list) (length (now bits)) × (length (now bits) ≡ length (now part) * length (now sums)) × Bits (now bits) ⌝ }
+    ensures { λ n. ⌜ (length (now (sums .exit)) ≡ length (now (sums .entry)))
+        × ((a : ℕ) → a < length (now (sums .entry)) → getD (now (sums .exit)) a 0 ≡ getD (now (sums .entry)) a 0
+        ⊕ xorSum (length (now (part .entry))) (λ j. listedBit (now (list .entry)) (now (bits .entry)) (j * length (now (sums .entry)) + a) * getD (now (part .entry)) j 0))
+        × (n ≡ length (now (part .entry))) ⌝ }
 {
     let w = sums.len();
     let mut reads: usize = 0;
-    for j in 0..r {
-        add_listed_row(sums, list, j * w, bits, at, positions[from + j]);
+    for j in 0..part.len() {
+        add_listed_row(sums, list, j * w, bits, part[j]);
         reads += 1;
     }
     reads
+}
+
+// The same, eight rows at a time where there are tables of sums of `part`.
+fn add_listed(sums: &mut [u32], list: &[u8], bits: &[u8], part: &[u32], tables: &[u32]) -> usize
+    requires { ⌜ Sends (now list) (length (now bits)) × (length (now bits) ≡ length (now part) * length (now sums)) × Bits (now bits) × MaySum (now part) (now tables) ⌝ }
+    ensures { λ n. ⌜ (length (now (sums .exit)) ≡ length (now (sums .entry)))
+        × ((a : ℕ) → a < length (now (sums .entry)) → getD (now (sums .exit)) a 0 ≡ getD (now (sums .entry)) a 0
+        ⊕ xorSum (length (now (part .entry))) (λ j. listedBit (now (list .entry)) (now (bits .entry)) (j * length (now (sums .entry)) + a) * getD (now (part .entry)) j 0))
+        × (n ≡ length (now (part .entry))) ⌝ }
+{
+    if tables.len() == 0 {
+        return add_listed_rows(sums, list, bits, part);
+    }
+    words_sums::add_listed(sums, list, bits, part, tables)
 }
 
 // Adds what a stretch of the redundancy gives to the remainders of a line's words: X or Q by its list for row words, Y or P as it stands for column
@@ -150,26 +143,27 @@ fn add_stretch(
     sums: &mut [u32],
     rows: bool,
     list: &[u8],
-    red: &[u8],
-    at: usize,
-    positions: &[u32],
-    from: usize,
-    r: usize,
+    bits: &[u8],
+    part: &[u32],
+    tables: &[u32],
 ) -> usize
-    requires { ⌜ Sends (now list) (r * length (now sums)) × (at + r * length (now sums) ≤ length (now red)) × Bits (now red)
-        × (from + r ≤ length (now positions)) ⌝ }
-    ensures { λ n. ⌜ PartAdded (now (positions .entry)) from r
-        (λ w a j. getD (now (red .entry)) (at + redPlace rows (entries (r * w) (now (list .entry))) (j * w + a)) 0) (now (sums .entry)) (now (sums .exit))
-        × (n ≡ r) ⌝ }
+    requires { ⌜ Sends (now list) (length (now bits)) × (length (now bits) ≡ length (now part) * length (now sums)) × Bits (now bits) × (length (now sums) ≤ 512)
+        × MaySum (now part) (now tables) ⌝ }
+    ensures { λ n. ⌜ (length (now (sums .exit)) ≡ length (now (sums .entry)))
+        × ((a : ℕ) → a < length (now (sums .entry)) → getD (now (sums .exit)) a 0 ≡ getD (now (sums .entry)) a 0
+        ⊕ xorSum (length (now (part .entry)))
+        (λ j. getD (now (bits .entry)) (redPlace rows (entries (length (now (bits .entry))) (now (list .entry))) (j * length (now (sums .entry)) + a)) 0
+        * getD (now (part .entry)) j 0))
+        × (n ≡ length (now (part .entry))) ⌝ }
 {
     if rows {
-        return add_listed(sums, list, red, at, positions, from, r);
+        return add_listed(sums, list, bits, part, tables);
     }
-    add_columns(sums, red, at, positions, from, r)
+    words_blocks::add_columns(sums, bits, part, tables)
 }
 
-// Makes `sums` the remainders of the words of a line. The tables are those of the powers that the two blocks of a word carry, or none. Answers how many bits
-// of each word it has read, which is how many of them are sent. One step for each of these bits.
+// Makes `sums` the remainders of the words of a line. The tables are those of the powers that the four parts of a word carry, or none. Answers how many bits
+// of each word it has read, which is how many of them are sent. One step for each of these bits, or for each eight by the tables.
 pub fn line_remainders(
     line: Line,
     own: &[u8],
@@ -181,7 +175,7 @@ pub fn line_remainders(
     sums: &mut [u32],
 ) -> usize
     requires { ⌜ Received (line .d) (line .blocks) (now own) (now parity) (now info) (now red) × LineFits line × WordTable (line .d) (now positions)
-        × (length (now sums) ≡ line .d .size) × MayHalves (now positions) (line .d .size) (now tables) ⌝ }
+        × (length (now sums) ≡ line .d .size) × MayParts (now positions) (line .d .size) (line .d .m * line .d .t) (now tables) ⌝ }
     ensures { λ n. ⌜ (now (sums .exit) ≡ tabulate (line .d .size)
         (lineRemainder line (now (own .entry)) (now (parity .entry)) (frameOf (now (info .entry)) (now (red .entry)))))
         × ((a : ℕ) → a < line .d .size
@@ -194,9 +188,21 @@ pub fn line_remainders(
     let y = line.k / 2 * (2 * n);
     let x = 2 * d.size();
     let rows = line.k % 2 == 0;
-    let blocks = line_blocks(line, info, positions, tables, sums);
-    let first = add_stretch(sums, rows, own, red, y, positions, x, r);
-    let second = add_stretch(sums, rows, parity, red, y + n, positions, x + r, r);
+    let b = 2 * words_tables::table_length(d.size());
+    let e = words_tables::table_length(r);
+    let halves = words_tables::part(tables, 0, b);
+    let ahead = words_tables::part(tables, b, e);
+    let behind = words_tables::part(tables, b + e, e);
+    let blocks = line_blocks(line, info, positions, halves, sums);
+    let first = add_stretch(sums, rows, own, &red[y..y + n], &positions[x..x + r], ahead);
+    let second = add_stretch(
+        sums,
+        rows,
+        parity,
+        &red[y + n..y + 2 * n],
+        &positions[x + r..x + 2 * r],
+        behind,
+    );
     blocks + first + second
 }
 
@@ -233,7 +239,7 @@ fn count_lines(
     sums: &mut [u32],
 ) -> u64
     requires { ⌜ Received (line .d) (line .blocks) (now own) (now parity) (now info) (now red) × WordTable (line .d) (now positions)
-        × (length (now sums) ≡ line .d .size) × MayHalves (now positions) (line .d .size) (now tables) ⌝ }
+        × (length (now sums) ≡ line .d .size) × MayParts (now positions) (line .d .size) (line .d .m * line .d .t) (now tables) ⌝ }
     ensures { λ a. ⌜ a ≡ outside (paramsOf (line .d)) (listsOf (line .d) (now (own .entry)) (now (parity .entry))) (line .blocks)
         (frameOf (now (info .entry)) (now (red .entry))) ⌝ }
 {
@@ -255,7 +261,7 @@ pub fn sum_entries() -> [u32; 512]
 }
 
 // How many words of a frame are outside the code; the line is any of the frame. Lent to read are the lists, the frame, the table of the powers of x
-// that the positions of a word carry, and tables of sums of those that its blocks carry, or none. One step for each bit of the words.
+// that the positions of a word carry, and tables of their sums, or none. One step for each bit of the words, or for each eight by the tables.
 fn count_outside(
     line: Line,
     own: &[u8],
@@ -266,7 +272,7 @@ fn count_outside(
     tables: &[u32],
 ) -> u64
     requires { ⌜ Received (line .d) (line .blocks) (now own) (now parity) (now info) (now red) × WordTable (line .d) (now positions)
-        × MayHalves (now positions) (line .d .size) (now tables) ⌝ }
+        × MayParts (now positions) (line .d .size) (line .d .m * line .d .t) (now tables) ⌝ }
     ensures { λ a. ⌜ a ≡ outside (paramsOf (line .d)) (listsOf (line .d) (now (own .entry)) (now (parity .entry))) (line .blocks)
         (frameOf (now (info .entry)) (now (red .entry))) ⌝ }
 {
@@ -284,7 +290,7 @@ fn count_outside(
     )
 }
 
-// `count_outside` with tables of sums, of which `due` entries are due.
+// `count_filled` by tables of sums, which are to have `due` entries.
 fn count_by_tables(
     line: Line,
     own: &[u8],
@@ -295,13 +301,14 @@ fn count_by_tables(
     due: usize,
 ) -> u64
     requires { ⌜ Received (line .d) (line .blocks) (now own) (now parity) (now info) (now red) × WordTable (line .d) (now positions)
-        × (due ≤ 32768) × (due ≡ 2 * (256 * ((line .d .size + 7) / 8))) ⌝ }
+        × (due ≤ 36864) × (due ≡ 2 * tableLength (line .d .size) + 2 * tableLength (line .d .m * line .d .t)) ⌝ }
     ensures { λ a. ⌜ a ≡ outside (paramsOf (line .d)) (listsOf (line .d) (now (own .entry)) (now (parity .entry))) (line .blocks)
         (frameOf (now (info .entry)) (now (red .entry))) ⌝ }
 {
     let size = line.d.size();
+    let r = line.d.r();
     let mut tables = words_tables::entries();
-    words_tables::fill_halves(positions, size, &mut tables[0..due]);
+    words_tables::fill_parts(positions, size, r, &mut tables[0..due]);
     count_outside(line, own, parity, info, red, positions, &tables[0..due])
 }
 
@@ -318,7 +325,7 @@ fn count_filled(
     ensures { λ a. ⌜ a ≡ outside (paramsOf (line .d)) (listsOf (line .d) (now (own .entry)) (now (parity .entry))) (line .blocks)
         (frameOf (now (info .entry)) (now (red .entry))) ⌝ }
 {
-    let due = words_tables::tables_due(line.blocks, line.d.size());
+    let due = words_tables::parts_due(line.blocks, line.d.size(), line.d.r());
     if due == 0 {
         return count_outside(line, own, parity, info, red, positions, &positions[0..0]);
     }

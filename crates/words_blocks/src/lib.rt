@@ -1,13 +1,15 @@
 // The blocks of a frame as parts of the lent information, and the remainders of the blocks of a group's words.
 //   is_sent(blocks, b)        whether block b of a frame is sent
 //   block_of(info, ..)        its bytes
+//   add_columns               sums over the columns of some rows, added, and how many bits were read for each
 //   add_block                 the sums of a block's columns or rows, added, and how many bits were read for each
 //   block_sums                the remainders of the two blocks of a line's words, and how many bits of each word were read
 //   column_sums, row_sums     the same for a group's column words and row words, without the number
 //
 // The remainder of a word is a sum of entries of a table of powers of x, one for each of its ones (crate `bch_remainders`), and a word's blocks are
 // its first 2 × size positions. Column words run across the rows of a block and are added row by row, row words lie in a row each; a block that is
-// not sent adds nothing and is not read. The bits that are read of a word are counted where they are read, in the loops of `bch_remainders`.
+// not sent adds nothing and is not read. Whoever lends tables of the sums of eight entries has eight bits added at once (crate `words_sums`). The bits that are
+// read of a word are counted where they are read, in the loops of `bch_remainders`, `words_packed` and `words_sums`.
 ghost use mathlib.Core.Path.{_≡_};
 ghost use Prim.Native.Nat.{ℕ, _+_, _*_, _≤_, _<_};
 ghost use lib.ListN.{length, getD};
@@ -62,8 +64,8 @@ fn add_dots(acc: &mut [u32], block: &[u8], part: &[u32]) -> usize
 
 // Adds to each of `sums` the entries of `part` at the ones of its column of a block: eight rows at a time where there are tables of sums of `part`, else
 // row by row. Answers how many bits of each column it has read.
-fn add_columns(sums: &mut [u32], block: &[u8], part: &[u32], tables: &[u32]) -> usize
-    requires { ⌜ (length (now block) ≡ length (now part) * length (now sums)) × Bits (now block) × (length (now part) ≡ length (now sums))
+pub fn add_columns(sums: &mut [u32], block: &[u8], part: &[u32], tables: &[u32]) -> usize
+    requires { ⌜ (length (now block) ≡ length (now part) * length (now sums)) × Bits (now block) × (0 < length (now tables) → length (now sums) ≤ 512)
         × MaySum (now part) (now tables) ⌝ }
     ensures { λ n. ⌜ (length (now (sums .exit)) ≡ length (now (sums .entry)))
         × ((a : ℕ) → a < length (now (sums .entry)) → getD (now (sums .exit)) a 0 ≡ getD (now (sums .entry)) a 0

@@ -4,6 +4,8 @@
 --   Sums part tables       the tables are those of the entries of `part`; behind its last entry they count as 0
 --   partOf l from n        n entries of a list, from entry `from` on
 --   MaySum, MayHalves      there are no tables, or they are those of a part; of two parts of equal length, one after the other
+--   tableLength n          how long the tables of n entries are
+--   MayParts               there are no tables, or they are those of the four parts of a word's positions
 -- Assumes nothing.
 use mathlib.Core.Path.{_≡_}
 use mathlib.Core.List.{List}
@@ -32,3 +34,12 @@ MaySum part tables = 0 < length tables → Sums part tables
 pub record MayHalves (positions : List ℕ) (size : ℕ) (tables : List ℕ) : Type 0 where
   pub first : MaySum (partOf positions 0 size) (partOf tables 0 (length tables / 2))
   pub second : MaySum (partOf positions size size) (partOf tables (length tables / 2) (length tables / 2))
+
+unfoldable pub tableLength : ℕ → ℕ
+tableLength n = 256 * ((n + 7) / 8)
+
+-- the parts that the two blocks of a word have, of `size` entries each, and the two stretches of its redundancy, of r entries each
+pub record MayParts (positions : List ℕ) (size r : ℕ) (tables : List ℕ) : Type 0 where
+  pub long : 0 < length tables → length tables ≡ 2 * tableLength size + 2 * tableLength r
+  pub blocks : MayHalves positions size (partOf tables 0 (2 * tableLength size))
+  pub ends : MayHalves (partOf positions (2 * size) (2 * r)) r (partOf tables (2 * tableLength size) (2 * tableLength r))

@@ -2,6 +2,8 @@
 //   fill_tables(part, tables)             the tables of a list of powers of x
 //   halves_length(size)                   how long the tables of two lists of `size` entries are
 //   fill_halves(positions, size, tables)  those of the powers that the two blocks of a word carry
+//   part(tables, from, n)                 some of the tables, or none where there are none
+//   parts_due(blocks, size, r), fill_parts(positions, size, r, tables)   the same for all four parts of a word: two blocks, two stretches of redundancy
 //   tables_due(blocks, size)              how long they are to be for a frame, 0 where they do not pay
 //
 // A byte that holds eight bits of a word names the sum of their powers in a table of 256 (V. Arlazarov, E. Dinic, M. Kronrod, I. Faradzhev, 1970), so that a
@@ -11,7 +13,7 @@ ghost use mathlib.Core.Path.{_≡_};
 ghost use Prim.Native.Nat.{ℕ, _+_, _*_, _/_, _≤_, _<_};
 ghost use lib.ListN.{length, getD};
 ghost use Rattle.bch.specs.Polynomial.{_⊕_};
-ghost use Rattle.words_tables.specs.Tables.{sumAt, Sums, MayHalves};
+ghost use Rattle.words_tables.specs.Tables.{sumAt, Sums, MayHalves, MayParts, tableLength, partOf};
 
 // Doubles a table of w sums: entry w + v is entry v plus x.
 fn double(table: &mut [u32], w: usize, x: u32)
@@ -93,8 +95,51 @@ pub fn tables_due(blocks: usize, size: usize) -> usize
 }
 
 // Working entries for the tables; only their number is told: the most that any design has.
-pub fn entries() -> [u32; 32768]
-    ensures { λ a. ⌜ 32768 ≡ length a ⌝ }
+pub fn entries() -> [u32; 36864]
+    ensures { λ a. ⌜ 36864 ≡ length a ⌝ }
 {
-    [0; 32768]
+    [0; 36864]
+}
+
+// How long the tables of a list of n entries are.
+pub fn table_length(n: usize) -> usize
+    requires { ⌜ n ≤ 512 ⌝ }
+    ensures { λ a. ⌜ (a ≡ tableLength n) × (a ≤ 16384) ⌝ }
+{
+    256 * ((n + 7) / 8)
+}
+
+// n entries of the tables from entry `from` on, or none where there are no tables.
+pub fn part(tables: &[u32], from: usize, n: usize) -> &[u32]
+    requires { ⌜ (0 < length (now tables) → from + n ≤ length (now tables)) ⌝ }
+    ensures { λ a. ⌜ now a ≡ partOf (now (tables .entry)) from n ⌝ }
+{
+    if tables.len() == 0 {
+        return &tables[0..0];
+    }
+    &tables[from..from + n]
+}
+
+// As `tables_due`, for all four parts of a word, whose redundancy has two stretches of r bits.
+pub fn parts_due(blocks: usize, size: usize, r: usize) -> usize
+    requires { ⌜ (size ≤ 500) × (r ≤ 32) × (blocks ≤ 4096) ⌝ }
+    ensures { λ n. ⌜ (n ≤ 36864) × (0 < n → n ≡ 2 * tableLength size + 2 * tableLength r) ⌝ }
+{
+    let halves = tables_due(blocks, size);
+    if halves == 0 {
+        return 0;
+    }
+    halves + 2 * table_length(r)
+}
+
+// Makes the tables of the four parts of a word's positions, one after the other.
+pub fn fill_parts(positions: &[u32], size: usize, r: usize, tables: &mut [u32])
+    requires { ⌜ (size ≤ 500) × (r ≤ 32) × (length (now positions) ≡ 2 * size + 2 * r) × (length (now tables) ≡ 2 * tableLength size + 2 * tableLength r) ⌝ }
+    ensures { λ u. ⌜ MayParts (now (positions .entry)) size r (now (tables .exit)) × (length (now (tables .exit)) ≡ length (now (tables .entry))) ⌝ }
+{
+    let b = 2 * table_length(size);
+    let e = 2 * table_length(r);
+    let x = 2 * size;
+    fill_halves(positions, size, &mut tables[0..b]);
+    fill_halves(&positions[x..x + 2 * r], r, &mut tables[b..b + e]);
 }

@@ -3,33 +3,49 @@
 use borrow.Author.Needs.{needs}
 use native.Mathlib.Omega.{arith}
 use mathlib.Core.Path.{_≡_}
-use lib.ListN.{length}
+use Prim.Native.Nat.{_-_, _*_}
+use lib.ListN.{length, take}
+use lib.Seq.{length-take-le}
 use Rattle.words_positions.proofs.Parts.{part-fits}
-use Rattle.words_tables.proofs.Tables.{halves-lent}
+use Rattle.words_tables.proofs.Tables.{parts-lent}
+use Rattle.words.proofs.Lines.{parts-asked}
 use Rattle.decoder_frame.proofs.fill_by_tables.Statement.{statement}
 use Rattle.decoder_frame.proofs.fill_by_tables.Tie as tie
 
+fill-parts-requires : tie.Need-fill-parts-requires
+fill-parts-requires c κs =
+    let s = c .before .before .before .before .before .before .before .before .before .before in
+    let a = s .args in
+    let room = c .before .entries in
+    let long : length (take (a .due - 0) (room .result)) ≡ a .due - 0 = length-take-le (a .due - 0) (room .result) (omega (arith, room .ensures)) in
+    let size = c .before .before .before .size in
+    let r = c .before .before .r in
+    parts-asked (a .line .d) (s .pre .0 .allowed) (s .pre .1) (size .ensures) (r .ensures .0) (s .pre .4) (omega (arith, long))
+
 part-fill-lines-end : tie.Need-part-fill-lines-end
 part-fill-lines-end c =
-    let made = c .before .before .fill-halves in
-    let long : length (made .last .1 .1 .0) ≡ c .before .before .before .before .before .before .before .before .before .before .before .before .args .due = omega arith in
-    part-fits (made .last .1 .1 .0) _ _ long
+    let made = c .before .before .fill-parts in
+    let a = c .before .before .before .before .before .before .before .before .before .before .before .before .before .args in
+    let long : length (made .last .1 .1 .1 .0) ≡ a .due = omega arith in
+    part-fits (made .last .1 .1 .1 .0) _ _ long
 
 fill-lines-requires : tie.Need-fill-lines-requires
 fill-lines-requires c κs =
-    let s = c .before .before .before .before .before .before .before .before .before .before .before .before .before .before in
+    let s = c .before .before .before .before .before .before .before .before .before .before .before .before .before .before .before in
     let a = s .args in
-    let made = c .before .before .before .before .fill-halves in
-    let size = c .before .before .before .before .before .before .before .size in
-    let long : length (made .last .1 .1 .0) ≡ a .due = omega arith in (
+    let made = c .before .before .before .before .fill-parts in
+    let size = c .before .before .before .before .before .before .before .before .size in
+    let r = c .before .before .before .before .before .before .before .r in
+    let long : length (made .last .1 .1 .1 .0) ≡ a .due = omega arith in (
       s .pre .0,
       s .pre .1,
       s .pre .2,
-      halves-lent (a .positions .now) (made .last .1 .1 .0) _ _ (a .line .d .size) (a .due) (made .ensures .0) (size .ensures) long,
+      parts-lent (a .positions .now) (made .last .1 .1 .1 .0) _ _ _ (a .line .d .size) (a .line .d .m * a .line .d .t) (a .due) (made .ensures .0)
+          (size .ensures) (r .ensures .0) long,
     )
 
 pub fill-by-tables-spec : {M : Type 1} → statement M
 fill-by-tables-spec =
     tie.close
-    (tie.spec (λ c κs. search needs) (λ c κs. search needs) (λ c. search needs) (λ c. search needs) (λ c. search needs) (λ c κs. search needs)
-    (λ c. search needs) (λ c. search needs) part-fill-lines-end fill-lines-requires (λ c. search needs) (λ c. search needs))
+    (tie.spec (λ c κs. search needs) (λ c κs. search needs) (λ c κs. search needs) (λ c. search needs) (λ c. search needs) (λ c. search needs)
+    fill-parts-requires (λ c. search needs) (λ c. search needs) part-fill-lines-end fill-lines-requires (λ c. search needs) (λ c. search needs))

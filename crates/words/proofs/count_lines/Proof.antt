@@ -9,7 +9,7 @@ use Rattle.staircase.specs.Frame.{groups, outsideAmong, frameOf}
 use Rattle.staircase.specs.Lines.{lineSites}
 use Rattle.design.specs.Sizes.{paramsOf, listsOf}
 use Rattle.rules.specs.Received.{Received}
-use Rattle.words_tables.specs.Tables.{MayHalves}
+use Rattle.words_tables.specs.Tables.{MayParts}
 use Rattle.words_lines.specs.declared.Line.{Line}
 use Rattle.words_lines.specs.Lines.{LineFits, lineRemainder}
 use Rattle.words.specs.Words.{nonzeros, WordTable}
@@ -45,7 +45,7 @@ line-remainders-requires c κs =
     let fits : LineFits (record { d = a .line .d; blocks = a .line .blocks; k = l .k }) =
     record { allowed = p .0 .allowed; few-blocks = p .0 .few-blocks; within = omega (arith, c .before .before .loop-test .taken, l .inv .0) } in
     subst (λ (z : Line). Received (z .d) (z .blocks) (a .own .now) (a .parity .now) (a .info .now) (a .red .now) × LineFits z × WordTable (z .d) (a .positions .now)
-    × (length (l .sums) ≡ z .d .size) × MayHalves (a .positions .now) (z .d .size) (a .tables .now)) (sym (c .before .line-at .ensures))
+    × (length (l .sums) ≡ z .d .size) × MayParts (a .positions .now) (z .d .size) (z .d .m * z .d .t) (a .tables .now)) (sym (c .before .line-at .ensures))
     (p .0, fits, p .1, l .inv .2 ∙ p .2, p .3)
 
 add-total : tie.Need-add-total Inv-loop μ-loop

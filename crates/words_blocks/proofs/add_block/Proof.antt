@@ -23,7 +23,8 @@ add-columns-requires c κs =
     let n = length (a .sums .now) in
     let block = s .pre .0 (not-false (a .sent) (c .before .before .before .if1 .left)) in
     let long = row-length (a .positions .now) (a .from) n (s .pre .1) in
-    (square _ _ n n (block .0) long refl, block .1, long, part-sums (a .positions .now) (a .from) n (a .tables .now) (s .pre .2))
+    let sums = part-sums (a .positions .now) (a .from) n (a .tables .now) (s .pre .2) in
+    (square _ _ n n (block .0) long refl, block .1, λ some. omega (arith, sums some .few, long), sums)
 
 returns-2 : tie.Need-returns-2
 returns-2 c =
