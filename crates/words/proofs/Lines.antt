@@ -2,15 +2,15 @@
 --   first-received, first-table   a received frame and a table, by its first line
 --   block-lent                what a line is lent of a block
 --   blocks-of-line, reads-of-line   the remainders of its blocks, and the bits that are read of them
---   blocks-lent               the information and the table are as they are asked for there
 --   parts-asked               the tables of the parts of its words, as they are asked for where they are made
---   tables-fit, line-halves   these tables, if there are any: their length, and those of the blocks
---   red-ends, table-ends      the stretches of a group end within the redundancy, and the parts that they carry with the table
---   first-lent, second-lent   a stretch, its part and the tables are as `add_stretch` asks
---   line-made                 the remainders of the words, once the parts behind the blocks are added
---   line-read, line-reads     the bits that are read of each word
+--   tables-fit                the length of these tables, if there are any
+--   blocks-asked              what a line is lent is as `line_blocks` asks
+--   red-ends, table-ends      the redundancy of a group ends within all of it, and the part that goes with it with the table
+--   ends-lent                 this redundancy, its part and their tables are as `add_ends` asks
+--   reads-few                 the bits that are read of each word are few
+--   line-done                 the remainders of the words, once the redundancy is added to the blocks, and the bits that are read of each word
 -- Assumes nothing.
-use mathlib.Core.Path.{_≡_, refl, sym, ap, ap₂, _∙_, subst, subst⁻¹}
+use mathlib.Core.Path.{_≡_, refl, sym, ap, ap₂, _∙_, subst⁻¹}
 use mathlib.Core.Bool.{Bool, true, false, not, cond}
 use mathlib.Core.List.{List}
 use Prim.Native.Nat.{ℕ, zero, suc, _+_, _-_, _*_, _/_, _≤_, _<_}
@@ -18,35 +18,34 @@ use native.Mathlib.Nat.{mul-comm, mul-zero, mul-one}
 use native.Mathlib.Omega.{arith}
 use lib.Dec.{ltb}
 use lib.ListN.{length, getD, take, drop}
+use lib.Seq.{ext-getD}
 use Rattle.bch.specs.Polynomial.{Bits, _⊕_}
 use Rattle.staircase.specs.Lists.{tabulate}
-use Rattle.staircase.specs.Design.{Params, Interleavers}
+use Rattle.staircase.specs.Design.{Params}
 use Rattle.staircase.specs.System.{Contents}
 use Rattle.staircase.specs.Frame.{groups, blockAt, frameOf}
 use Rattle.staircase.specs.Frame.Site.{unsent, inInfo}
 use Rattle.staircase.specs.Lines.{even, lineSites}
 use Rattle.staircase.specs.Readings.{isSent, sentAmong, readsOf}
-use Rattle.staircase.specs.Rules.{entries}
 use Rattle.staircase.proofs.Bounds.{small-product, stretch-end}
-use Rattle.staircase.proofs.System.{Proper}
-use Rattle.staircase.proofs.Tabulate.{tabulate-length, tabulate-same}
+use Rattle.staircase.proofs.Tabulate.{tabulate-length, tabulate-at}
 use Rattle.staircase.proofs.Readings.{line-counted, line-sent}
 use Rattle.design.specs.declared.Design.{Design}
 use Rattle.design.specs.Answers.{Allowed}
 use Rattle.design.specs.Sizes.{paramsOf, orderOf, listsOf}
 use Rattle.design.proofs.Allowed.{proper-of, r-small, bits-small}
 use Rattle.rules.specs.Received.{Received}
-use Rattle.words_tables.specs.Tables.{partOf, MaySum, MayHalves, MayParts, tableLength}
-use Rattle.words_tables.proofs.Tables.{ends-first, ends-second}
-use Rattle.words_blocks.specs.Blocks.{sent, blockBytes, sentBit, blockReads, partSum, blockSum, PartAdded}
+use Rattle.bch_remainders.proofs.Rows.{row-length, row-at, row-bits}
+use Rattle.words_tables.specs.Tables.{partOf, MayHalves, MayParts, tableLength}
+use Rattle.words_blocks.specs.Blocks.{sent, blockBytes, sentBit, blockReads, blockSum}
 use Rattle.words_blocks.proofs.Blocks.{block-fits, block-is}
-use Rattle.words_blocks.proofs.Sums.{added-twice}
+use Rattle.words_blocks.proofs.Sums.{read-few}
 use Rattle.words_lines.specs.declared.Line.{Line}
 use Rattle.words_lines.specs.Lines.{LineFits, lineRemainder}
 use Rattle.words_sums.specs.Listed.{Sends}
-use Rattle.words.specs.Words.{lineBlocks, redPlace, WordTable, BlocksLent}
+use Rattle.words.specs.Words.{lineBlocks, stretchSum, EndsLent, EndsAdded, WordTable, BlocksLent}
 use Rattle.words.proofs.Remainders.{line-is}
-use Rattle.words.proofs.Columns.{Lent, StretchAdds, stretch-lent, stretch-added}
+use Rattle.words.proofs.Columns.{stretch-same}
 
 -- ---- the first line
 
@@ -73,78 +72,7 @@ module _ (L size : ℕ) (info positions : List ℕ) where
     pub reads-of-line : blockReads has-x size + blockReads has-y size ≡ blockReads (sent L k) size + blockReads (sent L (k + 1)) size
     reads-of-line = ap₂ (λ (u v : Bool). blockReads u size + blockReads v size) sx sy
 
-blocks-long : (positions : List ℕ) (size L : ℕ) (info : List ℕ) (k : ℕ) → length (lineBlocks positions size L info k) ≡ size
-unfolding lineBlocks
-blocks-long positions size L info k = tabulate-length size _
-
--- ---- a line of a frame that was received
-
-module _ {d : Design} {L : ℕ} {own parity info red : List ℕ} (R : Received d L own parity info red) where
-  own-sends : {n : ℕ} → n ≡ orderOf d → Sends own n
-  own-sends e = subst⁻¹ (Sends own) e (R .lists .ownLength, R .lists .ownPermutes .below)
-
-  parity-sends : {n : ℕ} → n ≡ orderOf d → Sends parity n
-  parity-sends e = subst⁻¹ (Sends parity) e (R .lists .parityLength, R .lists .parityPermutes .below)
-
-  pub blocks-lent : {positions : List ℕ} {size : ℕ} → WordTable d positions → size ≡ d .size → BlocksLent L size info positions
-  blocks-lent {size = size} T e =
-      record {
-        few-blocks = R .few-blocks;
-        few-columns = omega (arith, R .allowed .M-high);
-        blocks = R .frame .infoLength ∙ sym (ap (λ (k : ℕ). L * (k * k)) e);
-        bits = R .frame .infoBits;
-        powers = omega (arith, T .long);
-      }
-
-module _ (line : Line) {own parity info red positions : List ℕ} (R : Received (line .d) (line .blocks) own parity info red) (T : WordTable (line .d) positions) where
-  abbrev s : Params
-  s = paramsOf (line .d)
-
-  abbrev l : Interleavers
-  l = listsOf (line .d) own parity
-
-  abbrev M : ℕ
-  M = line .d .size
-
-  abbrev r : ℕ
-  r = line .d .m * line .d .t
-
-  abbrev k : ℕ
-  k = line .k
-
-  abbrev L : ℕ
-  L = line .blocks
-
-  ok : Proper s
-  ok = proper-of (line .d) (R .allowed)
-
-  abbrev LineMade : ℕ → ℕ → ℕ → Type 0
-  LineMade size q n =
-      (one two three : List ℕ) → one ≡ lineBlocks positions size (line .blocks) info (line .k)
-      → PartAdded positions (2 * line .d .size) q (λ w a j. getD red (line .k / 2 * (2 * n) + redPlace (even (line .k)) (entries (q * w) own) (j * w + a)) 0) one two
-      → PartAdded positions (2 * line .d .size + q) q (λ w a j. getD red (line .k / 2 * (2 * n) + n + redPlace (even (line .k)) (entries (q * w) parity) (j * w + a)) 0) two three
-      → three ≡ tabulate (line .d .size) (lineRemainder line own parity (frameOf info red))
-
-  line-exact : LineMade M r (orderOf (line .d))
-  unfolding lineBlocks
-  line-exact one two three e first second =
-      let n : ℕ = orderOf (line .d) in
-      let before : Contents = sentBit (sent L k) (blockBytes L (M * M) info k) in
-      let after : Contents = sentBit (sent L (k + 1)) (blockBytes L (M * M) info (k + 1)) in
-      let u : ℕ → ℕ → ℕ → ℕ → ℕ = λ o w a j. getD red (k / 2 * (2 * n) + redPlace (even k) (entries o own) (j * w + a)) 0 in
-      let v : ℕ → ℕ → ℕ → ℕ → ℕ = λ o w a j. getD red (k / 2 * (2 * n) + n + redPlace (even k) (entries o parity) (j * w + a)) 0 in
-      let whole : ℕ → ℕ → ℕ = λ o a. blockSum (not (even k)) positions M before after a ⊕ partSum positions (2 * M) r (u o M a) ⊕ partSum positions (2 * M + r) r (v o M a) in
-      added-twice positions (2 * M) (2 * M + r) r r M (blockSum (not (even k)) positions M before after) (λ w. u (r * w) w) (λ w. v (r * w) w) one two three e first second
-      ∙ tabulate-same M (whole (r * M)) (lineRemainder line own parity (frameOf info red))
-      (λ a m. ap (λ (o : ℕ). whole o a) (mul-comm r M)
-      ∙ line-is s positions T l L ok (R .lists .ownPermutes) (R .lists .parityPermutes) info red (R .frame .infoBits) (R .frame .redBits) a m k before after
-      (λ q b. block-is s L info (R .frame .infoLength) q b k) (λ q b. block-is s L info (R .frame .infoLength) q b (k + 1)))
-
-  line-added : {size q n : ℕ} → size ≡ line .d .size → q ≡ line .d .m * line .d .t → n ≡ orderOf (line .d) → LineMade size q n
-  line-added {size} {q} {n} es eq en =
-      subst⁻¹ (λ (z : ℕ). LineMade z q n) es (subst⁻¹ (λ (z : ℕ). LineMade M z n) eq (subst⁻¹ (λ (z : ℕ). LineMade M r z) en line-exact))
-
--- ---- the tables of the parts of its words: 2 b entries of the blocks', and 2 e of the redundancy's
+-- ---- the tables of the parts of its words
 
 -- they are made, in a slice of n entries
 pub parts-asked : (d : Design) {positions : List ℕ} {size r due n : ℕ} → Allowed d → WordTable d positions → size ≡ d .size → r ≡ d .m * d .t
@@ -153,107 +81,173 @@ pub parts-asked : (d : Design) {positions : List ℕ} {size r due n : ℕ} → A
 parts-asked d A T es er ed long =
     (omega (arith, A .M-high), omega (arith, r-small d A), omega (arith, T .long), omega (arith, ap tableLength es, ap tableLength er))
 
-module _ (line : Line) {positions tables : List ℕ} (P : MayParts positions (line .d .size) (line .d .m * line .d .t) tables) {b e : ℕ}
-    (eb : b ≡ tableLength (line .d .size)) (ee : e ≡ tableLength (line .d .m * line .d .t)) where
-  pub tables-fit : 0 < length tables → 2 * b + 2 * e ≤ length tables
-  tables-fit h = omega (arith, P .long h)
+-- ---- a line of a frame that was received, as it is lent
 
-  pub line-halves : {w : ℕ} {lent : List ℕ} → w ≡ line .d .size → lent ≡ partOf tables 0 (2 * b) → MayHalves positions w lent
-  line-halves ew is = rw (ew, is, eb) (P .blocks)
+block-reads : (line : Line) (b : ℕ) → blockReads (sent (line .blocks) b) (line .d .size)
+    ≡ line .d .size * isSent (blockAt (paramsOf (line .d)) (line .blocks) b 0)
+unfolding blockReads sent
+block-reads line zero = sym (mul-zero (line .d .size))
+block-reads line (suc b) = go (ltb b (line .blocks))
+  where
+    go : (z : Bool) → cond z (line .d .size) 0 ≡ line .d .size * isSent (cond z (inInfo (b * (line .d .size * line .d .size) + 0)) unsent)
+    go true = sym (mul-one (line .d .size))
+    go false = sym (mul-zero (line .d .size))
 
-  module _ {size r : ℕ} (es : size ≡ line .d .size) (er : r ≡ line .d .m * line .d .t) where
-    first-sums : MaySum (partOf positions (2 * size) r) (partOf tables (2 * b) e)
-    first-sums = rw (es, er, eb, ee) (ends-first positions tables (line .d .size) (line .d .m * line .d .t) P)
+-- what `line_remainders` asks, with w sums
+abbrev LineLent : Line → List ℕ → List ℕ → List ℕ → List ℕ → List ℕ → List ℕ → ℕ → Type 0
+LineLent line own parity info red positions tables w =
+    Received (line .d) (line .blocks) own parity info red × LineFits line × WordTable (line .d) positions × (w ≡ line .d .size)
+    × MayParts positions (line .d .size) (line .d .m * line .d .t) tables
 
-    second-sums : 2 * line .d .size + 2 * (line .d .m * line .d .t) ≤ length positions
-        → MaySum (partOf positions (2 * size + r) r) (partOf tables (2 * b + e) e)
-    second-sums h = rw (es, er, eb, ee) (ends-second positions tables (line .d .size) (line .d .m * line .d .t) P h)
+-- the redundancy of its group, n bits for each stretch, and the part of the table that goes with it, r entries for each
+abbrev groupBits : Line → ℕ → List ℕ → List ℕ
+groupBits line n red = take (line .k / 2 * (2 * n) + 2 * n - line .k / 2 * (2 * n)) (drop (line .k / 2 * (2 * n)) red)
 
--- ---- the stretches of its redundancy: n bits from line .k / 2 * (2 * n) on, and n behind; r entries of the table from 2 * size on, and r behind
+abbrev groupPart : ℕ → ℕ → List ℕ → List ℕ
+groupPart size r positions = take (2 * size + 2 * r - 2 * size) (drop (2 * size) positions)
 
-module _ (line : Line) {own parity info red positions : List ℕ} (R : Received (line .d) (line .blocks) own parity info red) (F : LineFits line)
-    (T : WordTable (line .d) positions) {n : ℕ} (en : n ≡ orderOf (line .d)) where
-  abbrev y : ℕ
-  y = line .k / 2 * (2 * n)
+module _ {line : Line} {own parity info red positions tables : List ℕ} {w : ℕ} (A : LineLent line own parity info red positions tables w) where
+  own-sends : {n : ℕ} → n ≡ orderOf (line .d) → Sends own n
+  own-sends e = subst⁻¹ (Sends own) e (A .0 .lists .ownLength, A .0 .lists .ownPermutes .below)
 
-  pub red-ends : (line .k / 2 * (2 * n) + 2 * n ≤ length red) × (line .k / 2 * (2 * n) + 2 * n ≤ 33562624)
-  red-ends =
-      let i : line .k / 2 < groups (line .blocks) = omega (arith, F .within) in
-      let few : line .k / 2 ≤ 4096 = omega (arith, F .within, F .few-blocks) in
-      let small : 2 * n ≤ 8192 = omega (arith, F .allowed .order-high) in (
-        subst⁻¹ (λ (k : ℕ). line .k / 2 * (2 * k) + 2 * k ≤ length red) en
-            (subst⁻¹ (λ (k : ℕ). line .k / 2 * (2 * orderOf (line .d)) + 2 * orderOf (line .d) ≤ k) (R .frame .redLength)
-            (stretch-end (line .k / 2) (groups (line .blocks)) (2 * orderOf (line .d)) i)),
-        omega (arith, small-product (line .k / 2) (2 * n) 4096 8192 few small),
-      )
+  parity-sends : {n : ℕ} → n ≡ orderOf (line .d) → Sends parity n
+  parity-sends e = subst⁻¹ (Sends parity) e (A .0 .lists .parityLength, A .0 .lists .parityPermutes .below)
+
+  -- 2 b entries of tables for the blocks, and 2 e for the redundancy
+  module _ {size b : ℕ} (es : size ≡ line .d .size) (eb : b ≡ tableLength size) where
+    pub tables-fit : {r e : ℕ} → r ≡ line .d .m * line .d .t → e ≡ tableLength r → 0 < length tables → 2 * b + 2 * e ≤ length tables
+    tables-fit er ee h = omega (arith, A .4 .long h, ap tableLength es, ap tableLength er)
+
+    pub blocks-asked : {lent : List ℕ} → lent ≡ partOf tables 0 (2 * b)
+        → BlocksLent (line .blocks) w info positions × (line .k < 2 * groups (line .blocks)) × MayHalves positions w lent
+    blocks-asked is = (
+      record {
+        few-blocks = A .0 .few-blocks;
+        few-columns = omega (arith, A .0 .allowed .M-high);
+        blocks = A .0 .frame .infoLength ∙ sym (ap (λ (k : ℕ). line .blocks * (k * k)) (A .3));
+        bits = A .0 .frame .infoBits;
+        powers = omega (arith, A .2 .long);
+      },
+      A .1 .within,
+      rw (A .3, is, eb, es) (A .4 .blocks),
+    )
+
+  module _ {n : ℕ} (en : n ≡ orderOf (line .d)) where
+    abbrev y : ℕ
+    y = line .k / 2 * (2 * n)
+
+    pub red-ends : (line .k / 2 * (2 * n) + 2 * n ≤ length red) × (line .k / 2 * (2 * n) + 2 * n ≤ 33562624)
+    red-ends =
+        let i : line .k / 2 < groups (line .blocks) = omega (arith, A .1 .within) in
+        let few : line .k / 2 ≤ 4096 = omega (arith, A .1 .within, A .1 .few-blocks) in
+        let small : 2 * n ≤ 8192 = omega (arith, A .1 .allowed .order-high) in (
+          rw (en, A .0 .frame .redLength) (stretch-end (line .k / 2) (groups (line .blocks)) (2 * orderOf (line .d)) i),
+          omega (arith, small-product (line .k / 2) (2 * n) 4096 8192 few small),
+        )
+
+    half-bits : length (groupBits line n red) / 2 ≡ orderOf (line .d)
+    half-bits = omega (arith, row-length red y (2 * n) (red-ends .0))
+
+    -- bit `at` + j of the group's is bit `to` + j of all
+    bit-at : (at to j : ℕ) → line .k / 2 * (2 * orderOf (line .d)) + at ≡ to → at + j < 2 * orderOf (line .d)
+        → getD (groupBits line n red) (at + j) 0 ≡ getD red (to + j) 0
+    bit-at at to j i l =
+        let c : y + (at + j) ≡ to + j = omega (arith, ap (λ (z : ℕ). line .k / 2 * (2 * z)) en) in
+        row-at red y (2 * n) (at + j) (omega arith) ∙ ap (λ (z : ℕ). getD red z 0) c
 
   module _ {size r : ℕ} (es : size ≡ line .d .size) (er : r ≡ line .d .m * line .d .t) where
     pub table-ends : (2 * size + 2 * r ≡ length positions) × (2 * size + 2 * r ≤ 1023)
-    table-ends = (omega (arith, T .long), omega (arith, bits-small (line .d) (F .allowed)))
+    table-ends = (omega (arith, A .2 .long), omega (arith, bits-small (line .d) (A .1 .allowed)))
 
-    area : (w : ℕ) → w ≡ line .d .size → n ≡ r * w
-    area w ew = en ∙ mul-comm (line .d .size) (line .d .m * line .d .t) ∙ ap₂ _*_ (sym er) (sym ew)
+    abbrev part : List ℕ
+    part = groupPart size r positions
 
-    module _ {w : ℕ} (ew : w ≡ line .d .size) {tables : List ℕ} (P : MayParts positions (line .d .size) (line .d .m * line .d .t) tables) {b e : ℕ}
-        (eb : b ≡ tableLength (line .d .size)) (ee : e ≡ tableLength (line .d .m * line .d .t)) (lent : List ℕ) where
-      pub first-lent : lent ≡ partOf tables (2 * b) e
-          → Lent own (take (line .k / 2 * (2 * n) + n - line .k / 2 * (2 * n)) (drop (line .k / 2 * (2 * n)) red))
-          (take (2 * size + r - 2 * size) (drop (2 * size) positions)) lent w
-      first-lent is =
-          stretch-lent red positions own y n (y + n) (2 * size) r (2 * size + r) refl (omega (arith, red-ends)) refl (omega (arith, table-ends))
-          (own-sends R en) (partOf tables (2 * b) e) lent w (area w ew) (R .frame .redBits) (omega (arith, R .allowed .M-high)) is (first-sums line P eb ee es er)
+    half-part : length part / 2 ≡ line .d .m * line .d .t
+    half-part = omega (arith, row-length positions (2 * size) (2 * r) (omega (arith, table-ends)))
 
-      pub second-lent : lent ≡ partOf tables (2 * b + e) e
-          → Lent parity (take (line .k / 2 * (2 * n) + 2 * n - (line .k / 2 * (2 * n) + n)) (drop (line .k / 2 * (2 * n) + n) red))
-          (take (2 * size + 2 * r - (2 * size + r)) (drop (2 * size + r) positions)) lent w
-      second-lent is =
-          stretch-lent red positions parity (y + n) n (y + 2 * n) (2 * size + r) r (2 * size + 2 * r) (omega arith) (omega (arith, red-ends)) (omega arith)
-          (omega (arith, table-ends)) (parity-sends R en) (partOf tables (2 * b + e) e) lent w (area w ew) (R .frame .redBits)
-          (omega (arith, R .allowed .M-high)) is (second-sums line P eb ee es er (omega (arith, T .long)))
+    power-at : (at to j : ℕ) → 2 * line .d .size + at ≡ to → at + j < 2 * (line .d .m * line .d .t) → getD part (at + j) 0 ≡ getD positions (to + j) 0
+    power-at at to j i l =
+        let c : 2 * size + (at + j) ≡ to + j = omega arith in
+        row-at positions (2 * size) (2 * r) (at + j) (omega arith) ∙ ap (λ (z : ℕ). getD positions z 0) c
 
-    pub line-made : {w : ℕ} → w ≡ line .d .size → (one two three : List ℕ) → one ≡ lineBlocks positions w (line .blocks) info (line .k)
-        → StretchAdds red positions own (even (line .k)) (line .k / 2 * (2 * n)) (line .k / 2 * (2 * n) + n) (2 * size) (2 * size + r) one two
-        → StretchAdds red positions parity (even (line .k)) (line .k / 2 * (2 * n) + n) (line .k / 2 * (2 * n) + 2 * n) (2 * size + r)
-        (2 * size + 2 * r) two three
-        → three ≡ tabulate (line .d .size) (lineRemainder line own parity (frameOf info red))
-    line-made {w} ew one two three made first second =
-        let wide : length one ≡ line .d .size = ap length made ∙ blocks-long positions w (line .blocks) info (line .k) ∙ ew in
-        let u : ℕ → ℕ → ℕ → ℕ = λ w a j. getD red (y + redPlace (even (line .k)) (entries (r * w) own) (j * w + a)) 0 in
-        let v : ℕ → ℕ → ℕ → ℕ = λ w a j. getD red (y + n + redPlace (even (line .k)) (entries (r * w) parity) (j * w + a)) 0 in
-        line-added line R T ew er en one two three made
-        (subst (λ (z : ℕ). PartAdded positions (2 * z) r u one two) es
-        (stretch-added red positions own y n (y + n) (2 * size) r (2 * size + r) refl (omega (arith, red-ends)) refl (omega (arith, table-ends))
-        (own-sends R en) (even (line .k)) one two (area (length one) wide) first))
-        (subst (λ (z : ℕ). PartAdded positions (2 * z + r) r v two three) es
-        (stretch-added red positions parity (y + n) n (y + 2 * n) (2 * size + r) r (2 * size + 2 * r) (omega arith) (omega (arith, red-ends)) (omega arith)
-        (omega (arith, table-ends)) (parity-sends R en) (even (line .k)) two three (area (length two) (first .0 ∙ wide)) second))
+    module _ {n : ℕ} (en : n ≡ orderOf (line .d)) where
+      pub ends-lent : {z b e : ℕ} {one lent : List ℕ} → z ≡ line .d .size → b ≡ tableLength z → e ≡ tableLength r
+          → one ≡ lineBlocks positions w (line .blocks) info (line .k) → lent ≡ partOf tables (2 * b) (2 * e)
+          → EndsLent own parity (groupBits line n red) (groupPart size r positions) lent (length one)
+      unfolding lineBlocks
+      ends-lent {one = one} ez eb ee made is =
+          let y : ℕ = line .k / 2 * (2 * n) in
+          let d : 2 * size + 2 * r - 2 * size ≡ 2 * r = omega arith in
+          let wide : length one ≡ line .d .size = ap length made ∙ tabulate-length w _ ∙ A .3 in
+          record {
+            own-sends = own-sends (half-bits en);
+            parity-sends = parity-sends (half-bits en);
+            area = half-bits en ∙ mul-comm (line .d .size) (line .d .m * line .d .t) ∙ ap₂ _*_ (sym half-part) (sym wide);
+            binary = row-bits red y (y + 2 * n - y) (A .0 .frame .redBits);
+            few-columns = omega (arith, A .0 .allowed .M-high);
+            halves = rw (half-part, d, is, es, eb, ee, ez, er) (A .4 .ends);
+          }
 
--- ---- the bits that are read
+      line-made : {one two : List ℕ} → one ≡ lineBlocks positions w (line .blocks) info (line .k)
+          → EndsAdded (even (line .k)) own parity (groupBits line n red) part one two → two ≡ tabulate (line .d .size) (lineRemainder line own parity (frameOf info red))
+      unfolding lineBlocks
+      line-made {one} {two} made added =
+          let s : Params = paramsOf (line .d) in
+          let M : ℕ = line .d .size in
+          let q : ℕ = line .d .m * line .d .t in
+          let o : ℕ = orderOf (line .d) in
+          let k : ℕ = line .k in
+          let bits : List ℕ = groupBits line n red in
+          let before : Contents = sentBit (sent (line .blocks) k) (blockBytes (line .blocks) (M * M) info k) in
+          let after : Contents = sentBit (sent (line .blocks) (k + 1)) (blockBytes (line .blocks) (M * M) info (k + 1)) in
+          let f : ℕ → ℕ = blockSum (not (even k)) positions M before after in
+          let g : ℕ → ℕ = lineRemainder line own parity (frameOf info red) in
+          let e : one ≡ tabulate M f = made ∙ ap (λ (z : ℕ). lineBlocks positions z (line .blocks) info k) (A .3) in
+          let wide : length one ≡ M = ap length e ∙ tabulate-length M f in
+          let ends : ℕ → ℕ → ℕ → ℕ → ℕ =
+          λ a h v u. getD one a 0 ⊕ stretchSum (even k) own bits part 0 h 0 v u a ⊕ stretchSum (even k) parity bits part h h v v u a in
+          ext-getD 0 two (tabulate M g) (added .0 ∙ wide ∙ sym (tabulate-length M g))
+          (λ a m. let h : a < M = omega (arith, added .0, wide) in
+          added .1 a (omega (arith, wide)) ∙ ap₂ (λ (x v : ℕ). ends a x v (length one)) (half-bits en) half-part ∙ ap (ends a o q) wide
+          ∙ ap₂ _⊕_
+          (ap₂ _⊕_ (ap (λ (z : List ℕ). getD z a 0) e ∙ tabulate-at M f 0 a h)
+          (stretch-same (even k) own bits part red positions 0 o 0 q M a (k / 2 * (2 * o)) (2 * M) (own-sends refl) (mul-comm M q) h
+          (λ j l. bit-at en 0 (k / 2 * (2 * o)) j (omega arith) (omega arith)) (λ j l. power-at 0 (2 * M) j (omega arith) (omega arith))))
+          (stretch-same (even k) parity bits part red positions o o q q M a (k / 2 * (2 * o) + o) (2 * M + q) (parity-sends refl) (mul-comm M q) h
+          (λ j l. bit-at en o (k / 2 * (2 * o) + o) j refl (omega arith)) (λ j l. power-at q (2 * M + q) j refl (omega arith)))
+          ∙ line-is s positions (A .2) (listsOf (line .d) own parity) (line .blocks) (proper-of (line .d) (A .0 .allowed)) (A .0 .lists .ownPermutes)
+          (A .0 .lists .parityPermutes) info red (A .0 .frame .infoBits) (A .0 .frame .redBits) a h k before after
+          (λ q b. block-is s (line .blocks) info (A .0 .frame .infoLength) q b k) (λ q b. block-is s (line .blocks) info (A .0 .frame .infoLength) q b (k + 1))
+          ∙ sym (tabulate-at M g 0 a h))
 
-module _ (line : Line) (own parity : List ℕ) where
-  abbrev p : Params
-  p = paramsOf (line .d)
+    -- x bits of the blocks and v of the redundancy are read of each word: M of each block that is sent, and 2 r
+    module _ {x v : ℕ} (ex : x ≡ blockReads (sent (line .blocks) (line .k)) w + blockReads (sent (line .blocks) (line .k + 1)) w)
+        (ev : v ≡ 2 * (length (groupPart size r positions) / 2)) where
+      pub reads-few : x + v ≤ 1023
+      reads-few =
+          omega (arith, table-ends, ex, ev, half-part, A .3, read-few (sent (line .blocks) (line .k)) w, read-few (sent (line .blocks) (line .k + 1)) w)
 
-  block-reads : (b : ℕ) → blockReads (sent (line .blocks) b) (line .d .size) ≡ line .d .size * isSent (blockAt (paramsOf (line .d)) (line .blocks) b 0)
-  unfolding blockReads sent
-  block-reads zero = sym (mul-zero (line .d .size))
-  block-reads (suc b) = go (ltb b (line .blocks))
-    where
-      go : (z : Bool) → cond z (line .d .size) 0 ≡ line .d .size * isSent (cond z (inInfo (b * (line .d .size * line .d .size) + 0)) unsent)
-      go true = sym (mul-one (line .d .size))
-      go false = sym (mul-zero (line .d .size))
+      line-read : (a : ℕ) → x + v ≡ sentAmong (lineSites (paramsOf (line .d)) (listsOf (line .d) own parity) (line .blocks) (line .k) a)
+      line-read a =
+          let e = ap (λ (n : ℕ). blockReads (sent (line .blocks) (line .k)) n + blockReads (sent (line .blocks) (line .k + 1)) n) (A .3) in
+          omega (
+            arith,
+            ex,
+            e,
+            ev,
+            half-part,
+            block-reads line (line .k),
+            block-reads line (line .k + 1),
+            line-counted (paramsOf (line .d)) (listsOf (line .d) own parity) (line .blocks) (line .k) a,
+          )
 
-  -- M bits of each block that is sent, and 2 r of the redundancy
-  pub line-read : (a : ℕ) {size q x y z : ℕ} → size ≡ line .d .size → q ≡ line .d .m * line .d .t
-      → x ≡ blockReads (sent (line .blocks) (line .k)) size + blockReads (sent (line .blocks) (line .k + 1)) size → y ≡ q → z ≡ q
-      → x + y + z ≡ sentAmong (lineSites (paramsOf (line .d)) (listsOf (line .d) own parity) (line .blocks) (line .k) a)
-  line-read a {size} {q} {x} {y} {z} es eq ex ey ez =
-      let e : x ≡ line .d .size * isSent (blockAt p (line .blocks) (line .k) 0) + line .d .size * isSent (blockAt p (line .blocks) (line .k + 1) 0) =
-      ex ∙ ap (λ (n : ℕ). blockReads (sent (line .blocks) (line .k)) n + blockReads (sent (line .blocks) (line .k + 1)) n) es
-      ∙ ap₂ _+_ (block-reads (line .k)) (block-reads (line .k + 1)) in
-      omega (arith, e, eq, ey, ez, line-counted p (listsOf (line .d) own parity) (line .blocks) (line .k) a)
-
-  -- "n, less M where the word has an unsent block"
-  pub line-reads : LineFits line → (n : ℕ) → n ≡ sentAmong (lineSites (paramsOf (line .d)) (listsOf (line .d) own parity) (line .blocks) (line .k) 0)
-      → n ≡ readsOf (paramsOf (line .d)) (line .blocks) (line .k)
-  line-reads F n e = e ∙ line-sent p (listsOf (line .d) own parity) (line .blocks) (line .k) 0 (F .within)
+      pub line-done : {n : ℕ} {one two : List ℕ} → n ≡ orderOf (line .d) → one ≡ lineBlocks positions w (line .blocks) info (line .k)
+          → EndsAdded (even (line .k)) own parity (groupBits line n red) (groupPart size r positions) one two
+          → (two ≡ tabulate (line .d .size) (lineRemainder line own parity (frameOf info red)))
+          × ((a : ℕ) → a < line .d .size → x + v ≡ sentAmong (lineSites (paramsOf (line .d)) (listsOf (line .d) own parity) (line .blocks) (line .k) a))
+          × (x + v ≡ readsOf (paramsOf (line .d)) (line .blocks) (line .k))
+      line-done en made added = (
+        line-made en made added,
+        λ a h. line-read a,
+        line-read 0 ∙ line-sent (paramsOf (line .d)) (listsOf (line .d) own parity) (line .blocks) (line .k) 0 (A .1 .within),
+      )

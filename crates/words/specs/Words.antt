@@ -3,22 +3,28 @@
 --   lineBlocks    the remainders of the two blocks of a line's words, by the table of powers of x
 --   entryAt       entry p of a list, from its bytes
 --   redPlace      where the bit at a place of X or Q, or of Y or P, stands in Y or P
+--   stretchSum    what X or Q, or Y or P, gives to the remainder of a word
+--   EndsLent      what is asked of a group's redundancy, and of the powers of x that go with it
+--   EndsAdded     what both stretches of it give is added for each word
 --   WordTable     the table has the powers of x that the positions of a word carry
 --   BlocksLent    what is asked of the information and of the table for the blocks
 -- Assumes nothing.
 use mathlib.Core.Path.{_≡_}
 use mathlib.Core.Bool.{Bool, not, cond}
 use mathlib.Core.List.{List, [], _∷_}
-use Prim.Native.Nat.{ℕ, _+_, _*_, _≤_}
+use Prim.Native.Nat.{ℕ, _+_, _*_, _/_, _≤_, _<_}
 use lib.Dec.{eqb}
 use lib.ListN.{length, getD}
-use Rattle.bch.specs.Polynomial.{Bits}
+use Rattle.bch.specs.Polynomial.{_⊕_, Bits}
 use Rattle.staircase.specs.Lists.{tabulate}
 use Rattle.staircase.specs.Design.{most-blocks}
 use Rattle.staircase.specs.Lines.{even}
+use Rattle.staircase.specs.Rules.{entries}
 use Rattle.design.specs.declared.Design.{Design}
 use Rattle.design.specs.Sizes.{paramsOf}
-use Rattle.words_blocks.specs.Blocks.{sent, blockBytes, sentBit, blockSum, Powers}
+use Rattle.words_tables.specs.Tables.{MayHalves}
+use Rattle.words_blocks.specs.Blocks.{sent, blockBytes, sentBit, partSum, blockSum, Powers}
+use Rattle.words_sums.specs.Listed.{Sends}
 
 -- "A codeword is a word that the generator divides": a word is outside the code where its remainder is not 0
 unfoldable pub nonzeros : List ℕ → ℕ
@@ -37,6 +43,25 @@ entryAt list p = getD list (2 * p) 0 + 256 * getD list (2 * p + 1) 0
 -- row words have X and Q, which the lists send to Y and P; column words have Y and P
 unfoldable pub redPlace : Bool → List ℕ → ℕ → ℕ
 redPlace rows list q = cond rows (getD list q 0) q
+
+-- word a of w words: n bits of the redundancy from bit `at` on, and r entries of the table from entry `from` on
+abbrev pub stretchSum : Bool → List ℕ → List ℕ → List ℕ → ℕ → ℕ → ℕ → ℕ → ℕ → ℕ → ℕ
+stretchSum rows list bits part at n from r w a = partSum part from r (λ j. getD bits (at + redPlace rows (entries n list) (j * w + a)) 0)
+
+-- of the bits, of the powers and of their tables, if there are any, a half is for each stretch of w words
+pub record EndsLent (own parity bits part tables : List ℕ) (w : ℕ) : Type 0 where
+  pub own-sends : Sends own (length bits / 2)
+  pub parity-sends : Sends parity (length bits / 2)
+  pub area : length bits / 2 ≡ length part / 2 * w
+  pub binary : Bits bits
+  pub few-columns : w ≤ 512
+  pub halves : MayHalves part (length part / 2) tables
+
+abbrev pub EndsAdded : Bool → List ℕ → List ℕ → List ℕ → List ℕ → List ℕ → List ℕ → Type 0
+EndsAdded rows own parity bits part old new =
+    (length new ≡ length old)
+    × ((a : ℕ) → a < length old → getD new a 0 ≡ getD old a 0 ⊕ stretchSum rows own bits part 0 (length bits / 2) 0 (length part / 2) (length old) a
+    ⊕ stretchSum rows parity bits part (length bits / 2) (length bits / 2) (length part / 2) (length part / 2) (length old) a)
 
 abbrev pub WordTable : Design → List ℕ → Type 0
 WordTable d positions = Powers (paramsOf d) positions

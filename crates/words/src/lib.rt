@@ -37,7 +37,7 @@ ghost use Rattle.words_tables.specs.Tables.{MaySum, MayHalves, MayParts, tableL
 ghost use Rattle.words_blocks.specs.Blocks.{sent, blockReads};
 ghost use Rattle.words_lines.specs.Lines.{LineFits, lineRemainder};
 ghost use Rattle.words_sums.specs.Listed.{Sends, listedBit};
-ghost use Rattle.words.specs.Words.{nonzeros, lineBlocks, entryAt, redPlace, WordTable, BlocksLent};
+ghost use Rattle.words.specs.Words.{nonzeros, lineBlocks, entryAt, redPlace, EndsLent, EndsAdded, WordTable, BlocksLent};
 ghost use Rattle.words.specs.Checks.{receivedRules, ListsAsked, countedOf};
 use design::Check;
 use design::Design;
@@ -162,6 +162,37 @@ fn add_stretch(
     words_blocks::add_columns(sums, bits, part, tables)
 }
 
+// Adds what a group's redundancy gives to the remainders of a line's words: X and Q by their lists for row words, Y and P as they stand for column words.
+// `bits` are Y and P, `part` the powers of x that the redundancy of a word carries, and the tables those of their sums, or none: of each a half is for X or
+// Y, and a half for Q or P. Answers how many bits of each word it has read.
+fn add_ends(
+    rows: bool,
+    own: &[u8],
+    parity: &[u8],
+    bits: &[u8],
+    part: &[u32],
+    tables: &[u32],
+    sums: &mut [u32],
+) -> usize
+    requires { ⌜ EndsLent (now own) (now parity) (now bits) (now part) (now tables) (length (now sums)) ⌝ }
+    ensures { λ n. ⌜ EndsAdded rows (now (own .entry)) (now (parity .entry)) (now (bits .entry)) (now (part .entry)) (now (sums .entry)) (now (sums .exit))
+        × (n ≡ 2 * (length (now (part .entry)) / 2)) ⌝ }
+{
+    let n = bits.len() / 2;
+    let r = part.len() / 2;
+    let h = tables.len() / 2;
+    let first = add_stretch(sums, rows, own, &bits[0..n], &part[0..r], &tables[0..h]);
+    let second = add_stretch(
+        sums,
+        rows,
+        parity,
+        &bits[n..2 * n],
+        &part[r..2 * r],
+        &tables[h..2 * h],
+    );
+    first + second
+}
+
 // Makes `sums` the remainders of the words of a line. The tables are those of the powers that the four parts of a word carry, or none. Answers how many bits
 // of each word it has read, which is how many of them are sent. One step for each of these bits, or for each eight by the tables.
 pub fn line_remainders(
@@ -184,26 +215,25 @@ pub fn line_remainders(
 {
     let d = line.d;
     let r = d.r();
-    let n = d.order();
-    let y = line.k / 2 * (2 * n);
+    let n = 2 * d.order();
+    let y = line.k / 2 * n;
     let x = 2 * d.size();
     let rows = line.k % 2 == 0;
     let b = 2 * words_tables::table_length(d.size());
-    let e = words_tables::table_length(r);
+    let e = 2 * words_tables::table_length(r);
     let halves = words_tables::part(tables, 0, b);
-    let ahead = words_tables::part(tables, b, e);
-    let behind = words_tables::part(tables, b + e, e);
+    let ends = words_tables::part(tables, b, e);
     let blocks = line_blocks(line, info, positions, halves, sums);
-    let first = add_stretch(sums, rows, own, &red[y..y + n], &positions[x..x + r], ahead);
-    let second = add_stretch(
-        sums,
+    let redundancy = add_ends(
         rows,
+        own,
         parity,
-        &red[y + n..y + 2 * n],
-        &positions[x + r..x + 2 * r],
-        behind,
+        &red[y..y + n],
+        &positions[x..x + 2 * r],
+        ends,
+        sums,
     );
-    blocks + first + second
+    blocks + redundancy
 }
 
 // 1 where x is not 0.

@@ -10,7 +10,6 @@
 --   no-part                               a part of an empty list
 --   parts-rest, parts-made                the tables of four parts, one after the other: the rest as it is lent; all are made
 --   no-parts, parts-lent                  no tables, and tables that are lent again, as for the halves
---   ends-first, ends-second               the tables of the two stretches of a word's redundancy, as parts that are lent
 -- Assumes nothing.
 use mathlib.Core.Path.{_≡_, refl, sym, ap, ap₂, _∙_, subst, subst⁻¹, subst₂}
 use mathlib.Core.List.{List, [], _++_}
@@ -23,7 +22,7 @@ use borrow.Rule.Slice.PartMut.{putMid, mid-len}
 use lib.Bits.{bitXor}
 use lib.Pow.{low, high}
 use lib.ListN.{length, getD, set, take, drop, length-append, length-take, length-drop, drop-of-length-le}
-use lib.Seq.{length-take-le, take-all, take-length, take-nil, take-append-seam, drop-append-seam, take-at, drop-at, take-take, take-add, drop-drop}
+use lib.Seq.{length-take-le, take-all, take-length, take-nil, take-append-seam, drop-append-seam, take-at, drop-at}
 use Rattle.bch.specs.Polynomial.{_⊕_}
 use Rattle.bch.specs.Powers.{xorSum}
 use Rattle.bch.proofs.Sum.{⊕-zero-right}
@@ -31,7 +30,7 @@ use Rattle.bch.proofs.Store.{set-each}
 use Rattle.bch.proofs.PowerSum.{xorSum-same, xorSum-append}
 use Rattle.staircase.proofs.Fill.{front-last}
 use Rattle.matrix.proofs.Bits.{bit, bit-above, bit-low}
-use Rattle.words_tables.specs.Tables.{sumAt, tableEntry, Sums, partOf, MaySum, MayHalves, tableLength, MayParts}
+use Rattle.words_tables.specs.Tables.{sumAt, tableEntry, Sums, partOf, MayHalves, tableLength, MayParts}
 
 -- ---- a table that is doubled
 
@@ -225,44 +224,3 @@ pub parts-lent : (positions made rest : List ℕ) (n k size r due : ℕ) → May
 parts-lent positions made rest n k size r due P e f long =
     let d : length made ≡ due - 0 = omega arith in
     subst⁻¹ (MayParts positions size r) (take-at made rest (due - 0) d) (subst₂ (λ (a b : ℕ). MayParts positions a b made) e f P)
-
--- the first k entries of 2 k, and those behind them
-first-of : (l : List ℕ) (a k : ℕ) → partOf (partOf l a (2 * k)) 0 k ≡ partOf l a k
-first-of l a k = take-take k (2 * k) (drop a l) (omega arith)
-
-second-of : (l : List ℕ) (a k : ℕ) → a + 2 * k ≤ length l → partOf (partOf l a (2 * k)) k k ≡ partOf l (a + k) k
-second-of l a k h =
-    let e : 2 * k ≡ k + k = omega arith in
-    let front : length (take k (drop a l)) ≡ k = length-take-le k (drop a l) (omega (arith, length-drop a l)) in
-    ap (λ (n : ℕ). take k (drop k (take n (drop a l)))) e ∙ ap (λ (t : List ℕ). take k (drop k t)) (take-add k k (drop a l))
-    ∙ ap (take k) (drop-at (take k (drop a l)) (take k (drop k (drop a l))) k front) ∙ take-take k k (drop k (drop a l)) (omega arith)
-    ∙ ap (take k) (drop-drop k a l)
-
-module _ (positions tables : List ℕ) (size r : ℕ) (P : MayParts positions size r tables) where
-  abbrev ends : List ℕ
-  ends = partOf tables (2 * tableLength size) (2 * tableLength r)
-
-  -- there are tables where a part of them is not empty
-  ends-long : (from n : ℕ) → 0 < length (partOf tables from n)
-      → (2 * tableLength size + 2 * tableLength r ≤ length tables) × (length ends / 2 ≡ tableLength r)
-  ends-long from n h =
-      let some : 0 < length tables = omega (arith, length-take n (drop from tables), length-drop from tables) in
-      let all = P .long some in
-      let long : length ends ≡ 2 * tableLength r =
-      length-take-le (2 * tableLength r) (drop (2 * tableLength size) tables) (omega (arith, length-drop (2 * tableLength size) tables)) in
-      (omega arith, omega arith)
-
-  pub ends-first : MaySum (partOf positions (2 * size) r) (partOf tables (2 * tableLength size) (tableLength r))
-  ends-first h =
-      let long = ends-long (2 * tableLength size) (tableLength r) h in
-      let is : partOf ends 0 (length ends / 2) ≡ partOf tables (2 * tableLength size) (tableLength r) =
-      ap (λ (k : ℕ). take k ends) (long .1) ∙ first-of tables (2 * tableLength size) (tableLength r) in
-      subst₂ Sums (first-of positions (2 * size) r) is (P .ends .first (subst⁻¹ (λ (t : List ℕ). 0 < length t) is h))
-
-  pub ends-second : 2 * size + 2 * r ≤ length positions
-      → MaySum (partOf positions (2 * size + r) r) (partOf tables (2 * tableLength size + tableLength r) (tableLength r))
-  ends-second fits h =
-      let long = ends-long (2 * tableLength size + tableLength r) (tableLength r) h in
-      let is : partOf ends (length ends / 2) (length ends / 2) ≡ partOf tables (2 * tableLength size + tableLength r) (tableLength r) =
-      ap (λ (k : ℕ). take k (drop k ends)) (long .1) ∙ second-of tables (2 * tableLength size) (tableLength r) (long .0) in
-      subst₂ Sums (second-of positions (2 * size) r fits) is (P .ends .second (subst⁻¹ (λ (t : List ℕ). 0 < length t) is h))
