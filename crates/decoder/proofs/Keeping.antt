@@ -23,14 +23,17 @@ use Rattle.staircase.specs.Window.{positions, windowWords, slide, slideStuck, w
 use Rattle.staircase.proofs.Member.{In}
 use Rattle.staircase.proofs.Outside.{all-inside}
 use Rattle.staircase.proofs.Window.{windowed-stays, windowCounts-stays}
+use Rattle.design.specs.declared.Design.{Design}
 use Rattle.design.specs.Sizes.{paramsOf}
-use Rattle.rules.proofs.Accepted.{kept-small}
-use Rattle.words_lines.specs.declared.Line.{Line}
-use Rattle.words_lines.specs.Lines.{LineFits}
 use Rattle.decoder_marks.specs.Marks.{setMarks, Marked}
 use Rattle.decoder_marks.proofs.Marks.{cleared-marked, marked-errors}
 use Rattle.decoder_words.specs.Ready.{FrameKept, marksIn}
-use Rattle.decoder_words.proofs.Marks.{kept-split, rest-is, flippable, flipped-kept, marks-back}
+use Rattle.decoder_words.proofs.Marks.{rest-is, flippable, flipped-kept, marks-back}
+use Rattle.decoder_lines.specs.declared.Shape.the-variants.{FeedForward}
+use Rattle.decoder_lines.specs.Layouts.{linesIn, FramesFit}
+use Rattle.decoder_lines.proofs.Layouts.{info-few, red-few}
+use Rattle.decoder_frame.specs.Stretch.{feedFrames}
+use Rattle.decoder_frame.proofs.Feed.{feed-total}
 use Rattle.decoder_frame.proofs.Limit.{allowed-itself}
 use Rattle.decoder.specs.declared.Counts.{Counts}
 use Rattle.decoder.specs.declared.Decoding.the-variants as decoding
@@ -38,31 +41,33 @@ use Rattle.decoder.specs.Answers.{correctedOf, correctedFrame}
 
 -- ---- the marks behind the numbers
 
-module _ {line : Line} (F : LineFits line) {links info red kept : List ℕ} (K : FrameKept (line .d) (line .blocks) links info red kept)
-    (n : ℕ) (e : n ≡ 4 * wordCount (paramsOf (line .d)) (line .blocks)) where
+module _ (d : Design) (L : ℕ) {links info red kept : List ℕ} (F : FramesFit (feedFrames d L) links) (K : FrameKept (feedFrames d L) links info red kept)
+    (n : ℕ) (e : n ≡ 4 * wordCount (paramsOf d) L) where
+  bytes : n ≡ 4 * (linesIn FeedForward L * d .size)
+  bytes = e ∙ ap (λ (z : ℕ). 4 * z) (sym (feed-total d L))
+
   -- the part of the marks came back as zeros
   pub cleared-marks : (ys : List ℕ) → ys ≡ replicate (length (take (length kept - n) (drop n kept))) 0
-      → FrameKept (line .d) (line .blocks) links info red (take n kept ++ (ys ++ drop (length kept - n) (drop n kept)))
-      × Marked (frameOf info red) (frameOf info red) (marksIn line (take n kept ++ (ys ++ drop (length kept - n) (drop n kept))))
+      → FrameKept (feedFrames d L) links info red (take n kept ++ (ys ++ drop (length kept - n) (drop n kept)))
+      × Marked (frameOf info red) (frameOf info red) (marksIn (feedFrames d L) (take n kept ++ (ys ++ drop (length kept - n) (drop n kept))))
   cleared-marks ys z =
       let l : length ys ≡ length (take (length kept - n) (drop n kept)) = ap length z ∙ length-replicate (length (take (length kept - n) (drop n kept))) 0 in (
-        flipped-kept F K n e ys l,
-        subst⁻¹ (Marked (frameOf info red) (frameOf info red)) (marks-back F K n e ys l ∙ z)
+        flipped-kept K F n bytes ys l,
+        subst⁻¹ (Marked (frameOf info red) (frameOf info red)) (marks-back K F n bytes ys l ∙ z)
             (cleared-marked (frameOf info red) (length (take (length kept - n) (drop n kept))) (append-bits info red (K .frame .infoBits) (K .frame .redBits))),
       )
 
   pub marks-few : length (take (length kept - n) (drop n kept)) < 1152921504606846976
   marks-few =
       let l = length-take-le (length kept - n) (drop n kept) (omega (arith, length-drop n kept)) in
-      let small = kept-small (line .d) (line .blocks) (F .allowed) (F .few-blocks) in
-      omega (arith, l, K .long, kept-split (paramsOf (line .d)) (line .blocks), e, small .1)
+      omega (arith, l, K .long, bytes, info-few F, red-few F)
 
   -- they are lent once more, to be counted
-  pub marks-errors : {x : ℕ} (f : Frame) → x ≡ setMarks (take (length kept - n) (drop n kept)) → Marked f (frameOf info red) (marksIn line kept)
+  pub marks-errors : {x : ℕ} (f : Frame) → x ≡ setMarks (take (length kept - n) (drop n kept)) → Marked f (frameOf info red) (marksIn (feedFrames d L) kept)
       → x ≡ lineErrors f (frameOf info red)
   marks-errors {x} f q M =
       q ∙ marked-errors f (frameOf info red) (take (length kept - n) (drop n kept))
-      (omega (arith, flippable F K n e .room, M .infoLength, M .redLength)) (subst⁻¹ (Marked f (frameOf info red)) (rest-is F K n e) M)
+      (omega (arith, flippable K F n bytes .room, M .infoLength, M .redLength)) (subst⁻¹ (Marked f (frameOf info red)) (rest-is K F n bytes) M)
 
 -- ---- the counts
 

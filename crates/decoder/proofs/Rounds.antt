@@ -24,7 +24,9 @@ use Rattle.words_positions.proofs.Parts.{part-is}
 use Rattle.words_lines.specs.declared.Line.{Line}
 use Rattle.words_lines.specs.Lines.{LineFits}
 use Rattle.decoder_lines.specs.Links.{listsIn}
-use Rattle.decoder_words.specs.Ready.{LineReady, FrameKept}
+use Rattle.decoder_lines.specs.declared.Frames.{Frames}
+use Rattle.decoder_words.specs.Ready.{FramesReady, FrameKept}
+use Rattle.decoder_frame.specs.Stretch.{feedFrames}
 use Rattle.decoder_frame.specs.Filled.{Filled}
 use Rattle.decoder_frame.proofs.Numbers.{filled-keeps}
 use Rattle.decoder.specs.Answers.{correctedFrame}
@@ -33,21 +35,21 @@ pub first-fits : (d : Design) {L : ℕ} {own parity info red : List ℕ} → Rec
 first-fits d R = record { allowed = R .allowed; few-blocks = R .few-blocks; within = omega (arith, R .some-blocks) }
 
 -- each table came back as it is filled, and is lent again
-pub ready-lent : (line : Line) (K K' T T' F F' : List ℕ) (k t f : ℕ) → length K ≡ k → length T ≡ t → length F ≡ f → LineReady line K T F
-    → LineReady line (take (k - 0) (drop 0 (K ++ K'))) (take (t - 0) (drop 0 (T ++ T'))) (take (f - 0) (drop 0 (F ++ F')))
-ready-lent line K K' T T' F F' k t f lk lt lf R =
-    subst⁻¹ (λ (x : List ℕ). LineReady line x (take (t - 0) (drop 0 (T ++ T'))) (take (f - 0) (drop 0 (F ++ F')))) (part-is K K' k lk)
-    (subst⁻¹ (λ (x : List ℕ). LineReady line K x (take (f - 0) (drop 0 (F ++ F')))) (part-is T T' t lt)
-    (subst⁻¹ (λ (x : List ℕ). LineReady line K T x) (part-is F F' f lf) R))
+pub ready-lent : (g : Frames) (K K' T T' F F' : List ℕ) (k t f : ℕ) → length K ≡ k → length T ≡ t → length F ≡ f → FramesReady g K T F
+    → FramesReady g (take (k - 0) (drop 0 (K ++ K'))) (take (t - 0) (drop 0 (T ++ T'))) (take (f - 0) (drop 0 (F ++ F')))
+ready-lent g K K' T T' F F' k t f lk lt lf R =
+    subst⁻¹ (λ (x : List ℕ). FramesReady g x (take (t - 0) (drop 0 (T ++ T'))) (take (f - 0) (drop 0 (F ++ F')))) (part-is K K' k lk)
+    (subst⁻¹ (λ (x : List ℕ). FramesReady g K x (take (f - 0) (drop 0 (F ++ F')))) (part-is T T' t lt)
+    (subst⁻¹ (λ (x : List ℕ). FramesReady g K T x) (part-is F F' f lf) R))
 
 -- the numbers that are filled, under the lists that the lent table of links holds
 pub kept-lent : (line : Line) (own parity K K' : List ℕ) {info red kept : List ℕ} (k : ℕ) → length K ≡ k → Allowed (line .d)
     → FrameFits (line .d) (line .blocks) info red → listsIn (line .d) K ≡ listsOf (line .d) own parity
     → length kept ≡ keptWork (paramsOf (line .d)) (line .blocks)
     → Filled line own parity (frameOf info red) kept (wordCount (paramsOf (line .d)) (line .blocks))
-    → FrameKept (line .d) (line .blocks) (take (k - 0) (drop 0 (K ++ K'))) info red kept
+    → FrameKept (feedFrames (line .d) (line .blocks)) (take (k - 0) (drop 0 (K ++ K'))) info red kept
 kept-lent line own parity K K' {info} {red} {kept} k lk A F same long H =
-    subst⁻¹ (λ (x : List ℕ). FrameKept (line .d) (line .blocks) x info red kept) (part-is K K' k lk) (filled-keeps line own parity A F kept H K same long)
+    subst⁻¹ (λ (x : List ℕ). FrameKept (feedFrames (line .d) (line .blocks)) x info red kept) (part-is K K' k lk) (filled-keeps line own parity A F kept H K same long)
 
 -- what the decoder keeps stands behind the first n working bytes
 pub kept-length : (work : List ℕ) (n order k : ℕ) → n ≡ order → length work ≡ order + k → length (take (length work - n) (drop n work)) ≡ k

@@ -22,9 +22,9 @@ ghost use Rattle.design.specs.Sizes.{paramsOf, orderOf, listsOf};
 ghost use Rattle.rules.specs.Received.{Received};
 ghost use Rattle.words_lines.specs.Lines.{LineFits};
 ghost use Rattle.decoder_lines.specs.Links.{listsIn};
-ghost use Rattle.decoder_words.specs.Ready.{LineReady, FrameKept};
+ghost use Rattle.decoder_words.specs.Ready.{FramesReady, FrameKept};
 ghost use Rattle.decoder_frame.specs.Filled.{Filled};
-ghost use Rattle.decoder_frame.specs.Stretch.{WindowFits};
+ghost use Rattle.decoder_frame.specs.Stretch.{feedFrames, WindowFits};
 ghost use Rattle.decoder.specs.Answers.{copyRules, windowNumbers, correctedOf, correctedFrame, answered, refusedFrame};
 ghost use Rattle.decoder.specs.declared.Decoding.the-variants as Decoding;
 use decoder_frame::Window;
@@ -114,13 +114,13 @@ fn correct_lines(
     red: &mut [u8],
     kept: &mut [u8],
 ) -> Counts
-    requires { ⌜ LineReady line (now links) (now tables) (now field) × WindowFits (line .blocks) window
-        × FrameKept (line .d) (line .blocks) (now links) (now info) (now red) (now kept) ⌝ }
+    requires { ⌜ FramesReady (feedFrames (line .d) (line .blocks)) (now links) (now tables) (now field) × WindowFits (line .blocks) window
+        × FrameKept (feedFrames (line .d) (line .blocks)) (now links) (now info) (now red) (now kept) ⌝ }
     ensures { λ a. ⌜ correctedOf (Decoding.Decoded a) (frameOf (now (info .exit)) (now (red .exit)))
         ≡ correctedFrame (paramsOf (line .d)) (listsIn (line .d) (now (links .entry))) (line .blocks) (window .groups) (window .limit)
         (frameOf (now (info .entry)) (now (red .entry))) ⌝ }
 {
-    let n = decoder_words::number_bytes(line);
+    let n = decoder_frame::number_bytes(line);
     let all = kept.len();
     decoder_marks::clear(&mut kept[n..all]);
     let made = decoder_frame::run_window(line, window, links, tables, field, info, red, kept);
@@ -159,7 +159,11 @@ fn correct_words(
     let mut tables = table_entries();
     let mut field = field_entries();
     let mut links = link_entries();
-    decoder_frame::fill_tables(d, &mut tables[0..due], &mut field[0..4 * powers]);
+    decoder_frame::fill_tables(
+        decoder_frame::frames_of(line),
+        &mut tables[0..due],
+        &mut field[0..4 * powers],
+    );
     decoder_lines::fill_links(d, own, parity, &mut links[0..4 * n]);
     correct_lines(
         line,
@@ -182,7 +186,7 @@ fn fill_kept(line: Line, own: &[u8], parity: &[u8], info: &[u8], red: &[u8], kep
         (now (kept .exit)) (wordCount (paramsOf (line .d)) (line .blocks)) ⌝ }
 {
     let bits = line.d.n();
-    let n = decoder_words::number_bytes(line);
+    let n = decoder_frame::number_bytes(line);
     let mut positions = position_entries();
     words_positions::fill_table(line.d, &mut positions[0..bits]);
     decoder_frame::fill_numbers(
@@ -214,7 +218,7 @@ fn correct_kept(
         (frameOf (now (info .entry)) (now (red .entry))) ⌝ }
 {
     fill_kept(line, own, parity, &info[..], &red[..], kept);
-    let n = decoder_words::number_bytes(line);
+    let n = decoder_frame::number_bytes(line);
     let wrong = decoder_kept::count(&kept[..], n / 4);
     if wrong == 0 {
         return idle_counts(line.blocks, window);

@@ -2,3 +2,4 @@ pub mod Tables
 pub mod Numbers
 pub mod Limit
 pub mod Positions
+pub mod Feed

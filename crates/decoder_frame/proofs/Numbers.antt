@@ -1,5 +1,6 @@
 -- The kept numbers of a frame, filled, and counted.
 --   line-filled, line-stored a line more
+--   kept-split               what is kept, as the rules count it
 --   filled-keeps             the remainders of all words, as kept numbers
 --   numbers-outside          words whose numbers are right are outside the code where the number is not 0
 --   filled-outside, kept-outside   the words outside the code are those whose number is not 0
@@ -7,8 +8,8 @@
 use mathlib.Core.Path.{_≡_, refl, sym, ap, ap₂, _∙_, subst}
 use mathlib.Core.Bool.{true, cond, true≢false}
 use mathlib.Core.List.{List, [], _∷_, _++_}
-use Prim.Native.Nat.{ℕ, zero, suc, _+_, _-_, _*_, _%_, _^_, _≤_, _<_}
-use native.Mathlib.Nat.{mod-eq-of-lt, add-zero}
+use Prim.Native.Nat.{ℕ, zero, suc, _+_, _-_, _*_, _/_, _%_, _^_, _≤_, _<_}
+use native.Mathlib.Nat.{mod-eq-of-lt, add-zero, mul-assoc}
 use native.Mathlib.Decide.{decLt}
 use native.Mathlib.Omega.{arith}
 use lib.Dec.{eqb, leb}
@@ -20,14 +21,15 @@ use Rattle.bch.specs.Code.{isCodeword}
 use Rattle.bch.proofs.Word.{remainder-below}
 use Rattle.staircase.specs.Lists.{tabulate}
 use Rattle.staircase.specs.Design.{Params, Interleavers}
-use Rattle.staircase.specs.Frame.{Frame, Site, frameOf, read, outsideEach, outsideAmong, outside}
-use Rattle.staircase.specs.Rules.{keptWork}
+use Rattle.staircase.specs.Frame.{Frame, Site, groups, frameOf, read, outsideEach, outsideAmong, outside}
+use Rattle.staircase.specs.Rules.{infoLength, redLength, keptWork}
 use Rattle.staircase.specs.Lines.{wordCount, frameWord}
 use Rattle.staircase.proofs.Tabulate.{tabulate-length, tabulate-at, tabulate-last}
 use Rattle.staircase.proofs.Flip.{read-bits}
 use Rattle.staircase.proofs.Outside.{outside-append}
 use Rattle.staircase.proofs.Lines.{words-numbered}
-use Rattle.staircase.proofs.KeptFrame.{word-number}
+use Rattle.staircase.specs.Layout.{feedForward}
+use Rattle.staircase.proofs.Lawful.{word-number}
 use Rattle.design.specs.declared.Design.{Design}
 use Rattle.design.specs.Answers.{Allowed}
 use Rattle.design.specs.Sizes.{paramsOf, listsOf}
@@ -39,6 +41,8 @@ use Rattle.words_lines.specs.declared.Line.{Line}
 use Rattle.words_lines.specs.Lines.{lineRemainder}
 use Rattle.decoder_lines.specs.Links.{listsIn}
 use Rattle.decoder_words.specs.Ready.{FrameKept}
+use Rattle.decoder_lines.specs.Layouts.{linesIn, sitesIn, redIn}
+use Rattle.decoder_frame.specs.Stretch.{feedFrames}
 use Rattle.decoder_flips.proofs.Flips.{received}
 use Rattle.decoder_frame.specs.Filled.{Filled}
 
@@ -70,7 +74,7 @@ line-filled line own parity f {sums} {b} {a} {from} ef es P F w hw = go (decLt w
         ap (keptAt a) (sym at) ∙ P .here j (omega (arith, long, hj)) ∙ ap (λ (l : List ℕ). getD l j 0) es
         ∙ tabulate-at M (lineRemainder line own parity f) 0 j hj
         ∙ ap (λ (v : List Site). remainder (paramsOf (line .d) .g) (paramsOf (line .d) .r) (read f v))
-        (sym (word-number (paramsOf (line .d)) (listsOf (line .d) own parity) (line .blocks) (line .k) j hj))
+        (sym (word-number (feedForward (paramsOf (line .d)) (listsOf (line .d) own parity) (line .blocks)) (line .k) j hj))
         ∙ ap right num
 
 -- the remainders are the first `size` entries of a local array, S and then E
@@ -101,6 +105,11 @@ module _ (s₂ : Params) (f₂ : Frame) (b₂ : List ℕ) (W : ℕ → List Site
 
 -- ---- all numbers
 
+-- what is kept, as the rules count it
+pub kept-split : (s : Params) (L : ℕ) → keptWork s L ≡ 4 * wordCount s L + (infoLength s L + redLength s L + 7) / 8
+unfolding keptWork
+kept-split s L = let e : 2 * groups L * s .M ≡ 2 * (groups L * s .M) = mul-assoc 2 (groups L) (s .M) in omega (arith, e)
+
 module _ (line : Line) (own parity : List ℕ) {info red : List ℕ} (A : Allowed (line .d)) (F : FrameFits (line .d) (line .blocks) info red) where
   abbrev q : Params
   q = paramsOf (line .d)
@@ -123,11 +132,12 @@ module _ (line : Line) (own parity : List ℕ) {info red : List ℕ} (A : Allowe
     filled-number w hw = ap (λ (n : ℕ). n % 2147483648) (H w hw) ∙ mod-eq-of-lt (left-small (frameWord q (listsOf (line .d) own parity) (line .blocks) w .sites))
 
     pub filled-keeps : (links : List ℕ) → listsIn (line .d) links ≡ listsOf (line .d) own parity → length b ≡ keptWork (paramsOf (line .d)) (line .blocks)
-        → FrameKept (line .d) (line .blocks) links info red b
+        → FrameKept (feedFrames (line .d) (line .blocks)) links info red b
+    unfolding linesIn sitesIn redIn
     filled-keeps links same long =
         record {
-          frame = F;
-          long = long;
+          frame = record { infoLength = F .infoLength; redLength = F .redLength; infoBits = F .infoBits; redBits = F .redBits };
+          long = long ∙ kept-split (paramsOf (line .d)) (line .blocks);
           numbers =
               λ w hw.
               let small = left-small (frameWord q (listsOf (line .d) own parity) (line .blocks) w .sites) in
@@ -144,9 +154,9 @@ module _ (line : Line) (own parity : List ℕ) {info red : List ℕ} (A : Allowe
         numbers-outside q f b (λ w. frameWord q (listsOf (line .d) own parity) (line .blocks) w .sites) (wordCount q (line .blocks)) filled-number
         ∙ ap (outsideAmong q f) (sym (words-numbered q (listsOf (line .d) own parity) (line .blocks)))
 
-pub kept-outside : {d : Design} {L : ℕ} {links info red b : List ℕ} → FrameKept d L links info red b
+pub kept-outside : {d : Design} {L : ℕ} {links info red b : List ℕ} → FrameKept (feedFrames d L) links info red b
     → nonzeroNumbers b (wordCount (paramsOf d) L) ≡ outside (paramsOf d) (listsIn d links) L (frameOf info red)
-unfolding outside
+unfolding outside linesIn sitesIn
 kept-outside {d} {L} {links} {info} {red} {b} K =
     numbers-outside (paramsOf d) (frameOf info red) b (λ w. frameWord (paramsOf d) (listsIn d links) L w .sites) (wordCount (paramsOf d) L)
     (λ w h. K .numbers w h .number)

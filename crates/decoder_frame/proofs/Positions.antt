@@ -14,16 +14,17 @@ use Rattle.staircase.specs.Decoder.{Decoded, runEach}
 use Rattle.staircase.specs.Outcomes.{lastStuck}
 use Rattle.staircase.specs.Window.{windowGroups, windowWords, slide, slideStuck}
 use Rattle.design.specs.Sizes.{paramsOf}
-use Rattle.words_lines.specs.declared.Line.{Line}
+use Rattle.design.specs.declared.Design.{Design}
+use Rattle.decoder_lines.specs.Layouts.{sitesIn}
 use Rattle.decoder_lines.specs.Links.{listsIn}
-use Rattle.decoder_frame.specs.Stretch.{stretchWords}
+use Rattle.decoder_frame.specs.Stretch.{feedFrames, stretchWords}
 
-pub window-at : (line : Line) (links : List ℕ) (p g : ℕ) → g ≤ groups (line .blocks)
-    → stretchWords (record { d = line .d; blocks = line .blocks; k = 2 * p }) links (2 * g)
-    ≡ windowWords (paramsOf (line .d)) (listsIn (line .d) links) (line .blocks) g p
-window-at line links p g h =
-    let e : g ≡ windowGroups (groups (line .blocks)) g = omega (arith, h) in
-    ap (λ (n : ℕ). plain (paramsOf (line .d)) (wordsFrom (paramsOf (line .d)) (listsIn (line .d) links) (line .blocks) (2 * p) (2 * n))) e
+pub window-at : (d : Design) (L : ℕ) (links : List ℕ) (p g : ℕ) → g ≤ groups L
+    → stretchWords (record { frames = feedFrames d L; k = 2 * p }) links (2 * g) ≡ windowWords (paramsOf d) (listsIn d links) L g p
+unfolding sitesIn
+window-at d L links p g h =
+    let e : g ≡ windowGroups (groups L) g = omega (arith, h) in
+    ap (λ (n : ℕ). plain (paramsOf d) (wordsFrom (paramsOf d) (listsIn d links) L (2 * p) (2 * n))) e
 
 module _ (W : ℕ → List Word) (K : ℕ) (f : Frame) where
   pub slide-none : record { frame = f; rounds = 0; flips = 0 } ≡ slide W 0 K f

@@ -3,14 +3,16 @@
 -- Assumes nothing.
 use native.Mathlib.Nat.{mul-le-mul}
 use native.Mathlib.Omega.{arith}
-use Rattle.staircase.specs.Design.{wordLength}
 use Rattle.design.specs.declared.Design.{Design}
 use Rattle.design.specs.Answers.{Allowed}
 use Rattle.design.specs.Sizes.{paramsOf}
 use Rattle.design.proofs.Allowed.{code-of}
+use Rattle.decoder_lines.specs.declared.Shape.the-variants.{FeedForward}
+use Rattle.decoder_lines.specs.Layouts.{bitsIn}
 use Rattle.decoder_tables.specs.Sizes.{WordSizes}
 
-pub word-sizes : (d : Design) → Allowed d → WordSizes (d .m) (d .t) (wordLength (paramsOf d))
+pub word-sizes : (d : Design) → Allowed d → WordSizes (d .m) (d .t) (bitsIn FeedForward (paramsOf d))
+unfolding bitsIn
 word-sizes d h =
     let low = mul-le-mul (h .m-low) (h .t-low) in
     record {

@@ -1,19 +1,29 @@
 -- A window, as code holds it: steps of the decoder, which no promise names.
---   stretchWords    the words of n lines, of which a line is the first
+--   feedFrames      feed-forward frames of a design
+--   stretchSites, stretchWords   the words of n lines, of which a line is the first
 --   WindowFits      some groups of a frame, and an allowed number of rounds
 -- Assumes nothing.
 use mathlib.Core.List.{List}
-use Prim.Native.Nat.{ℕ, _≤_}
+use Prim.Native.Nat.{ℕ, _+_, _≤_}
 use Rattle.staircase.specs.Design.{most-rounds}
-use Rattle.staircase.specs.Frame.{Word, plain, groups}
-use Rattle.staircase.specs.Lines.{wordsFrom}
+use Rattle.staircase.specs.Lists.{tabulate, concat}
+use Rattle.staircase.specs.Frame.{Site, Word, plain, groups}
+use Rattle.design.specs.declared.Design.{Design}
 use Rattle.design.specs.Sizes.{paramsOf}
-use Rattle.words_lines.specs.declared.Line.{Line}
-use Rattle.decoder_lines.specs.Links.{listsIn}
+use Rattle.decoder_lines.specs.declared.Shape.the-variants.{FeedForward}
+use Rattle.decoder_lines.specs.declared.Frames.{Frames}
+use Rattle.decoder_lines.specs.declared.Line.{Line}
+use Rattle.decoder_lines.specs.Layouts.{layoutOf}
 use Rattle.decoder_frame.specs.declared.Window.{Window}
 
+abbrev pub feedFrames : Design → ℕ → Frames
+feedFrames d L = record { d = d; shape = FeedForward; blocks = L }
+
+abbrev pub stretchSites : Line → List ℕ → ℕ → List (List Site)
+stretchSites line links n = concat n (λ i. tabulate (line .frames .d .size) (layoutOf (line .frames) links .sites (line .k + i)))
+
 abbrev pub stretchWords : Line → List ℕ → ℕ → List Word
-stretchWords line links n = plain (paramsOf (line .d)) (wordsFrom (paramsOf (line .d)) (listsIn (line .d) links) (line .blocks) (line .k) n)
+stretchWords line links n = plain (paramsOf (line .frames .d)) (stretchSites line links n)
 
 pub record WindowFits (L : ℕ) (w : Window) : Type 0 where
   pub some-groups : 1 ≤ w .groups

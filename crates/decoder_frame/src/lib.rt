@@ -1,5 +1,7 @@
 // Document 01's rounds, over the words of a received frame whose sizes are known, in place.
-//   fill_tables     the tables of a design, which correcting reads
+//   frames_of       the frames that a line is of
+//   number_bytes    the bytes of their kept numbers
+//   fill_tables     the tables of a kind of frame, which correcting reads
 //   fill_numbers    the remainders of all words of a frame, as their kept numbers
 //   rounds_allowed  the limit that a number of rounds stands for
 //   run_rounds      corrects the words of some groups again and again, until a round flips nothing or the limit is reached
@@ -17,23 +19,25 @@
 ghost use mathlib.Core.Path.{_≡_};
 ghost use Prim.Native.Nat.{_+_, _-_, _*_, _/_, _^_, _≤_};
 ghost use lib.ListN.{length};
-ghost use Rattle.staircase.specs.Design.{most-blocks, most-rounds, wordLength};
+ghost use Rattle.staircase.specs.Design.{most-M, most-blocks, most-rounds};
 ghost use Rattle.staircase.specs.Frame.{frameOf, groups};
 ghost use Rattle.staircase.specs.Decoder.{runEach, roundsAllowed};
 ghost use Rattle.staircase.specs.Outcomes.{lastStuck};
 ghost use Rattle.staircase.specs.Window.{positions, windowWords, slide, slideStuck};
 ghost use Rattle.staircase.specs.Lines.{wordCount};
-ghost use Rattle.design.specs.Answers.{Allowed};
 ghost use Rattle.design.specs.Sizes.{paramsOf};
 ghost use Rattle.rules.specs.Received.{Received};
 ghost use Rattle.words_tables.specs.Tables.{MayParts, tableLength};
 ghost use Rattle.words.specs.Words.{WordTable};
 ghost use Rattle.words_lines.specs.Lines.{LineFits};
 ghost use Rattle.decoder_lines.specs.Links.{listsIn};
-ghost use Rattle.decoder_words.specs.Ready.{WordTables, LineReady, FrameKept, LineMarks};
+ghost use Rattle.decoder_lines.specs.Layouts.{linesIn, bitsIn};
+ghost use Rattle.decoder_tables.specs.Sizes.{WordSizes};
+ghost use Rattle.decoder_words.specs.Ready.{WordTables, FramesReady, FrameKept, LineMarks};
 ghost use Rattle.decoder_frame.specs.Filled.{Filled};
-ghost use Rattle.decoder_frame.specs.Stretch.{stretchWords, WindowFits};
-use design::Design;
+ghost use Rattle.decoder_frame.specs.Stretch.{feedFrames, stretchWords, WindowFits};
+use decoder_lines::Frames;
+use decoder_lines::Shape;
 use words_lines::Line;
 
 // "A rounds number of 0 now stands for 12"
@@ -52,14 +56,43 @@ pub struct Window {
     pub limit: usize,
 }
 
-// Fills the tables of a design: the powers of x at the positions of a word, behind them their values and then those of four bits, and the field's.
-pub fn fill_tables(d: Design, tables: &mut [u32], field: &mut [u16])
-    requires { ⌜ Allowed d × (length (now tables) ≡ wordLength (paramsOf d) + (wordLength (paramsOf d) + 128)) × (length (now field) ≡ 4 * 2 ^ (d .m)) ⌝ }
-    ensures { λ u. ⌜ WordTables d (now (tables .exit)) (now (field .exit)) ⌝ }
+// How many lines are corrected in a round, and how many rounds are allowed.
+pub struct Stretch {
+    pub lines: usize,
+    pub limit: usize,
+}
+
+// The frames that a line is of.
+pub fn frames_of(line: Line) -> Frames
+    ensures { λ f. ⌜ f ≡ feedFrames (line .d) (line .blocks) ⌝ }
 {
+    let d = line.d;
+    Frames {
+        d: d,
+        shape: Shape::FeedForward,
+        blocks: line.blocks,
+    }
+}
+
+// The bytes of the kept numbers of a frame, behind which its marks stand. The line is any of the frame.
+pub fn number_bytes(line: Line) -> usize
+    requires { ⌜ (line .blocks ≤ most-blocks) × (line .d .size ≤ most-M) ⌝ }
+    ensures { λ n. ⌜ (n ≡ 4 * wordCount (paramsOf (line .d)) (line .blocks)) × (n ≤ 8196000) ⌝ }
+{
+    decoder_words::number_bytes(frames_of(line))
+}
+
+// Fills the tables of some frames: the powers of x at the positions of a word, behind them their values and then those of four bits, and the field's.
+pub fn fill_tables(frames: Frames, tables: &mut [u32], field: &mut [u16])
+    requires { ⌜ WordSizes (frames .d .m) (frames .d .t) (bitsIn (frames .shape) (paramsOf (frames .d)))
+        × (length (now tables) ≡ bitsIn (frames .shape) (paramsOf (frames .d)) + (bitsIn (frames .shape) (paramsOf (frames .d)) + 128))
+        × (length (now field) ≡ 4 * 2 ^ (frames .d .m)) ⌝ }
+    ensures { λ u. ⌜ WordTables frames (now (tables .exit)) (now (field .exit)) ⌝ }
+{
+    let d = frames.d;
     let m = d.m();
     let t = d.t();
-    let bits = d.n();
+    let bits = decoder_lines::word_bits(frames);
     decoder_tables::fill_tables(m, t, bits, tables, field);
 }
 
@@ -94,7 +127,7 @@ fn fill_line(
         (now (numbers .exit)) (line .k * line .d .size + line .d .size) ⌝ }
 {
     let size = line.d.size();
-    let from = decoder_lines::word_number(line, 0);
+    let from = line.k * size;
     let mut sums = words::sum_entries();
     words::line_remainders(
         line,
@@ -200,10 +233,10 @@ pub fn fill_numbers(
     fill_by_tables(line, own, parity, info, red, positions, due, numbers);
 }
 
-// Corrects the words of the groups of a window, of which `line` is the first, until a round flips nothing or the rounds that are allowed are made.
+// Corrects the words of some lines, of which `line` is the first, until a round flips nothing or the rounds that are allowed are made.
 pub fn run_rounds(
-    line: Line,
-    window: Window,
+    line: decoder_lines::Line,
+    stretch: Stretch,
     links: &[u16],
     tables: &[u32],
     field: &[u16],
@@ -211,17 +244,18 @@ pub fn run_rounds(
     red: &mut [u8],
     kept: &mut [u8],
 ) -> Made
-    requires { ⌜ LineReady line (now links) (now tables) (now field) × (line .k + 2 * window .groups ≤ 2 * groups (line .blocks))
-        × (1 ≤ window .limit) × (window .limit ≤ most-rounds) × FrameKept (line .d) (line .blocks) (now links) (now info) (now red) (now kept) ⌝ }
+    requires { ⌜ FramesReady (line .frames) (now links) (now tables) (now field)
+        × (line .k + stretch .lines ≤ linesIn (line .frames .shape) (line .frames .blocks))
+        × (1 ≤ stretch .limit) × (stretch .limit ≤ most-rounds) × FrameKept (line .frames) (now links) (now info) (now red) (now kept) ⌝ }
     ensures { λ a. ⌜ (record { frame = frameOf (now (info .exit)) (now (red .exit)); rounds = a .rounds; flips = a .flips }
-        ≡ runEach (stretchWords line (now (links .entry)) (2 * window .groups)) (window .limit) (frameOf (now (info .entry)) (now (red .entry))))
-        × (a .stuck ≡ lastStuck (stretchWords line (now (links .entry)) (2 * window .groups)) (window .limit) (frameOf (now (info .entry)) (now (red .entry))))
-        × FrameKept (line .d) (line .blocks) (now (links .entry)) (now (info .exit)) (now (red .exit)) (now (kept .exit))
+        ≡ runEach (stretchWords line (now (links .entry)) (stretch .lines)) (stretch .limit) (frameOf (now (info .entry)) (now (red .entry))))
+        × (a .stuck ≡ lastStuck (stretchWords line (now (links .entry)) (stretch .lines)) (stretch .limit) (frameOf (now (info .entry)) (now (red .entry))))
+        × FrameKept (line .frames) (now (links .entry)) (now (info .exit)) (now (red .exit)) (now (kept .exit))
         × (a .rounds ≤ most-rounds) × (a .flips ≤ most-rounds * 6147000)
-        × LineMarks line (now (info .entry)) (now (red .entry)) (now (kept .entry)) (now (info .exit)) (now (red .exit)) (now (kept .exit)) ⌝ }
+        × LineMarks (line .frames) (now (info .entry)) (now (red .entry)) (now (kept .entry)) (now (info .exit)) (now (red .exit)) (now (kept .exit)) ⌝ }
 {
-    let lines = 2 * window.groups;
-    let limit = window.limit;
+    let lines = stretch.lines;
+    let limit = stretch.limit;
     let mut flips = 0;
     let mut stuck = 0;
     for k in 0..limit {
@@ -251,6 +285,17 @@ pub fn position_count(blocks: usize, window: Window) -> usize
     words_lines::line_count(blocks) / 2 - window.groups + 1
 }
 
+// The lines of the groups of a window.
+fn stretch_of(window: Window) -> Stretch
+    requires { ⌜ window .groups ≤ 2049 ⌝ }
+    ensures { λ s. ⌜ s ≡ record { lines = 2 * window .groups; limit = window .limit } ⌝ }
+{
+    Stretch {
+        lines: 2 * window.groups,
+        limit: window.limit,
+    }
+}
+
 // Runs the rounds of a window at each of its positions, from the first group of a frame to the last at which all of its groups are the frame's. The line
 // is any of the frame.
 pub fn run_window(
@@ -263,23 +308,32 @@ pub fn run_window(
     red: &mut [u8],
     kept: &mut [u8],
 ) -> Made
-    requires { ⌜ LineReady line (now links) (now tables) (now field) × WindowFits (line .blocks) window
-        × FrameKept (line .d) (line .blocks) (now links) (now info) (now red) (now kept) ⌝ }
+    requires { ⌜ FramesReady (feedFrames (line .d) (line .blocks)) (now links) (now tables) (now field) × WindowFits (line .blocks) window
+        × FrameKept (feedFrames (line .d) (line .blocks)) (now links) (now info) (now red) (now kept) ⌝ }
     ensures { λ a. ⌜ (record { frame = frameOf (now (info .exit)) (now (red .exit)); rounds = a .rounds; flips = a .flips }
         ≡ slide (windowWords (paramsOf (line .d)) (listsIn (line .d) (now (links .entry))) (line .blocks) (window .groups))
         (positions (groups (line .blocks)) (window .groups)) (window .limit) (frameOf (now (info .entry)) (now (red .entry))))
         × (a .stuck ≡ slideStuck (windowWords (paramsOf (line .d)) (listsIn (line .d) (now (links .entry))) (line .blocks) (window .groups))
         (groups (line .blocks) - window .groups) (window .limit) (frameOf (now (info .entry)) (now (red .entry))))
-        × FrameKept (line .d) (line .blocks) (now (links .entry)) (now (info .exit)) (now (red .exit)) (now (kept .exit))
-        × LineMarks line (now (info .entry)) (now (red .entry)) (now (kept .entry)) (now (info .exit)) (now (red .exit)) (now (kept .exit)) ⌝ }
+        × FrameKept (feedFrames (line .d) (line .blocks)) (now (links .entry)) (now (info .exit)) (now (red .exit)) (now (kept .exit))
+        × LineMarks (feedFrames (line .d) (line .blocks)) (now (info .entry)) (now (red .entry)) (now (kept .entry)) (now (info .exit)) (now (red .exit)) (now (kept .exit)) ⌝ }
 {
     let count = position_count(line.blocks, window);
     let mut rounds = 0;
     let mut flips = 0;
     let mut stuck = 0;
     for p in 0..count {
-        let here = words_lines::line_at(line, 2 * p);
-        let made = run_rounds(here, window, links, tables, field, info, red, kept);
+        let here = decoder_lines::line_at(frames_of(line), 2 * p);
+        let made = run_rounds(
+            here,
+            stretch_of(window),
+            links,
+            tables,
+            field,
+            info,
+            red,
+            kept,
+        );
         rounds += made.rounds;
         flips += made.flips;
         stuck = made.stuck;

@@ -5,155 +5,136 @@
 --   crossing-word, crossing-position   the word and the position
 --   power-added, none-added       the crossing word's number
 -- Assumes nothing.
-use mathlib.Core.Path.{_≡_, refl, sym, ap, ap₂, _∙_, subst}
+use mathlib.Core.Path.{_≡_, refl, sym, ap, _∙_, subst}
 use mathlib.Core.Bool.{Bool, true, false, cond}
 use mathlib.Core.Logic.{_≢_, inl}
 use mathlib.Core.List.{List, [], _∷_}
 use Prim.Native.Nat.{ℕ, zero, suc, _+_, _-_, _*_, _/_, _%_, _^_, _≤_, _<_}
-use native.Mathlib.Nat.{mod-lt, mod-eq-of-lt, mul-le-mul, le-refl}
+use native.Mathlib.Nat.{mul-le-mul, le-refl}
 use native.Mathlib.Omega.{arith}
-use lib.Dec.{leb}
 use lib.Pow.{pow-mono}
 use lib.ListN.{getD}
-use borrow.Author.Tests.{eq-eqb, ne-eqb, lt-leb}
+use borrow.Author.Tests.{eq-eqb, ne-eqb}
 use Rattle.bch.specs.Polynomial.{_⊕_}
 use Rattle.bch.specs.Powers.{powerMod}
-use Rattle.bch.proofs.Sum.{⊕-below}
 use Rattle.bch.proofs.PowerSum.{powerMod-below}
 use Rattle.staircase.specs.Design.{Params, Interleavers, wordLength}
-use Rattle.staircase.specs.Frame.{groups}
 use Rattle.staircase.specs.Frame.Site.{unsent}
 use Rattle.staircase.specs.Decoder.{allSent}
-use Rattle.staircase.specs.Lines.{even, lineSites, wordCount, Incidence, incidence, crossing, partner}
+use Rattle.staircase.specs.Lines.{even, Incidence, incidence, crossing, partner}
+use Rattle.staircase.specs.Layout.{wordTotal, placeOf}
 use Rattle.staircase.proofs.Flip.{Sent, allSent-each}
-use Rattle.staircase.proofs.Lines.{line-first}
-use Rattle.staircase.proofs.Crossing.{Crosses, crossing-holds, crossing-red}
+use Rattle.staircase.proofs.Crossing as feed
+use Rattle.original.proofs.Crossing as rows
 use Rattle.design.specs.declared.Design.{Design}
 use Rattle.design.specs.Sizes.{paramsOf, orderOf}
-use Rattle.design.proofs.Allowed.{proper-of, r-small}
-use Rattle.words_blocks.specs.Blocks.{Powers}
-use Rattle.decoder_kept.proofs.Numbers.{only-behind}
-use Rattle.decoder_kept.specs.Numbers.{keptAt, numberAt, markedAt, OnlyAt}
-use Rattle.words_lines.specs.declared.Line.{Line}
+use Rattle.design.proofs.Allowed.{proper-of}
+use Rattle.decoder_kept.specs.Numbers.{numberAt, OnlyAt}
+use Rattle.decoder_kept.specs.Words.{AddedAt}
+use Rattle.decoder_kept.proofs.Words.{added-one, added-none}
+use Rattle.decoder_lines.specs.declared.Shape.{Shape}
+use Rattle.decoder_lines.specs.declared.Shape.the-variants.{FeedForward, Original}
+use Rattle.decoder_lines.specs.declared.Line.{Line}
 use Rattle.decoder_lines.specs.declared.WordBit.{WordBit}
-use Rattle.words_lines.specs.Lines.{LineFits}
-use Rattle.decoder_lines.specs.Links.{listsIn, LinksFit, incidenceOf, Crossed}
+use Rattle.decoder_lines.specs.Links.{listsIn, LinksFit, incidenceOf}
+use Rattle.decoder_lines.specs.Layouts.{linesIn, bitsIn, sitesIn, crossingIn, layoutOf, AllowedIn, LineFits, lineWord, placesAt, PowersFit}
 use Rattle.decoder_lines.proofs.Places.{red-below}
 use Rattle.decoder_lines.proofs.Links.{link-row, link-column}
+use Rattle.decoder_lines.proofs.Layouts.{thin-of, r-high, r-some, g-degree, site-first}
 
-module _ (line : Line) {links : List ℕ} (T : LinksFit (line .d) links) (a p q : ℕ) (ha : a < line .d .size) (low : 2 * line .d .size ≤ p)
-    (hp : p < wordLength (paramsOf (line .d))) (e : q ≡ (p - 2 * line .d .size) * line .d .size + a) where
+module _ (d : Design) (k : ℕ) {links : List ℕ} (T : LinksFit d links) (a p q : ℕ) (ha : a < d .size) (low : 2 * d .size ≤ p)
+    (hp : p < wordLength (paramsOf d)) (e : q ≡ (p - 2 * d .size) * d .size + a) where
   abbrev s : Params
-  s = paramsOf (line .d)
+  s = paramsOf d
 
   abbrev l : Interleavers
-  l = listsIn (line .d) links
+  l = listsIn d links
 
   abbrev spot : Bool → ℕ → Incidence
-  spot z f = incidence (cond z (line .k + 1) (line .k - 1)) (f % s .M) (2 * s .M + f / s .M)
+  spot z f = incidence (cond z (k + 1) (k - 1)) (f % s .M) (2 * s .M + f / s .M)
 
-  pub red-place : q < 2 * orderOf (line .d)
+  pub red-place : q < 2 * orderOf d
   red-place = omega (arith, e, red-below (s .M) (s .r) a p hp low ha)
 
-  by-links : (z : Bool) {f : ℕ} → even (line .k) ≡ z → f ≡ partner s l z q → spot z f ≡ crossing s l (line .k) a p
-  by-links z {f} k g =
-      ap (spot z) (g ∙ ap (partner s l z) e) ∙ ap (λ (b : Bool). spot b (partner s l b ((p - 2 * s .M) * s .M + a))) (sym k)
-      ∙ sym (crossing-red s l (line .k) a p low)
+  by-links : (z : Bool) {f : ℕ} → even k ≡ z → f ≡ partner s l z q → spot z f ≡ crossing s l k a p
+  by-links z {f} h g =
+      ap (spot z) (g ∙ ap (partner s l z) e) ∙ ap (λ (b : Bool). spot b (partner s l b ((p - 2 * s .M) * s .M + a))) (sym h)
+      ∙ sym (feed.crossing-red s l k a p low)
 
-  pub at-row : {f : ℕ} → line .k % 2 ≡ 0 → f ≡ getD links (0 + q) 0
-      → incidence (line .k + 1) (f % line .d .size) (2 * line .d .size + f / line .d .size) ≡ crossing (paramsOf (line .d)) (listsIn (line .d) links) (line .k) a p
-  at-row z g = by-links true (eq-eqb (line .k % 2) 0 z) (g ∙ link-row T q red-place)
+  pub at-row : {f : ℕ} → k % 2 ≡ 0 → f ≡ getD links (0 + q) 0
+      → incidence (k + 1) (f % d .size) (2 * d .size + f / d .size) ≡ crossing (paramsOf d) (listsIn d links) k a p
+  at-row z g = by-links true (eq-eqb (k % 2) 0 z) (g ∙ link-row T q red-place)
 
-  pub at-column : {f : ℕ} → line .k % 2 ≢ 0 → f ≡ getD links (2 * orderOf (line .d) + q) 0
-      → incidence (line .k - 1) (f % line .d .size) (2 * line .d .size + f / line .d .size) ≡ crossing (paramsOf (line .d)) (listsIn (line .d) links) (line .k) a p
-  at-column z g = by-links false (ne-eqb (line .k % 2) 0 z) (g ∙ link-column T q red-place)
+  pub at-column : {f : ℕ} → k % 2 ≢ 0 → f ≡ getD links (2 * orderOf d + q) 0
+      → incidence (k - 1) (f % d .size) (2 * d .size + f / d .size) ≡ crossing (paramsOf d) (listsIn d links) k a p
+  at-column z g = by-links false (ne-eqb (k % 2) 0 z) (g ∙ link-column T q red-place)
 
--- ---- the crossing word's number
+-- ---- the crossing word of a sent bit
 
-module _ (s : Params) (N : ℕ) (c : Incidence) (b : List ℕ) where
-  crossed : (a : List ℕ) (v x : ℕ) → v < N → v ≡ c .line * s .M + c .word → x ≡ powerMod (s .g) (s .r) (wordLength s - 1 - c .position) → x < 2147483648
-      → OnlyAt b a v (numberAt b v ⊕ x) → Crossed s N c b a
-  crossed a v x hv ev ex hx O =
-      record {
-        long = O .long;
-        here = λ w hw e. at w (e ∙ sym ev);
-        others = λ w hw d. let q = O .others w (λ e. d (e ∙ ev)) in (ap (λ (z : ℕ). z % 2147483648) q, ap (leb 2147483648) q);
-        behind = only-behind N hv O;
-      }
-    where
-      small : numberAt b v ⊕ x < 2147483648
-      small = ⊕-below 31 (numberAt b v) x (mod-lt (keptAt b v) (omega arith)) hx
+there-in : (z : Shape) (d : Design) (links : List ℕ) (L k a p : ℕ) → AllowedIn z d links → a < d .size → p < bitsIn z (paramsOf d)
+    → Sent (getD (sitesIn z (paramsOf d) (listsIn d links) L k a) p unsent)
+    → (crossingIn z (paramsOf d) (listsIn d links) k a p .word < d .size) × (crossingIn z (paramsOf d) (listsIn d links) k a p .position < bitsIn z (paramsOf d))
+unfolding AllowedIn sitesIn crossingIn bitsIn
+there-in FeedForward d links L k a p A ha hp sent =
+    let x = feed.crossing-holds (paramsOf d) L (listsIn d links) (proper-of d (A .0)) (A .1 .self) (A .1 .parity) k a p ha hp sent in (x .word, x .position)
+there-in Original d links L k a p A ha hp sent =
+    let thin = thin-of d links A in
+    let x = rows.crossing-holds (paramsOf d) thin k a p ha hp (subst Sent (rows.row-at (paramsOf d) thin k a p hp) sent) in (x .word, x .position)
 
-      at : (w : ℕ) → w ≡ v → (numberAt a w ≡ numberAt b w ⊕ powerMod (s .g) (s .r) (wordLength s - 1 - c .position)) × (markedAt a w ≡ false)
-      at w e =
-          let here : keptAt a w ≡ numberAt b v ⊕ x = ap (keptAt a) e ∙ O .here in (
-            ap (λ (z : ℕ). z % 2147483648) here ∙ mod-eq-of-lt small ∙ ap₂ _⊕_ (ap (numberAt b) (sym e)) ex,
-            ap (leb 2147483648) here ∙ lt-leb 2147483648 (numberAt b v ⊕ x) small,
-          )
-
-  -- there is no such line
-  not-crossed : (n : ℕ) → N ≡ n * s .M → n ≤ c .line → Crossed s N c b b
-  not-crossed n e h =
-      record {
-        long = refl;
-        here = λ w hw q. let m : n * s .M ≤ c .line * s .M = mul-le-mul h (le-refl (s .M)) in absurd (absurd-of w hw q m);
-        others = λ w hw d. (refl, refl);
-        behind = refl;
-      }
-    where
-      absurd-of : (w : ℕ) → w < N → w ≡ c .line * s .M + c .word → n * s .M ≤ c .line * s .M → ⊥
-      absurd-of w hw q m = omega (arith, e, hw, q, m)
-
--- a sent bit
-module _ {line : Line} {links : List ℕ} (F : LineFits line) (T : LinksFit (line .d) links) (a p : ℕ) (ha : a < line .d .size)
-    (hp : p < wordLength (paramsOf (line .d)))
-    (sent : allSent (getD (lineSites (paramsOf (line .d)) (listsIn (line .d) links) (line .blocks) (line .k) a) p unsent ∷ []) ≡ true) where
+module _ {line : Line} {links : List ℕ} (F : LineFits line links) (a p : ℕ) (ha : a < line .frames .d .size)
+    (hp : p < bitsIn (line .frames .shape) (paramsOf (line .frames .d))) (sent : allSent (getD (lineWord line links a) p unsent ∷ []) ≡ true) where
   abbrev d : Design
-  d = line .d
+  d = line .frames .d
 
-  site-sent : Sent (getD (lineSites (paramsOf d) (listsIn d links) (line .blocks) (line .k) a) p unsent)
-  site-sent = allSent-each (getD (lineSites (paramsOf d) (listsIn d links) (line .blocks) (line .k) a) p unsent ∷ []) sent _ (inl refl)
+  abbrev n : ℕ
+  n = bitsIn (line .frames .shape) (paramsOf d)
 
-  pub not-first : p < line .d .size → 1 ≤ line .k
-  not-first h = go (line .k) site-sent
+  abbrev c : Incidence
+  c = crossingIn (line .frames .shape) (paramsOf d) (listsIn d links) (line .k) a p
+
+  site-sent : Sent (getD (lineWord line links a) p unsent)
+  site-sent = allSent-each (getD (lineWord line links a) p unsent ∷ []) sent _ (inl refl)
+
+  pub not-first : p < line .frames .d .size → 1 ≤ line .k
+  not-first h = go (line .k) (F .within) site-sent
     where
-      go : (k : ℕ) → Sent (getD (lineSites (paramsOf d) (listsIn d links) (line .blocks) k a) p unsent) → 1 ≤ k
-      go zero q = absurd (subst Sent (line-first (paramsOf d) (listsIn d links) (line .blocks) 0 a p h) q)
-      go (suc k) q = omega arith
+      go : (k : ℕ) → k < linesIn (line .frames .shape) (line .frames .blocks) → Sent (getD (layoutOf (line .frames) links .sites k a) p unsent) → 1 ≤ k
+      go zero hk q = absurd (subst Sent (site-first (F .frames) 0 a p hk h) q)
+      go (suc k) hk q = omega arith
 
-  crosses : Crosses (paramsOf d) (line .blocks) (listsIn d links) (proper-of d (F .allowed)) (T .self) (T .parity) (line .k) a p
-      (crossing (paramsOf d) (listsIn d links) (line .k) a p)
-  crosses = crossing-holds (paramsOf d) (line .blocks) (listsIn d links) (proper-of d (F .allowed)) (T .self) (T .parity) (line .k) a p ha hp site-sent
+  there : (c .word < d .size) × (c .position < n)
+  there = there-in (line .frames .shape) d links (line .frames .blocks) (line .k) a p (F .frames .allowed) ha hp site-sent
 
-  module _ {h : WordBit} (e : incidenceOf h ≡ crossing (paramsOf (line .d)) (listsIn (line .d) links) (line .k) a p) where
-    pub crossing-word : h .word < line .d .size
-    crossing-word = subst (λ (z : Incidence). z .word < line .d .size) (sym e) (crosses .word)
+  module _ {h : WordBit} (e : incidenceOf h ≡ crossingIn (line .frames .shape) (paramsOf (line .frames .d)) (listsIn (line .frames .d) links) (line .k) a p) where
+    pub crossing-word : h .word < line .frames .d .size
+    crossing-word = subst (λ (z : Incidence). z .word < d .size) (sym e) (there .0)
 
-    pub crossing-position : h .position < wordLength (paramsOf (line .d))
-    crossing-position = subst (λ (z : Incidence). z .position < wordLength (paramsOf (line .d))) (sym e) (crosses .position)
+    pub crossing-position : h .position < bitsIn (line .frames .shape) (paramsOf (line .frames .d))
+    crossing-position = subst (λ (z : Incidence). z .position < n) (sym e) (there .1)
 
-    module _ {positions : List ℕ} (P : Powers (paramsOf (line .d)) positions) where
-      power-is : getD positions (h .position) 0 ≡ powerMod (paramsOf d .g) (paramsOf d .r) (wordLength (paramsOf d) - 1 - h .position)
+    module _ {positions : List ℕ} (P : PowersFit (line .frames) positions) where
+      power-is : getD positions (h .position) 0 ≡ powerMod (paramsOf d .g) (paramsOf d .r) (n - 1 - h .position)
       power-is =
           P .powers (h .position) (subst (λ (n : ℕ). h .position < n) (sym (P .long)) crossing-position)
           ∙ ap (λ (n : ℕ). powerMod (paramsOf d .g) (paramsOf d .r) (n - 1 - h .position)) (P .long)
 
       power-small : getD positions (h .position) 0 < 2147483648
       power-small =
-          let ok = proper-of d (F .allowed) in
-          let low = powerMod-below (paramsOf d .g) (paramsOf d .r) (ok .rpos) (ok .degree) (wordLength (paramsOf d) - 1 - h .position) in
-          let high : 2 ^ (d .m * d .t) ≤ 2 ^ 31 = pow-mono {i = d .m * d .t} {j = 31} (omega (arith, r-small d (F .allowed))) in
+          let low = powerMod-below (paramsOf d .g) (paramsOf d .r) (r-some (F .frames)) (g-degree (F .frames)) (n - 1 - h .position) in
+          let high : 2 ^ (d .m * d .t) ≤ 2 ^ 31 = pow-mono {i = d .m * d .t} {j = 31} (omega (arith, r-high (F .frames))) in
           omega (arith, power-is, low, high)
 
-      pub power-added : {b b' : List ℕ} (v : ℕ) → v < wordCount (paramsOf (line .d)) (line .blocks) → v ≡ h .line * line .d .size + h .word
+      pub power-added : {b b' : List ℕ} (v : ℕ) → v < wordTotal (layoutOf (line .frames) links) → v ≡ h .line * line .frames .d .size + h .word
           → OnlyAt b b' v (numberAt b v ⊕ getD positions (h .position) 0)
-          → Crossed (paramsOf (line .d)) (wordCount (paramsOf (line .d)) (line .blocks)) (crossing (paramsOf (line .d)) (listsIn (line .d) links) (line .k) a p) b b'
+          → AddedAt (paramsOf (line .frames .d)) (wordTotal (layoutOf (line .frames) links)) (placesAt line links a p) b b'
       power-added {b} {b'} v hv q O =
-          subst (λ (c : Incidence). Crossed (paramsOf d) (wordCount (paramsOf d) (line .blocks)) c b b') e
-          (crossed (paramsOf d) (wordCount (paramsOf d) (line .blocks)) (incidenceOf h) b b' v (getD positions (h .position) 0) hv q power-is power-small O)
+          subst (λ (c : Incidence). AddedAt (paramsOf d) (wordTotal (layoutOf (line .frames) links)) (placeOf (paramsOf d) n c ∷ []) b b') e
+          (added-one (paramsOf d) (wordTotal (layoutOf (line .frames) links)) (placeOf (paramsOf d) n (incidenceOf h)) b hv q power-is power-small O)
 
-    pub none-added : {b : List ℕ} → 2 * groups (line .blocks) ≤ h .line
-        → Crossed (paramsOf (line .d)) (wordCount (paramsOf (line .d)) (line .blocks)) (crossing (paramsOf (line .d)) (listsIn (line .d) links) (line .k) a p) b b
+    pub none-added : {b : List ℕ} → linesIn (line .frames .shape) (line .frames .blocks) ≤ h .line
+        → AddedAt (paramsOf (line .frames .d)) (wordTotal (layoutOf (line .frames) links)) (placesAt line links a p) b b
     none-added {b} q =
-        subst (λ (c : Incidence). Crossed (paramsOf d) (wordCount (paramsOf d) (line .blocks)) c b b) e
-        (not-crossed (paramsOf d) (wordCount (paramsOf d) (line .blocks)) (incidenceOf h) b (2 * groups (line .blocks)) refl q)
+        let N : ℕ = wordTotal (layoutOf (line .frames) links) in
+        let m : N ≤ h .line * d .size = mul-le-mul q (le-refl (d .size)) in
+        subst (λ (c : Incidence). AddedAt (paramsOf d) N (placeOf (paramsOf d) n c ∷ []) b b) e
+        (added-none (paramsOf d) N (placeOf (paramsOf d) n (incidenceOf h)) b (omega (arith, m)))

@@ -1,32 +1,59 @@
-// The lines of a frame: where the bits of their words stand, and the other word that has a bit.
-//   fill_links      the table of links, from the two lists
-//   site_at         where a position of a word stands in the buffers of a frame
-//   crossing_word   the other word that has the bit at a position of a word, and the position
-//   add_power       adds the power of that position to the word's kept number, and takes its mark away
+// The words of frames of either kind, by lines: where their bits stand, and the other word that has a bit.
+//   Shape, Frames, Line   the kinds of frames; frames of a design; a line of them
+//   line_at, line_count   a line, and how many there are
+//   word_bits             the bits of a word
+//   word_number           the number of a word among all words of the frame
+//   fill_links            the table of links of feed-forward frames, from the two lists
+//   site_at               where a position of a word stands in the buffers of a frame
+//   crossing_word         the other word that has the bit at a position of a word, and the position
+//   add_power             adds the power of that position to the word's kept number, and takes its mark away
 //
-// A line is the row words of a group, or its column words: M words that share no bit. Line k takes block k and block k + 1, block 0 being B0, and its
-// words cross those of line k - 1 in the first and those of line k + 1 in the second. In the redundancy the two lines of a group cross, and the table
-// of links says where: entry q is the place in Y and then P of place q of X and then Q, and entry 2n + q the way back, for lists of n entries.
+// A line is M words that share no bit. Line k takes block k and block k + 1, the block before the first being block 0, which is not sent, and its words
+// cross those of line k - 1 in the first and those of line k + 1 in the second. In feed-forward frames an even line has rows of both blocks, and behind
+// them those of X and Q; an odd one has columns, and those of Y and P. In original frames a line has columns of the first block and rows of the second,
+// and nothing behind them.
+//
+// In the redundancy the two lines of a group cross, and the table of links says where: entry q is the place in Y and then P of place q of X and then Q,
+// and entry 2n + q the way back, for lists of n entries. Original frames have no links.
 ghost use mathlib.Core.Path.{_≡_};
 ghost use mathlib.Core.Bool.{true, cond};
 ghost use mathlib.Core.List.{[], _∷_};
 ghost use Prim.Native.Nat.{ℕ, _+_, _*_, _/_, _%_, _≤_, _<_};
 ghost use lib.ListN.{length, getD};
-ghost use Rattle.staircase.specs.Design.{most-blocks, wordLength};
+ghost use Rattle.staircase.specs.Design.{most-M, most-blocks};
 ghost use Rattle.staircase.specs.Frame.{blockAt, groups};
 ghost use Rattle.staircase.specs.Frame.Site.{unsent, inRed};
 ghost use Rattle.staircase.specs.Decoder.{allSent};
-ghost use Rattle.staircase.specs.Lines.{even, lineSites, incidence, partner, crossing, wordCount};
+ghost use Rattle.staircase.specs.Lines.{even, incidence, partner};
+ghost use Rattle.staircase.specs.Layout.{wordTotal};
 ghost use Rattle.design.specs.Answers.{Allowed};
 ghost use Rattle.design.specs.Sizes.{paramsOf, orderOf, listsOf};
 ghost use Rattle.rules.specs.Received.{ListsFit};
-ghost use Rattle.words_blocks.specs.Blocks.{Powers};
-ghost use Rattle.words_lines.specs.Lines.{LineFits};
+ghost use Rattle.decoder_kept.specs.Words.{AddedAt};
 ghost use Rattle.decoder_flips.specs.Sites.{sitesOf, Inside};
-ghost use Rattle.decoder_lines.specs.Links.{listsIn, LinksFit, incidenceOf, Crossed};
+ghost use Rattle.decoder_lines.specs.Links.{listsIn, LinksFit, incidenceOf};
+ghost use Rattle.decoder_lines.specs.Layouts.{linesIn, bitsIn, crossingIn, redIn, layoutOf, rowsFirst, rowsSecond, LineFits, lineWord, placesAt, PowersFit};
 use decoder_flips::BitSite;
 use design::Design;
-use words_lines::Line;
+
+// The kinds of frames.
+pub enum Shape {
+    FeedForward,
+    Original,
+}
+
+// Frames of a design, of `blocks` blocks.
+pub struct Frames {
+    pub d: Design,
+    pub shape: Shape,
+    pub blocks: usize,
+}
+
+// Line k of such frames.
+pub struct Line {
+    pub frames: Frames,
+    pub k: usize,
+}
 
 // A position of a word of a line.
 pub struct WordBit {
@@ -57,12 +84,73 @@ fn place(row: usize, width: usize, column: usize) -> usize
     row * width + column
 }
 
+// Line k of some frames.
+pub fn line_at(frames: Frames, k: usize) -> Line
+    ensures { λ z. ⌜ z ≡ record { frames = frames; k = k } ⌝ }
+{
+    Line {
+        frames: frames,
+        k: k,
+    }
+}
+
+// How many lines there are: two for each group, or one for each block.
+pub fn line_count(frames: Frames) -> usize
+    requires { ⌜ frames .blocks ≤ most-blocks ⌝ }
+    ensures { λ n. ⌜ (n ≡ linesIn (frames .shape) (frames .blocks)) × (n ≤ 4098) ⌝ }
+{
+    let blocks = frames.blocks;
+    let shape = frames.shape;
+    match shape {
+        Shape::FeedForward => blocks + blocks % 2,
+        Shape::Original => blocks,
+    }
+}
+
+// The bits of a word.
+pub fn word_bits(frames: Frames) -> usize
+    ensures { λ n. ⌜ (n ≡ bitsIn (frames .shape) (paramsOf (frames .d))) × (n < 1048576) ⌝ }
+{
+    let d = frames.d;
+    let shape = frames.shape;
+    match shape {
+        Shape::FeedForward => d.n(),
+        Shape::Original => 2 * d.size(),
+    }
+}
+
+// Whether word a of a line has row a of its first block, and not column a.
+fn rows_first(line: Line) -> bool
+    ensures { λ b. ⌜ b ≡ rowsFirst (line .frames .shape) (line .k) ⌝ }
+{
+    let frames = line.frames;
+    let shape = frames.shape;
+    match shape {
+        Shape::FeedForward => line.k % 2 == 0,
+        Shape::Original => false,
+    }
+}
+
+// The same of its second block.
+fn rows_second(line: Line) -> bool
+    ensures { λ b. ⌜ b ≡ rowsSecond (line .frames .shape) (line .k) ⌝ }
+{
+    let frames = line.frames;
+    let shape = frames.shape;
+    match shape {
+        Shape::FeedForward => line.k % 2 == 0,
+        Shape::Original => true,
+    }
+}
+
 // The number of word a of a line, among all words of the frame.
 pub fn word_number(line: Line, a: usize) -> usize
-    requires { ⌜ LineFits line × (a < line .d .size) ⌝ }
-    ensures { λ w. ⌜ (w ≡ line .k * line .d .size + a) × (w < wordCount (paramsOf (line .d)) (line .blocks)) × (w ≤ 2049000) ⌝ }
+    requires { ⌜ (line .k < linesIn (line .frames .shape) (line .frames .blocks)) × (line .frames .blocks ≤ most-blocks)
+        × (line .frames .d .size ≤ most-M) × (a < line .frames .d .size) ⌝ }
+    ensures { λ w. ⌜ (w ≡ line .k * line .frames .d .size + a)
+        × (w < linesIn (line .frames .shape) (line .frames .blocks) * line .frames .d .size) × (w ≤ 2049000) ⌝ }
 {
-    let d = line.d;
+    let d = line.frames.d;
     line.k * d.size() + a
 }
 
@@ -113,24 +201,23 @@ fn group_site(d: Design, blocks: usize, i: usize, q: usize) -> BitSite
     BitSite::Red(i * (2 * d.order()) + q)
 }
 
-// Where bit c of row a of a block stands in it, for an even line; or of column a.
-fn block_bit(k: usize, size: usize, a: usize, c: usize) -> usize
+// Where bit c of row a of a block stands in it; or of column a.
+fn block_bit(rows: bool, size: usize, a: usize, c: usize) -> usize
     requires { ⌜ (size ≤ 1024) × (a < size) × (c < size) ⌝ }
-    ensures { λ q. ⌜ (q ≡ cond (even k) (a * size + c) (c * size + a)) × (q < size * size) ⌝ }
+    ensures { λ q. ⌜ (q ≡ cond rows (a * size + c) (c * size + a)) × (q < size * size) ⌝ }
 {
-    if k % 2 == 0 {
+    if rows {
         return place(a, size, c);
     }
     place(c, size, a)
 }
 
 // The bit of a group, which is Y and then P, at place q of X and then Q for an even line, and of Y and then P for an odd one.
-fn group_bit(line: Line, links: &[u16], q: usize) -> usize
-    requires { ⌜ LineFits line × LinksFit (line .d) (now links) × (q < 2 * orderOf (line .d)) ⌝ }
-    ensures { λ b. ⌜ (b ≡ cond (even (line .k)) (partner (paramsOf (line .d)) (listsIn (line .d) (now (links .entry))) true q) q)
-        × (b < 2 * orderOf (line .d)) ⌝ }
+fn group_bit(d: Design, k: usize, links: &[u16], q: usize) -> usize
+    requires { ⌜ LinksFit d (now links) × (q < 2 * orderOf d) ⌝ }
+    ensures { λ b. ⌜ (b ≡ cond (even k) (partner (paramsOf d) (listsIn d (now (links .entry))) true q) q) × (b < 2 * orderOf d) ⌝ }
 {
-    if line.k % 2 == 0 {
+    if k % 2 == 0 {
         return link_at(links, 0, q);
     }
     q
@@ -138,22 +225,28 @@ fn group_bit(line: Line, links: &[u16], q: usize) -> usize
 
 // Where position p of word a of a line stands.
 pub fn site_at(line: Line, links: &[u16], a: usize, p: usize) -> BitSite
-    requires { ⌜ LineFits line × LinksFit (line .d) (now links) × (a < line .d .size) × (p < wordLength (paramsOf (line .d))) ⌝ }
-    ensures { λ x. ⌜ (sitesOf x
-        ≡ getD (lineSites (paramsOf (line .d)) (listsIn (line .d) (now (links .entry))) (line .blocks) (line .k) a) p unsent ∷ [])
-        × Inside x (line .blocks * (line .d .size * line .d .size)) (groups (line .blocks) * (2 * orderOf (line .d))) ⌝ }
+    requires { ⌜ LineFits line (now links) × (a < line .frames .d .size) × (p < bitsIn (line .frames .shape) (paramsOf (line .frames .d))) ⌝ }
+    ensures { λ x. ⌜ (sitesOf x ≡ getD (lineWord line (now (links .entry)) a) p unsent ∷ [])
+        × Inside x (line .frames .blocks * (line .frames .d .size * line .frames .d .size))
+        (redIn (line .frames .shape) (paramsOf (line .frames .d)) (line .frames .blocks)) ⌝ }
 {
-    let d = line.d;
+    let d = line.frames.d;
+    let blocks = line.frames.blocks;
     let size = d.size();
     let k = line.k;
     if p < size {
-        return block_site(d, line.blocks, k, block_bit(k, size, a, p));
+        return block_site(d, blocks, k, block_bit(rows_first(line), size, a, p));
     }
     if p < 2 * size {
-        return block_site(d, line.blocks, k + 1, block_bit(k, size, a, p - size));
+        return block_site(
+            d,
+            blocks,
+            k + 1,
+            block_bit(rows_second(line), size, a, p - size),
+        );
     }
     let q = place(p - 2 * size, size, a);
-    group_site(d, line.blocks, k / 2, group_bit(line, links, q))
+    group_site(d, blocks, k / 2, group_bit(d, k, links, q))
 }
 
 // Column f / size, row f % size of X and Q, or of Y and P side by side.
@@ -170,11 +263,12 @@ fn red_bit(line: usize, f: usize, size: usize) -> WordBit
 
 // The other word that has the bit at position p of word a of a line.
 pub fn crossing_word(line: Line, links: &[u16], a: usize, p: usize) -> WordBit
-    requires { ⌜ LineFits line × LinksFit (line .d) (now links) × (a < line .d .size) × (p < wordLength (paramsOf (line .d)))
-        × (p < line .d .size → 1 ≤ line .k) ⌝ }
-    ensures { λ b. ⌜ incidenceOf b ≡ crossing (paramsOf (line .d)) (listsIn (line .d) (now (links .entry))) (line .k) a p ⌝ }
+    requires { ⌜ LineFits line (now links) × (a < line .frames .d .size) × (p < bitsIn (line .frames .shape) (paramsOf (line .frames .d)))
+        × (p < line .frames .d .size → 1 ≤ line .k) ⌝ }
+    ensures { λ b. ⌜ incidenceOf b
+        ≡ crossingIn (line .frames .shape) (paramsOf (line .frames .d)) (listsIn (line .frames .d) (now (links .entry))) (line .k) a p ⌝ }
 {
-    let d = line.d;
+    let d = line.frames.d;
     let size = d.size();
     let k = line.k;
     if p < size {
@@ -210,16 +304,16 @@ pub fn add_power(
     p: usize,
     numbers: &mut [u8],
 )
-    requires { ⌜ LineFits line × LinksFit (line .d) (now links) × Powers (paramsOf (line .d)) (now positions)
-        × (a < line .d .size) × (p < wordLength (paramsOf (line .d)))
-        × (4 * wordCount (paramsOf (line .d)) (line .blocks) ≤ length (now numbers))
-        × (allSent (getD (lineSites (paramsOf (line .d)) (listsIn (line .d) (now links)) (line .blocks) (line .k) a) p unsent ∷ []) ≡ true) ⌝ }
-    ensures { λ u. ⌜ Crossed (paramsOf (line .d)) (wordCount (paramsOf (line .d)) (line .blocks))
-        (crossing (paramsOf (line .d)) (listsIn (line .d) (now (links .entry))) (line .k) a p) (now (numbers .entry)) (now (numbers .exit)) ⌝ }
+    requires { ⌜ LineFits line (now links) × PowersFit (line .frames) (now positions)
+        × (a < line .frames .d .size) × (p < bitsIn (line .frames .shape) (paramsOf (line .frames .d)))
+        × (4 * wordTotal (layoutOf (line .frames) (now links)) ≤ length (now numbers))
+        × (allSent (getD (lineWord line (now links) a) p unsent ∷ []) ≡ true) ⌝ }
+    ensures { λ u. ⌜ AddedAt (paramsOf (line .frames .d)) (wordTotal (layoutOf (line .frames) (now (links .entry))))
+        (placesAt line (now (links .entry)) a p) (now (numbers .entry)) (now (numbers .exit)) ⌝ }
 {
     let c = crossing_word(line, links, a, p);
-    let d = line.d;
-    if c.line < words_lines::line_count(line.blocks) {
+    let d = line.frames.d;
+    if c.line < line_count(line.frames) {
         let w = place(c.line, d.size(), c.word);
         let at = c.position;
         decoder_kept::add(numbers, w, positions[at]);

@@ -8,10 +8,10 @@ use Prim.Native.Nat.{ℕ, _-_}
 use native.Mathlib.Omega.{arith}
 use lib.ListN.{length, take, drop, length-drop}
 use lib.Seq.{take-all}
-use Rattle.staircase.specs.Design.{wordLength}
-use Rattle.design.specs.declared.Design.{Design}
 use Rattle.design.specs.Sizes.{paramsOf}
 use Rattle.decoder_locator.specs.Located.{LocatorTables}
+use Rattle.decoder_lines.specs.declared.Frames.{Frames}
+use Rattle.decoder_lines.specs.Layouts.{bitsIn}
 use Rattle.decoder_words.specs.Ready.{WordTables}
 
 pub first-part : (l : List ℕ) (n N : ℕ) → n ≡ N → take (n - 0) (drop 0 l) ≡ take N l
@@ -21,8 +21,8 @@ pub rest-part : (l : List ℕ) (n N : ℕ) → n ≡ N → take (length l - n) (
 rest-part l n N e =
     take-all (length l - n) (drop n l) (omega (arith, length-drop n l)) ∙ ap (λ (k : ℕ). drop k l) e
 
-pub locator-parts : (d : Design) (tables field : List ℕ) (n : ℕ) → WordTables d tables field → n ≡ wordLength (paramsOf d)
-    → LocatorTables (d .m) (d .t) (take (n - 0) (drop 0 tables)) (take (length tables - n) (drop n tables)) field
-locator-parts d tables field n T e =
-    subst⁻¹ (λ (l : List ℕ). LocatorTables (d .m) (d .t) l (take (length tables - n) (drop n tables)) field) (first-part tables n (wordLength (paramsOf d)) e)
-    (subst⁻¹ (λ (l : List ℕ). LocatorTables (d .m) (d .t) (take (wordLength (paramsOf d)) tables) l field) (rest-part tables n (wordLength (paramsOf d)) e) (T .locator))
+pub locator-parts : (f : Frames) (tables field : List ℕ) (n : ℕ) → WordTables f tables field → n ≡ bitsIn (f .shape) (paramsOf (f .d))
+    → LocatorTables (f .d .m) (f .d .t) (take (n - 0) (drop 0 tables)) (take (length tables - n) (drop n tables)) field
+locator-parts f tables field n T e =
+    subst⁻¹ (λ (l : List ℕ). LocatorTables (f .d .m) (f .d .t) l (take (length tables - n) (drop n tables)) field) (first-part tables n (bitsIn (f .shape) (paramsOf (f .d))) e)
+    (subst⁻¹ (λ (l : List ℕ). LocatorTables (f .d .m) (f .d .t) (take (bitsIn (f .shape) (paramsOf (f .d))) tables) l field) (rest-part tables n (bitsIn (f .shape) (paramsOf (f .d))) e) (T .locator))

@@ -1,4 +1,5 @@
-// Corrects the words of a frame's lines, in the buffers that hold them, on kept remainders.
+// Corrects the words of a frame's lines, in the buffers that hold them, on kept remainders. It knows no kind of frame from another: what it needs of
+// a word is where its bits stand and which other words have them, and `decoder_lines` says that.
 //   number_bytes     the bytes of the kept numbers, behind which the marks stand
 //   correct_word     corrects a word from its kept number
 //   correct_line     corrects the words of a line
@@ -14,34 +15,35 @@ ghost use mathlib.Core.List.{map};
 ghost use Prim.Native.Nat.{_+_, _*_, _^_, _≤_, _<_};
 ghost use lib.ListN.{length, getD, take};
 ghost use Rattle.staircase.specs.Lists.{tabulate, concat};
-ghost use Rattle.staircase.specs.Design.{wordLength};
-ghost use Rattle.staircase.specs.Frame.{groups, frameOf};
+ghost use Rattle.staircase.specs.Design.{most-M, most-blocks};
+ghost use Rattle.staircase.specs.Frame.{frameOf};
 ghost use Rattle.staircase.specs.Frame.Site.{unsent};
 ghost use Rattle.staircase.specs.Decoder.{flipAll, round};
 ghost use Rattle.staircase.specs.Outcomes.{outcome, stuckAmong};
-ghost use Rattle.staircase.specs.Lines.{lineSites, wordCount};
-ghost use Rattle.design.specs.Sizes.{paramsOf, orderOf};
-ghost use Rattle.words_blocks.specs.Blocks.{Powers};
+ghost use Rattle.staircase.specs.Layout.{wordTotal};
+ghost use Rattle.design.specs.Sizes.{paramsOf};
 ghost use Rattle.decoder_flips.specs.Sites.{listed, AllInside, Below};
 ghost use Rattle.decoder_flips.specs.Told.{outcomeOf};
-ghost use Rattle.words_lines.specs.Lines.{LineFits};
-ghost use Rattle.decoder_lines.specs.Links.{listsIn, LinksFit};
+ghost use Rattle.decoder_flips.specs.Positions.{SentAt};
+ghost use Rattle.decoder_lines.specs.Layouts.{linesIn, bitsIn, redIn, layoutOf, LineFits, lineWord, PowersFit};
 ghost use Rattle.decoder_locator.specs.Located.{positionsOf, located};
-ghost use Rattle.decoder_words.specs.Ready.{WordTables, LineReady, FrameKept, LineMarks, lineWord, correctionAt, SentAt, CrossedAll};
+ghost use Rattle.decoder_words.specs.Ready.{WordTables, FramesReady, LineReady, FrameKept, LineMarks, correctionAt, AddedAll};
 use decoder_flips::BitSite;
 use decoder_flips::Outcome;
 use decoder_flips::Pass;
 use decoder_flips::Spots;
+use decoder_lines::Frames;
+use decoder_lines::Line;
 use decoder_locator::Located;
-use design::Design;
-use words_lines::Line;
 
 // Where the located positions of word a of a line stand.
 fn sites_of(line: Line, links: &[u16], a: usize, found: Located) -> Spots
-    requires { ⌜ LineFits line × LinksFit (line .d) (now links) × (a < line .d .size) × Below (wordLength (paramsOf (line .d))) (positionsOf found) ⌝ }
+    requires { ⌜ LineFits line (now links) × (a < line .frames .d .size)
+        × Below (bitsIn (line .frames .shape) (paramsOf (line .frames .d))) (positionsOf found) ⌝ }
     ensures { λ s. ⌜ (listed s ≡ map (λ j. getD (lineWord line (now (links .entry)) a) j unsent) (positionsOf found))
         × (s .count ≡ length (positionsOf found))
-        × AllInside s (line .blocks * (line .d .size * line .d .size)) (groups (line .blocks) * (2 * orderOf (line .d))) ⌝ }
+        × AllInside s (line .frames .blocks * (line .frames .d .size * line .frames .d .size))
+        (redIn (line .frames .shape) (paramsOf (line .frames .d)) (line .frames .blocks)) ⌝ }
 {
     match found {
         Located::Nowhere => Spots {
@@ -84,22 +86,23 @@ fn sites_of(line: Line, links: &[u16], a: usize, found: Located) -> Spots
 }
 
 // The positions of at most t errors of a word, from its remainder.
-fn locate_errors(d: Design, x: u32, tables: &[u32], field: &[u16]) -> Located
-    requires { ⌜ WordTables d (now tables) (now field) × (x < 2 ^ (d .m * d .t)) ⌝ }
-    ensures { λ z. ⌜ positionsOf z ≡ located (take (wordLength (paramsOf d)) (now (tables .entry))) (d .t) x ⌝ }
+fn locate_errors(frames: Frames, x: u32, tables: &[u32], field: &[u16]) -> Located
+    requires { ⌜ WordTables frames (now tables) (now field) × (x < 2 ^ (frames .d .m * frames .d .t)) ⌝ }
+    ensures { λ z. ⌜ positionsOf z ≡ located (take (bitsIn (frames .shape) (paramsOf (frames .d))) (now (tables .entry))) (frames .d .t) x ⌝ }
 {
-    let n = d.n();
+    let d = frames.d;
+    let n = decoder_lines::word_bits(frames);
     let all = tables.len();
     decoder_locator::locate(d.m(), d.t(), x, &tables[0..n], &tables[n..all], field)
 }
 
 // The bytes of the kept numbers of a frame, behind which its marks stand.
-pub fn number_bytes(line: Line) -> usize
-    requires { ⌜ LineFits line ⌝ }
-    ensures { λ n. ⌜ (n ≡ 4 * wordCount (paramsOf (line .d)) (line .blocks)) × (n ≤ 8196000) ⌝ }
+pub fn number_bytes(frames: Frames) -> usize
+    requires { ⌜ (frames .blocks ≤ most-blocks) × (frames .d .size ≤ most-M) ⌝ }
+    ensures { λ n. ⌜ (n ≡ 4 * (linesIn (frames .shape) (frames .blocks) * frames .d .size)) × (n ≤ 8196000) ⌝ }
 {
-    let d = line.d;
-    4 * (words_lines::line_count(line.blocks) * d.size())
+    let d = frames.d;
+    4 * (decoder_lines::line_count(frames) * d.size())
 }
 
 // Flips the bits at which word a of a line is wrong, each with its mark, and answers their positions. The kept numbers stay those of the frame before.
@@ -113,24 +116,24 @@ fn flip_found(
     red: &mut [u8],
     kept: &mut [u8],
 ) -> Located
-    requires { ⌜ LineReady line (now links) (now tables) (now field) × (a < line .d .size)
-        × FrameKept (line .d) (line .blocks) (now links) (now info) (now red) (now kept) ⌝ }
+    requires { ⌜ LineReady line (now links) (now tables) (now field) × (a < line .frames .d .size)
+        × FrameKept (line .frames) (now links) (now info) (now red) (now kept) ⌝ }
     ensures { λ z. ⌜ (frameOf (now (info .exit)) (now (red .exit))
         ≡ flipAll (correctionAt line (now (links .entry)) (frameOf (now (info .entry)) (now (red .entry))) a) (frameOf (now (info .entry)) (now (red .entry))))
         × (correctionAt line (now (links .entry)) (frameOf (now (info .entry)) (now (red .entry))) a
         ≡ map (λ j. getD (lineWord line (now (links .entry)) a) j unsent) (positionsOf z))
-        × Below (wordLength (paramsOf (line .d))) (positionsOf z)
-        × FrameKept (line .d) (line .blocks) (now (links .entry)) (now (info .entry)) (now (red .entry)) (now (kept .exit))
-        × LineMarks line (now (info .entry)) (now (red .entry)) (now (kept .entry)) (now (info .exit)) (now (red .exit)) (now (kept .exit)) ⌝ }
+        × Below (bitsIn (line .frames .shape) (paramsOf (line .frames .d))) (positionsOf z)
+        × FrameKept (line .frames) (now (links .entry)) (now (info .entry)) (now (red .entry)) (now (kept .exit))
+        × LineMarks (line .frames) (now (info .entry)) (now (red .entry)) (now (kept .entry)) (now (info .exit)) (now (red .exit)) (now (kept .exit)) ⌝ }
 {
     let w = decoder_lines::word_number(line, a);
     let x = decoder_kept::get(&kept[..], w) % 2147483648;
-    let found = locate_errors(line.d, x, tables, field);
+    let found = locate_errors(line.frames, x, tables, field);
     let spots = sites_of(line, links, a, found);
     if !decoder_flips::all_sent(spots) {
         return Located::Nowhere;
     }
-    let n = number_bytes(line);
+    let n = number_bytes(line.frames);
     let all = kept.len();
     decoder_flips::flip_all(info, red, &mut kept[n..all], spots);
     found
@@ -145,9 +148,10 @@ fn add_powers(
     positions: &[u32],
     numbers: &mut [u8],
 )
-    requires { ⌜ LineFits line × LinksFit (line .d) (now links) × Powers (paramsOf (line .d)) (now positions) × (a < line .d .size)
-        × SentAt line (now links) a (positionsOf found) × (4 * wordCount (paramsOf (line .d)) (line .blocks) ≤ length (now numbers)) ⌝ }
-    ensures { λ u. ⌜ CrossedAll line (now (links .entry)) a (positionsOf found) (now (numbers .entry)) (now (numbers .exit))
+    requires { ⌜ LineFits line (now links) × PowersFit (line .frames) (now positions) × (a < line .frames .d .size)
+        × SentAt (bitsIn (line .frames .shape) (paramsOf (line .frames .d))) (lineWord line (now links) a) (positionsOf found)
+        × (4 * wordTotal (layoutOf (line .frames) (now links)) ≤ length (now numbers)) ⌝ }
+    ensures { λ u. ⌜ AddedAll line (now (links .entry)) a (positionsOf found) (now (numbers .entry)) (now (numbers .exit))
         × (length (now (numbers .exit)) ≡ length (now (numbers .entry))) ⌝ }
 {
     match found {
@@ -178,13 +182,13 @@ pub fn correct_word(
     red: &mut [u8],
     kept: &mut [u8],
 ) -> usize
-    requires { ⌜ LineReady line (now links) (now tables) (now field) × (a < line .d .size)
-        × FrameKept (line .d) (line .blocks) (now links) (now info) (now red) (now kept) ⌝ }
+    requires { ⌜ LineReady line (now links) (now tables) (now field) × (a < line .frames .d .size)
+        × FrameKept (line .frames) (now links) (now info) (now red) (now kept) ⌝ }
     ensures { λ k. ⌜ (frameOf (now (info .exit)) (now (red .exit))
         ≡ flipAll (correctionAt line (now (links .entry)) (frameOf (now (info .entry)) (now (red .entry))) a) (frameOf (now (info .entry)) (now (red .entry))))
         × (k ≡ length (correctionAt line (now (links .entry)) (frameOf (now (info .entry)) (now (red .entry))) a))
-        × FrameKept (line .d) (line .blocks) (now (links .entry)) (now (info .exit)) (now (red .exit)) (now (kept .exit))
-        × LineMarks line (now (info .entry)) (now (red .entry)) (now (kept .entry)) (now (info .exit)) (now (red .exit)) (now (kept .exit)) ⌝ }
+        × FrameKept (line .frames) (now (links .entry)) (now (info .exit)) (now (red .exit)) (now (kept .exit))
+        × LineMarks (line .frames) (now (info .entry)) (now (red .entry)) (now (kept .entry)) (now (info .exit)) (now (red .exit)) (now (kept .exit)) ⌝ }
 {
     let found = flip_found(line, a, links, tables, field, info, red, kept);
     let count = decoder_flips::count_of(found);
@@ -194,7 +198,7 @@ pub fn correct_word(
         decoder_kept::put(kept, w, x + 2147483648);
         return 0;
     }
-    let n = line.d.n();
+    let n = decoder_lines::word_bits(line.frames);
     add_powers(line, a, found, links, &tables[0..n], kept);
     decoder_kept::put(kept, w, 0);
     count
@@ -211,13 +215,13 @@ pub fn visit_word(
     red: &mut [u8],
     kept: &mut [u8],
 ) -> Outcome
-    requires { ⌜ LineReady line (now links) (now tables) (now field) × (a < line .d .size)
-        × FrameKept (line .d) (line .blocks) (now links) (now info) (now red) (now kept) ⌝ }
+    requires { ⌜ LineReady line (now links) (now tables) (now field) × (a < line .frames .d .size)
+        × FrameKept (line .frames) (now links) (now info) (now red) (now kept) ⌝ }
     ensures { λ z. ⌜ (frameOf (now (info .exit)) (now (red .exit))
         ≡ flipAll (correctionAt line (now (links .entry)) (frameOf (now (info .entry)) (now (red .entry))) a) (frameOf (now (info .entry)) (now (red .entry))))
-        × (outcomeOf z ≡ outcome (paramsOf (line .d)) (frameOf (now (info .entry)) (now (red .entry))) (lineWord line (now (links .entry)) a))
-        × FrameKept (line .d) (line .blocks) (now (links .entry)) (now (info .exit)) (now (red .exit)) (now (kept .exit))
-        × LineMarks line (now (info .entry)) (now (red .entry)) (now (kept .entry)) (now (info .exit)) (now (red .exit)) (now (kept .exit)) ⌝ }
+        × (outcomeOf z ≡ outcome (paramsOf (line .frames .d)) (frameOf (now (info .entry)) (now (red .entry))) (lineWord line (now (links .entry)) a))
+        × FrameKept (line .frames) (now (links .entry)) (now (info .exit)) (now (red .exit)) (now (kept .exit))
+        × LineMarks (line .frames) (now (info .entry)) (now (red .entry)) (now (kept .entry)) (now (info .exit)) (now (red .exit)) (now (kept .exit)) ⌝ }
 {
     let w = decoder_lines::word_number(line, a);
     let x = decoder_kept::get(&kept[..], w);
@@ -243,15 +247,16 @@ pub fn correct_line(
     kept: &mut [u8],
 ) -> Pass
     requires { ⌜ LineReady line (now links) (now tables) (now field)
-        × FrameKept (line .d) (line .blocks) (now links) (now info) (now red) (now kept) ⌝ }
+        × FrameKept (line .frames) (now links) (now info) (now red) (now kept) ⌝ }
     ensures { λ k. ⌜ (record { frame = frameOf (now (info .exit)) (now (red .exit)); flips = k .flips }
-        ≡ round (paramsOf (line .d)) (tabulate (line .d .size) (lineWord line (now (links .entry)))) (frameOf (now (info .entry)) (now (red .entry))))
-        × FrameKept (line .d) (line .blocks) (now (links .entry)) (now (info .exit)) (now (red .exit)) (now (kept .exit)) × (k .flips ≤ 1500)
-        × (k .stuck ≡ stuckAmong (paramsOf (line .d)) (frameOf (now (info .entry)) (now (red .entry)))
-        (tabulate (line .d .size) (lineWord line (now (links .entry))))) × (k .stuck ≤ 500)
-        × LineMarks line (now (info .entry)) (now (red .entry)) (now (kept .entry)) (now (info .exit)) (now (red .exit)) (now (kept .exit)) ⌝ }
+        ≡ round (paramsOf (line .frames .d)) (tabulate (line .frames .d .size) (lineWord line (now (links .entry)))) (frameOf (now (info .entry)) (now (red .entry))))
+        × FrameKept (line .frames) (now (links .entry)) (now (info .exit)) (now (red .exit)) (now (kept .exit)) × (k .flips ≤ 1500)
+        × (k .stuck ≡ stuckAmong (paramsOf (line .frames .d)) (frameOf (now (info .entry)) (now (red .entry)))
+        (tabulate (line .frames .d .size) (lineWord line (now (links .entry))))) × (k .stuck ≤ 500)
+        × LineMarks (line .frames) (now (info .entry)) (now (red .entry)) (now (kept .entry)) (now (info .exit)) (now (red .exit)) (now (kept .exit)) ⌝ }
 {
-    let size = line.d.size();
+    let d = line.frames.d;
+    let size = d.size();
     let mut flips = 0;
     let mut stuck = 0;
     for a in 0..size {
@@ -277,20 +282,20 @@ pub fn correct_lines(
     red: &mut [u8],
     kept: &mut [u8],
 ) -> Pass
-    requires { ⌜ LineReady line (now links) (now tables) (now field) × (line .k + count ≤ 2 * groups (line .blocks))
-        × FrameKept (line .d) (line .blocks) (now links) (now info) (now red) (now kept) ⌝ }
+    requires { ⌜ FramesReady (line .frames) (now links) (now tables) (now field) × (line .k + count ≤ linesIn (line .frames .shape) (line .frames .blocks))
+        × FrameKept (line .frames) (now links) (now info) (now red) (now kept) ⌝ }
     ensures { λ k. ⌜ (record { frame = frameOf (now (info .exit)) (now (red .exit)); flips = k .flips }
-        ≡ round (paramsOf (line .d)) (concat count (λ i. tabulate (line .d .size)
-        (lineSites (paramsOf (line .d)) (listsIn (line .d) (now (links .entry))) (line .blocks) (line .k + i)))) (frameOf (now (info .entry)) (now (red .entry))))
-        × FrameKept (line .d) (line .blocks) (now (links .entry)) (now (info .exit)) (now (red .exit)) (now (kept .exit)) × (k .flips ≤ 1500 * count)
-        × (k .stuck ≡ stuckAmong (paramsOf (line .d)) (frameOf (now (info .entry)) (now (red .entry))) (concat count (λ i. tabulate (line .d .size)
-        (lineSites (paramsOf (line .d)) (listsIn (line .d) (now (links .entry))) (line .blocks) (line .k + i))))) × (k .stuck ≤ 500 * count)
-        × LineMarks line (now (info .entry)) (now (red .entry)) (now (kept .entry)) (now (info .exit)) (now (red .exit)) (now (kept .exit)) ⌝ }
+        ≡ round (paramsOf (line .frames .d)) (concat count (λ i. tabulate (line .frames .d .size)
+        (layoutOf (line .frames) (now (links .entry)) .sites (line .k + i)))) (frameOf (now (info .entry)) (now (red .entry))))
+        × FrameKept (line .frames) (now (links .entry)) (now (info .exit)) (now (red .exit)) (now (kept .exit)) × (k .flips ≤ 1500 * count)
+        × (k .stuck ≡ stuckAmong (paramsOf (line .frames .d)) (frameOf (now (info .entry)) (now (red .entry)))
+        (concat count (λ i. tabulate (line .frames .d .size) (layoutOf (line .frames) (now (links .entry)) .sites (line .k + i))))) × (k .stuck ≤ 500 * count)
+        × LineMarks (line .frames) (now (info .entry)) (now (red .entry)) (now (kept .entry)) (now (info .exit)) (now (red .exit)) (now (kept .exit)) ⌝ }
 {
     let mut flips = 0;
     let mut stuck = 0;
     for i in 0..count {
-        let here = words_lines::line_at(line, line.k + i);
+        let here = decoder_lines::line_at(line.frames, line.k + i);
         let more = correct_line(here, links, tables, field, info, red, kept);
         flips += more.flips;
         stuck += more.stuck;

@@ -126,6 +126,17 @@ impl Design {
         })
     }
 
+    // A design of three numbers that the rules of another kind of frame have judged. What a kind asks of its designs stands in its contracts.
+    pub fn of_numbers(m: u8, t: u8, size: u16) -> Design
+        ensures { λ d. ⌜ d ≡ record { m = m; t = t; size = size } ⌝ }
+    {
+        Design {
+            m: m,
+            t: t,
+            size: size,
+        }
+    }
+
     // m, the degree of the design's field. Constant work, as in the functions below.
     pub fn m(self) -> usize
         ensures { λ a. ⌜ a ≡ self .m ⌝ }

@@ -7,5 +7,5 @@ pub mod Demand
 pub mod Vectors
 pub mod Words
 pub mod Crossing
-pub mod KeptRows
+pub mod Lawful
 pub mod Next

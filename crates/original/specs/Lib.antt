@@ -4,6 +4,7 @@ pub mod Rules
 pub mod Calls
 pub mod Steps
 pub mod Crossing
+pub mod Layout
 pub mod Demand
 pub mod RowsOriginal
 pub mod Next

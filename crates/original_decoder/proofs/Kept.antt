@@ -40,8 +40,8 @@ use Rattle.original_design.specs.declared.OriginalDesign.{OriginalDesign}
 use Rattle.original_design.specs.Answers.{paramsOf}
 use Rattle.original_rows.specs.Rows.{BufferFits}
 use Rattle.original_rows.proofs.Checked.{buffer-small}
-use Rattle.original_words.specs.Ready.{BufferKept, numbersIn, marksIn}
 use Rattle.original_decoder.specs.Filled.{RowsFilled}
+use Rattle.original_decoder.specs.Kept.{BufferKept, numbersIn, marksIn}
 
 -- ---- filled numbers are right
 

@@ -1,40 +1,47 @@
 -- Rounds over the rows of all blocks, and their tables.
---   round-rows, stuck-rows   a round over the rows, block by block, is one over the words of the frame
 --   word-sizes, tables-room, field-is, field-room   the sizes of a design's tables
 --   tables-lent              the tables, lent again
+--   row-bits, row-lines, rows-fit, kept-frame       the frames of a design among all kinds
+--   rounds-back              what rounds over all lines leave
 -- Assumes nothing.
-use mathlib.Core.Path.{_≡_, sym, ap, _∙_, subst⁻¹}
-use mathlib.Core.List.{List, _++_}
+use mathlib.Core.Path.{_≡_, refl, sym, ap, _∙_, subst, subst⁻¹}
+use mathlib.Core.List.{List, [], _++_}
 use Prim.Native.Nat.{ℕ, _+_, _-_, _*_, _%_, _^_, _≤_}
-use native.Mathlib.Nat.{mul-le-mul}
+use native.Mathlib.Nat.{mul-le-mul, zero-add, zero-lt-suc}
 use native.Mathlib.Omega.{arith}
+use lib.Dec.{leb}
 use lib.Pow.{pow-mono}
 use lib.ListN.{length, take, drop}
-use Rattle.staircase.specs.Lists.{concat}
-use Rattle.staircase.specs.Design.{Params}
-use Rattle.staircase.specs.Frame.{Frame, Word}
-use Rattle.staircase.specs.Decoder.{Progress, round, roundOf}
-use Rattle.staircase.specs.Outcomes.{stuckEach, stuckAmong}
+use lib.Seq.{take-all}
+use Rattle.staircase.specs.Lists.{tabulate}
+use Rattle.staircase.specs.Design.{Params, most-blocks}
+use Rattle.staircase.specs.Frame.{Word, plain, frameOf}
+use Rattle.staircase.specs.Decoder.{runEach}
+use Rattle.staircase.specs.Outcomes.{lastStuck}
+use Rattle.staircase.specs.Kept.{Holds}
+use Rattle.staircase.proofs.Tabulate.{concat-same}
 use Rattle.design.proofs.Sizes.{shl-one}
 use Rattle.words_positions.proofs.Parts.{part-is}
+use Rattle.decoder_kept.proofs.Numbers.{keptAt-take}
+use Rattle.decoder_marks.specs.Marks.{MarksKept}
 use Rattle.decoder_tables.specs.Sizes.{WordSizes}
-use Rattle.decoder_frame.proofs.Limit.{round-each, stuck-each}
-use Rattle.original.specs.Frame.{rowWords}
+use Rattle.decoder_lines.specs.declared.Shape.the-variants.{Original}
+use Rattle.decoder_lines.specs.declared.Frames.{Frames}
+use Rattle.decoder_lines.specs.Layouts.{linesIn, bitsIn, sitesIn, redIn, AllowedIn, FramesFit}
+use Rattle.decoder_words.specs.Ready.{WordTables, FrameKept, LineMarks}
+use Rattle.decoder_frame.specs.declared.Made.{Made}
+use Rattle.decoder_frame.specs.Stretch.{stretchWords}
+use Rattle.original.specs.Frame.{rowSites, rowWords, bufferOf}
 use Rattle.original.specs.Rules.{rowLength}
+use Rattle.original.specs.Crossing.{rowCount, rowWord}
 use Rattle.original.proofs.Words.{blockRows, rowWords-plain}
 use Rattle.original_design.specs.declared.OriginalDesign.{OriginalDesign}
 use Rattle.original_design.specs.Answers.{Allowed, paramsOf}
-use Rattle.original_words.specs.Ready.{RowTables}
-
-module _ (s : Params) (L : ℕ) (f : Frame) where
-  pub round-rows : (x : Progress) → x ≡ round s (concat L (blockRows s)) f → x ≡ roundOf (rowWords s L) f
-  round-rows x e = e ∙ round-each s (concat L (blockRows s)) f ∙ ap (λ (ws : List Word). roundOf ws f) (sym (rowWords-plain s L))
-
-  pub stuck-rows : (n : ℕ) → n ≡ stuckAmong s f (concat L (blockRows s)) → n ≡ stuckEach f (rowWords s L)
-  stuck-rows n e = e ∙ stuck-each s (concat L (blockRows s)) f ∙ ap (stuckEach f) (sym (rowWords-plain s L))
+use Rattle.original_decoder.specs.Kept.{rowFrames, marksIn, BufferKept}
 
 module _ (d : OriginalDesign) (h : Allowed d) where
-  pub word-sizes : WordSizes (d .m) (d .t) (rowLength (paramsOf d))
+  pub word-sizes : WordSizes (d .m) (d .t) (bitsIn Original (paramsOf d))
+  unfolding bitsIn
   word-sizes =
       let low = mul-le-mul (h .m-low) (h .t-low) in
       record {
@@ -57,8 +64,83 @@ module _ (d : OriginalDesign) (h : Allowed d) where
   field-room m e = omega (arith, field-is m e, pow-mono {i = d .m} {j = 10} (h .m-high))
 
 -- each table came back as it is filled, and is lent again
-pub tables-lent : (d : OriginalDesign) (T T' F F' : List ℕ) (t f : ℕ) → length T ≡ t → length F ≡ f → RowTables d T F
-    → RowTables d (take (t - 0) (drop 0 (T ++ T'))) (take (f - 0) (drop 0 (F ++ F')))
-tables-lent d T T' F F' t f lt lf R =
-    subst⁻¹ (λ (x : List ℕ). RowTables d x (take (f - 0) (drop 0 (F ++ F')))) (part-is T T' t lt)
-    (subst⁻¹ (λ (x : List ℕ). RowTables d T x) (part-is F F' f lf) R)
+pub tables-lent : (g : Frames) (T T' F F' : List ℕ) (t f : ℕ) → length T ≡ t → length F ≡ f → WordTables g T F
+    → WordTables g (take (t - 0) (drop 0 (T ++ T'))) (take (f - 0) (drop 0 (F ++ F')))
+tables-lent g T T' F F' t f lt lf R =
+    subst⁻¹ (λ (x : List ℕ). WordTables g x (take (f - 0) (drop 0 (F ++ F')))) (part-is T T' t lt)
+    (subst⁻¹ (λ (x : List ℕ). WordTables g T x) (part-is F F' f lf) R)
+
+-- ---- the frames of a design among all kinds
+
+pub row-bits : (s : Params) → bitsIn Original s ≡ rowLength s
+unfolding bitsIn
+row-bits s = refl
+
+pub row-lines : (L : ℕ) → linesIn Original L ≡ L
+unfolding linesIn
+row-lines L = refl
+
+pub rows-fit : (d : OriginalDesign) {L : ℕ} (links : List ℕ) → Allowed d → L ≤ most-blocks → FramesFit (rowFrames d L) links
+unfolding AllowedIn
+rows-fit d links A few = record { few-blocks = few; allowed = A }
+
+pub kept-frame : (d : OriginalDesign) (L : ℕ) {l kept : List ℕ} (links : List ℕ) → BufferKept d L l kept → FrameKept (rowFrames d L) links l [] kept
+unfolding linesIn sitesIn redIn
+kept-frame d L {l} {kept} links K =
+    record {
+      frame = record { infoLength = K .frame .long; redLength = refl; infoBits = K .frame .bits; redBits = λ k. zero-lt-suc 1 };
+      long = K .long ∙ omega arith;
+      numbers =
+          λ w hw.
+          subst (λ (v : ℕ). Holds (rowWord (paramsOf d) w) (v % 2147483648) (leb 2147483648 v) (bufferOf l))
+          (keptAt-take kept (rowCount (paramsOf d) L) w hw) (K .numbers w hw);
+    }
+
+no-entry : (l : List ℕ) → length l ≡ 0 → l ≡ []
+no-entry l e = sym (take-all 0 l (omega (arith, e)))
+
+no-red : (d : OriginalDesign) (L : ℕ) (links : List ℕ) {l red kept : List ℕ} → FrameKept (rowFrames d L) links l red kept → red ≡ []
+unfolding redIn
+no-red d L links {l} {red} K = no-entry red (K .frame .redLength)
+
+frame-kept : (d : OriginalDesign) (L : ℕ) {l' kept : List ℕ} (links : List ℕ) → Allowed d → L ≤ most-blocks → FrameKept (rowFrames d L) links l' [] kept
+    → BufferKept d L l' kept
+unfolding linesIn sitesIn redIn
+frame-kept d L {l'} {kept} links A few K =
+    record {
+      frame = record { allowed = A; few-blocks = few; long = K .frame .infoLength; bits = K .frame .infoBits };
+      long = K .long ∙ omega arith;
+      numbers =
+          λ w hw.
+          subst⁻¹ (λ (v : ℕ). Holds (rowWord (paramsOf d) w) (v % 2147483648) (leb 2147483648 v) (bufferOf l'))
+          (keptAt-take kept (rowCount (paramsOf d) L) w hw) (K .numbers w hw);
+    }
+
+stretch-rows : (d : OriginalDesign) (L : ℕ) (links : List ℕ) → stretchWords (record { frames = rowFrames d L; k = 0 }) links L ≡ rowWords (paramsOf d) L
+unfolding sitesIn
+stretch-rows d L links =
+    ap (plain (paramsOf d)) (concat-same L _ (blockRows (paramsOf d)) (λ b h. ap (λ (n : ℕ). tabulate (d .size) (rowSites (paramsOf d) n)) (zero-add b)))
+    ∙ sym (rowWords-plain (paramsOf d) L)
+
+same-marks : (d : OriginalDesign) (L : ℕ) (l l' kept kept' : List ℕ) → LineMarks (rowFrames d L) l [] kept l' [] kept'
+    → MarksKept (bufferOf l) (marksIn d L kept) (bufferOf l') (marksIn d L kept')
+unfolding linesIn
+same-marks d L l l' kept kept' M = M
+
+-- what rounds over all lines leave
+pub rounds-back : (d : OriginalDesign) (L k : ℕ) (links : List ℕ) (l kept l' red' kept' : List ℕ) (a : Made) → Allowed d → L ≤ most-blocks
+    → record { frame = frameOf l' red'; rounds = a .rounds; flips = a .flips } ≡ runEach (stretchWords (record { frames = rowFrames d L; k = 0 }) links L) k (bufferOf l)
+    → a .stuck ≡ lastStuck (stretchWords (record { frames = rowFrames d L; k = 0 }) links L) k (bufferOf l)
+    → FrameKept (rowFrames d L) links l' red' kept' → LineMarks (rowFrames d L) l [] kept l' red' kept'
+    → (record { frame = bufferOf l'; rounds = a .rounds; flips = a .flips } ≡ runEach (rowWords (paramsOf d) L) k (bufferOf l))
+    × (a .stuck ≡ lastStuck (rowWords (paramsOf d) L) k (bufferOf l)) × BufferKept d L l' kept'
+    × MarksKept (bufferOf l) (marksIn d L kept) (bufferOf l') (marksIn d L kept')
+rounds-back d L k links l kept l' red' kept' a A few e z K M =
+    let none : red' ≡ [] = no-red d L links K in
+    let same = stretch-rows d L links in (
+      ap (λ (r : List ℕ). record { frame = frameOf l' r; rounds = a .rounds; flips = a .flips }) (sym none) ∙ e
+          ∙ ap (λ (ws : List Word). runEach ws k (bufferOf l)) same,
+      z ∙ ap (λ (ws : List Word). lastStuck ws k (bufferOf l)) same,
+      frame-kept d L links A few (subst (λ (r : List ℕ). FrameKept (rowFrames d L) links l' r kept') none K),
+      same-marks d L l l' kept kept' (subst (λ (r : List ℕ). LineMarks (rowFrames d L) l [] kept l' r kept') none M),
+    )

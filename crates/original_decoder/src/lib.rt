@@ -5,30 +5,33 @@
 //
 // The remainders of all rows are summed once, block by block (crate `original_rows`), and kept in working bytes (crate `decoder_kept`). Where a frame has
 // bits enough, tables of sums are made first, by which eight bits of a row are added at once (crate `words_tables`). A round takes the blocks in order and
-// corrects the rows whose kept number is not 0 (crate `original_words`), which keeps all numbers right. The rows outside the code at the end are those
+// corrects the rows whose kept number is not 0 (crate `decoder_words`), which keeps all numbers right. The rows outside the code at the end are those
 // whose number is not 0. The bits that differ from those received are marked behind the numbers (crate `decoder_marks`).
 ghost use mathlib.Core.Path.{_≡_};
-ghost use Prim.Native.Nat.{_+_, _*_, _/_, _^_, _≤_, _<_};
+ghost use Prim.Native.Nat.{_+_, _*_, _/_, _≤_, _<_};
 ghost use lib.ListN.{length};
 ghost use Rattle.staircase.specs.Design.{most-blocks, most-rounds};
-ghost use Rattle.staircase.specs.Decoder.{roundOf, runEach};
-ghost use Rattle.staircase.specs.Outcomes.{stuckEach, lastStuck};
+ghost use Rattle.staircase.specs.Decoder.{runEach};
+ghost use Rattle.staircase.specs.Outcomes.{lastStuck};
 ghost use Rattle.design.specs.Answers.{verdictOf};
 ghost use Rattle.words_tables.specs.Tables.{MayHalves};
 ghost use Rattle.decoder_marks.specs.Marks.{MarksKept};
 ghost use Rattle.decoder.specs.declared.Decoding.the-variants as Decoding;
 ghost use Rattle.original.specs.Frame.{rowWords, bufferOf};
-ghost use Rattle.original.specs.Rules.{rowLength, originalWork};
+ghost use Rattle.original.specs.Rules.{originalWork};
 ghost use Rattle.original.specs.Calls.{originalDecodeCall};
 ghost use Rattle.original_design.specs.Answers.{Allowed, paramsOf};
 ghost use Rattle.original_rows.specs.Rows.{RowTable, BufferFits};
-ghost use Rattle.original_words.specs.Ready.{RowTables, marksIn, BufferKept};
+ghost use Rattle.decoder_words.specs.Ready.{WordTables};
+ghost use Rattle.original_decoder.specs.Kept.{rowFrames, marksIn, BufferKept};
 ghost use Rattle.original_decoder.specs.Filled.{RowsFilled};
 ghost use Rattle.original_decoder.specs.Answers.{decodeSizes, decodeRules, bufferDecoded, decodedBuffer};
 use decoder::Counts;
 use decoder::Decoding;
-use decoder_flips::Pass;
 use decoder_frame::Made;
+use decoder_frame::Stretch;
+use decoder_lines::Frames;
+use decoder_lines::Shape;
 use design::Check;
 use original_design::OriginalDesign;
 use original_design::OriginalDesigned;
@@ -171,33 +174,14 @@ fn check_received(d: OriginalDesign, blocks: u64, rounds: u64, buffer: &[u8], wo
     rules::check_bits(buffer, 0)
 }
 
-// Corrects the rows of all blocks, one block after the other: a round. At most 4,096 blocks have at most 500 rows each, of three flips each.
-fn correct_blocks(
-    d: OriginalDesign,
-    blocks: usize,
-    tables: &[u32],
-    field: &[u16],
-    buffer: &mut [u8],
-    kept: &mut [u8],
-) -> Pass
-    requires { ⌜ RowTables d (now tables) (now field) × BufferKept d blocks (now buffer) (now kept) ⌝ }
-    ensures { λ k. ⌜ (record { frame = bufferOf (now (buffer .exit)); flips = k .flips }
-        ≡ roundOf (rowWords (paramsOf d) blocks) (bufferOf (now (buffer .entry))))
-        × BufferKept d blocks (now (buffer .exit)) (now (kept .exit)) × (k .flips ≤ 6144000)
-        × (k .stuck ≡ stuckEach (bufferOf (now (buffer .entry))) (rowWords (paramsOf d) blocks))
-        × MarksKept (bufferOf (now (buffer .entry))) (marksIn d blocks (now (kept .entry)))
-        (bufferOf (now (buffer .exit))) (marksIn d blocks (now (kept .exit))) ⌝ }
+// The frames of a design, for functions that serve every kind.
+fn frames_of(d: OriginalDesign, blocks: usize) -> Frames
+    ensures { λ f. ⌜ f ≡ rowFrames d blocks ⌝ }
 {
-    let mut flips = 0;
-    let mut stuck = 0;
-    for b in 0..blocks {
-        let more = original_words::correct_rows(d, blocks, b, tables, field, buffer, kept);
-        flips += more.flips;
-        stuck += more.stuck;
-    }
-    Pass {
-        flips: flips,
-        stuck: stuck,
+    Frames {
+        d: d.as_design(),
+        shape: Shape::Original,
+        blocks: blocks,
     }
 }
 
@@ -211,7 +195,7 @@ fn run_rounds(
     buffer: &mut [u8],
     kept: &mut [u8],
 ) -> Made
-    requires { ⌜ RowTables d (now tables) (now field) × BufferKept d blocks (now buffer) (now kept) × (1 ≤ limit) × (limit ≤ most-rounds) ⌝ }
+    requires { ⌜ WordTables (rowFrames d blocks) (now tables) (now field) × BufferKept d blocks (now buffer) (now kept) × (1 ≤ limit) × (limit ≤ most-rounds) ⌝ }
     ensures { λ a. ⌜ (record { frame = bufferOf (now (buffer .exit)); rounds = a .rounds; flips = a .flips }
         ≡ runEach (rowWords (paramsOf d) blocks) limit (bufferOf (now (buffer .entry))))
         × (a .stuck ≡ lastStuck (rowWords (paramsOf d) blocks) limit (bufferOf (now (buffer .entry))))
@@ -219,25 +203,22 @@ fn run_rounds(
         × MarksKept (bufferOf (now (buffer .entry))) (marksIn d blocks (now (kept .entry)))
         (bufferOf (now (buffer .exit))) (marksIn d blocks (now (kept .exit))) ⌝ }
 {
-    let mut flips = 0;
-    let mut stuck = 0;
-    for k in 0..limit {
-        let more = correct_blocks(d, blocks, tables, field, buffer, kept);
-        flips += more.flips;
-        stuck = more.stuck;
-        if more.flips == 0 {
-            return Made {
-                rounds: k + 1,
-                flips: flips,
-                stuck: stuck,
-            };
-        }
-    }
-    Made {
-        rounds: limit,
-        flips: flips,
-        stuck: stuck,
-    }
+    let line = decoder_lines::line_at(frames_of(d, blocks), 0);
+    let stretch = Stretch {
+        lines: blocks,
+        limit: limit,
+    };
+    let mut none = [0u8; 0];
+    decoder_frame::run_rounds(
+        line,
+        stretch,
+        &field[0..0],
+        tables,
+        field,
+        buffer,
+        &mut none,
+        kept,
+    )
 }
 
 // Working entries for the positions of a row with their values and those of four bits, and for a field. Only their lengths are told: the most that a
@@ -255,17 +236,6 @@ fn field_entries() -> [u16; 4096]
     [0; 4096]
 }
 
-// Fills the tables of a design.
-fn fill_tables(d: OriginalDesign, tables: &mut [u32], field: &mut [u16])
-    requires { ⌜ Allowed d × (length (now tables) ≡ rowLength (paramsOf d) + (rowLength (paramsOf d) + 128)) × (length (now field) ≡ 4 * 2 ^ (d .m)) ⌝ }
-    ensures { λ u. ⌜ RowTables d (now (tables .exit)) (now (field .exit)) ⌝ }
-{
-    let m = d.m();
-    let t = d.t();
-    let bits = d.n();
-    decoder_tables::fill_tables(m, t, bits, tables, field);
-}
-
 // Runs the rounds over a buffer, with the tables of the design lent, and counts. The kept numbers of all rows stand first in `kept`, and behind them is
 // room for the marks of the bits that differ from those received.
 fn correct_rows(
@@ -277,7 +247,7 @@ fn correct_rows(
     buffer: &mut [u8],
     kept: &mut [u8],
 ) -> Counts
-    requires { ⌜ RowTables d (now tables) (now field) × BufferKept d blocks (now buffer) (now kept) × (1 ≤ limit) × (limit ≤ most-rounds) ⌝ }
+    requires { ⌜ WordTables (rowFrames d blocks) (now tables) (now field) × BufferKept d blocks (now buffer) (now kept) × (1 ≤ limit) × (limit ≤ most-rounds) ⌝ }
     ensures { λ a. ⌜ (bufferDecoded (Decoding.Decoded a) (now (buffer .exit)) ≡ decodedBuffer (paramsOf d) blocks limit (now (buffer .entry)))
         × (length (now (buffer .exit)) ≡ length (now (buffer .entry))) × (length (now (kept .exit)) ≡ length (now (kept .entry))) ⌝ }
 {
@@ -313,7 +283,11 @@ fn correct_outside(
     let powers = 1 << d.m();
     let mut tables = table_entries();
     let mut field = field_entries();
-    fill_tables(d, &mut tables[0..due], &mut field[0..4 * powers]);
+    decoder_frame::fill_tables(
+        frames_of(d, blocks),
+        &mut tables[0..due],
+        &mut field[0..4 * powers],
+    );
     correct_rows(
         d,
         blocks,

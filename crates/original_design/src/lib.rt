@@ -58,6 +58,13 @@ impl OriginalDesign {
         })
     }
 
+    // The same three numbers, for functions that serve every kind of frame.
+    pub fn as_design(self) -> Design
+        ensures { λ d. ⌜ d ≡ record { m = self .m; t = self .t; size = self .size } ⌝ }
+    {
+        Design::of_numbers(self.m, self.t, self.size)
+    }
+
     // m, the degree of the design's field. Constant work, as in the functions below.
     pub fn m(self) -> usize
         ensures { λ a. ⌜ a ≡ self .m ⌝ }

@@ -1,21 +1,26 @@
 -- Kept remainders of any words whatever, while bits are flipped and words are corrected.
 --   flip-away, flip-here       a flipped bit that does not stand in a word, and one that does
---   flip-keeps                 a flipped bit that stands in at most one word beside the word u
+--   places-keep                a flipped bit of the word u that stands in any number of other places
 --   zero-stays                 a word whose number is 0 has no correction
 --   stuck-keeps                a word that cannot be corrected is marked
 --   corrected-keeps            a word that is corrected has the number 0
 -- Assumes nothing.
-use mathlib.Core.Path.{_≡_, sym, ap, _∙_, subst}
-use mathlib.Core.Bool.{Bool, true, false, true≢false}
-use mathlib.Core.Logic.{_≢_, _⊎_, inl, inr}
-use mathlib.Core.List.{[]}
+use mathlib.Core.Path.{_≡_, refl, sym, ap, _∙_, subst}
+use mathlib.Core.Bool.{Bool, true, false, cond, true≢false}
+use mathlib.Core.Logic.{_≢_}
+use mathlib.Core.List.{List, [], _∷_}
 use Prim.Native.Nat.{ℕ, _<_}
 use native.Mathlib.Decide.{ℕ-discrete}
+use lib.Dec.{eqb}
 use Rattle.bch.specs.Polynomial.{_⊕_, remainder}
+use Rattle.bch.specs.Powers.{powerMod}
+use Rattle.bch.proofs.Sum.{⊕-zero-left, ⊕-zero-right}
 use Rattle.bch.proofs.Bch.{codeword-zero, zero-codeword}
+use Rattle.staircase.specs.Design.{Params}
 use Rattle.staircase.specs.Frame.{Frame, Site, Word, flip, read}
 use Rattle.staircase.specs.Decoder.{correction, flipAll}
 use Rattle.staircase.specs.Kept.{Kept, Holds, Keeps, KeepsBut}
+use Rattle.staircase.specs.Layout.{Place, powersAt, metAt}
 use Rattle.staircase.proofs.Member.{In}
 use Rattle.staircase.proofs.Flip.{Sent, Within, Received, flip-other, read-same}
 use Rattle.staircase.proofs.Idle.{correction-none}
@@ -59,28 +64,36 @@ module _ (w : Word) (f : Frame) where
 
 -- ---- all words
 
+unmet-one : (b rest : Bool) (x y : ℕ) → cond b true rest ≡ false → (rest ≡ false → y ≡ 0) → cond b x 0 ⊕ y ≡ 0
+unmet-one true rest x y e h = absurd (true≢false e)
+unmet-one false rest x y e h = ⊕-zero-left y ∙ h e
+
+unmet : (s : Params) (cs : List Place) (w : ℕ) → metAt cs w ≡ false → powersAt s cs w ≡ 0
+unfolding metAt powersAt
+unmet s [] w e = refl
+unmet s (c ∷ cs) w e = unmet-one (eqb (c .word) w) (metAt cs w) (powerMod (s .g) (s .r) (c .exponent)) (powersAt s cs w) e (unmet s cs w)
+
 module _ (W : ℕ → Word) (N : ℕ) where
-  -- Word v gets the weight of the flipped bit and loses its mark; all others but u are left as they are.
-  pub flip-keeps : (f : Frame) → Received f f → (u v : ℕ) (y : Site) → Within y f → ((w : ℕ) → w < N → In y (W w .sites) → (w ≡ u) ⊎ (w ≡ v))
-      → (k k' : Kept) → KeepsBut W N u f k
-      → ((w : ℕ) → w < N → w ≡ v → (k' .number w ≡ k .number w ⊕ weight (W w .code .g) (W w .code .r) y (W w .sites)) × (k' .mark w ≡ false))
-      → ((w : ℕ) → w < N → w ≢ v → (k' .number w ≡ k .number w) × (k' .mark w ≡ k .mark w)) → KeepsBut W N u (flip y f) k'
-  flip-keeps f g u v y within only k k' h here others w hw d = go (ℕ-discrete w v)
-    where
-      go : Dec (w ≡ v) → Holds (W w) (k' .number w) (k' .mark w) (flip y f)
-      go (yes e) =
-          let q = here w hw e in
-          subst (λ (m : Bool). Holds (W w) (k' .number w) m (flip y f)) (sym (q .1))
-          (subst (λ (n : ℕ). Holds (W w) n false (flip y f)) (sym (q .0)) (flip-here (W w) f g (k .number w) (k .mark w) (h w hw d) y within))
-      go (no n) =
-          let q = others w hw n in
-          subst (λ (m : Bool). Holds (W w) (k' .number w) m (flip y f)) (sym (q .1))
-          (subst (λ (n : ℕ). Holds (W w) n (k .mark w) (flip y f)) (sym (q .0))
-          (flip-away (W w) f (k .number w) (k .mark w) (h w hw d) y (λ i. neither (only w hw i))))
-        where
-          neither : (w ≡ u) ⊎ (w ≡ v) → ⊥
-          neither (inl e) = d e
-          neither (inr e) = n e
+  -- The words that have one of the places cs get the powers of the flipped bit and lose their marks.
+  module _ (f : Frame) (g : Received f f) (u : ℕ) (s : Params) (cs : List Place) (y : Site) (within : Within y f)
+      (elsewhere : (w : ℕ) → w < N → w ≢ u → metAt cs w ≡ false → ¬ In y (W w .sites))
+      (there : (w : ℕ) → w < N → w ≢ u → metAt cs w ≡ true → weight (W w .code .g) (W w .code .r) y (W w .sites) ≡ powersAt s cs w) where
+    pub places-keep : (k k' : Kept) → KeepsBut W N u f k → ((w : ℕ) → w < N → k' .number w ≡ k .number w ⊕ powersAt s cs w)
+        → ((w : ℕ) → w < N → k' .mark w ≡ cond (metAt cs w) false (k .mark w)) → KeepsBut W N u (flip y f) k'
+    places-keep k k' h number mark w hw d = go (metAt cs w) refl
+      where
+        go : (b : Bool) → metAt cs w ≡ b → Holds (W w) (k' .number w) (k' .mark w) (flip y f)
+        go true e =
+            let m : k' .mark w ≡ false = mark w hw ∙ ap (λ (z : Bool). cond z false (k .mark w)) e in
+            let n : k' .number w ≡ k .number w ⊕ weight (W w .code .g) (W w .code .r) y (W w .sites) =
+            number w hw ∙ ap (λ (z : ℕ). k .number w ⊕ z) (sym (there w hw d e)) in
+            subst (λ (z : Bool). Holds (W w) (k' .number w) z (flip y f)) (sym m)
+            (subst (λ (z : ℕ). Holds (W w) z false (flip y f)) (sym n) (flip-here (W w) f g (k .number w) (k .mark w) (h w hw d) y within))
+        go false e =
+            let m : k' .mark w ≡ k .mark w = mark w hw ∙ ap (λ (z : Bool). cond z false (k .mark w)) e in
+            let n : k' .number w ≡ k .number w = number w hw ∙ ap (λ (z : ℕ). k .number w ⊕ z) (unmet s cs w e) ∙ ⊕-zero-right (k .number w) in
+            subst (λ (z : Bool). Holds (W w) (k' .number w) z (flip y f)) (sym m)
+            (subst (λ (z : ℕ). Holds (W w) z (k .mark w) (flip y f)) (sym n) (flip-away (W w) f (k .number w) (k .mark w) (h w hw d) y (elsewhere w hw d e)))
 
   -- the own number of a corrected word is written last
   pub corrected-keeps : (f f' : Frame) (u : ℕ) → Received f f → (u < N → (y : Site) → Sent y → In y (W u .sites) → Within y f)

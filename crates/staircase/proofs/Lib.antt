@@ -37,7 +37,8 @@ pub mod Kept
 pub mod Lines
 pub mod Readings
 pub mod Crossing
-pub mod KeptFrame
+pub mod Lawful
+pub mod FeedForward
 pub mod Rules
 pub mod OrderMoved
 pub mod Decoded

@@ -10,6 +10,7 @@ pub mod Decoder
 pub mod Outcomes
 pub mod Kept
 pub mod Lines
+pub mod Layout
 pub mod Readings
 pub mod Rules
 pub mod Calls

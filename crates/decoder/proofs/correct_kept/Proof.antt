@@ -6,8 +6,7 @@ use native.Mathlib.Omega.{arith}
 use Rattle.staircase.specs.Lines.{wordCount}
 use Rattle.design.specs.Sizes.{paramsOf}
 use Rattle.decoder_kept.specs.Numbers.{nonzeroNumbers}
-use Rattle.decoder_words.proofs.Marks.{kept-split}
-use Rattle.decoder_frame.proofs.Numbers.{filled-outside}
+use Rattle.decoder_frame.proofs.Numbers.{kept-split, filled-outside}
 use Rattle.decoder.proofs.Keeping.{corrected-idle}
 use borrow.Author.Needs.{needs}
 use Rattle.decoder.proofs.correct_kept.Statement.{statement}
@@ -17,7 +16,7 @@ fill-kept-requires : tie.Need-fill-kept-requires
 fill-kept-requires c κs = (c .before .before .before .before .before .before .before .before .pre .0, c .before .before .before .before .before .before .before .before .pre .1, c .before .before .before .before .before .before .before .before .pre .3)
 
 number-bytes-requires : tie.Need-number-bytes-requires
-number-bytes-requires c κs = c .before .before .before .before .before .before .before .before .before .before .before .pre .1
+number-bytes-requires c κs = (c .before .before .before .before .before .before .before .before .before .before .before .pre .1 .few-blocks, c .before .before .before .before .before .before .before .before .before .before .before .pre .1 .allowed .M-high)
 
 count-requires : tie.Need-count-requires
 count-requires c κs = omega (arith, c .before .number-bytes .ensures .0, c .before .before .before .before .fill-kept .ensures .0, c .before .before .before .before .before .before .before .before .before .before .before .before .before .pre .3, kept-split (paramsOf (c .before .before .before .before .before .before .before .before .before .before .before .before .before .args .line .d)) (c .before .before .before .before .before .before .before .before .before .before .before .before .before .args .line .blocks))
@@ -41,5 +40,5 @@ correct-words-requires c κs = (c .before .before .before .before .before .befor
 pub correct-kept-spec : {M : Type 1} → statement M
 correct-kept-spec =
     tie.close
-    (tie.spec fill-kept-requires number-bytes-requires count-requires idle-counts-requires (λ c. search needs) (λ c. search needs) (λ c. search needs)
-    returns correct-words-requires (λ c. search needs) (λ c. search needs) (λ c. search needs) (λ c. search needs))
+    (tie.spec fill-kept-requires number-bytes-requires count-requires idle-counts-requires (λ c. search needs) (λ c. search needs)
+    (λ c. search needs) returns correct-words-requires (λ c. search needs) (λ c. search needs) (λ c. search needs) (λ c. search needs))

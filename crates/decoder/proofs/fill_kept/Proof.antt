@@ -11,7 +11,7 @@ use Rattle.design.specs.Sizes.{paramsOf}
 use Rattle.words_positions.proofs.Parts.{part-fits, part-is}
 use Rattle.words.specs.Words.{WordTable}
 use Rattle.decoder_kept.proofs.Numbers.{keptAt-front}
-use Rattle.decoder_words.proofs.Marks.{kept-split}
+use Rattle.decoder_frame.proofs.Numbers.{kept-split}
 use Rattle.decoder.proofs.Room.{positions-room}
 use Rattle.decoder.proofs.Rounds.{front-same}
 use borrow.Author.Needs.{needs}
@@ -19,7 +19,7 @@ use Rattle.decoder.proofs.fill_kept.Statement.{statement}
 use Rattle.decoder.proofs.fill_kept.Tie as tie
 
 number-bytes-requires : tie.Need-number-bytes-requires
-number-bytes-requires c κs = c .before .before .before .before .before .before .pre .1
+number-bytes-requires c κs = (c .before .before .before .before .before .before .pre .1 .few-blocks, c .before .before .before .before .before .before .pre .1 .allowed .M-high)
 
 part-positions-end : tie.Need-part-positions-end
 part-positions-end c = omega (arith, c .position-entries .ensures, positions-room (c .before .before .before .before .before .before .before .before .args .line .d) (c .before .before .before .before .before .before .before .before .pre .0 .allowed) (c .before .before .n .result) (c .before .before .n .ensures .0))
@@ -66,5 +66,5 @@ pub fill-kept-spec : {M : Type 1} → statement M
 fill-kept-spec =
     tie.close
     (tie.spec (λ c κs. search needs) number-bytes-requires (λ c κs. search needs) (λ c. search needs) (λ c. search needs) part-positions-end
-    fill-table-requires (λ c. search needs) (λ c. search needs) part-fill-numbers-end (λ c. search needs) (λ c. search needs) part-fill-numbers-end-2
-    fill-numbers-requires (λ c. search needs) returns)
+    fill-table-requires (λ c. search needs) (λ c. search needs) part-fill-numbers-end (λ c. search needs) (λ c. search needs)
+    part-fill-numbers-end-2 fill-numbers-requires (λ c. search needs) returns)

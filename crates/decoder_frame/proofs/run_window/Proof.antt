@@ -1,9 +1,9 @@
 -- The loop's invariant: the positions before `p` are made, and `stuck` are the stuck words of the last of their rounds. The measure is the number of
 -- positions left.
 -- Assumes nothing.
-use mathlib.Core.Path.{_≡_, sym, ap, _∙_, subst}
+use mathlib.Core.Path.{_≡_, ap, _∙_, subst, subst⁻¹}
 use mathlib.Core.List.{List}
-use Prim.Native.Nat.{ℕ, _+_, _-_, _*_, _<_, _≤_}
+use Prim.Native.Nat.{ℕ, _+_, _-_, _*_, _≤_}
 use native.Mathlib.Numerals.{add-one}
 use native.Mathlib.Omega.{arith}
 use Rattle.staircase.specs.Design.{most-rounds}
@@ -12,25 +12,29 @@ use Rattle.staircase.specs.Decoder.{Decoded, runEach}
 use Rattle.staircase.specs.Outcomes.{lastStuck}
 use Rattle.staircase.specs.Window.{windowWords, slide, slideStuck}
 use Rattle.design.specs.Sizes.{paramsOf}
-use Rattle.words_lines.specs.declared.Line.{Line}
+use Rattle.decoder_lines.specs.declared.Shape.the-variants.{FeedForward}
+use Rattle.decoder_lines.specs.declared.Frames.{Frames}
+use Rattle.decoder_lines.specs.declared.Line.{Line}
+use Rattle.decoder_lines.specs.Layouts.{linesIn}
+use Rattle.decoder_frame.specs.declared.Stretch.{Stretch}
 use Rattle.decoder_lines.specs.Links.{listsIn}
-use Rattle.decoder_words.specs.Ready.{LineReady, FrameKept, LineMarks}
-use Rattle.decoder_words.proofs.Word.{ready-at}
-use Rattle.decoder_frame.specs.Stretch.{stretchWords}
+use Rattle.decoder_words.specs.Ready.{FramesReady, FrameKept, LineMarks}
+use Rattle.decoder_frame.specs.Stretch.{feedFrames, stretchWords}
 use Rattle.decoder_frame.proofs.Positions.{window-at, slide-none, slide-next, stuck-next}
+use Rattle.decoder_frame.proofs.Feed.{feed-lines}
 use borrow.Author.Needs.{needs}
 use Rattle.decoder_frame.proofs.run_window.Statement.{statement}
 use Rattle.decoder_frame.proofs.run_window.Tie as tie
 
 abbrev Inv-loop : tie.InvT-loop
 Inv-loop line window links tables field info₀ red₀ kept₀ count rounds₀ flips₀ stuck₀ p₀ info red kept rounds flips stuck p =
-    (count ≡ groups (line .blocks) - window .groups + 1) × (count ≤ 2049) × (p ≤ count) × FrameKept (line .d) (line .blocks) links info red kept
+    (count ≡ groups (line .blocks) - window .groups + 1) × (count ≤ 2049) × (p ≤ count) × FrameKept (feedFrames (line .d) (line .blocks)) links info red kept
     × (rounds ≤ p * 64) × (flips ≤ p * 393408000)
     × (record { frame = frameOf info red; rounds = rounds; flips = flips }
     ≡ slide (windowWords (paramsOf (line .d)) (listsIn (line .d) links) (line .blocks) (window .groups)) p (window .limit) (frameOf info₀ red₀))
     × ((q : ℕ) → p ≡ q + 1
     → stuck ≡ slideStuck (windowWords (paramsOf (line .d)) (listsIn (line .d) links) (line .blocks) (window .groups)) q (window .limit) (frameOf info₀ red₀))
-    × LineMarks line info₀ red₀ kept₀ info red kept
+    × LineMarks (feedFrames (line .d) (line .blocks)) info₀ red₀ kept₀ info red kept
 
 abbrev μ-loop : tie.MeasureT-loop
 μ-loop line window links tables field info₀ red₀ kept₀ count rounds₀ flips₀ stuck₀ p₀ info red kept rounds flips stuck p = count - p
@@ -56,36 +60,45 @@ loop-holds c =
     )
 
 mul-line-at : tie.Need-mul-line-at Inv-loop μ-loop
-mul-line-at c = omega (arith, c .loop-test .taken, c .before .loop .inv .1)
+mul-line-at c = omega (arith, c .before .loop-test .taken, c .before .before .loop .inv .1)
 
 run-rounds-requires : tie.Need-run-rounds-requires Inv-loop μ-loop
 run-rounds-requires c κs =
-    let p = c .before .before .before .before .before .before .before .before .before .before .before .before .before .pre in
-    let a = c .before .before .before .before .before .before .before .before .before .before .before .before .before .args in
-    let l = c .before .before .before .before .before .loop in
-    let hk : 2 * l .p < 2 * groups (a .line .blocks) = omega (arith, c .before .before .before .before .loop-test .taken, l .inv .0, p .1 .some-groups, p .1 .all-groups) in
-    let fit : 2 * l .p + 2 * a .window .groups ≤ 2 * groups (a .line .blocks) = omega (arith, c .before .before .before .before .loop-test .taken, l .inv .0, p .1 .all-groups) in
-    subst (λ (z : Line). LineReady z (a .links .now) (a .tables .now) (a .field .now) × (z .k + 2 * a .window .groups ≤ 2 * groups (z .blocks))
-    × (1 ≤ a .window .limit) × (a .window .limit ≤ most-rounds) × FrameKept (z .d) (z .blocks) (a .links .now) (l .info) (l .red) (l .kept))
-    (sym (c .before .before .before .line-at .ensures)) (ready-at (2 * l .p) (p .0) hk, fit, p .1 .some-rounds, p .1 .few-rounds, l .inv .3)
+    let p = c .before .before .before .before .before .before .before .before .before .before .before .before .before .before .before .pre in
+    let a = c .before .before .before .before .before .before .before .before .before .before .before .before .before .before .before .args in
+    let l = c .before .before .before .before .before .before .before .loop in
+    let L = a .line .blocks in
+    let two = feed-lines L in
+    let fit : 2 * l .p + 2 * a .window .groups ≤ linesIn FeedForward L = omega (arith, c .before .before .before .before .before .before .loop-test .taken, l .inv .0, p .1 .all-groups, two) in
+    let y : Stretch = record { lines = 2 * a .window .groups; limit = a .window .limit } in
+    let P : Line → Stretch → Type 0 = λ z y. FramesReady (z .frames) (a .links .now) (a .tables .now) (a .field .now)
+    × (z .k + y .lines ≤ linesIn (z .frames .shape) (z .frames .blocks))
+    × (1 ≤ y .limit) × (y .limit ≤ most-rounds) × FrameKept (z .frames) (a .links .now) (l .info) (l .red) (l .kept) in
+    let at = c .before .before .before .before .line-at .ensures ∙ ap (λ (f : Frames). record { frames = f; k = 2 * l .p }) (c .before .before .before .before .before .frames-of .ensures) in
+    subst⁻¹ (P (c .before .before .before .before .line-at .result)) (c .before .before .before .stretch-of .ensures)
+    (subst⁻¹ (λ (z : Line). P z y) at
+    (p .0, fit, p .1 .some-rounds, p .1 .few-rounds, l .inv .3))
+
+stretch-of-requires : tie.Need-stretch-of-requires Inv-loop μ-loop
+stretch-of-requires c κs = omega (arith, c .before .before .before .before .before .before .before .before .before .before .before .pre .1 .all-groups, c .before .before .before .before .before .before .before .before .before .before .before .pre .0 .fits .few-blocks)
 
 add-rounds : tie.Need-add-rounds Inv-loop μ-loop
-add-rounds c = omega (arith, c .before .before .before .before .before .before .before .run-rounds .ensures .3, c .before .before .before .before .before .before .before .before .before .before .before .before .before .loop .inv .4, c .before .before .before .before .before .before .before .before .before .before .before .before .before .loop .inv .1, c .before .before .before .before .before .before .before .before .before .before .before .before .loop-test .taken)
+add-rounds c = omega (arith, c .before .before .before .before .before .before .before .run-rounds .ensures .3, c .before .before .before .before .before .before .before .before .before .before .before .before .before .before .before .loop .inv .4, c .before .before .before .before .before .before .before .before .before .before .before .before .before .before .before .loop .inv .1, c .before .before .before .before .before .before .before .before .before .before .before .before .before .before .loop-test .taken)
 
 add-flips : tie.Need-add-flips Inv-loop μ-loop
-add-flips c = omega (arith, c .before .before .before .before .before .before .before .before .run-rounds .ensures .4, c .before .before .before .before .before .before .before .before .before .before .before .before .before .before .loop .inv .5, c .before .before .before .before .before .before .before .before .before .before .before .before .before .before .loop .inv .1, c .before .before .before .before .before .before .before .before .before .before .before .before .before .loop-test .taken)
+add-flips c = omega (arith, c .before .before .before .before .before .before .before .before .run-rounds .ensures .4, c .before .before .before .before .before .before .before .before .before .before .before .before .before .before .before .before .loop .inv .5, c .before .before .before .before .before .before .before .before .before .before .before .before .before .before .before .before .loop .inv .1, c .before .before .before .before .before .before .before .before .before .before .before .before .before .before .before .loop-test .taken)
 
 add-p : tie.Need-add-p Inv-loop μ-loop
-add-p c = omega (arith, c .before .before .before .before .before .before .before .before .before .before .before .before .before .loop-test .taken, c .before .before .before .before .before .before .before .before .before .before .before .before .before .before .loop .inv .1)
+add-p c = omega (arith, c .before .before .before .before .before .before .before .before .before .before .before .before .before .before .before .loop-test .taken, c .before .before .before .before .before .before .before .before .before .before .before .before .before .before .before .before .loop .inv .1)
 
 loop-less : tie.Need-loop-less Inv-loop μ-loop
-loop-less c = omega (arith, c .before .before .before .before .before .before .before .before .before .before .before .before .before .loop-test .taken)
+loop-less c = omega (arith, c .before .before .before .before .before .before .before .before .before .before .before .before .before .before .before .loop-test .taken)
 
 loop-again : tie.Need-loop-again Inv-loop μ-loop
 loop-again c =
-    let p = c .before .before .before .before .before .before .before .before .before .before .before .before .before .before .before .before .before .before .before .before .before .before .pre in
-    let a = c .before .before .before .before .before .before .before .before .before .before .before .before .before .before .before .before .before .before .before .before .before .before .args in
-    let l = c .before .before .before .before .before .before .before .before .before .before .before .before .before .before .loop in
+    let p = c .before .before .before .before .before .before .before .before .before .before .before .before .before .before .before .before .before .before .before .before .before .before .before .before .pre in
+    let a = c .before .before .before .before .before .before .before .before .before .before .before .before .before .before .before .before .before .before .before .before .before .before .before .before .args in
+    let l = c .before .before .before .before .before .before .before .before .before .before .before .before .before .before .before .before .loop in
     let L = a .links .now in
     let g = a .window .groups in
     let K = a .window .limit in
@@ -95,16 +108,18 @@ loop-again c =
     let v = c .before .before .before .before .before .before .before .before .run-rounds .ensures in
     let m = c .before .before .before .before .before .before .before .before .run-rounds .last in
     let x : Decoded = record { frame = frameOf (l .info) (l .red); rounds = l .rounds; flips = l .flips } in
-    let here = subst (λ (z : Line). (record { frame = frameOf (m .1 .1 .1 .1 .1 .0) (m .1 .1 .1 .1 .1 .1 .0); rounds = r .rounds; flips = r .flips }
-    ≡ runEach (stretchWords z L (2 * g)) K (frameOf (l .info) (l .red)))
-    × (r .stuck ≡ lastStuck (stretchWords z L (2 * g)) K (frameOf (l .info) (l .red)))
-    × FrameKept (z .d) (z .blocks) L (m .1 .1 .1 .1 .1 .0) (m .1 .1 .1 .1 .1 .1 .0) (m .1 .1 .1 .1 .1 .1 .1 .0)
-    × LineMarks z (l .info) (l .red) (l .kept) (m .1 .1 .1 .1 .1 .0) (m .1 .1 .1 .1 .1 .1 .0) (m .1 .1 .1 .1 .1 .1 .1 .0))
-    (c .before .before .before .before .before .before .before .before .before .before .before .before .line-at .ensures) (v .0, v .1, v .2, v .5) in
-    let same = window-at (a .line) L (l .p) g (p .1 .all-groups) in (
+    let Q : Line → Stretch → Type 0 = λ z y. (record { frame = frameOf (m .1 .1 .1 .1 .1 .0) (m .1 .1 .1 .1 .1 .1 .0); rounds = r .rounds; flips = r .flips }
+    ≡ runEach (stretchWords z L (y .lines)) (y .limit) (frameOf (l .info) (l .red)))
+    × (r .stuck ≡ lastStuck (stretchWords z L (y .lines)) (y .limit) (frameOf (l .info) (l .red)))
+    × FrameKept (z .frames) L (m .1 .1 .1 .1 .1 .0) (m .1 .1 .1 .1 .1 .1 .0) (m .1 .1 .1 .1 .1 .1 .1 .0)
+    × LineMarks (z .frames) (l .info) (l .red) (l .kept) (m .1 .1 .1 .1 .1 .0) (m .1 .1 .1 .1 .1 .1 .0) (m .1 .1 .1 .1 .1 .1 .1 .0) in
+    let y : Stretch = record { lines = 2 * g; limit = K } in
+    let at = c .before .before .before .before .before .before .before .before .before .before .before .before .before .line-at .ensures ∙ ap (λ (f : Frames). record { frames = f; k = 2 * l .p }) (c .before .before .before .before .before .before .before .before .before .before .before .before .before .before .frames-of .ensures) in
+    let here = subst (λ (z : Line). Q z y) at (subst (Q (c .before .before .before .before .before .before .before .before .before .before .before .before .before .line-at .result)) (c .before .before .before .before .before .before .before .before .before .before .before .before .stretch-of .ensures) (v .0, v .1, v .2, v .5)) in
+    let same = window-at (a .line .d) (a .line .blocks) L (l .p) g (p .1 .all-groups) in (
       l .inv .0,
       l .inv .1,
-      omega (arith, c .before .before .before .before .before .before .before .before .before .before .before .before .before .loop-test .taken),
+      omega (arith, c .before .before .before .before .before .before .before .before .before .before .before .before .before .before .before .loop-test .taken),
       here .2,
       omega (arith, l .inv .4, v .3),
       omega (arith, l .inv .5, v .4),
@@ -135,5 +150,5 @@ returns c =
 pub run-window-spec : {M : Type 1} → statement M
 run-window-spec =
     tie.close
-    (tie.spec Inv-loop μ-loop position-count-requires loop-holds mul-line-at (λ c κs. search needs) run-rounds-requires add-rounds add-flips
-    add-p loop-less loop-again same-length same-length-2 same-length-3 returns)
+    (tie.spec Inv-loop μ-loop position-count-requires loop-holds (λ c κs. search needs) mul-line-at (λ c κs. search needs) stretch-of-requires
+    run-rounds-requires add-rounds add-flips add-p loop-less loop-again same-length same-length-2 same-length-3 returns)

@@ -9,7 +9,9 @@ use Rattle.staircase.specs.Frame.{frameOf}
 use Rattle.staircase.specs.Decoder.{Progress, round}
 use Rattle.staircase.specs.Outcomes.{stuckAmong}
 use Rattle.design.specs.Sizes.{paramsOf}
-use Rattle.decoder_words.specs.Ready.{FrameKept, LineMarks, lineWord}
+use Rattle.decoder_words.specs.Ready.{FrameKept, LineMarks}
+use Rattle.decoder_lines.specs.Layouts.{lineWord}
+use Rattle.decoder_lines.proofs.Layouts.{size-high, t-high}
 use Rattle.decoder_flips.specs.Told.{outcomeOf}
 use Rattle.decoder_flips.proofs.Passes.{flips-told, pass-none, pass-more, pass-few, stuck-none, stuck-more}
 use borrow.Author.Needs.{needs}
@@ -18,20 +20,20 @@ use Rattle.decoder_words.proofs.correct_line.Tie as tie
 
 abbrev Inv-loop : tie.InvT-loop
 Inv-loop line links tables field info₀ red₀ kept₀ size flips₀ stuck₀ a₀ info red kept flips stuck a =
-    (size ≡ line .d .size) × (a ≤ line .d .size)
-    × (record { frame = frameOf info red; flips = flips } ≡ round (paramsOf (line .d)) (tabulate a (lineWord line links)) (frameOf info₀ red₀))
-    × FrameKept (line .d) (line .blocks) links info red kept
-    × (stuck ≡ stuckAmong (paramsOf (line .d)) (frameOf info₀ red₀) (tabulate a (lineWord line links))) × (stuck ≤ a)
-    × LineMarks line info₀ red₀ kept₀ info red kept
+    (size ≡ line .frames .d .size) × (a ≤ line .frames .d .size)
+    × (record { frame = frameOf info red; flips = flips } ≡ round (paramsOf (line .frames .d)) (tabulate a (lineWord line links)) (frameOf info₀ red₀))
+    × FrameKept (line .frames) links info red kept
+    × (stuck ≡ stuckAmong (paramsOf (line .frames .d)) (frameOf info₀ red₀) (tabulate a (lineWord line links))) × (stuck ≤ a)
+    × LineMarks (line .frames) info₀ red₀ kept₀ info red kept
 
 abbrev μ-loop : tie.MeasureT-loop
-μ-loop line links tables field info₀ red₀ kept₀ size flips₀ stuck₀ a₀ info red kept flips stuck a = line .d .size - a
+μ-loop line links tables field info₀ red₀ kept₀ size flips₀ stuck₀ a₀ info red kept flips stuck a = line .frames .d .size - a
 
 loop-holds : tie.Need-loop-holds Inv-loop μ-loop
 loop-holds c =
-    let p = c .before .before .before .before .before .before .before .pre in
-    let a = c .before .before .before .before .before .before .before .args in
-    let s = paramsOf (a .line .d) in
+    let p = c .before .before .before .before .before .before .before .before .pre in
+    let a = c .before .before .before .before .before .before .before .before .args in
+    let s = paramsOf (a .line .frames .d) in
     let W = lineWord (a .line) (a .links .now) in
     let f = frameOf (a .info .now) (a .red .now) in
     (c .size .ensures, omega arith, pass-none s W f, p .1, stuck-none s W f, omega arith, λ g M. M)
@@ -39,23 +41,23 @@ loop-holds c =
 visit-word-requires : tie.Need-visit-word-requires Inv-loop μ-loop
 visit-word-requires c κs =
     let l = c .before .before .before .before .loop in
-    let h : l .a < c .before .before .before .before .before .before .before .before .before .before .before .before .args .line .d .size = omega (arith, c .before .before .before .loop-test .taken, l .inv .0) in
-    (c .before .before .before .before .before .before .before .before .before .before .before .before .pre .0, h, l .inv .3)
+    let h : l .a < c .before .before .before .before .before .before .before .before .before .before .before .before .before .args .line .frames .d .size = omega (arith, c .before .before .before .loop-test .taken, l .inv .0) in
+    (c .before .before .before .before .before .before .before .before .before .before .before .before .before .pre .0, h, l .inv .3)
 
 add-flips : tie.Need-add-flips Inv-loop μ-loop
 add-flips c =
-    let p = c .before .before .before .before .before .before .before .before .before .before .before .before .before .before .before .before .before .before .before .before .pre in
-    let a = c .before .before .before .before .before .before .before .before .before .before .before .before .before .before .before .before .before .before .before .before .args in
+    let p = c .before .before .before .before .before .before .before .before .before .before .before .before .before .before .before .before .before .before .before .before .before .pre in
+    let a = c .before .before .before .before .before .before .before .before .before .before .before .before .before .before .before .before .before .before .before .before .before .args in
     let l = c .before .before .before .before .before .before .before .before .before .before .before .before .loop in
-    let s = paramsOf (a .line .d) in
+    let s = paramsOf (a .line .frames .d) in
     let W = lineWord (a .line) (a .links .now) in
     let f = frameOf (a .info .now) (a .red .now) in
     let v = c .before .before .before .before .before .before .before .visit-word .ensures in
     let x : Progress = record { frame = frameOf (l .info) (l .red); flips = l .flips } in
-    let h : l .a < a .line .d .size = omega (arith, c .before .before .before .before .before .before .before .before .before .before .before .loop-test .taken, l .inv .0) in
+    let h : l .a < a .line .frames .d .size = omega (arith, c .before .before .before .before .before .before .before .before .before .before .before .loop-test .taken, l .inv .0) in
     let q = flips-told s (x .frame) (W (l .a)) (outcomeOf (c .before .before .before .before .before .before .before .visit-word .result)) (c .flips-of .ensures) (v .1) in
     let e = pass-more s W f (l .a) x _ _ (l .inv .2) (v .0) q in
-    omega (arith, h, pass-few s W f (l .a + 1) _ (p .0 .fits .allowed .t-high) e, p .0 .fits .allowed .M-high)
+    omega (arith, h, pass-few s W f (l .a + 1) _ (t-high (p .0 .fits .frames)) e, size-high (p .0 .fits .frames))
 
 add-stuck : tie.Need-add-stuck Inv-loop μ-loop
 add-stuck c =
@@ -65,11 +67,11 @@ add-stuck c =
       c .before .before .before .before .before .before .before .before .before .before .before .before .before .loop .inv .0,
       c .before .before .before .before .before .before .before .before .before .before .before .before .before .loop .inv .5,
       c .stuck-of .ensures .1,
-      c .before .before .before .before .before .before .before .before .before .before .before .before .before .before .before .before .before .before .before .before .before .pre .0 .fits .allowed .M-high,
+      size-high (c .before .before .before .before .before .before .before .before .before .before .before .before .before .before .before .before .before .before .before .before .before .before .pre .0 .fits .frames),
     )
 
 add-a : tie.Need-add-a Inv-loop μ-loop
-add-a c = omega (arith, c .before .before .before .before .before .before .before .before .before .before .before .before .loop-test .taken, c .before .before .before .before .before .before .before .before .before .before .before .before .before .loop .inv .0, c .before .before .before .before .before .before .before .before .before .before .before .before .before .before .before .before .before .before .before .before .before .pre .0 .fits .allowed .M-high)
+add-a c = omega (arith, c .before .before .before .before .before .before .before .before .before .before .before .before .loop-test .taken, c .before .before .before .before .before .before .before .before .before .before .before .before .before .loop .inv .0, size-high (c .before .before .before .before .before .before .before .before .before .before .before .before .before .before .before .before .before .before .before .before .before .before .pre .0 .fits .frames))
 
 loop-less : tie.Need-loop-less Inv-loop μ-loop
 loop-less c = omega (arith, c .before .before .before .before .before .before .before .before .before .before .before .before .loop-test .taken)
@@ -77,9 +79,9 @@ loop-less c = omega (arith, c .before .before .before .before .before .before .b
 loop-again : tie.Need-loop-again Inv-loop μ-loop
 loop-again c =
     let l = c .before .before .before .before .before .before .before .before .before .before .before .before .before .loop in
-    let a = c .before .before .before .before .before .before .before .before .before .before .before .before .before .before .before .before .before .before .before .before .before .args in
-    let h : l .a + 1 ≤ a .line .d .size = omega (arith, c .before .before .before .before .before .before .before .before .before .before .before .before .loop-test .taken, l .inv .0) in
-    let s = paramsOf (a .line .d) in
+    let a = c .before .before .before .before .before .before .before .before .before .before .before .before .before .before .before .before .before .before .before .before .before .before .args in
+    let h : l .a + 1 ≤ a .line .frames .d .size = omega (arith, c .before .before .before .before .before .before .before .before .before .before .before .before .loop-test .taken, l .inv .0) in
+    let s = paramsOf (a .line .frames .d) in
     let W = lineWord (a .line) (a .links .now) in
     let f = frameOf (a .info .now) (a .red .now) in
     let v = c .before .before .before .before .before .before .before .before .visit-word .ensures in
@@ -97,34 +99,34 @@ loop-again c =
     )
 
 same-length : tie.Need-same-length Inv-loop μ-loop
-same-length c = omega (arith, c .before .loop .inv .3 .frame .infoLength, c .before .before .before .before .before .before .before .before .before .pre .1 .frame .infoLength)
+same-length c = omega (arith, c .before .loop .inv .3 .frame .infoLength, c .before .before .before .before .before .before .before .before .before .before .pre .1 .frame .infoLength)
 
 same-length-2 : tie.Need-same-length-2 Inv-loop μ-loop
-same-length-2 c = omega (arith, c .before .loop .inv .3 .frame .redLength, c .before .before .before .before .before .before .before .before .before .pre .1 .frame .redLength)
+same-length-2 c = omega (arith, c .before .loop .inv .3 .frame .redLength, c .before .before .before .before .before .before .before .before .before .before .pre .1 .frame .redLength)
 
 same-length-3 : tie.Need-same-length-3 Inv-loop μ-loop
-same-length-3 c = omega (arith, c .before .loop .inv .3 .long, c .before .before .before .before .before .before .before .before .before .pre .1 .long)
+same-length-3 c = omega (arith, c .before .loop .inv .3 .long, c .before .before .before .before .before .before .before .before .before .before .pre .1 .long)
 
 returns : tie.Need-returns Inv-loop μ-loop
 returns c =
-    let p = c .before .before .before .before .before .before .before .before .before .pre in
-    let a = c .before .before .before .before .before .before .before .before .before .args in
+    let p = c .before .before .before .before .before .before .before .before .before .before .pre in
+    let a = c .before .before .before .before .before .before .before .before .before .before .args in
     let l = c .before .loop in
-    let s = paramsOf (a .line .d) in
+    let s = paramsOf (a .line .frames .d) in
     let W = lineWord (a .line) (a .links .now) in
     let f = frameOf (a .info .now) (a .red .now) in
-    let e : l .a ≡ a .line .d .size = omega (arith, c .loop-test .left, l .inv .0, l .inv .1) in
-    let few = pass-few s W f (l .a) (record { frame = frameOf (l .info) (l .red); flips = l .flips }) (p .0 .fits .allowed .t-high) (l .inv .2) in (
+    let e : l .a ≡ a .line .frames .d .size = omega (arith, c .loop-test .left, l .inv .0, l .inv .1) in
+    let few = pass-few s W f (l .a) (record { frame = frameOf (l .info) (l .red); flips = l .flips }) (t-high (p .0 .fits .frames)) (l .inv .2) in (
       l .inv .2 ∙ ap (λ (n : ℕ). round s (tabulate n W) f) e,
       l .inv .3,
-      omega (arith, few, e, p .0 .fits .allowed .M-high),
+      omega (arith, few, e, size-high (p .0 .fits .frames)),
       l .inv .4 ∙ ap (λ (n : ℕ). stuckAmong s f (tabulate n W)) e,
-      omega (arith, l .inv .5, e, p .0 .fits .allowed .M-high),
+      omega (arith, l .inv .5, e, size-high (p .0 .fits .frames)),
       l .inv .6,
     )
 
 pub correct-line-spec : {M : Type 1} → statement M
 correct-line-spec =
     tie.close
-    (tie.spec Inv-loop μ-loop (λ c κs. search needs) loop-holds visit-word-requires (λ c κs. search needs) add-flips (λ c κs. search needs) add-stuck add-a
-    loop-less loop-again same-length same-length-2 same-length-3 returns)
+    (tie.spec Inv-loop μ-loop (λ c κs. search needs) loop-holds visit-word-requires (λ c κs. search needs) add-flips (λ c κs. search needs)
+    add-stuck add-a loop-less loop-again same-length same-length-2 same-length-3 returns)

@@ -3,14 +3,13 @@
 use mathlib.Core.Path.{subst}
 use Prim.Native.Nat.{ℕ}
 use lib.ListN.{getD}
-use Rattle.staircase.specs.Design.{wordLength}
 use Rattle.staircase.specs.Frame.{Site}
 use Rattle.staircase.specs.Frame.Site.{unsent}
 use Rattle.design.specs.Sizes.{paramsOf}
 use Rattle.decoder_locator.specs.declared.Located.{Located}
 use Rattle.decoder_locator.specs.Located.{positionsOf}
 use Rattle.decoder_flips.specs.Sites.{sitesOf, Inside, listed, Below}
-use Rattle.decoder_words.specs.Ready.{lineWord}
+use Rattle.decoder_lines.specs.Layouts.{bitsIn, lineWord}
 use Rattle.decoder_flips.proofs.Located.{listed-none, listed-one, listed-two, listed-three}
 use borrow.Author.Needs.{needs}
 use Rattle.decoder_words.proofs.sites_of.Statement.{statement}
@@ -20,43 +19,43 @@ site-at-requires : tie.Need-site-at-requires
 unfolding Below positionsOf
 site-at-requires c κs =
     let s = c .before .before .before .before .pre in
-    let b = subst (λ (z : Located). Below (wordLength (paramsOf (c .before .before .before .before .args .line .d))) (positionsOf z)) (c .before .found .given .1) (s .3) in
-    (s .0, s .1, s .2, b .0)
+    let b = subst (λ (z : Located). Below (bitsIn (c .before .before .before .before .args .line .frames .shape) (paramsOf (c .before .before .before .before .args .line .frames .d))) (positionsOf z)) (c .before .found .given .1) (s .2) in
+    (s .0, s .1, b .0)
 
 site-at-requires-2 : tie.Need-site-at-requires-2
 unfolding Below positionsOf
 site-at-requires-2 c κs =
     let s = c .before .before .before .before .pre in
-    let b = subst (λ (z : Located). Below (wordLength (paramsOf (c .before .before .before .before .args .line .d))) (positionsOf z)) (c .before .found2 .given .1) (s .3) in
-    (s .0, s .1, s .2, b .0)
+    let b = subst (λ (z : Located). Below (bitsIn (c .before .before .before .before .args .line .frames .shape) (paramsOf (c .before .before .before .before .args .line .frames .d))) (positionsOf z)) (c .before .found2 .given .1) (s .2) in
+    (s .0, s .1, b .0)
 
 site-at-requires-3 : tie.Need-site-at-requires-3
 unfolding Below positionsOf
 site-at-requires-3 c κs =
     let s = c .before .before .before .before .before .pre in
-    let b = subst (λ (z : Located). Below (wordLength (paramsOf (c .before .before .before .before .before .args .line .d))) (positionsOf z)) (c .before .before .found2 .given .1) (s .3) in
-    (s .0, s .1, s .2, b .1 .0)
+    let b = subst (λ (z : Located). Below (bitsIn (c .before .before .before .before .before .args .line .frames .shape) (paramsOf (c .before .before .before .before .before .args .line .frames .d))) (positionsOf z)) (c .before .before .found2 .given .1) (s .2) in
+    (s .0, s .1, b .1 .0)
 
 site-at-requires-4 : tie.Need-site-at-requires-4
 unfolding Below positionsOf
 site-at-requires-4 c κs =
     let s = c .before .before .before .before .pre in
-    let b = subst (λ (z : Located). Below (wordLength (paramsOf (c .before .before .before .before .args .line .d))) (positionsOf z)) (c .before .found3 .given .1) (s .3) in
-    (s .0, s .1, s .2, b .0)
+    let b = subst (λ (z : Located). Below (bitsIn (c .before .before .before .before .args .line .frames .shape) (paramsOf (c .before .before .before .before .args .line .frames .d))) (positionsOf z)) (c .before .found3 .given .1) (s .2) in
+    (s .0, s .1, b .0)
 
 site-at-requires-5 : tie.Need-site-at-requires-5
 unfolding Below positionsOf
 site-at-requires-5 c κs =
     let s = c .before .before .before .before .before .pre in
-    let b = subst (λ (z : Located). Below (wordLength (paramsOf (c .before .before .before .before .before .args .line .d))) (positionsOf z)) (c .before .before .found3 .given .1) (s .3) in
-    (s .0, s .1, s .2, b .1 .0)
+    let b = subst (λ (z : Located). Below (bitsIn (c .before .before .before .before .before .args .line .frames .shape) (paramsOf (c .before .before .before .before .before .args .line .frames .d))) (positionsOf z)) (c .before .before .found3 .given .1) (s .2) in
+    (s .0, s .1, b .1 .0)
 
 site-at-requires-6 : tie.Need-site-at-requires-6
 unfolding Below positionsOf
 site-at-requires-6 c κs =
     let s = c .before .before .before .before .before .before .pre in
-    let b = subst (λ (z : Located). Below (wordLength (paramsOf (c .before .before .before .before .before .before .args .line .d))) (positionsOf z)) (c .before .before .before .found3 .given .1) (s .3) in
-    (s .0, s .1, s .2, b .1 .1 .0)
+    let b = subst (λ (z : Located). Below (bitsIn (c .before .before .before .before .before .before .args .line .frames .shape) (paramsOf (c .before .before .before .before .before .before .args .line .frames .d))) (positionsOf z)) (c .before .before .before .found3 .given .1) (s .2) in
+    (s .0, s .1, b .1 .1 .0)
 
 returns : tie.Need-returns
 unfolding listed sitesOf Inside
@@ -93,5 +92,5 @@ returns-4 c =
 pub sites-of-spec : {M : Type 1} → statement M
 sites-of-spec =
     tie.close
-    (tie.spec (λ c. search needs) (λ c. search needs) site-at-requires (λ c. search needs) site-at-requires-2 site-at-requires-3 (λ c. search needs)
-    site-at-requires-4 site-at-requires-5 site-at-requires-6 returns returns-2 returns-3 returns-4)
+    (tie.spec (λ c. search needs) (λ c. search needs) site-at-requires (λ c. search needs) site-at-requires-2 site-at-requires-3
+    (λ c. search needs) site-at-requires-4 site-at-requires-5 site-at-requires-6 returns returns-2 returns-3 returns-4)

@@ -76,6 +76,6 @@ returns c =
 pub correct-rows-spec : {M : Type 1} → statement M
 correct-rows-spec =
     tie.close
-    (tie.spec (λ c κs. search needs) mul-rows mul-n sub-clear part-clear-start (λ c. search needs) (λ c κs. search needs) run-rounds-requires sub-count
-    part-count-start (λ c. search needs) count-requires (λ c. search needs) (λ c. search needs) part-count-end-2 (λ c κs. search needs) (λ c. search needs)
-    (λ c. search needs) returns)
+    (tie.spec (λ c κs. search needs) mul-rows mul-n sub-clear part-clear-start (λ c. search needs) (λ c κs. search needs) run-rounds-requires
+    sub-count part-count-start (λ c. search needs) count-requires (λ c. search needs) (λ c. search needs) part-count-end-2 (λ c κs. search needs)
+    (λ c. search needs) (λ c. search needs) returns)

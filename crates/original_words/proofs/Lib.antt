@@ -1,5 +1,0 @@
-pub mod Places
-pub mod CrossingRow
-pub mod Parts
-pub mod Word
-pub mod Corrected
