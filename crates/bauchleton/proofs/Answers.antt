@@ -24,11 +24,11 @@ use Rattle.staircase.specs.Rules.Part.{block, group}
 use Rattle.design.specs.declared.Design.{Design}
 use Rattle.design.specs.declared.Designed.{Designed}
 use Rattle.design.specs.declared.Designed.the-variants as designed
-use Rattle.design.specs.declared.Refusal.{Refusal}
-use Rattle.design.specs.Answers.{refusalVerdict, designVerdict, DesignIs}
-use Rattle.decoder.specs.declared.Decoding.{Decoding}
-use Rattle.decoder.specs.declared.Decoding.the-variants as decoding
-use Rattle.decoder.specs.Answers.{refusedFrame, correctedOf}
+use Rattle.answers.specs.declared.Refusal.{Refusal}
+use Rattle.design.specs.Answers.{designVerdict, DesignIs}
+use Rattle.answers.specs.declared.Decoding.{Decoding}
+use Rattle.answers.specs.declared.Decoding.the-variants as decoding
+use Rattle.answers.specs.Answers.{refusalVerdict, refusedFrame, correctedOf}
 use Rattle.rules_verdict.specs.declared.Judged.{Judged}
 use Rattle.rules_verdict.specs.Number.{number, placeOf, judgedOf, told}
 use Rattle.rules_verdict.proofs.Refused.{refusal-whole}
@@ -37,26 +37,26 @@ use Rattle.bauchleton.specs.Answers.{designAnswer, showAnswer, shownPart
 
 -- ---- designs
 
-pub design-made : (a : Designed) (d : Design) (m t M r n k : ℕ) → a ≡ designed.Made d → designVerdict a ≡ designRules m t M → DesignIs a m t M
+pub design-made : (a : Designed) (d : Design) (m t M r n k : ℕ) → a ≡ designed.Made d → designVerdict a ≡ designRules m t M 0 → DesignIs a m t M 0
     → r ≡ d .m * d .t → n ≡ 2 * d .size + 2 * (d .m * d .t) → k ≡ 2 * d .size + d .m * d .t
-    → (0 ≡ number (designRules m t M)) × (0 ∷ r ∷ n ∷ k ∷ [] ≡ designAnswer (designRules m t M) (params m t M))
+    → (0 ≡ number (designRules m t M 0)) × (0 ∷ r ∷ n ∷ k ∷ [] ≡ designAnswer (designRules m t M 0) (params m t M 0))
 unfolding number designAnswer designVerdict DesignIs
 design-made a d m t M r n k e v is hr hn hk =
-    let w : accepted ≡ designRules m t M = sym (ap designVerdict e) ∙ v in
-    let q : (d .m ≡ m) × (d .t ≡ t) × (d .size ≡ M) = subst (λ (x : Designed). DesignIs x m t M) e is in
+    let w : accepted ≡ designRules m t M 0 = sym (ap designVerdict e) ∙ v in
+    let q : (d .m ≡ m) × (d .t ≡ t) × (d .size ≡ M) × (d .col ≡ 0) = subst (λ (x : Designed). DesignIs x m t M 0) e is in
     let em : d .m ≡ m = q .0 in
     let et : d .t ≡ t = q .1 in
     let eM : d .size ≡ M = q .2 in
     let l : 0 ∷ r ∷ n ∷ k ∷ [] ≡ 0 ∷ (m * t) ∷ (2 * M + 2 * (m * t)) ∷ (2 * M + m * t) ∷ [] = cc in
-    (ap number w, l ∙ ap (λ (x : Verdict). designAnswer x (params m t M)) w)
+    (ap number w, l ∙ ap (λ (x : Verdict). designAnswer x (params m t M 0)) w)
 
-pub design-refused : (a : Designed) (r : Refusal) (m t M : ℕ) → a ≡ designed.Refused r → designVerdict a ≡ designRules m t M
-    → (number (refusalVerdict r) ≡ number (designRules m t M))
-    × (placeOf (refusalVerdict r) ∷ 0 ∷ 0 ∷ 0 ∷ [] ≡ designAnswer (designRules m t M) (params m t M))
+pub design-refused : (a : Designed) (r : Refusal) (m t M : ℕ) → a ≡ designed.Refused r → designVerdict a ≡ designRules m t M 0
+    → (number (refusalVerdict r) ≡ number (designRules m t M 0))
+    × (placeOf (refusalVerdict r) ∷ 0 ∷ 0 ∷ 0 ∷ [] ≡ designAnswer (designRules m t M 0) (params m t M 0))
 unfolding designAnswer designVerdict
 design-refused a r m t M e v =
-    let w : refusalVerdict r ≡ designRules m t M = sym (ap designVerdict e) ∙ v in
-    (ap number w, ap (λ (x : Verdict). designAnswer x (params m t M)) (sym (refusal-whole r) ∙ w))
+    let w : refusalVerdict r ≡ designRules m t M 0 = sym (ap designVerdict e) ∙ v in
+    (ap number w, ap (λ (x : Verdict). designAnswer x (params m t M 0)) (sym (refusal-whole r) ∙ w))
 
 -- ---- from what a call answers to what a host is told
 

@@ -61,20 +61,20 @@ none-told (refused n p) s L h = refl
 
 module _ (m t M L : ℕ) (l : List ℕ) {a : ℕ} {k : List ℕ} where
   pub sizes-none : (v : Verdict) → v ≢ accepted → v ≡ sizesVerdict m t M L → (a ≡ number v) × (k ≡ told (placeOf v ∷ noSizes) l)
-      → (a ≡ number (sizesVerdict m t M L)) × (k ≡ told (sizesAnswer (sizesVerdict m t M L) (params m t M) L) l)
+      → (a ≡ number (sizesVerdict m t M L)) × (k ≡ told (sizesAnswer (sizesVerdict m t M L) (params m t M 0) L) l)
   sizes-none v h e told-is =
-      told-alike number (λ (w : Verdict). sizesAnswer w (params m t M) L) l e
-      (told-is .0, told-is .1 ∙ ap (λ (z : List ℕ). told z l) (none-told v (params m t M) L h))
+      told-alike number (λ (w : Verdict). sizesAnswer w (params m t M 0) L) l e
+      (told-is .0, told-is .1 ∙ ap (λ (z : List ℕ). told z l) (none-told v (params m t M 0) L h))
 
-  pub sizes-some : (x : Designed) (d : Design) (z : Sizes) → x ≡ designed.Made d → designVerdict x ≡ designRules m t M → DesignIs x m t M
+  pub sizes-some : (x : Designed) (d : Design) (z : Sizes) → x ≡ designed.Made d → designVerdict x ≡ designRules m t M 0 → DesignIs x m t M 0
       → countRule L ≡ accepted → sizesTold 0 z ≡ sizesAnswer accepted (paramsOf d) L → (a ≡ 0) × (k ≡ told (sizesTold 0 z) l)
-      → (a ≡ number (sizesVerdict m t M L)) × (k ≡ told (sizesAnswer (sizesVerdict m t M L) (params m t M) L) l)
+      → (a ≡ number (sizesVerdict m t M L)) × (k ≡ told (sizesAnswer (sizesVerdict m t M L) (params m t M 0) L) l)
   unfolding number
   sizes-some x d z g v is few e told-is =
       let all : accepted ≡ sizesVerdict m t M L =
       sym few ∙ ap (λ (w : Verdict). w then countRule L) (sym (design-made g) ∙ v) in
-      told-alike number (λ (w : Verdict). sizesAnswer w (params m t M) L) l all
-      (told-is .0, told-is .1 ∙ ap (λ (y : List ℕ). told y l) (e ∙ ap (λ (s : Params). sizesAnswer accepted s L) (made-params g m t M is)))
+      told-alike number (λ (w : Verdict). sizesAnswer w (params m t M 0) L) l all
+      (told-is .0, told-is .1 ∙ ap (λ (y : List ℕ). told y l) (e ∙ ap (λ (s : Params). sizesAnswer accepted s L) (made-params g m t M 0 is)))
 
 -- ---- demand 1
 
@@ -84,7 +84,7 @@ bauchleton-sizes-demand1 m t M L =
     demand1-number _ _ _ _
     (record {
       byTable =
-          byTable-then (1 ∷ 2 ∷ 3 ∷ 4 ∷ []) (designRules m t M) (countRule L) (design-byTable (1 ∷ 2 ∷ 3 ∷ 4 ∷ []) refl refl refl m t M)
+          byTable-then (1 ∷ 2 ∷ 3 ∷ 4 ∷ []) (designRules m t M 0) (countRule L) (design-byTable (1 ∷ 2 ∷ 3 ∷ 4 ∷ []) refl refl refl m t M 0)
           (λ e. count-byTable (1 ∷ 2 ∷ 3 ∷ 4 ∷ []) refl L);
       untouched = λ h. refl;
     })

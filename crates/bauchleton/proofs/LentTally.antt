@@ -1,53 +1,52 @@
 -- Laws of a tally that a host lends as a slice.
 --   lent-six, lent-other        the rules of a decode, by the slice's length
 --   totals-in                   the totals of a slice of six
---   lent-unreported             a decode whose report has another length
---   lent-refused, lent-tallied  one whose slice has another length, and one whose slice has six numbers
---   lent-told                   what a decode tells
+--   numbers-low, bytes-late     the decoder's rules up to 6, and those behind them, by their numbers
+--   late-verdict, early-verdict   what the code chooses by them
+--   tallied, tallied-forty, tallied-other, tallied-is   the call by the working bytes that it lends on, where the slice has six numbers
+--   untallied, untallied-forty, untallied-other, untallied-is   and where it has others
+--   lent-told                   what a host is told, whatever the report's length
 --   report-other, report-six    what a report tells
 --   bauchleton-decode-tallied-demand1, bauchleton-report-demand1   demand 1 of both calls
 -- Assumes nothing.
 use mathlib.Core.Path.{_≡_, refl, sym, ap, ap₂, subst, subst⁻¹, _∙_}
-use mathlib.Core.Bool.{Bool, true, not}
+use mathlib.Core.Bool.{Bool, true, false, cond, not}
 use mathlib.Core.Logic.{_≢_}
 use mathlib.Core.List.{List, [], _∷_, _++_}
-use Prim.Native.Nat.{ℕ, _+_}
+use Prim.Native.Nat.{ℕ, _+_, _-_, _*_, _^_, _≤_, _<_}
 use native.Mathlib.Nat.{suc-inj, suc-ne-zero}
-use borrow.Author.Tests.{eq-eqb, ne-eqb}
-use lib.Dec.{eqb}
-use lib.ListN.{length}
-use Rattle.staircase.specs.Design.{params}
+use native.Mathlib.Omega.{arith}
+use borrow.Author.Tests.{eq-eqb, ne-eqb, lt-ltb, le-ltb}
+use lib.Dec.{eqb, ltb}
+use lib.ListN.{length, getD}
+use Rattle.staircase.specs.Lists.{firstWhere}
+use Rattle.staircase.specs.Design.{Params, Interleavers, params, wordLength, order, least-m, most-m, most-t, most-M, most-col, most-order, most-blocks, most-rounds}
 use Rattle.staircase.specs.Frame.{Frame, frameOf}
-use Rattle.staircase.specs.Rules.{Verdict, _then_, refuse, designRules, countRule, roundsRule}
+use Rattle.staircase.specs.Rules.{Verdict, _then_, refuse, refuseFirst, outOfRange, sizeRule, longRule, largeRule, designRules, countRule, roundsRule, lengthRule, listLengths, frameLengths, infoLength, redLength, decoderWork, interleavers, badEntry, listRule, bitRule, frameBits}
 use Rattle.staircase.specs.Rules.Verdict.{accepted, refused}
 use Rattle.staircase.specs.Calls.{Counts, no-counts, Corrected, correctedBy}
 use Rattle.staircase.specs.Tally.{Tally, plus, totals, Decode, callOf, contribution, fullRule, verdictFor, furtherCall, tallyVerdict, talliedBy, Tallied, tallyCall}
-use Rattle.staircase.specs.Window.{windowRule}
 use Rattle.staircase.specs.Report.{Report, reportCall}
 use Rattle.staircase.specs.Demand1.{among, ByTable}
 use Rattle.staircase.specs.Demand1 as table
 use Rattle.staircase.proofs.Decoded.{correctedBy-verdict}
 use Rattle.staircase.proofs.Demand1.{byTable-then, byTable-refuse, byTable-more, decode-byTable, correctedBy-untouched}
 use Rattle.staircase.proofs.Tally.{full-byTable}
-use Rattle.design.specs.declared.Check.{Check}
-use Rattle.design.specs.Answers.{verdictOf}
-use Rattle.rules.specs.Lengths.{lengthsOf, decoderDue, frameRules}
+use Rattle.answers.specs.Answers.{correctedOf, refusedFrame}
 use Rattle.rules.proofs.Chain.{then-assoc}
-use Rattle.decoder.specs.declared.Decoding.{Decoding}
-use Rattle.decoder.specs.Answers.{correctedOf, refusedFrame}
+use Rattle.answers.specs.declared.Decoding.{Decoding}
 use Rattle.tally.specs.declared.TallyReport.{TallyReport}
 use Rattle.tally.specs.Answers.{reportOf}
-use Rattle.rules_verdict.specs.declared.Judged.{Judged}
-use Rattle.rules_verdict.specs.Number.{number, placeOf, judgedOf, told}
+use Rattle.rules_verdict.specs.Number.{number, placeOf, told}
 use Rattle.rules_verdict.specs.Demand1.{Demand1C}
 use Rattle.rules_verdict.proofs.Demand1.{demand1-number}
 use Rattle.rules_verdict.proofs.Stores.{told-alike}
 use Rattle.bauchleton.specs.Answers.{correctedAnswer}
-use Rattle.bauchleton.specs.Report.{numbersFor, bytesFor, reportLength, reportBytes}
-use Rattle.bauchleton.specs.LentTally.{tallyIn, tallyLength, lentVerdict, LentTally, tallyLeft, lentTallyCall, reported, reportAnswer}
-use Rattle.bauchleton.proofs.Answers.{corrected-told}
+use Rattle.bauchleton.specs.Report.{numbersFor, bytesFor, reportBytes, lentLength}
+use Rattle.bauchleton.specs.LentTally.{tallyIn, tallyLength, lentVerdict, lengthFirst, LentTally, tallyLeft, lentTallyCall, reported, reportAnswer}
+use Rattle.bauchleton.proofs.Answers.{corrected-left}
 use Rattle.bauchleton.proofs.Demand1.{byTable-first-part, byTable-rest, report-byTable}
-use Rattle.bauchleton.proofs.Report.{then-refused, report-forty, report-refused, decode-parts, decode-refused, other-corrected}
+use Rattle.bauchleton.proofs.Report.{then-refused, report-forty, report-bytes, decode-parts, lending, OneRule, decode-one, corrected-frame, report-told}
 
 -- ---- the rules
 
@@ -103,70 +102,206 @@ left-untouched : (v : Verdict) (l : List ℕ) (y : Tally) → v ≢ accepted →
 left-untouched accepted l y h = absurd (h refl)
 left-untouched (refused n p) l y h = refl
 
+-- what a call leaves
+abbrev Left : Type 0
+Left = Frame × List ℕ
+
+abbrev left : LentTally → Left
+left z = (z .corrected .frame, z .tally)
+
+-- two refusals by one rule
+tallied-alike : (v w : Verdict) (l : List ℕ) (y z : Tally) (f g o : Frame) (c d : Counts) → OneRule v w
+    → (number (correctedBy v f g c .verdict) ≡ number (correctedBy w f o d .verdict))
+    × (_≡_ {A = Left} (correctedBy v f g c .frame, tallyLeft v l y) (correctedBy w f o d .frame, tallyLeft w l z))
+tallied-alike accepted w l y z f g o c d h = absurd (h .1 refl)
+tallied-alike (refused n p) accepted l y z f g o c d h = absurd (h .2 refl)
+tallied-alike (refused n p) (refused k q) l y z f g o c d h = (h .0, refl)
+
+-- ---- rules up to 6, and those behind them
+
+low-then : (u v : Verdict) → number u ≤ 6 → number v ≤ 6 → number (u then v) ≤ 6
+low-then accepted v hu hv = hv
+low-then (refused n p) v hu hv = hu
+
+low-refuse : (b : Bool) (n p : ℕ) → n ≤ 6 → number (refuse b n p) ≤ 6
+unfolding number
+low-refuse true n p h = h
+low-refuse false n p h = omega arith
+
+low-length : (place have due : ℕ) → number (lengthRule place have due) ≤ 6
+low-length place have due = low-refuse (not (eqb have due)) 6 place (omega arith)
+
+design-low : (m t M col : ℕ) → number (designRules m t M col) ≤ 6
+unfolding designRules sizeRule longRule largeRule
+design-low m t M col =
+    let s : Params = params m t M col in
+    let a : Verdict = refuse (outOfRange least-m most-m m) 1 1 in
+    let b : Verdict = refuse (outOfRange 1 most-t t) 1 2 in
+    let c : Verdict = refuse (outOfRange 1 most-M M) 1 3 in
+    let d : Verdict = refuse (ltb most-col col) 1 4 in
+    low-then (a then b then c then d) (longRule m s then largeRule s)
+    (low-then a (b then c then d) (low-refuse (outOfRange least-m most-m m) 1 1 (omega arith))
+    (low-then b (c then d) (low-refuse (outOfRange 1 most-t t) 1 2 (omega arith))
+    (low-then c d (low-refuse (outOfRange 1 most-M M) 1 3 (omega arith)) (low-refuse (ltb most-col col) 1 4 (omega arith)))))
+    (low-then (longRule m s) (largeRule s) (low-refuse (ltb (2 ^ m - 1) (wordLength s)) 2 (wordLength s) (omega arith))
+    (low-refuse (ltb most-order (order s)) 3 (order s) (omega arith)))
+
+numbers-low : (x : Decode) → number (numbersFor x) ≤ 6
+unfolding numbersFor countRule roundsRule listLengths frameLengths
+numbers-low x =
+    let s : Params = params (x .m) (x .t) (x .M) (x .col) in
+    let work : Verdict = lengthRule 6 (x .work) (decoderWork s (x .L)) in
+    let frame : Verdict = frameLengths s (x .L) (x .info) (x .red) then work in
+    let lists : Verdict = listLengths s (x .self) (x .parity) then frame in
+    low-then (designRules (x .m) (x .t) (x .M) (x .col)) (countRule (x .L) then roundsRule (x .rounds) then lists) (design-low (x .m) (x .t) (x .M) (x .col))
+    (low-then (countRule (x .L)) (roundsRule (x .rounds) then lists) (low-refuse (outOfRange 1 most-blocks (x .L)) 4 (x .L) (omega arith))
+    (low-then (roundsRule (x .rounds)) lists (low-refuse (ltb most-rounds (x .rounds)) 5 (x .rounds) (omega arith))
+    (low-then (listLengths s (x .self) (x .parity)) frame
+    (low-then (lengthRule 1 (length (x .self)) (2 * order s)) (lengthRule 2 (length (x .parity)) (2 * order s))
+    (low-length 1 (length (x .self)) (2 * order s)) (low-length 2 (length (x .parity)) (2 * order s)))
+    (low-then (frameLengths s (x .L) (x .info) (x .red)) work
+    (low-then (lengthRule 4 (length (x .info)) (infoLength s (x .L))) (lengthRule 5 (length (x .red)) (redLength s (x .L)))
+    (low-length 4 (length (x .info)) (infoLength s (x .L))) (low-length 5 (length (x .red)) (redLength s (x .L))))
+    (low-length 6 (x .work) (decoderWork s (x .L)))))))
+
+abbrev Late : Verdict → Type 0
+Late v = v ≢ accepted → 6 < number v
+
+late-then : (u v : Verdict) → Late u → Late v → Late (u then v)
+late-then accepted v hu hv = hv
+late-then (refused n p) v hu hv = hu
+
+late-first : (rule base n : ℕ) (f : ℕ → Bool) → 6 < rule → Late (refuseFirst rule base n f)
+unfolding refuseFirst number
+late-first rule base n f h = by-test (ltb (firstWhere n f) n)
+  where
+    by-test : (b : Bool) → Late (refuse b rule (base + firstWhere n f))
+    by-test true a = h
+    by-test false a = absurd (a refl)
+
+bytes-late : (x : Decode) → Late (bytesFor x)
+unfolding bytesFor listRule frameBits bitRule
+bytes-late x =
+    let s : Params = params (x .m) (x .t) (x .M) (x .col) in
+    let n : ℕ = order s in
+    let l : Interleavers = interleavers s (x .self) (x .parity) in
+    late-then (listRule s l) (frameBits (x .info) (x .red))
+    (late-then (refuseFirst 7 0 n (badEntry n (l .self))) (refuseFirst 7 n n (badEntry n (l .parity)))
+    (late-first 7 0 n (badEntry n (l .self)) (omega arith)) (late-first 7 n n (badEntry n (l .parity)) (omega arith)))
+    (late-then (bitRule 0 (x .info)) (bitRule (length (x .info)) (x .red))
+    (late-first 10 0 (length (x .info)) (λ k. ltb 1 (getD (x .info) k 0)) (omega arith))
+    (late-first 10 (length (x .info)) (length (x .red)) (λ k. ltb 1 (getD (x .red) k 0)) (omega arith)))
+
+first-length : (u v : Verdict) → number u ≤ 6 → Late v → lengthFirst ((u then v) then refused 6 9) ≡ (u then refused 6 9)
+unfolding lengthFirst number
+first-length accepted accepted low late = refl
+first-length accepted (refused n p) low late =
+    ap (λ (b : Bool). cond b (refused 6 9) (refused n p)) (lt-ltb 6 n (late (λ e. then-refused accepted n p e)))
+first-length (refused n p) v low late = ap (λ (b : Bool). cond b (refused 6 9) (refused n p)) (le-ltb 6 n low)
+
+-- the code's choice
+pub late-verdict : (v : Verdict) → 6 < number v → refused 6 9 ≡ lengthFirst v
+unfolding lengthFirst number
+late-verdict accepted h = refl
+late-verdict (refused n p) h = sym (ap (λ (b : Bool). cond b (refused 6 9) (refused n p)) (lt-ltb 6 n h))
+
+pub early-verdict : (v : Verdict) → v ≢ accepted → number v ≤ 6 → v ≡ lengthFirst v
+unfolding lengthFirst number
+early-verdict accepted a h = absurd (a refl)
+early-verdict (refused n p) a h = sym (ap (λ (b : Bool). cond b (refused 6 9) (refused n p)) (le-ltb 6 n h))
+
+-- ---- the call, by the working bytes that it lends on
+
 module _ (report l : List ℕ) (x : Decode) where
   abbrev f : Frame
   f = frameOf (x .info) (x .red)
 
-  abbrev rest : Verdict
-  rest = tallyLength l then bytesFor x then fullRule (tallyIn l)
+  abbrev made : Tally
+  made = plus (tallyIn l) (contribution x)
 
-  -- a report of another length
-  pub lent-unreported : length report ≢ 40 → (j : Judged) (c : Check) → j ≡ judgedOf (verdictOf c)
-      → verdictOf c ≡ (designRules (x .m) (x .t) (x .M) then (countRule (x .L) then roundsRule (x .rounds) then windowRule 1)
-      then frameRules (params (x .m) (x .t) (x .M)) (x .L) (x .rounds) (lengthsOf (x .self) (x .parity) [] (x .info) (x .red) (x .work))
-      (decoderDue (params (x .m) (x .t) (x .M)) (x .L)) then refused 6 8)
-      → (j .rule ≡ number (lentTallyCall report l x .corrected .verdict)) × (frameOf (x .info) (x .red) ≡ lentTallyCall report l x .corrected .frame)
-      × (l ≡ lentTallyCall report l x .tally) × (report ≡ told (reportBytes (correctedAnswer (lentTallyCall report l x .corrected))) report)
-  unfolding lentTallyCall lentVerdict
-  lent-unreported h j c e is =
-      let t = other-corrected report h (numbersFor x) rest j c e (is ∙ decode-refused 8 x) f (callOf x .frame) (callOf x .counts) in (
-        t .0,
-        t .1,
-        left-untouched (numbersFor x then reportLength report then rest) l (plus (tallyIn l) (contribution x)) (report-refused report (numbersFor x) rest h),
-        t .2,
+  -- with six totals
+  abbrev pub tallied : ℕ → LentTally
+  tallied n = record { corrected = tallyCall (tallyIn l) (lending n x) .corrected; tally = totals (tallyCall (tallyIn l) (lending n x) .tally) }
+
+  pub tallied-forty : length l ≡ 6 → length report ≡ 40 → lentTallyCall report l x ≡ tallied (x .work)
+  unfolding lentTallyCall tallyCall furtherCall
+  tallied-forty h forty =
+      let v : Verdict = tallyVerdict (tallyIn l) x in
+      sym ((λ i. record { corrected = correctedBy (tally-chain (tallyIn l) x i) f (callOf x .frame) (callOf x .counts); tally = left-totals v l (contribution x) h i })
+      ∙ ap (λ (v : Verdict). record { corrected = correctedBy v f (callOf x .frame) (callOf x .counts); tally = tallyLeft v l made }) (sym (lent-six report l x forty h)))
+
+  pub tallied-other : length l ≡ 6 → length report ≢ 40
+      → (number (tallied 0 .corrected .verdict) ≡ number (lentTallyCall report l x .corrected .verdict)) × (left (tallied 0) ≡ left (lentTallyCall report l x))
+  unfolding lentTallyCall lentVerdict tallyCall furtherCall tallyVerdict bytesFor
+  tallied-other h other =
+      let y : Tally = tallyIn l in
+      let z : Decode = lending 0 x in
+      let v : Verdict = verdictFor z then fullRule y in
+      let a = tallied-alike v (lentVerdict report l x) l (plus y (contribution z)) made f (callOf z .frame) (callOf x .frame) (callOf z .counts) (callOf x .counts)
+      (decode-one report other x (bytesFor x then fullRule y) (tallyLength l then bytesFor x then fullRule y)
+      (ap (λ (u : Verdict). u then fullRule y) (decode-parts z) ∙ then-assoc (numbersFor z) (bytesFor x) (fullRule y))) in
+      (a .0, ap (λ (k : List ℕ). (correctedBy v f (callOf z .frame) (callOf z .counts) .frame, k)) (left-totals v l (contribution z) h) ∙ a .1)
+
+  pub tallied-is : (n : ℕ) (y : Tally) → y ≡ tallyIn l → (c : Corrected) (z : Tally) → record { corrected = c; tally = z } ≡ tallyCall y (lending n x)
+      → (after : List ℕ) → after ≡ totals z → record { corrected = c; tally = after } ≡ tallied n
+  tallied-is n y e c z is after put =
+      ap (λ (k : List ℕ). record { corrected = c; tally = k }) put
+      ∙ ap (λ (r : Tallied). record { corrected = r .corrected; tally = totals (r .tally) }) (is ∙ ap (λ (u : Tally). tallyCall u (lending n x)) e)
+
+  -- with another number of totals
+  abbrev pub untallied : ℕ → LentTally
+  untallied n = record { corrected = refusedFrame (lengthFirst (verdictFor (lending n x) then refused 6 9)) f; tally = l }
+
+  untallied-verdict : (n : ℕ) → lengthFirst (verdictFor (lending n x) then refused 6 9) ≡ (numbersFor (lending n x) then refused 6 9)
+  untallied-verdict n =
+      let z : Decode = lending n x in
+      ap (λ (v : Verdict). lengthFirst (v then refused 6 9)) (decode-parts z) ∙ first-length (numbersFor z) (bytesFor z) (numbers-low z) (bytes-late z)
+
+  pub untallied-forty : length l ≢ 6 → length report ≡ 40 → lentTallyCall report l x ≡ untallied (x .work)
+  unfolding lentTallyCall refusedFrame
+  untallied-forty h forty =
+      ap (λ (v : Verdict). record { corrected = correctedBy v f (callOf x .frame) (callOf x .counts); tally = tallyLeft v l made }) (lent-other report l x forty h)
+      ∙ sym (ap (λ (v : Verdict). record { corrected = refusedFrame v f; tally = l }) (untallied-verdict (x .work))
+      ∙ lent-by (numbersFor x then refused 6 9) l made f (callOf x .frame) (callOf x .counts) (then-refused (numbersFor x) 6 9))
+
+  pub untallied-other : length l ≢ 6 → length report ≢ 40
+      → (number (untallied 0 .corrected .verdict) ≡ number (lentTallyCall report l x .corrected .verdict)) × (left (untallied 0) ≡ left (lentTallyCall report l x))
+  unfolding lentTallyCall lentVerdict refusedFrame
+  untallied-other h other =
+      let o = decode-one report other x (refused 6 9) (tallyLength l then bytesFor x then fullRule (tallyIn l)) (untallied-verdict 0) in
+      let w : Verdict = lentVerdict report l x in (
+        o .0 ∙ ap number (sym (correctedBy-verdict w f (callOf x .frame) (callOf x .counts))),
+        λ i. (corrected-frame w f (callOf x .frame) (callOf x .counts) (o .2) i, left-untouched w l made (o .2) i),
       )
 
-  lent-not : length report ≡ 40 → length l ≢ 6
-      → record { corrected = record { verdict = numbersFor x then refused 6 9; frame = frameOf (x .info) (x .red); counts = no-counts }; tally = l }
-      ≡ lentTallyCall report l x
-  unfolding lentTallyCall
-  lent-not forty h =
-      lent-by (numbersFor x then refused 6 9) l (plus (tallyIn l) (contribution x)) f (callOf x .frame) (callOf x .counts) (then-refused (numbersFor x) 6 9)
-      ∙ ap (λ (v : Verdict). record { corrected = correctedBy v f (callOf x .frame) (callOf x .counts); tally = tallyLeft v l (plus (tallyIn l) (contribution x)) })
-      (sym (lent-other report l x forty h))
-
-  pub lent-tallied : length report ≡ 40 → length l ≡ 6 → (y : Tally) → y ≡ tallyIn l → (c : Corrected) (z : Tally)
-      → record { corrected = c; tally = z } ≡ tallyCall y x
-      → (left : List ℕ) → left ≡ totals z → record { corrected = c; tally = left } ≡ lentTallyCall report l x
-  unfolding lentTallyCall tallyCall furtherCall
-  lent-tallied forty h y e c z is left put =
-      let v : Verdict = tallyVerdict (tallyIn l) x in
-      ap (λ (k : List ℕ). record { corrected = c; tally = k }) put
-      ∙ ap (λ (r : Tallied). record { corrected = r .corrected; tally = totals (r .tally) }) (is ∙ ap (λ (u : Tally). tallyCall u x) e)
-      ∙ (λ i. record { corrected = correctedBy (both i) f (callOf x .frame) (callOf x .counts); tally = left-totals v l (contribution x) h i })
-      ∙ ap (λ (v : Verdict). record { corrected = correctedBy v f (callOf x .frame) (callOf x .counts); tally = tallyLeft v l (plus (tallyIn l) (contribution x)) })
-      (sym (lent-six report l x forty h))
-    where
-      both : (verdictFor x then fullRule (tallyIn l)) ≡ tallyVerdict (tallyIn l) x
-      both = tally-chain (tallyIn l) x
-
-  pub lent-refused : (d : Decoding) (c : Check) → length report ≡ 40 → length l ≢ 6 → ((g : Frame) → correctedOf d g ≡ refusedFrame (verdictOf c) g)
-      → verdictOf c ≡ (designRules (x .m) (x .t) (x .M) then (countRule (x .L) then roundsRule (x .rounds) then windowRule 1)
-      then frameRules (params (x .m) (x .t) (x .M)) (x .L) (x .rounds) (lengthsOf (x .self) (x .parity) [] (x .info) (x .red) (x .work))
-      (decoderDue (params (x .m) (x .t) (x .M)) (x .L)) then refused 6 9) → record { corrected = correctedOf d (frameOf (x .info) (x .red)); tally = l } ≡ lentTallyCall report l x
-  unfolding refusedFrame
-  lent-refused d c forty h r e =
-      ap (λ (z : Corrected). record { corrected = z; tally = l }) (r f ∙ ap (λ (v : Verdict). refusedFrame v f) (e ∙ decode-refused 9 x)) ∙ lent-not forty h
+  -- from what the decoder answers
+  pub untallied-is : (n : ℕ) (a d : Decoding) (g : Frame) → correctedOf a g ≡ furtherCall (refused 6 9) (lending n x)
+      → ((o : Frame) → correctedOf d o ≡ refusedFrame (lengthFirst (correctedOf a o .verdict)) o) → record { corrected = correctedOf d g; tally = l } ≡ untallied n
+  unfolding furtherCall
+  untallied-is n a d g e r =
+      let z : Decode = lending n x in
+      let v : Verdict = verdictFor z then refused 6 9 in
+      let same : g ≡ f =
+      sym (corrected-left a g) ∙ ap (λ (c : Corrected). c .frame) e ∙ sym (corrected-frame v f (callOf z .frame) (callOf z .counts) (then-refused (verdictFor z) 6 9)) in
+      let by : correctedOf a g .verdict ≡ v = ap (λ (c : Corrected). c .verdict) e ∙ correctedBy-verdict v f (callOf z .frame) (callOf z .counts) in
+      ap (λ (c : Corrected). record { corrected = c; tally = l }) (r g ∙ ap₂ (λ (u : Verdict) (o : Frame). refusedFrame (lengthFirst u) o) by same)
 
 -- ---- what is told
 
-pub lent-told : (l : List ℕ) (d : Decoding) {f : Frame} {left : List ℕ} {y : LentTally} {a : ℕ} {k : List ℕ}
-    → record { corrected = correctedOf d f; tally = left } ≡ y
-    → (a ≡ number (correctedOf d f .verdict)) × (k ≡ told (reportBytes (correctedAnswer (correctedOf d f))) l)
-    → (a ≡ number (y .corrected .verdict)) × (f ≡ y .corrected .frame) × (left ≡ y .tally) × (k ≡ told (reportBytes (correctedAnswer (y .corrected))) l)
-lent-told l d e h =
-    let t = corrected-told (λ (z : Corrected). reportBytes (correctedAnswer z)) l d (ap (λ (z : LentTally). z .corrected) e) h in
-    (t .0, t .1, ap (λ (z : LentTally). z .tally) e, t .2)
+pub lent-told : (report : List ℕ) (call : ℕ → LentTally) (work : ℕ) (y : LentTally) → (length report ≡ 40 → y ≡ call work)
+    → (length report ≢ 40 → (number (call 0 .corrected .verdict) ≡ number (y .corrected .verdict)) × (left (call 0) ≡ left y))
+    → {n : ℕ} → n ≡ lentLength (length report) work → (d : Decoding) {g : Frame} {after : List ℕ} {a : ℕ} {k : List ℕ}
+    → record { corrected = correctedOf d g; tally = after } ≡ call n
+    → (a ≡ number (correctedOf d g .verdict)) × (k ≡ told (reportBytes (correctedAnswer (correctedOf d g))) report)
+    → (a ≡ number (y .corrected .verdict)) × (g ≡ y .corrected .frame) × (after ≡ y .tally) × (k ≡ told (reportBytes (correctedAnswer (y .corrected))) report)
+lent-told report call work y forty other e d {g} {after} is h =
+    let answer : LentTally → List ℕ = λ z. reportBytes (correctedAnswer (z .corrected)) in
+    let t = told-alike (λ (z : LentTally). number (z .corrected .verdict)) answer report is h in
+    let same : (g, after) ≡ left (call _) = ap (λ (o : Frame). (o, after)) (sym (corrected-left d g)) ∙ ap left is in
+    let r = report-told (λ (z : LentTally). z .corrected .verdict) left answer
+    (λ (z : LentTally). report-bytes (placeOf (z .corrected .verdict)) (z .corrected .counts .rounds) (z .corrected .counts .turned) (z .corrected .counts .outside)
+    (z .corrected .counts .stuck) []) report call work y forty other e (t .0, same, t .1) in
+    (r .0, ap (λ (z : Left). z .0) (r .1), ap (λ (z : Left). z .1) (r .1), r .2)
 
 module _ (l old : List ℕ) {a : ℕ} {k : List ℕ} where
   pub report-other : length l ≢ 6 → (a ≡ 6) × (k ≡ told (9 ∷ 0 ∷ 0 ∷ 0 ∷ 0 ∷ 0 ∷ 0 ∷ 0 ∷ 0 ∷ []) old)
@@ -196,7 +331,7 @@ lent-byTable report l x =
     let parts : ByTable numbers (numbersFor x then bytesFor x) =
     subst (ByTable numbers) (decode-parts x)
     (byTable-more (1 ∷ 2 ∷ 3 ∷ 4 ∷ 5 ∷ 6 ∷ 7 ∷ 10 ∷ []) (16 ∷ []) (verdictFor x)
-    (decode-byTable (x .m) (x .t) (x .M) (x .L) (x .rounds) (x .self) (x .parity) (x .info) (x .red) (x .work))) in
+    (decode-byTable (x .m) (x .t) (x .M) (x .col) (x .L) (x .rounds) (x .self) (x .parity) (x .info) (x .red) (x .work))) in
     report-byTable numbers refl report (numbersFor x) rest
     (byTable-then numbers (numbersFor x) rest (byTable-first-part numbers (numbersFor x) (bytesFor x) parts)
     (λ e. byTable-then numbers (tallyLength l) (bytesFor x then fullRule (tallyIn l)) (tally-length-byTable numbers refl l)

@@ -7,42 +7,43 @@
 --   report-forty, report-other  a call's rules with the report's place, by the report's length
 --   kit-parts, encode-parts, batch-parts, decode-parts, window-parts   a call's rules, those up to 6 and the others
 --   kit-forty, encode-forty, batch-forty, decode-forty, window-forty   with 40 bytes a call is what it is without them
---   decode-refused              the decoder's rules up to 6, as the code asks them
---   kit-other, encode-other, batch-other, decode-other, window-other   what a call with a report of another length answers and leaves
+--   OneRule, one-rule           two refusals by one rule: a call that is lent nothing, where it is due some bytes, and one with a report of another length
+--   kit-other, encode-other, batch-other, decode-other, window-other   so a call that is lent nothing answers and leaves what is promised
+--   lent-none, lent-all, part-lent   what a call lends on
+--   report-told, kit-told, encoded-told, decoded-told   what a host is told, whatever the report's length
 -- Assumes nothing.
-use mathlib.Core.Path.{_≡_, refl, sym, ap, ap₂, _∙_}
-use mathlib.Core.Bool.{Bool, cond, not}
+use mathlib.Core.Path.{_≡_, refl, sym, ap, _∙_}
+use mathlib.Core.Bool.{Bool, true, false, cond, not}
 use mathlib.Core.Logic.{_≢_}
 use mathlib.Core.List.{List, [], _∷_, _++_, append-assoc}
-use Prim.Native.Nat.{ℕ, _+_, _/_, _%_}
-use native.Mathlib.Nat.{div-one, one-mul}
+use Prim.Native.Nat.{ℕ, _+_, _-_, _/_, _%_, _≤_, _<_}
+use native.Mathlib.Nat.{div-one, mul-pos}
 use native.Mathlib.Omega.{arith}
-use borrow.Author.Tests.{eq-eqb, ne-eqb}
+use borrow.Author.Tests.{eq-eqb, ne-eqb, eqb-true, eqb-false}
+use lib.Dec.{eqb}
 use lib.ListN.{length, take, drop, length-append, length-drop, drop-of-length-le}
-use lib.Seq.{take-at, drop-at, sets, sets-eq}
+use lib.Seq.{take-at, drop-at, sets, sets-eq, length-take-le}
 use Rattle.staircase.specs.Lists.{tabulate}
-use Rattle.staircase.specs.Design.{Params, Interleavers, params}
+use Rattle.staircase.specs.Design.{Params, Interleavers, params, order}
 use Rattle.staircase.specs.Frame.{Frame, frameOf}
-use Rattle.staircase.specs.System.{redundancy}
+use Rattle.staircase.specs.System.{redundancy, rowBytes}
 use Rattle.staircase.specs.Decoder.{decoded}
-use Rattle.staircase.specs.Rules.{Verdict, _then_, refuse, designRules, countRule, roundsRule, lengthRule, listLengths, kitLengths, frameLengths, infoLength, redLength, kitWork, decoderWork, interleavers, kitRules, contentRules}
+use Rattle.staircase.specs.Rules.{Verdict, _then_, refuse, designRules, countRule, roundsRule, lengthRule, listLengths, kitLengths, frameLengths, kitWork, wordWork, decoderWork, interleavers, kitRules, contentRules}
 use Rattle.staircase.specs.Rules.Verdict.{accepted, refused}
-use Rattle.staircase.specs.Calls.{kitVerdict, encodedBy, encodeVerdict, encodeCall, Counts, countsOf, Corrected, correctedBy, decodeVerdict, decodeCall}
+use Rattle.staircase.specs.Calls.{kitVerdict, Encoded, encodedBy, encodeVerdict, encodeCall, Counts, countsOf, Corrected, correctedBy, decodeVerdict, decodeCall}
 use Rattle.staircase.specs.Batch.{batchRule, batchLengths, batchVerdict, batchRedundancy, batchCall}
 use Rattle.staircase.specs.Window.{windowRule, windowed, windowCounts, windowVerdict, windowCall}
-use Rattle.staircase.specs.Tally.{Decode, callOf, verdictFor}
+use Rattle.staircase.specs.Tally.{Decode, decodeWith, callOf, verdictFor}
 use Rattle.staircase.proofs.Fill.{front-all}
-use Rattle.staircase.proofs.Encoded.{encodedBy-verdict}
-use Rattle.staircase.proofs.Decoded.{correctedBy-verdict}
-use Rattle.design.specs.declared.Check.{Check}
-use Rattle.design.specs.Answers.{verdictOf}
-use Rattle.rules.specs.Lengths.{lengthsOf, lengthsRule, kitDue, decoderDue, frameRules, batchRules}
-use Rattle.rules.proofs.Chain.{then-assoc, kit-lengths-rule, decoder-rules, batch-rules}
+use Rattle.staircase.proofs.Rules.{then-first, design-limits}
+use Rattle.staircase.proofs.System.{order-positive}
+use Rattle.staircase.proofs.BchCode.{proper-of}
+use Rattle.rules.proofs.Chain.{then-assoc, then-where}
 use Rattle.rules_verdict.specs.declared.Judged.{Judged}
 use Rattle.rules_verdict.specs.Number.{number, placeOf, judgedOf, told}
-use Rattle.rules_verdict.proofs.Stores.{told-other}
+use Rattle.rules_verdict.proofs.Stores.{told-other, told-alike}
 use Rattle.bauchleton.specs.Answers.{correctedAnswer}
-use Rattle.bauchleton.specs.Report.{eightBytes, reportBytes, checkReport, reportLength, kitSizes, kitReported, encodeSizes, encodeReported, batchSizes, batchReported, numbersFor, bytesFor, decodeReported, windowNumbersFor, windowCallOf, windowReported}
+use Rattle.bauchleton.specs.Report.{eightBytes, reportBytes, checkReport, reportLength, lentLength, kitSizes, kitReported, encodeSizes, encodeReported, batchSizes, batchReported, numbersFor, bytesFor, decodeReported, windowNumbersFor, windowCallOf, windowReported}
 
 -- ---- the bytes
 
@@ -89,7 +90,7 @@ five-joined : (a b c d e : List ℕ) → ((((a ++ b) ++ c) ++ d) ++ e) ++ [] ≡
 five-joined a b c d e = simp append-assoc
 
 module _ (a b c d e : ℕ) (report : List ℕ) where
-  report-bytes : length (reportBytes (a ∷ b ∷ c ∷ d ∷ e ∷ [])) ≡ 40
+  pub report-bytes : length (reportBytes (a ∷ b ∷ c ∷ d ∷ e ∷ [])) ≡ 40
   unfolding reportBytes eightBytes tabulate
   report-bytes = refl
 
@@ -133,13 +134,6 @@ then-seven : (a b c d e f g v : Verdict)
 then-seven a b c d e f g v =
     then-deep a (b then c then d then e then f then g) v (b then c then d then e then f then g then v) (then-six b c d e f g v)
 
--- rules that come twice
-then-twice : (a b c d : Verdict) → ((a then b then c) then a then b then d) ≡ (a then b then c then d)
-then-twice accepted accepted accepted d = refl
-then-twice accepted accepted (refused n p) d = refl
-then-twice accepted (refused n p) c d = refl
-then-twice (refused n p) b c d = refl
-
 pub then-refused : (u : Verdict) (n p : ℕ) → (u then refused n p) ≢ accepted
 then-refused accepted n p e = let z : _≡_ {A = ℕ} 0 1 = cc in omega arith
 then-refused (refused m q) n p e = let z : _≡_ {A = ℕ} 0 1 = cc in omega arith
@@ -151,9 +145,6 @@ module _ (report : List ℕ) (u v : Verdict) where
   pub report-other : length report ≢ 40 → (u then reportLength report then v) ≡ (u then refused 6 8)
   report-other h = ap (λ (b : Bool). u then refuse (not b) 6 8 then v) (ne-eqb (length report) 40 h)
 
-  pub report-refused : length report ≢ 40 → (u then reportLength report then v) ≢ accepted
-  report-refused h e = then-refused u 6 8 (sym (report-other h) ∙ e)
-
 -- ---- with 40 bytes
 
 -- a call that is judged again by the rules that it has
@@ -164,74 +155,74 @@ corrected-again (refused n p) f g c = refl
 
 module _ (m t M : ℕ) (self parity w : List ℕ) (work : ℕ) where
   kit-then : (v : Verdict) → (kitSizes m t M self parity w work then v)
-      ≡ (designRules m t M then kitLengths (params m t M) self parity w then lengthRule 6 work (kitWork (params m t M)) then v)
+      ≡ (designRules m t M 0 then kitLengths (params m t M 0) self parity w then lengthRule 6 work (kitWork (params m t M 0)) then v)
   unfolding kitSizes
-  kit-then v = then-three (designRules m t M) (kitLengths (params m t M) self parity w) (lengthRule 6 work (kitWork (params m t M))) v
+  kit-then v = then-three (designRules m t M 0) (kitLengths (params m t M 0) self parity w) (lengthRule 6 work (kitWork (params m t M 0))) v
 
-  pub kit-parts : kitVerdict m t M self parity w work
-      ≡ (kitSizes m t M self parity w work then kitRules (params m t M) (interleavers (params m t M) self parity) w)
+  pub kit-parts : kitVerdict m t M 0 self parity w work
+      ≡ (kitSizes m t M self parity w work then kitRules (params m t M 0) (interleavers (params m t M 0) self parity) w)
   unfolding kitVerdict
-  kit-parts = sym (kit-then (kitRules (params m t M) (interleavers (params m t M) self parity) w))
+  kit-parts = sym (kit-then (kitRules (params m t M 0) (interleavers (params m t M 0) self parity) w))
 
-  pub kit-forty : (report : List ℕ) → length report ≡ 40 → kitReported report m t M self parity w work ≡ kitVerdict m t M self parity w work
+  pub kit-forty : (report : List ℕ) → length report ≡ 40 → kitReported report m t M self parity w work ≡ kitVerdict m t M 0 self parity w work
   unfolding kitReported
   kit-forty report e =
-      report-forty report (kitSizes m t M self parity w work) (kitRules (params m t M) (interleavers (params m t M) self parity) w) e ∙ sym kit-parts
+      report-forty report (kitSizes m t M self parity w work) (kitRules (params m t M 0) (interleavers (params m t M 0) self parity) w) e ∙ sym kit-parts
 
   module _ (L : ℕ) (info red : List ℕ) where
     encode-then : (v : Verdict) → (encodeSizes m t M L self parity w info red work then v)
-        ≡ (designRules m t M then countRule L then kitLengths (params m t M) self parity w then frameLengths (params m t M) L info red
-        then lengthRule 6 work (kitWork (params m t M)) then v)
+        ≡ (designRules m t M 0 then countRule L then kitLengths (params m t M 0) self parity w then frameLengths (params m t M 0) L info red
+        then lengthRule 6 work (kitWork (params m t M 0)) then v)
     unfolding encodeSizes
     encode-then v =
-        then-five (designRules m t M) (countRule L) (kitLengths (params m t M) self parity w) (frameLengths (params m t M) L info red)
-        (lengthRule 6 work (kitWork (params m t M))) v
+        then-five (designRules m t M 0) (countRule L) (kitLengths (params m t M 0) self parity w) (frameLengths (params m t M 0) L info red)
+        (lengthRule 6 work (kitWork (params m t M 0))) v
 
-    pub encode-parts : encodeVerdict m t M L self parity w info red work
-        ≡ (encodeSizes m t M L self parity w info red work then contentRules (params m t M) (interleavers (params m t M) self parity) w info)
+    pub encode-parts : encodeVerdict m t M 0 L self parity w info red work
+        ≡ (encodeSizes m t M L self parity w info red work then contentRules (params m t M 0) (interleavers (params m t M 0) self parity) w info)
     unfolding encodeVerdict
-    encode-parts = sym (encode-then (contentRules (params m t M) (interleavers (params m t M) self parity) w info))
+    encode-parts = sym (encode-then (contentRules (params m t M 0) (interleavers (params m t M 0) self parity) w info))
 
     pub encode-forty : (report : List ℕ) → length report ≡ 40
-        → encodeReported report m t M L self parity w info red work ≡ encodeCall m t M L self parity w info red work
+        → encodeReported report m t M L self parity w info red work ≡ encodeCall m t M 0 L self parity w info red work
     unfolding encodeReported encodeCall
     encode-forty report e =
-        let s : Params = params m t M in
+        let s : Params = params m t M 0 in
         let l : Interleavers = interleavers s self parity in
         ap (λ (v : Verdict). encodedBy v red (redundancy s l w L info))
         (report-forty report (encodeSizes m t M L self parity w info red work) (contentRules s l w info) e ∙ sym encode-parts)
 
     batch-then : (n : ℕ) (v : Verdict) → (batchSizes m t M L n self parity w info red work then v)
-        ≡ (designRules m t M then countRule L then batchRule n then kitLengths (params m t M) self parity w then batchLengths (params m t M) L n info red
-        then lengthRule 6 work (kitWork (params m t M)) then v)
+        ≡ (designRules m t M 0 then countRule L then batchRule n then kitLengths (params m t M 0) self parity w then batchLengths (params m t M 0) L n info red
+        then lengthRule 6 work (kitWork (params m t M 0)) then v)
     unfolding batchSizes
     batch-then n v =
-        then-six (designRules m t M) (countRule L) (batchRule n) (kitLengths (params m t M) self parity w) (batchLengths (params m t M) L n info red)
-        (lengthRule 6 work (kitWork (params m t M))) v
+        then-six (designRules m t M 0) (countRule L) (batchRule n) (kitLengths (params m t M 0) self parity w) (batchLengths (params m t M 0) L n info red)
+        (lengthRule 6 work (kitWork (params m t M 0))) v
 
-    pub batch-parts : (n : ℕ) → batchVerdict m t M L n self parity w info red work
-        ≡ (batchSizes m t M L n self parity w info red work then contentRules (params m t M) (interleavers (params m t M) self parity) w info)
+    pub batch-parts : (n : ℕ) → batchVerdict m t M 0 L n self parity w info red work
+        ≡ (batchSizes m t M L n self parity w info red work then contentRules (params m t M 0) (interleavers (params m t M 0) self parity) w info)
     unfolding batchVerdict
-    batch-parts n = sym (batch-then n (contentRules (params m t M) (interleavers (params m t M) self parity) w info))
+    batch-parts n = sym (batch-then n (contentRules (params m t M 0) (interleavers (params m t M 0) self parity) w info))
 
     pub batch-forty : (n : ℕ) (report : List ℕ) → length report ≡ 40
-        → batchReported report m t M L n self parity w info red work ≡ batchCall m t M L n self parity w info red work
+        → batchReported report m t M L n self parity w info red work ≡ batchCall m t M 0 L n self parity w info red work
     unfolding batchReported batchCall
     batch-forty n report e =
-        let s : Params = params m t M in
+        let s : Params = params m t M 0 in
         let l : Interleavers = interleavers s self parity in
         ap (λ (v : Verdict). encodedBy v red (batchRedundancy s l w L n info))
         (report-forty report (batchSizes m t M L n self parity w info red work) (contentRules s l w info) e ∙ sym (batch-parts n))
 
 module _ (x : Decode) where
   numbers-then : (v : Verdict) → (numbersFor x then v)
-      ≡ (designRules (x .m) (x .t) (x .M) then countRule (x .L) then roundsRule (x .rounds)
-      then listLengths (params (x .m) (x .t) (x .M)) (x .self) (x .parity) then frameLengths (params (x .m) (x .t) (x .M)) (x .L) (x .info) (x .red)
-      then lengthRule 6 (x .work) (decoderWork (params (x .m) (x .t) (x .M)) (x .L)) then v)
+      ≡ (designRules (x .m) (x .t) (x .M) (x .col) then countRule (x .L) then roundsRule (x .rounds)
+      then listLengths (params (x .m) (x .t) (x .M) (x .col)) (x .self) (x .parity) then frameLengths (params (x .m) (x .t) (x .M) (x .col)) (x .L) (x .info) (x .red)
+      then lengthRule 6 (x .work) (decoderWork (params (x .m) (x .t) (x .M) (x .col)) (x .L)) then v)
   unfolding numbersFor
   numbers-then v =
-      let s : Params = params (x .m) (x .t) (x .M) in
-      then-six (designRules (x .m) (x .t) (x .M)) (countRule (x .L)) (roundsRule (x .rounds)) (listLengths s (x .self) (x .parity))
+      let s : Params = params (x .m) (x .t) (x .M) (x .col) in
+      then-six (designRules (x .m) (x .t) (x .M) (x .col)) (countRule (x .L)) (roundsRule (x .rounds)) (listLengths s (x .self) (x .parity))
       (frameLengths s (x .L) (x .info) (x .red)) (lengthRule 6 (x .work) (decoderWork s (x .L))) v
 
   pub decode-parts : verdictFor x ≡ (numbersFor x then bytesFor x)
@@ -241,23 +232,23 @@ module _ (x : Decode) where
   pub decode-forty : (report : List ℕ) → length report ≡ 40 → decodeReported report x ≡ callOf x
   unfolding decodeReported decodeCall
   decode-forty report e =
-      let s : Params = params (x .m) (x .t) (x .M) in
+      let s : Params = params (x .m) (x .t) (x .M) (x .col) in
       let l : Interleavers = interleavers s (x .self) (x .parity) in
       let f : Frame = frameOf (x .info) (x .red) in
       ap (λ (v : Verdict). correctedBy v f (callOf x .frame) (callOf x .counts)) (report-forty report (numbersFor x) (bytesFor x) e ∙ sym decode-parts)
       ∙ corrected-again (verdictFor x) f (decoded s l (x .L) (x .rounds) f .frame) (countsOf s l (x .L) (x .rounds) f)
 
   windowed-then : (n : ℕ) (v : Verdict) → (windowNumbersFor n x then v)
-      ≡ (designRules (x .m) (x .t) (x .M) then countRule (x .L) then roundsRule (x .rounds) then windowRule n
-      then listLengths (params (x .m) (x .t) (x .M)) (x .self) (x .parity) then frameLengths (params (x .m) (x .t) (x .M)) (x .L) (x .info) (x .red)
-      then lengthRule 6 (x .work) (decoderWork (params (x .m) (x .t) (x .M)) (x .L)) then v)
+      ≡ (designRules (x .m) (x .t) (x .M) (x .col) then countRule (x .L) then roundsRule (x .rounds) then windowRule n
+      then listLengths (params (x .m) (x .t) (x .M) (x .col)) (x .self) (x .parity) then frameLengths (params (x .m) (x .t) (x .M) (x .col)) (x .L) (x .info) (x .red)
+      then lengthRule 6 (x .work) (decoderWork (params (x .m) (x .t) (x .M) (x .col)) (x .L)) then v)
   unfolding windowNumbersFor
   windowed-then n v =
-      let s : Params = params (x .m) (x .t) (x .M) in
-      then-seven (designRules (x .m) (x .t) (x .M)) (countRule (x .L)) (roundsRule (x .rounds)) (windowRule n) (listLengths s (x .self) (x .parity))
+      let s : Params = params (x .m) (x .t) (x .M) (x .col) in
+      then-seven (designRules (x .m) (x .t) (x .M) (x .col)) (countRule (x .L)) (roundsRule (x .rounds)) (windowRule n) (listLengths s (x .self) (x .parity))
       (frameLengths s (x .L) (x .info) (x .red)) (lengthRule 6 (x .work) (decoderWork s (x .L))) v
 
-  pub window-parts : (n : ℕ) → windowVerdict (x .m) (x .t) (x .M) (x .L) (x .rounds) n (x .self) (x .parity) (x .info) (x .red) (x .work)
+  pub window-parts : (n : ℕ) → windowVerdict (x .m) (x .t) (x .M) (x .col) (x .L) (x .rounds) n (x .self) (x .parity) (x .info) (x .red) (x .work)
       ≡ (windowNumbersFor n x then bytesFor x)
   unfolding windowVerdict bytesFor
   window-parts n = sym (windowed-then n (bytesFor x))
@@ -265,163 +256,231 @@ module _ (x : Decode) where
   pub window-forty : (n : ℕ) (report : List ℕ) → length report ≡ 40 → windowReported report n x ≡ windowCallOf n x
   unfolding windowReported windowCall
   window-forty n report e =
-      let s : Params = params (x .m) (x .t) (x .M) in
+      let s : Params = params (x .m) (x .t) (x .M) (x .col) in
       let l : Interleavers = interleavers s (x .self) (x .parity) in
       let f : Frame = frameOf (x .info) (x .red) in
       ap (λ (v : Verdict). correctedBy v f (windowCallOf n x .frame) (windowCallOf n x .counts))
       (report-forty report (windowNumbersFor n x) (bytesFor x) e ∙ sym (window-parts n))
-      ∙ corrected-again (windowVerdict (x .m) (x .t) (x .M) (x .L) (x .rounds) n (x .self) (x .parity) (x .info) (x .red) (x .work)) f
+      ∙ corrected-again (windowVerdict (x .m) (x .t) (x .M) (x .col) (x .L) (x .rounds) n (x .self) (x .parity) (x .info) (x .red) (x .work)) f
       (windowed s l (x .L) n (x .rounds) f .frame) (windowCounts s l (x .L) n (x .rounds) f)
-
--- ---- the rules up to 6, as the code asks them
-
-module _ (place m t M : ℕ) (self parity w : List ℕ) (work : ℕ) where
-  kit-refused : (designRules m t M then lengthsRule (lengthsOf self parity w [] [] work) (kitDue (params m t M)) then refused 6 place)
-      ≡ (kitSizes m t M self parity w work then refused 6 place)
-  kit-refused =
-      ap (λ (z : Verdict). designRules m t M then z) (kit-lengths-rule (params m t M) self parity work (refused 6 place) w)
-      ∙ sym (kit-then m t M self parity w work (refused 6 place))
-
-  module _ (L : ℕ) (info red : List ℕ) where
-    batch-refused : (n : ℕ)
-        → (designRules m t M then batchRules (params m t M) L n (lengthsOf self parity w info red work) (kitDue (params m t M)) then refused 6 place)
-        ≡ (batchSizes m t M L n self parity w info red work then refused 6 place)
-    batch-refused n =
-        ap (λ (z : Verdict). designRules m t M then z) (batch-rules (params m t M) self parity work (refused 6 place) L 0 info red n w)
-        ∙ sym (batch-then m t M self parity w work L info red n (refused 6 place))
-
-    -- a batch of one
-    encode-refused :
-        (designRules m t M then batchRules (params m t M) L 1 (lengthsOf self parity w info red work) (kitDue (params m t M)) then refused 6 place)
-        ≡ (encodeSizes m t M L self parity w info red work then refused 6 place)
-    unfolding batchRule batchLengths frameLengths
-    encode-refused =
-        let s : Params = params m t M in
-        ap (λ (z : Verdict). designRules m t M then z) (batch-rules s self parity work (refused 6 place) L 0 info red 1 w)
-        ∙ ap₂ (λ (i o : ℕ). designRules m t M then countRule L then kitLengths s self parity w
-        then (lengthRule 4 (length info) i then lengthRule 5 (length red) o) then lengthRule 6 work (kitWork s) then refused 6 place)
-        (one-mul (infoLength s L)) (one-mul (redLength s L))
-        ∙ sym (encode-then m t M self parity w work L info red (refused 6 place))
-
-module _ (place : ℕ) (x : Decode) where
-  twice : (n : ℕ) → (designRules (x .m) (x .t) (x .M) then (countRule (x .L) then roundsRule (x .rounds) then windowRule n)
-      then frameRules (params (x .m) (x .t) (x .M)) (x .L) (x .rounds) (lengthsOf (x .self) (x .parity) [] (x .info) (x .red) (x .work))
-      (decoderDue (params (x .m) (x .t) (x .M)) (x .L)) then refused 6 place)
-      ≡ (designRules (x .m) (x .t) (x .M) then countRule (x .L) then roundsRule (x .rounds) then windowRule n
-      then listLengths (params (x .m) (x .t) (x .M)) (x .self) (x .parity) then frameLengths (params (x .m) (x .t) (x .M)) (x .L) (x .info) (x .red)
-      then lengthRule 6 (x .work) (decoderWork (params (x .m) (x .t) (x .M)) (x .L)) then refused 6 place)
-  twice n =
-      let s : Params = params (x .m) (x .t) (x .M) in
-      ap (λ (z : Verdict). designRules (x .m) (x .t) (x .M) then (countRule (x .L) then roundsRule (x .rounds) then windowRule n) then z)
-      (decoder-rules s (x .self) (x .parity) (x .work) (refused 6 place) (x .L) (x .rounds) (x .info) (x .red))
-      ∙ ap (λ (z : Verdict). designRules (x .m) (x .t) (x .M) then z)
-      (then-twice (countRule (x .L)) (roundsRule (x .rounds)) (windowRule n)
-      (listLengths s (x .self) (x .parity) then frameLengths s (x .L) (x .info) (x .red) then lengthRule 6 (x .work) (decoderWork s (x .L)) then refused 6 place))
-
-  window-refused : (n : ℕ) → (designRules (x .m) (x .t) (x .M) then (countRule (x .L) then roundsRule (x .rounds) then windowRule n)
-      then frameRules (params (x .m) (x .t) (x .M)) (x .L) (x .rounds) (lengthsOf (x .self) (x .parity) [] (x .info) (x .red) (x .work))
-      (decoderDue (params (x .m) (x .t) (x .M)) (x .L)) then refused 6 place)
-      ≡ (windowNumbersFor n x then refused 6 place)
-  window-refused n = twice n ∙ sym (windowed-then x n (refused 6 place))
-
-  -- rule 18 accepts a window of one group
-  pub decode-refused : (designRules (x .m) (x .t) (x .M) then (countRule (x .L) then roundsRule (x .rounds) then windowRule 1)
-      then frameRules (params (x .m) (x .t) (x .M)) (x .L) (x .rounds) (lengthsOf (x .self) (x .parity) [] (x .info) (x .red) (x .work))
-      (decoderDue (params (x .m) (x .t) (x .M)) (x .L)) then refused 6 place)
-      ≡ (numbersFor x then refused 6 place)
-  unfolding windowRule
-  decode-refused = twice 1 ∙ sym (numbers-then x (refused 6 place))
 
 -- ---- with another number of bytes
 
-encoded-left : (v : Verdict) (old new : List ℕ) → v ≢ accepted → old ≡ encodedBy v old new .red
-encoded-left accepted old new h = absurd (h refl)
-encoded-left (refused n p) old new h = refl
+-- a decode with n working bytes
+abbrev pub lending : ℕ → Decode → Decode
+lending n x = decodeWith (x .m) (x .t) (x .M) (x .col) (x .L) (x .rounds) (x .self) (x .parity) (x .info) (x .red) n
 
-corrected-frame : (v : Verdict) (f g : Frame) (c : Counts) → v ≢ accepted → f ≡ correctedBy v f g c .frame
+-- two refusals by one rule
+abbrev pub OneRule : Verdict → Verdict → Type 0
+OneRule v w = (number v ≡ number w) × (v ≢ accepted) × (w ≢ accepted)
+
+number-six : (u : Verdict) (b : Bool) (p q : ℕ) → number (u then refused 6 p) ≡ number ((u then refuse b 6 p) then refused 6 q)
+unfolding number
+number-six accepted true p q = refl
+number-six accepted false p q = refl
+number-six (refused n m) b p q = refl
+
+-- a call's rules up to 6, by the length of the last slice that they judge, which is due some bytes; the call is lent none of it
+module _ (report : List ℕ) (h : length report ≢ 40) (sizes : ℕ → Verdict) (u : Verdict) (place have due : ℕ)
+    (is : (n : ℕ) → sizes n ≡ (u then lengthRule place n due)) (some : u ≡ accepted → 0 < due) where
+  pub one-rule : (rest after : Verdict) {v : Verdict} → v ≡ (sizes 0 then rest) → OneRule v (sizes have then reportLength report then after)
+  one-rule rest after {v} e =
+      let none : (u then lengthRule place 0 due then rest) ≡ (u then refused 6 place) =
+      then-where u (lengthRule place 0 due then rest) (refused 6 place)
+      (λ a. ap (λ (b : Bool). refuse (not b) 6 place then rest) (ne-eqb 0 due (λ (z : 0 ≡ due). let l = some a in omega arith))) in
+      let empty : v ≡ (u then refused 6 place) = e ∙ ap (λ (z : Verdict). z then rest) (is 0) ∙ then-assoc u (lengthRule place 0 due) rest ∙ none in
+      let other : (sizes have then reportLength report then after) ≡ ((u then lengthRule place have due) then refused 6 8) =
+      report-other report (sizes have) after h ∙ ap (λ (z : Verdict). z then refused 6 8) (is have) in (
+        ap number empty ∙ number-six u (not (eqb have due)) place 8 ∙ sym (ap number other),
+        (λ a. then-refused u 6 place (sym empty ∙ a)),
+        (λ a. then-refused (u then lengthRule place have due) 6 8 (sym other ∙ a)),
+      )
+
+pub corrected-frame : (v : Verdict) (f g : Frame) (c : Counts) → v ≢ accepted → f ≡ correctedBy v f g c .frame
 corrected-frame accepted f g c h = absurd (h refl)
 corrected-frame (refused n p) f g c h = refl
 
-module _ (report : List ℕ) (h : length report ≢ 40) (u v : Verdict) (j : Judged) (c : Check) (e : j ≡ judgedOf (verdictOf c))
-    (is : verdictOf c ≡ (u then refused 6 8)) where
-  other-number : j .rule ≡ number (u then reportLength report then v)
-  other-number = ap (λ (z : Judged). z .rule) e ∙ ap number (is ∙ sym (report-other report u v h))
+encoded-alike : (v w : Verdict) (old new : List ℕ) → OneRule v w
+    → (number (encodedBy v old new .verdict) ≡ number (encodedBy w old new .verdict)) × (encodedBy v old new .red ≡ encodedBy w old new .red)
+encoded-alike accepted w old new h = absurd (h .1 refl)
+encoded-alike (refused n p) accepted old new h = absurd (h .2 refl)
+encoded-alike (refused n p) (refused k q) old new h = (h .0, refl)
 
-  pub other-checked : (j .rule ≡ number (u then reportLength report then v))
-      × (report ≡ told (reportBytes (checkReport (u then reportLength report then v))) report)
-  other-checked = (other-number, told-report (placeOf (u then reportLength report then v)) 0 0 0 0 report h)
+pub corrected-alike : (v w : Verdict) (f g : Frame) (c : Counts) (o : Frame) (d : Counts) → OneRule v w
+    → (number (correctedBy v f g c .verdict) ≡ number (correctedBy w f o d .verdict)) × (correctedBy v f g c .frame ≡ correctedBy w f o d .frame)
+corrected-alike accepted w f g c o d h = absurd (h .1 refl)
+corrected-alike (refused n p) accepted f g c o d h = absurd (h .2 refl)
+corrected-alike (refused n p) (refused k q) f g c o d h = (h .0, refl)
 
-  other-encoded : (old new : List ℕ) → (j .rule ≡ number (encodedBy (u then reportLength report then v) old new .verdict))
-      × (old ≡ encodedBy (u then reportLength report then v) old new .red)
-      × (report ≡ told (reportBytes (checkReport (encodedBy (u then reportLength report then v) old new .verdict))) report)
-  other-encoded old new = (
-    other-number ∙ ap number (sym (encodedBy-verdict (u then reportLength report then v) old new)),
-    encoded-left (u then reportLength report then v) old new (report-refused report u v h),
-    told-report (placeOf (encodedBy (u then reportLength report then v) old new .verdict)) 0 0 0 0 report h,
-  )
+positive : (m t M col : ℕ) → designRules m t M col ≡ accepted → 0 < order (params m t M col)
+positive m t M col e = order-positive (params m t M col) (proper-of (design-limits m t M col e))
 
-  pub other-corrected : (f g : Frame) (n : Counts) → (j .rule ≡ number (correctedBy (u then reportLength report then v) f g n .verdict))
-      × (f ≡ correctedBy (u then reportLength report then v) f g n .frame)
-      × (report ≡ told (reportBytes (correctedAnswer (correctedBy (u then reportLength report then v) f g n))) report)
-  other-corrected f g n =
-      let y : Corrected = correctedBy (u then reportLength report then v) f g n in (
-        other-number ∙ ap number (sym (correctedBy-verdict (u then reportLength report then v) f g n)),
-        corrected-frame (u then reportLength report then v) f g n (report-refused report u v h),
-        told-report (placeOf (y .verdict)) (y .counts .rounds) (y .counts .turned) (y .counts .outside) (y .counts .stuck) report h,
-      )
+kit-work-some : (m t M : ℕ) → designRules m t M 0 ≡ accepted → 0 < kitWork (params m t M 0)
+unfolding kitWork
+kit-work-some m t M e =
+    let n : 0 < order (params m t M 0) = positive m t M 0 e in
+    let w : 0 < rowBytes (order (params m t M 0)) = omega (arith, n) in
+    mul-pos n w
 
-module _ (report : List ℕ) (h : length report ≢ 40) (j : Judged) (c : Check) (e : j ≡ judgedOf (verdictOf c)) where
+decoder-work-some : (m t M col L : ℕ) → designRules m t M col ≡ accepted → 0 < decoderWork (params m t M col) L
+unfolding decoderWork wordWork
+decoder-work-some m t M col L e = let n = positive m t M col e in omega (arith, n)
+
+module _ (report : List ℕ) (h : length report ≢ 40) where
   module _ (m t M : ℕ) (self parity w : List ℕ) (work : ℕ) where
-    pub kit-other : verdictOf c ≡ (designRules m t M then lengthsRule (lengthsOf self parity w [] [] work) (kitDue (params m t M)) then refused 6 8)
-        → (j .rule ≡ number (kitReported report m t M self parity w work))
-        × (report ≡ told (reportBytes (checkReport (kitReported report m t M self parity w work))) report)
-    unfolding kitReported
-    kit-other is =
-        let s : Params = params m t M in
-        other-checked report h (kitSizes m t M self parity w work) (kitRules s (interleavers s self parity) w) j c e
-        (is ∙ kit-refused 8 m t M self parity w work)
+    pub kit-other : OneRule (kitVerdict m t M 0 self parity w 0) (kitReported report m t M self parity w work)
+    unfolding kitReported kitSizes
+    kit-other =
+        let s : Params = params m t M 0 in
+        let rest : Verdict = kitRules s (interleavers s self parity) w in
+        one-rule report h (kitSizes m t M self parity w) (designRules m t M 0 then kitLengths s self parity w) 6 work (kitWork s)
+        (λ n. sym (then-assoc (designRules m t M 0) (kitLengths s self parity w) (lengthRule 6 n (kitWork s))))
+        (λ e. kit-work-some m t M (then-first (designRules m t M 0) (kitLengths s self parity w) e)) rest rest (kit-parts m t M self parity w 0)
 
     module _ (L : ℕ) (info red : List ℕ) where
-      pub encode-other : verdictOf c
-          ≡ (designRules m t M then batchRules (params m t M) L 1 (lengthsOf self parity w info red work) (kitDue (params m t M)) then refused 6 8)
-          → (j .rule ≡ number (encodeReported report m t M L self parity w info red work .verdict))
-          × (red ≡ encodeReported report m t M L self parity w info red work .red)
-          × (report ≡ told (reportBytes (checkReport (encodeReported report m t M L self parity w info red work .verdict))) report)
-      unfolding encodeReported
-      encode-other is =
-          let s : Params = params m t M in
+      pub encode-other : (number (encodeCall m t M 0 L self parity w info red 0 .verdict) ≡ number (encodeReported report m t M L self parity w info red work .verdict))
+          × (encodeCall m t M 0 L self parity w info red 0 .red ≡ encodeReported report m t M L self parity w info red work .red)
+      unfolding encodeCall encodeReported encodeSizes
+      encode-other =
+          let s : Params = params m t M 0 in
           let l : Interleavers = interleavers s self parity in
-          other-encoded report h (encodeSizes m t M L self parity w info red work) (contentRules s l w info) j c e
-          (is ∙ encode-refused 8 m t M self parity w work L info red) red (redundancy s l w L info)
+          let b : Verdict = kitLengths s self parity w in
+          let c : Verdict = frameLengths s L info red in
+          let rest : Verdict = contentRules s l w info in
+          encoded-alike (encodeVerdict m t M 0 L self parity w info red 0) (encodeSizes m t M L self parity w info red work then reportLength report then rest)
+          red (redundancy s l w L info)
+          (one-rule report h (encodeSizes m t M L self parity w info red) (designRules m t M 0 then countRule L then b then c) 6 work (kitWork s)
+          (λ n. sym (then-four (designRules m t M 0) (countRule L) b c (lengthRule 6 n (kitWork s))))
+          (λ e. kit-work-some m t M (then-first (designRules m t M 0) (countRule L then b then c) e)) rest rest (encode-parts m t M self parity w 0 L info red))
 
-      pub batch-other : (n : ℕ) → verdictOf c
-          ≡ (designRules m t M then batchRules (params m t M) L n (lengthsOf self parity w info red work) (kitDue (params m t M)) then refused 6 8)
-          → (j .rule ≡ number (batchReported report m t M L n self parity w info red work .verdict))
-          × (red ≡ batchReported report m t M L n self parity w info red work .red)
-          × (report ≡ told (reportBytes (checkReport (batchReported report m t M L n self parity w info red work .verdict))) report)
-      unfolding batchReported
-      batch-other n is =
-          let s : Params = params m t M in
+      pub batch-other : (n : ℕ)
+          → (number (batchCall m t M 0 L n self parity w info red 0 .verdict) ≡ number (batchReported report m t M L n self parity w info red work .verdict))
+          × (batchCall m t M 0 L n self parity w info red 0 .red ≡ batchReported report m t M L n self parity w info red work .red)
+      unfolding batchCall batchReported batchSizes
+      batch-other n =
+          let s : Params = params m t M 0 in
           let l : Interleavers = interleavers s self parity in
-          other-encoded report h (batchSizes m t M L n self parity w info red work) (contentRules s l w info) j c e
-          (is ∙ batch-refused 8 m t M self parity w work L info red n) red (batchRedundancy s l w L n info)
+          let b : Verdict = kitLengths s self parity w in
+          let c : Verdict = batchLengths s L n info red in
+          let rest : Verdict = contentRules s l w info in
+          encoded-alike (batchVerdict m t M 0 L n self parity w info red 0) (batchSizes m t M L n self parity w info red work then reportLength report then rest)
+          red (batchRedundancy s l w L n info)
+          (one-rule report h (batchSizes m t M L n self parity w info red) (designRules m t M 0 then countRule L then batchRule n then b then c) 6 work (kitWork s)
+          (λ n1. sym (then-five (designRules m t M 0) (countRule L) (batchRule n) b c (lengthRule 6 n1 (kitWork s))))
+          (λ e. kit-work-some m t M (then-first (designRules m t M 0) (countRule L then batchRule n then b then c) e)) rest rest
+          (batch-parts m t M self parity w 0 L info red n))
 
   module _ (x : Decode) where
-    pub decode-other : verdictOf c ≡ (designRules (x .m) (x .t) (x .M) then (countRule (x .L) then roundsRule (x .rounds) then windowRule 1)
-        then frameRules (params (x .m) (x .t) (x .M)) (x .L) (x .rounds) (lengthsOf (x .self) (x .parity) [] (x .info) (x .red) (x .work))
-        (decoderDue (params (x .m) (x .t) (x .M)) (x .L)) then refused 6 8)
-        → (j .rule ≡ number (decodeReported report x .verdict)) × (frameOf (x .info) (x .red) ≡ decodeReported report x .frame)
-        × (report ≡ told (reportBytes (correctedAnswer (decodeReported report x))) report)
-    unfolding decodeReported
-    decode-other is =
-        other-corrected report h (numbersFor x) (bytesFor x) j c e (is ∙ decode-refused 8 x) (frameOf (x .info) (x .red)) (callOf x .frame) (callOf x .counts)
+    -- of a decode with tallied or other rules behind
+    pub decode-one : (rest after : Verdict) {v : Verdict} → v ≡ (numbersFor (lending 0 x) then rest) → OneRule v (numbersFor x then reportLength report then after)
+    unfolding numbersFor
+    decode-one rest after e =
+        let s : Params = params (x .m) (x .t) (x .M) (x .col) in
+        let r : Verdict = designRules (x .m) (x .t) (x .M) (x .col) in
+        let b : Verdict = listLengths s (x .self) (x .parity) in
+        let c : Verdict = frameLengths s (x .L) (x .info) (x .red) in
+        one-rule report h (λ n. numbersFor (lending n x)) (r then countRule (x .L) then roundsRule (x .rounds) then b then c) 6 (x .work) (decoderWork s (x .L))
+        (λ n. sym (then-five r (countRule (x .L)) (roundsRule (x .rounds)) b c (lengthRule 6 n (decoderWork s (x .L)))))
+        (λ a. decoder-work-some (x .m) (x .t) (x .M) (x .col) (x .L) (then-first r (countRule (x .L) then roundsRule (x .rounds) then b then c) a)) rest after e
 
-    pub window-other : (n : ℕ) → verdictOf c ≡ (designRules (x .m) (x .t) (x .M) then (countRule (x .L) then roundsRule (x .rounds) then windowRule n)
-        then frameRules (params (x .m) (x .t) (x .M)) (x .L) (x .rounds) (lengthsOf (x .self) (x .parity) [] (x .info) (x .red) (x .work))
-        (decoderDue (params (x .m) (x .t) (x .M)) (x .L)) then refused 6 8)
-        → (j .rule ≡ number (windowReported report n x .verdict)) × (frameOf (x .info) (x .red) ≡ windowReported report n x .frame)
-        × (report ≡ told (reportBytes (correctedAnswer (windowReported report n x))) report)
-    unfolding windowReported
-    window-other n is =
-        other-corrected report h (windowNumbersFor n x) (bytesFor x) j c e (is ∙ window-refused 8 x n) (frameOf (x .info) (x .red)) (windowCallOf n x .frame)
-        (windowCallOf n x .counts)
+    pub decode-other : (number (callOf (lending 0 x) .verdict) ≡ number (decodeReported report x .verdict))
+        × (callOf (lending 0 x) .frame ≡ decodeReported report x .frame)
+    unfolding decodeCall decodeReported bytesFor
+    decode-other =
+        corrected-alike (verdictFor (lending 0 x)) (numbersFor x then reportLength report then bytesFor x) (frameOf (x .info) (x .red)) _ _ _ _
+        (decode-one (bytesFor x) (bytesFor x) (decode-parts (lending 0 x)))
+
+    pub window-other : (n : ℕ) → (number (windowCallOf n (lending 0 x) .verdict) ≡ number (windowReported report n x .verdict))
+        × (windowCallOf n (lending 0 x) .frame ≡ windowReported report n x .frame)
+    unfolding windowCall windowReported windowNumbersFor bytesFor
+    window-other n =
+        let s : Params = params (x .m) (x .t) (x .M) (x .col) in
+        let r : Verdict = designRules (x .m) (x .t) (x .M) (x .col) in
+        let b : Verdict = listLengths s (x .self) (x .parity) in
+        let c : Verdict = frameLengths s (x .L) (x .info) (x .red) in
+        corrected-alike (windowVerdict (x .m) (x .t) (x .M) (x .col) (x .L) (x .rounds) n (x .self) (x .parity) (x .info) (x .red) 0)
+        (windowNumbersFor n x then reportLength report then bytesFor x) (frameOf (x .info) (x .red)) _ _ _ _
+        (one-rule report h (λ k. windowNumbersFor n (lending k x)) (r then countRule (x .L) then roundsRule (x .rounds) then windowRule n then b then c) 6
+        (x .work) (decoderWork s (x .L)) (λ k. sym (then-six r (countRule (x .L)) (roundsRule (x .rounds)) (windowRule n) b c (lengthRule 6 k (decoderWork s (x .L)))))
+        (λ a. decoder-work-some (x .m) (x .t) (x .M) (x .col) (x .L) (then-first r (countRule (x .L) then roundsRule (x .rounds) then windowRule n then b then c) a))
+        (bytesFor x) (bytesFor x) (window-parts (lending 0 x) n))
+
+-- ---- what a host is told, whatever the report's length
+
+module _ (report n : ℕ) where
+  pub lent-none : report ≢ 40 → 0 ≡ lentLength report n
+  unfolding lentLength
+  lent-none h = sym (ap (λ (b : Bool). cond b n 0) (ne-eqb report 40 h))
+
+  pub lent-all : report ≡ 40 → n ≡ lentLength report n
+  unfolding lentLength
+  lent-all e = sym (ap (λ (b : Bool). cond b n 0) (eq-eqb report 40 e))
+
+-- the part of a slice that is lent
+pub part-lent : (l report : List ℕ) (n : ℕ) → n ≡ lentLength (length report) (length l) → n ≤ length l → length (take (n - 0) (drop 0 l)) ≡ lentLength (length report) (length l)
+part-lent l report n e h =
+    let z : n - 0 ≡ n = omega arith in
+    ap (λ (k : ℕ). length (take k l)) z ∙ length-take-le n l h ∙ e
+
+-- a call, by the bytes that it is lent, and what the host is promised
+module _ {A B : Type 0} (verdict : A → Verdict) (left : A → B) (answer : A → List ℕ) (long : (z : A) → length (answer z) ≡ 40) (report : List ℕ)
+    (call : ℕ → A) (have : ℕ) (y : A) (forty : length report ≡ 40 → y ≡ call have)
+    (other : length report ≢ 40 → (number (verdict (call 0)) ≡ number (verdict y)) × (left (call 0) ≡ left y)) where
+  by-length : (b : Bool) → eqb (length report) 40 ≡ b → (number (verdict (call (cond b have 0))) ≡ number (verdict y))
+      × (left (call (cond b have 0)) ≡ left y) × (told (answer (call (cond b have 0))) report ≡ told (answer y) report)
+  by-length true e =
+      let s : call have ≡ y = sym (forty (eqb-true (length report) 40 e)) in
+      (ap (λ (z : A). number (verdict z)) s, ap left s, ap (λ (z : A). told (answer z) report) s)
+  by-length false e =
+      let h : length report ≢ 40 = eqb-false (length report) 40 e in (
+        other h .0,
+        other h .1,
+        sym (told-other (answer (call 0)) report (λ z. h (z ∙ long (call 0)))) ∙ told-other (answer y) report (λ z. h (z ∙ long y)),
+      )
+
+  pub report-told : {n a : ℕ} {b : B} {k : List ℕ} → n ≡ lentLength (length report) have
+      → (a ≡ number (verdict (call n))) × (b ≡ left (call n)) × (k ≡ told (answer (call n)) report)
+      → (a ≡ number (verdict y)) × (b ≡ left y) × (k ≡ told (answer y) report)
+  unfolding lentLength
+  report-told e t =
+      let s = by-length (eqb (length report) 40) refl in (
+        t .0 ∙ ap (λ (n : ℕ). number (verdict (call n))) e ∙ s .0,
+        t .1 ∙ ap (λ (n : ℕ). left (call n)) e ∙ s .1,
+        t .2 ∙ ap (λ (n : ℕ). told (answer (call n)) report) e ∙ s .2,
+      )
+
+pub checked-long : (v : Verdict) → length (reportBytes (checkReport v)) ≡ 40
+checked-long v = report-bytes (placeOf v) 0 0 0 0 []
+
+-- of the kit checker
+pub kit-told : (report : List ℕ) (m t M : ℕ) (self parity w : List ℕ) (work : ℕ) {n a : ℕ} {v : Verdict} {k : List ℕ}
+    → n ≡ lentLength (length report) work → v ≡ kitVerdict m t M 0 self parity w n → (a ≡ number v) × (k ≡ told (reportBytes (checkReport v)) report)
+    → (a ≡ number (kitReported report m t M self parity w work)) × (k ≡ told (reportBytes (checkReport (kitReported report m t M self parity w work))) report)
+kit-told report m t M self parity w work e is h =
+    let t1 = told-alike number (λ (v : Verdict). reportBytes (checkReport v)) report is h in
+    let r = report-told (λ (v : Verdict). v) (λ (v : Verdict). number v) (λ (v : Verdict). reportBytes (checkReport v)) checked-long report
+    (kitVerdict m t M 0 self parity w) work (kitReported report m t M self parity w work) (kit-forty m t M self parity w work report)
+    (λ h. (kit-other report h m t M self parity w work .0, kit-other report h m t M self parity w work .0)) e (t1 .0, refl, t1 .1) in
+    (r .0, r .2)
+
+-- of the encoders
+pub encoded-told : (report : List ℕ) (call : ℕ → Encoded) (work : ℕ) (y : Encoded) → (length report ≡ 40 → y ≡ call work)
+    → (length report ≢ 40 → (number (call 0 .verdict) ≡ number (y .verdict)) × (call 0 .red ≡ y .red))
+    → {n a : ℕ} {v : Verdict} {r k : List ℕ} → n ≡ lentLength (length report) work → (v ≡ call n .verdict) × (r ≡ call n .red)
+    → (a ≡ number v) × (k ≡ told (reportBytes (checkReport v)) report)
+    → (a ≡ number (y .verdict)) × (r ≡ y .red) × (k ≡ told (reportBytes (checkReport (y .verdict))) report)
+encoded-told report call work y forty other e made h =
+    let t = told-alike number (λ (v : Verdict). reportBytes (checkReport v)) report (made .0) h in
+    report-told (λ (z : Encoded). z .verdict) (λ (z : Encoded). z .red) (λ (z : Encoded). reportBytes (checkReport (z .verdict))) (λ (z : Encoded). checked-long (z .verdict))
+    report call work y forty other e (t .0, made .1, t .1)
+
+-- of the decoders
+pub decoded-told : (report : List ℕ) (call : ℕ → Corrected) (work : ℕ) (y : Corrected) → (length report ≡ 40 → y ≡ call work)
+    → (length report ≢ 40 → (number (call 0 .verdict) ≡ number (y .verdict)) × (call 0 .frame ≡ y .frame))
+    → {n a : ℕ} {f : Frame} {k : List ℕ} → n ≡ lentLength (length report) work
+    → (a ≡ number (call n .verdict)) × (f ≡ call n .frame) × (k ≡ told (reportBytes (correctedAnswer (call n))) report)
+    → (a ≡ number (y .verdict)) × (f ≡ y .frame) × (k ≡ told (reportBytes (correctedAnswer y)) report)
+decoded-told report call work y forty other e t =
+    report-told (λ (z : Corrected). z .verdict) (λ (z : Corrected). z .frame) (λ (z : Corrected). reportBytes (correctedAnswer z))
+    (λ (z : Corrected). report-bytes (placeOf (z .verdict)) (z .counts .rounds) (z .counts .turned) (z .counts .outside) (z .counts .stuck) [])
+    report call work y forty other e t

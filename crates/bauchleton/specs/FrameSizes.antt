@@ -19,7 +19,7 @@ abbrev pub noSizes : List ℕ
 noSizes = 0 ∷ 0 ∷ 0 ∷ 0 ∷ 0 ∷ 0 ∷ 0 ∷ 0 ∷ 0 ∷ 0 ∷ 0 ∷ 0 ∷ 0 ∷ 0 ∷ 0 ∷ []
 
 abbrev pub sizesVerdict : ℕ → ℕ → ℕ → ℕ → Verdict
-sizesVerdict m t M L = designRules m t M then countRule L
+sizesVerdict m t M L = designRules m t M 0 then countRule L
 
 -- the place; r, n, k and G; bytes of a list, of the inverse, of the information and of the redundancy; working bytes of the kit checker, of the maker of
 -- an inverse, of the encoders, of the word checker, of the decoders and of the self test; bytes of a row of the inverse

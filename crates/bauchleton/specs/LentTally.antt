@@ -2,11 +2,14 @@
 --   tallyIn                   the totals of a slice
 --   tallyLength               place 9 of rule 6
 --   lentVerdict               the decoder's rules with the report's and the tally's lengths, the last of rule 6, and with rule 16
+--   lengthFirst               rule 6 at place 9 for a refusal by a later rule: a step of the code, which no promise names
 --   LentTally, lentTallyCall  the answer of a decode, and what it leaves
 --   reportVerdict, reportAnswer   a report
 -- Assumes nothing.
+use mathlib.Core.Bool.{cond}
 use mathlib.Core.List.{List, [], _∷_}
 use Prim.Native.Nat.{ℕ}
+use lib.Dec.{ltb}
 use lib.ListN.{length, getD}
 use Rattle.staircase.specs.Frame.{frameOf}
 use Rattle.staircase.specs.Rules.{Verdict, _then_, lengthRule}
@@ -27,6 +30,10 @@ tallyLength l = lengthRule 9 (length l) 6
 
 unfoldable pub lentVerdict : List ℕ → List ℕ → Decode → Verdict
 lentVerdict report l x = numbersFor x then reportLength report then tallyLength l then bytesFor x then fullRule (tallyIn l)
+
+unfoldable pub lengthFirst : Verdict → Verdict
+lengthFirst accepted = refused 6 9
+lengthFirst (refused n p) = cond (ltb 6 n) (refused 6 9) (refused n p)
 
 pub record LentTally : Type 0 where
   pub corrected : Corrected

@@ -19,22 +19,22 @@ use Rattle.bauchleton.specs.Report.{reportLength}
 -- ---- the encoder
 
 unfoldable pub originalSizes : ℕ → ℕ → ℕ → ℕ → ℕ → Verdict
-originalSizes m t M L have = originalRules m t M then countRule L then lengthRule 4 have (infoLength (params m t M) L)
+originalSizes m t M L have = originalRules m t M 0 then countRule L then lengthRule 4 have (infoLength (params m t M 0) L)
 
 unfoldable pub originalEncodeReported : List ℕ → ℕ → ℕ → ℕ → ℕ → List ℕ → Written
 originalEncodeReported report m t M L l =
-    writtenBy (originalSizes m t M L (length l) then reportLength report then infoBits (params m t M) l) l (encoded (params m t M) L l)
+    writtenBy (originalSizes m t M L (length l) then reportLength report then infoBits (params m t M 0) l) l (encoded (params m t M 0) L l)
 
 -- ---- the decoder
 
 unfoldable pub originalDecodeSizes : ℕ → ℕ → ℕ → ℕ → ℕ → ℕ → ℕ → Verdict
 originalDecodeSizes m t M L k have work =
-    let s : Params = params m t M in
-    originalRules m t M then countRule L then roundsRule k then lengthRule 4 have (infoLength s L) then lengthRule 6 work (originalWork s L)
+    let s : Params = params m t M 0 in
+    originalRules m t M 0 then countRule L then roundsRule k then lengthRule 4 have (infoLength s L) then lengthRule 6 work (originalWork s L)
 
 unfoldable pub originalDecodeReported : List ℕ → ℕ → ℕ → ℕ → ℕ → ℕ → List ℕ → ℕ → CorrectedBuffer
 originalDecodeReported report m t M L k l work =
-    let s : Params = params m t M in
+    let s : Params = params m t M 0 in
     correctedBufferBy (originalDecodeSizes m t M L k (length l) work then reportLength report then bitRule 0 l) l (originalDecoded s L k l .frame .info)
     (originalCounts s L k l)
 

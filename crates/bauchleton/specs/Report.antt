@@ -3,14 +3,17 @@
 --   eightBytes, reportBytes     a number, and some numbers, as bytes
 --   checkReport                 what a call without counts reports
 --   reportLength                place 8 of rule 6
+--   lentLength                  what the code lends on: a step, which no promise names
 --   kitSizes, kitReported       the kit checker: its rules up to 6, and its verdict
 --   encodeSizes, encodeReported   the encoder: its rules up to 6, and its call
 --   batchSizes, batchReported   the encoder of several frames
 --   numbersFor, bytesFor, decodeReported   the decoder: its rules up to 6, those behind them, and its call
 --   windowNumbersFor, windowCallOf, windowReported   the decoder with a window
 -- Assumes nothing.
+use mathlib.Core.Bool.{cond}
 use mathlib.Core.List.{List, [], _∷_, _++_}
 use Prim.Native.Nat.{ℕ, _/_, _%_, _^_}
+use lib.Dec.{eqb}
 use lib.ListN.{length}
 use Rattle.staircase.specs.Lists.{tabulate}
 use Rattle.staircase.specs.Design.{Params, params}
@@ -39,17 +42,21 @@ checkReport v = placeOf v ∷ 0 ∷ 0 ∷ 0 ∷ 0 ∷ []
 abbrev pub reportLength : List ℕ → Verdict
 reportLength report = lengthRule 8 (length report) 40
 
+-- what a call lends on of n bytes: none where its report has another length, so that it refuses by rule 6 at the latest
+unfoldable pub lentLength : ℕ → ℕ → ℕ
+lentLength report n = cond (eqb report 40) n 0
+
 -- ---- the kit checker
 
 -- rules 1 to 3 and 6
 unfoldable pub kitSizes : ℕ → ℕ → ℕ → List ℕ → List ℕ → List ℕ → ℕ → Verdict
 kitSizes m t M self parity w work =
-    let s : Params = params m t M in
-    designRules m t M then kitLengths s self parity w then lengthRule 6 work (kitWork s)
+    let s : Params = params m t M 0 in
+    designRules m t M 0 then kitLengths s self parity w then lengthRule 6 work (kitWork s)
 
 unfoldable pub kitReported : List ℕ → ℕ → ℕ → ℕ → List ℕ → List ℕ → List ℕ → ℕ → Verdict
 kitReported report m t M self parity w work =
-    let s : Params = params m t M in
+    let s : Params = params m t M 0 in
     kitSizes m t M self parity w work then reportLength report then kitRules s (interleavers s self parity) w
 
 -- ---- the encoders
@@ -57,25 +64,25 @@ kitReported report m t M self parity w work =
 -- rules 1 to 4 and 6
 unfoldable pub encodeSizes : ℕ → ℕ → ℕ → ℕ → List ℕ → List ℕ → List ℕ → List ℕ → List ℕ → ℕ → Verdict
 encodeSizes m t M L self parity w info red work =
-    let s : Params = params m t M in
-    designRules m t M then countRule L then kitLengths s self parity w then frameLengths s L info red then lengthRule 6 work (kitWork s)
+    let s : Params = params m t M 0 in
+    designRules m t M 0 then countRule L then kitLengths s self parity w then frameLengths s L info red then lengthRule 6 work (kitWork s)
 
 unfoldable pub encodeReported : List ℕ → ℕ → ℕ → ℕ → ℕ → List ℕ → List ℕ → List ℕ → List ℕ → List ℕ → ℕ → Encoded
 encodeReported report m t M L self parity w info red work =
-    let s : Params = params m t M in
+    let s : Params = params m t M 0 in
     encodedBy (encodeSizes m t M L self parity w info red work then reportLength report then contentRules s (interleavers s self parity) w info) red
     (redundancy s (interleavers s self parity) w L info)
 
 -- rules 1 to 4, 17 and 6
 unfoldable pub batchSizes : ℕ → ℕ → ℕ → ℕ → ℕ → List ℕ → List ℕ → List ℕ → List ℕ → List ℕ → ℕ → Verdict
 batchSizes m t M L n self parity w info red work =
-    let s : Params = params m t M in
-    designRules m t M then countRule L then batchRule n
+    let s : Params = params m t M 0 in
+    designRules m t M 0 then countRule L then batchRule n
     then kitLengths s self parity w then batchLengths s L n info red then lengthRule 6 work (kitWork s)
 
 unfoldable pub batchReported : List ℕ → ℕ → ℕ → ℕ → ℕ → ℕ → List ℕ → List ℕ → List ℕ → List ℕ → List ℕ → ℕ → Encoded
 batchReported report m t M L n self parity w info red work =
-    let s : Params = params m t M in
+    let s : Params = params m t M 0 in
     encodedBy (batchSizes m t M L n self parity w info red work then reportLength report then contentRules s (interleavers s self parity) w info) red
     (batchRedundancy s (interleavers s self parity) w L n info)
 
@@ -84,14 +91,14 @@ batchReported report m t M L n self parity w info red work =
 -- rules 1 to 6
 unfoldable pub numbersFor : Decode → Verdict
 numbersFor x =
-    let s : Params = params (x .m) (x .t) (x .M) in
-    designRules (x .m) (x .t) (x .M) then countRule (x .L) then roundsRule (x .rounds)
+    let s : Params = params (x .m) (x .t) (x .M) (x .col) in
+    designRules (x .m) (x .t) (x .M) (x .col) then countRule (x .L) then roundsRule (x .rounds)
     then listLengths s (x .self) (x .parity) then frameLengths s (x .L) (x .info) (x .red) then lengthRule 6 (x .work) (decoderWork s (x .L))
 
 -- rules 7 and 10
 unfoldable pub bytesFor : Decode → Verdict
 bytesFor x =
-    let s : Params = params (x .m) (x .t) (x .M) in
+    let s : Params = params (x .m) (x .t) (x .M) (x .col) in
     listRule s (interleavers s (x .self) (x .parity)) then frameBits (x .info) (x .red)
 
 unfoldable pub decodeReported : List ℕ → Decode → Corrected
@@ -101,13 +108,13 @@ decodeReported report x =
 -- rules 1 to 5, 18 and 6
 unfoldable pub windowNumbersFor : ℕ → Decode → Verdict
 windowNumbersFor v x =
-    let s : Params = params (x .m) (x .t) (x .M) in
-    designRules (x .m) (x .t) (x .M) then countRule (x .L) then roundsRule (x .rounds) then windowRule v
+    let s : Params = params (x .m) (x .t) (x .M) (x .col) in
+    designRules (x .m) (x .t) (x .M) (x .col) then countRule (x .L) then roundsRule (x .rounds) then windowRule v
     then listLengths s (x .self) (x .parity) then frameLengths s (x .L) (x .info) (x .red) then lengthRule 6 (x .work) (decoderWork s (x .L))
 
 -- the decoder's call with a window of v groups
 abbrev pub windowCallOf : ℕ → Decode → Corrected
-windowCallOf v x = windowCall (x .m) (x .t) (x .M) (x .L) (x .rounds) v (x .self) (x .parity) (x .info) (x .red) (x .work)
+windowCallOf v x = windowCall (x .m) (x .t) (x .M) (x .col) (x .L) (x .rounds) v (x .self) (x .parity) (x .info) (x .red) (x .work)
 
 unfoldable pub windowReported : List ℕ → ℕ → Decode → Corrected
 windowReported report v x =

@@ -16,16 +16,12 @@ ghost use Rattle.show.specs.Answers.{partOf};
 ghost use Rattle.rules_verdict.specs.Number.{number, told};
 ghost use Rattle.bauchleton.specs.Answers.{wordsAnswer, correctedAnswer, showAnswer, shownPart, pasted};
 ghost use Rattle.bauchleton.specs.Report.{encodeReported, batchReported, decodeReported, windowReported, checkReport, reportBytes};
-use crate::refusals::refuse_batch;
-use crate::refusals::refuse_decode;
-use crate::reports::REPORT;
-use crate::reports::REPORT_PLACE;
+use crate::reports::lent_length;
 use crate::reports::report_check;
 use crate::reports::report_decoding;
 use crate::tells::tell_decoding;
 use crate::tells::tell_words;
 use encoder_batch::encode_batch;
-use rules::Lengths;
 use rules_verdict::of_check;
 use rules_verdict::tell_two;
 use show::Part;
@@ -72,18 +68,19 @@ pub extern "C" fn bauchleton_encode(
         (now (red .entry)) (length (now (work .entry))) in
         ⌜ (a ≡ number (e .verdict)) × (now (red .exit) ≡ e .red) × (now (report .exit) ≡ told (reportBytes (checkReport (e .verdict))) (now (report .entry))) ⌝ }
 {
-    if report.len() != REPORT {
-        let have = Lengths {
-            own: own.len(),
-            parity: parity.len(),
-            inverse: inverse.len(),
-            info: info.len(),
-            red: red.len(),
-            work: work.len(),
-        };
-        return of_check(refuse_batch(m, t, size, blocks, 1, have, REPORT_PLACE)).rule;
-    }
-    let c = encoder::encode(m, t, size, blocks, own, parity, inverse, info, red, work);
+    let n = lent_length(work.len(), report.len());
+    let c = encoder::encode(
+        m,
+        t,
+        size,
+        blocks,
+        own,
+        parity,
+        inverse,
+        info,
+        red,
+        &mut work[0..n],
+    );
     report_check(c, report)
 }
 
@@ -108,17 +105,7 @@ pub extern "C" fn bauchleton_encode_batch(
         (now (red .entry)) (length (now (work .entry))) in
         ⌜ (a ≡ number (e .verdict)) × (now (red .exit) ≡ e .red) × (now (report .exit) ≡ told (reportBytes (checkReport (e .verdict))) (now (report .entry))) ⌝ }
 {
-    if report.len() != REPORT {
-        let have = Lengths {
-            own: own.len(),
-            parity: parity.len(),
-            inverse: inverse.len(),
-            info: info.len(),
-            red: red.len(),
-            work: work.len(),
-        };
-        return of_check(refuse_batch(m, t, size, blocks, frames, have, REPORT_PLACE)).rule;
-    }
+    let n = lent_length(work.len(), report.len());
     let c = encode_batch(
         m,
         t,
@@ -130,7 +117,7 @@ pub extern "C" fn bauchleton_encode_batch(
         inverse,
         info,
         red,
-        work,
+        &mut work[0..n],
     );
     report_check(c, report)
 }
@@ -150,7 +137,7 @@ pub extern "C" fn bauchleton_check_words(
     answer: &mut [u64],
 ) -> u64
     ensures { λ a.
-        let w = wordsCall m t size blocks (now (own .entry)) (now (parity .entry)) (now (info .entry)) (now (red .entry))
+        let w = wordsCall m t size 0 blocks (now (own .entry)) (now (parity .entry)) (now (info .entry)) (now (red .entry))
         (length (now (work .entry))) in
         ⌜ (a ≡ number (w .verdict)) × (now (answer .exit) ≡ told (wordsAnswer w) (now (answer .entry))) ⌝ }
 {
@@ -174,23 +161,24 @@ pub extern "C" fn bauchleton_decode(
     report: &mut [u8],
 ) -> u64
     ensures { λ a.
-        let d = decodeReported (now (report .entry)) (decodeWith m t size blocks rounds (now (own .entry)) (now (parity .entry)) (now (info .entry)) (now (red .entry))
+        let d = decodeReported (now (report .entry)) (decodeWith m t size 0 blocks rounds (now (own .entry)) (now (parity .entry)) (now (info .entry)) (now (red .entry))
         (length (now (work .entry)))) in
         ⌜ (a ≡ number (d .verdict)) × (frameOf (now (info .exit)) (now (red .exit)) ≡ d .frame)
         × (now (report .exit) ≡ told (reportBytes (correctedAnswer d)) (now (report .entry))) ⌝ }
 {
-    if report.len() != REPORT {
-        let have = Lengths {
-            own: own.len(),
-            parity: parity.len(),
-            inverse: 0,
-            info: info.len(),
-            red: red.len(),
-            work: work.len(),
-        };
-        return of_check(refuse_decode(m, t, size, blocks, rounds, 1, have, REPORT_PLACE)).rule;
-    }
-    let a = decoder::decode(m, t, size, blocks, rounds, own, parity, info, red, work);
+    let n = lent_length(work.len(), report.len());
+    let a = decoder::decode(
+        m,
+        t,
+        size,
+        blocks,
+        rounds,
+        own,
+        parity,
+        info,
+        red,
+        &mut work[0..n],
+    );
     report_decoding(a, report)
 }
 
@@ -211,22 +199,12 @@ pub extern "C" fn bauchleton_decode_window(
     report: &mut [u8],
 ) -> u64
     ensures { λ a.
-        let d = windowReported (now (report .entry)) window (decodeWith m t size blocks rounds (now (own .entry)) (now (parity .entry)) (now (info .entry))
+        let d = windowReported (now (report .entry)) window (decodeWith m t size 0 blocks rounds (now (own .entry)) (now (parity .entry)) (now (info .entry))
         (now (red .entry)) (length (now (work .entry)))) in
         ⌜ (a ≡ number (d .verdict)) × (frameOf (now (info .exit)) (now (red .exit)) ≡ d .frame)
         × (now (report .exit) ≡ told (reportBytes (correctedAnswer d)) (now (report .entry))) ⌝ }
 {
-    if report.len() != REPORT {
-        let have = Lengths {
-            own: own.len(),
-            parity: parity.len(),
-            inverse: 0,
-            info: info.len(),
-            red: red.len(),
-            work: work.len(),
-        };
-        return of_check(refuse_decode(m, t, size, blocks, rounds, window, have, REPORT_PLACE)).rule;
-    }
+    let n = lent_length(work.len(), report.len());
     let a = decoder::decode_window(
         m,
         t,
@@ -238,7 +216,7 @@ pub extern "C" fn bauchleton_decode_window(
         parity,
         info,
         red,
-        work,
+        &mut work[0..n],
     );
     report_decoding(a, report)
 }
@@ -262,7 +240,7 @@ pub extern "C" fn bauchleton_loopback(
     answer: &mut [u64],
 ) -> u64
     ensures { λ a.
-        let l = loopbackCall m t size blocks rounds (now (own .entry)) (now (parity .entry)) (now (inverse .entry)) (now («info_errors» .entry))
+        let l = loopbackCall m t size 0 blocks rounds (now (own .entry)) (now (parity .entry)) (now (inverse .entry)) (now («info_errors» .entry))
         (now («red_errors» .entry)) (now (info .entry)) (now (red .entry)) (length (now (work .entry))) in
         ⌜ (a ≡ number (l .verdict)) × (frameOf (now (info .exit)) (now (red .exit)) ≡ l .frame)
         × (now (answer .exit) ≡ told (correctedAnswer l) (now (answer .entry))) ⌝ }
@@ -301,7 +279,7 @@ pub extern "C" fn bauchleton_show<'a>(
     answer: &mut [u64],
 ) -> u64
     ensures { λ a.
-        let s = showCall m t size blocks (shownPart kind which) (now (info .entry)) (now (red .entry)) in
+        let s = showCall m t size 0 blocks (shownPart kind which) (now (info .entry)) (now (red .entry)) in
         ⌜ (a ≡ number (s .verdict)) × (now (out .exit) ≡ pasted (s .bits) (now (out .entry)))
         × (now (answer .exit) ≡ told (showAnswer s) (now (answer .entry))) ⌝ }
 {

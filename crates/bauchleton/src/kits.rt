@@ -13,24 +13,20 @@ ghost use Rattle.staircase.specs.Spread.{spreadCall};
 ghost use Rattle.rules_verdict.specs.Number.{number, placeOf, told};
 ghost use Rattle.bauchleton.specs.Answers.{designAnswer};
 ghost use Rattle.bauchleton.specs.Report.{kitReported, checkReport, reportBytes};
-use crate::refusals::refuse_kit;
-use crate::reports::REPORT;
-use crate::reports::REPORT_PLACE;
+use crate::reports::lent_length;
 use crate::reports::report_check;
 use crate::tells::tell_check;
 use design::Design;
 use design::Designed;
-use rules::Lengths;
 use rules_verdict::Judged;
-use rules_verdict::of_check;
 use rules_verdict::of_refusal;
 use rules_verdict::tell_four;
 
 // Judges a design. `answer` has four entries: the place, r, n and k.
 #[no_mangle]
 pub extern "C" fn bauchleton_design(m: u64, t: u64, size: u64, answer: &mut [u64]) -> u64
-    ensures { λ a. ⌜ (a ≡ number (designRules m t size))
-        × (now (answer .exit) ≡ told (designAnswer (designRules m t size) (params m t size)) (now (answer .entry))) ⌝ }
+    ensures { λ a. ⌜ (a ≡ number (designRules m t size 0))
+        × (now (answer .exit) ≡ told (designAnswer (designRules m t size 0) (params m t size 0)) (now (answer .entry))) ⌝ }
 {
     match Design::new(m, t, size) {
         Designed::Made(d) => tell_four(
@@ -60,18 +56,8 @@ pub extern "C" fn bauchleton_check_kit(
         let v = kitReported (now (report .entry)) m t size (now (own .entry)) (now (parity .entry)) (now (inverse .entry)) (length (now (work .entry))) in
         ⌜ (a ≡ number v) × (now (report .exit) ≡ told (reportBytes (checkReport v)) (now (report .entry))) ⌝ }
 {
-    if report.len() != REPORT {
-        let have = Lengths {
-            own: own.len(),
-            parity: parity.len(),
-            inverse: inverse.len(),
-            info: 0,
-            red: 0,
-            work: work.len(),
-        };
-        return of_check(refuse_kit(m, t, size, have, REPORT_PLACE)).rule;
-    }
-    let c = kit::check_kit(m, t, size, own, parity, inverse, work);
+    let n = lent_length(work.len(), report.len());
+    let c = kit::check_kit(m, t, size, own, parity, inverse, &mut work[0..n]);
     report_check(c, report)
 }
 
@@ -88,7 +74,7 @@ pub extern "C" fn bauchleton_make_inverse(
     answer: &mut [u64],
 ) -> u64
     ensures { λ a.
-        let c = makeCall m t size (now (own .entry)) (now (parity .entry)) (now (inverse .entry)) (length (now (work .entry))) in
+        let c = makeCall m t size 0 (now (own .entry)) (now (parity .entry)) (now (inverse .entry)) (length (now (work .entry))) in
         ⌜ (a ≡ number (c .verdict)) × (now (inverse .exit) ≡ c .inverse) × (now (answer .exit) ≡ told (placeOf (c .verdict) ∷ []) (now (answer .entry))) ⌝ }
 {
     let c = kit_maker::make_inverse(m, t, size, own, parity, inverse, work);
@@ -106,7 +92,7 @@ pub extern "C" fn bauchleton_spread_lists(
     answer: &mut [u64],
 ) -> u64
     ensures { λ a.
-        let c = spreadCall m t size (now (own .entry)) (now (parity .entry)) in
+        let c = spreadCall m t size 0 (now (own .entry)) (now (parity .entry)) in
         ⌜ (a ≡ number (c .verdict)) × (now (own .exit) ≡ c .self) × (now (parity .exit) ≡ c .parity)
         × (now (answer .exit) ≡ told (placeOf (c .verdict) ∷ []) (now (answer .entry))) ⌝ }
 {

@@ -7,7 +7,6 @@
 //   loads    bauchleton_load_fill, bauchleton_load_errors, bauchleton_load_run
 //   tallies  bauchleton_decode_tallied, bauchleton_report
 //   reports  the 40 bytes that the kit checker, the encoders and the decoders fill
-//   refusals what they answer when a slice that only a host in C lends has another length
 //   tells    what an answer tells a host
 //
 // Each call answers 0, or the number of the rule of document 01's table that refuses. The kit checker, the encoders and the decoders are lent `report`, 40
@@ -17,7 +16,6 @@ mod calls;
 mod kits;
 mod loads;
 mod originals;
-mod refusals;
 mod reports;
 mod sizes;
 mod tallies;

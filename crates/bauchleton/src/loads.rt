@@ -36,7 +36,7 @@ pub extern "C" fn bauchleton_load_fill(
     answer: &mut [u64],
 ) -> u64
     ensures { λ a.
-        let f = fillCall m t size blocks seed (now (info .entry)) in
+        let f = fillCall m t size 0 blocks seed (now (info .entry)) in
         ⌜ (a ≡ number (f .verdict)) × (now (info .exit) ≡ f .info)
         × (now (answer .exit) ≡ told (placeOf (f .verdict) ∷ f .state ∷ []) (now (answer .entry))) ⌝ }
 {
@@ -58,7 +58,7 @@ pub extern "C" fn bauchleton_load_errors(
     answer: &mut [u64],
 ) -> u64
     ensures { λ a.
-        let e = errorsCall m t size blocks seed limit (now (info .entry)) (now (red .entry)) in
+        let e = errorsCall m t size 0 blocks seed limit (now (info .entry)) (now (red .entry)) in
         ⌜ (a ≡ number (e .verdict)) × (frameOf (now (info .exit)) (now (red .exit)) ≡ e .frame)
         × (now (answer .exit) ≡ told (placeOf (e .verdict) ∷ e .state ∷ []) (now (answer .entry))) ⌝ }
 {
@@ -80,7 +80,7 @@ pub extern "C" fn bauchleton_load_run(
     answer: &mut [u64],
 ) -> u64
     ensures { λ a.
-        let r = runCall m t size blocks place length (now (info .entry)) (now (red .entry)) in
+        let r = runCall m t size 0 blocks place length (now (info .entry)) (now (red .entry)) in
         ⌜ (a ≡ number (r .verdict)) × (frameOf (now (info .exit)) (now (red .exit)) ≡ r .frame)
         × (now (answer .exit) ≡ told (placeOf (r .verdict) ∷ []) (now (answer .entry))) ⌝ }
 {

@@ -2,29 +2,40 @@
 // the refusal's place, rounds made, bits turned, words outside the code at the end, and stuck words of the last round made; 0 for what a call lacks.
 //   put_number        stores a number into eight bytes
 //   put_report, put_place   store a place and what a decode counts, or a place alone
+//   lent_length       what a call lends on of its last slice
 //   report_check      reports a check's verdict
 //   report_decoding   reports the decoder's answer
 //
-// A report of another length is left as it was: it has place 8 in rule 6, which each call judges behind the places of its other slices (module refusals).
+// A report of another length is left as it was, and refused by rule 6 at place 8, behind the places of a call's other slices. Its host sees the number of the
+// rule alone. So the call is made with nothing for a slice that is never due 0 bytes: it refuses by one of the same rules, by rule 6 at the latest, and
+// writes nothing.
 ghost use mathlib.Core.Path.{_≡_};
 ghost use mathlib.Core.List.{[], _∷_};
+ghost use Prim.Native.Nat.{_≤_};
 ghost use lib.ListN.{length};
 ghost use Rattle.staircase.specs.Frame.{Frame};
-ghost use Rattle.design.specs.Answers.{verdictOf};
-ghost use Rattle.decoder.specs.Answers.{correctedOf};
+ghost use Rattle.answers.specs.Answers.{verdictOf, correctedOf};
 ghost use Rattle.rules_verdict.specs.Number.{number, told};
 ghost use Rattle.bauchleton.specs.Answers.{correctedAnswer};
-ghost use Rattle.bauchleton.specs.Report.{eightBytes, reportBytes, checkReport};
-use decoder::Counts;
-use decoder::Decoding;
-use design::Check;
+ghost use Rattle.bauchleton.specs.Report.{eightBytes, reportBytes, checkReport, lentLength};
+use answers::Check;
+use answers::Counts;
+use answers::Decoding;
 use rules_verdict::of_check;
 use rules_verdict::of_refusal;
 
-// The bytes of a report, and its place in rule 6.
-pub const REPORT: usize = 40;
+// The bytes of a report.
+const REPORT: usize = 40;
 
-pub const REPORT_PLACE: u64 = 8;
+// What a call with a report of `report` bytes lends on of a slice of n bytes: all of it, or nothing where the report has another length.
+pub fn lent_length(n: usize, report: usize) -> usize
+    ensures { λ a. ⌜ (a ≡ lentLength report n) × (a ≤ n) ⌝ }
+{
+    if report != REPORT {
+        return 0;
+    }
+    n
+}
 
 // Stores a number into eight bytes, low byte first.
 fn put_number(part: &mut [u8], n: u64)

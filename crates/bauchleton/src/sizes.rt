@@ -5,11 +5,12 @@ ghost use mathlib.Core.List.{_∷_};
 ghost use Prim.Native.Nat.{_≤_};
 ghost use Rattle.staircase.specs.Design.{params, most-blocks};
 ghost use Rattle.staircase.specs.Rules.Verdict.{accepted};
-ghost use Rattle.design.specs.Answers.{verdictOf, Allowed};
+ghost use Rattle.design.specs.Answers.{Allowed};
 ghost use Rattle.design.specs.Sizes.{paramsOf};
 ghost use Rattle.rules_verdict.specs.Number.{number, placeOf, told};
 ghost use Rattle.bauchleton.specs.FrameSizes.{noSizes, sizesVerdict, sizesAnswer, sizesTold};
-use design::Check;
+ghost use Rattle.answers.specs.Answers.{verdictOf};
+use answers::Check;
 use design::Design;
 use design::Designed;
 use rules_verdict::Judged;
@@ -127,7 +128,7 @@ pub extern "C" fn bauchleton_sizes(
 ) -> u64
     ensures { λ a.
         let v = sizesVerdict m t size blocks in
-        ⌜ (a ≡ number v) × (now (answer .exit) ≡ told (sizesAnswer v (params m t size) blocks) (now (answer .entry))) ⌝ }
+        ⌜ (a ≡ number v) × (now (answer .exit) ≡ told (sizesAnswer v (params m t size 0) blocks) (now (answer .entry))) ⌝ }
 {
     let designed = Design::new(m, t, size);
     let Designed::Made(d) = designed else {

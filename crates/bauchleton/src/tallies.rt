@@ -7,25 +7,28 @@
 ghost use mathlib.Core.Path.{_≡_};
 ghost use mathlib.Core.List.{[], _∷_};
 ghost use lib.ListN.{length};
-ghost use Rattle.staircase.specs.Frame.{frameOf};
+ghost use Rattle.staircase.specs.Frame.{Frame, frameOf};
 ghost use Rattle.staircase.specs.Tally.{decodeWith, totals};
+ghost use Rattle.answers.specs.Answers.{correctedOf, refusedFrame};
 ghost use Rattle.tally.specs.Answers.{totalsOf};
 ghost use Rattle.rules_verdict.specs.Number.{number, told};
 ghost use Rattle.bauchleton.specs.Answers.{correctedAnswer};
 ghost use Rattle.bauchleton.specs.Report.{reportBytes};
-ghost use Rattle.bauchleton.specs.LentTally.{tallyIn, tallyLength, lentTallyCall, reportAnswer};
-use crate::refusals::refuse_decode;
-use crate::reports::REPORT;
-use crate::reports::REPORT_PLACE;
+ghost use Rattle.bauchleton.specs.LentTally.{tallyIn, tallyLength, lengthFirst, lentTallyCall, reportAnswer};
+use crate::reports::lent_length;
 use crate::reports::report_decoding;
-use rules::Lengths;
+use answers::Check;
+use answers::Decoding;
+use answers::Refusal;
 use rules_verdict::Judged;
-use rules_verdict::of_check;
+use rules_verdict::of_refusal;
 use tally::Tally;
 use tally::TallyReport;
 
-// The totals of a tally, and the place of its slice in rule 6.
+// The totals of a tally, and the number of the rule on lengths, with the place of its slice there.
 const TOTALS: usize = 6;
+
+const LENGTH: u64 = 6;
 
 const PLACE: u64 = 9;
 
@@ -57,6 +60,19 @@ fn put_totals(tally: Tally, out: &mut [u64])
     out[5] = tally.stuck;
 }
 
+// What a decode answers whose tally has another length, from what it answers with that refusal as its last: a rule after 6 comes too late.
+fn length_first(a: Decoding) -> Decoding
+    ensures { λ b. ⌜ ((f : Frame) → correctedOf b f ≡ refusedFrame (lengthFirst (correctedOf a f .verdict)) f) ⌝ }
+{
+    let Decoding::Refused(r) = a else {
+        return Decoding::Refused(Refusal::Length(PLACE));
+    };
+    if LENGTH < of_refusal(r).rule {
+        return Decoding::Refused(Refusal::Length(PLACE));
+    }
+    a
+}
+
 // Corrects a frame in place, brings the lent tally up to date, and reports as the decoder does.
 #[no_mangle]
 pub extern "C" fn bauchleton_decode_tallied(
@@ -74,25 +90,29 @@ pub extern "C" fn bauchleton_decode_tallied(
     report: &mut [u8],
 ) -> u64
     ensures { λ a.
-        let d = lentTallyCall (now (report .entry)) (now (tally .entry)) (decodeWith m t size blocks rounds (now (own .entry)) (now (parity .entry))
+        let d = lentTallyCall (now (report .entry)) (now (tally .entry)) (decodeWith m t size 0 blocks rounds (now (own .entry)) (now (parity .entry))
         (now (info .entry)) (now (red .entry)) (length (now (work .entry)))) in
         ⌜ (a ≡ number (d .corrected .verdict)) × (frameOf (now (info .exit)) (now (red .exit)) ≡ d .corrected .frame) × (now (tally .exit) ≡ d .tally)
         × (now (report .exit) ≡ told (reportBytes (correctedAnswer (d .corrected))) (now (report .entry))) ⌝ }
 {
-    let have = Lengths {
-        own: own.len(),
-        parity: parity.len(),
-        inverse: 0,
-        info: info.len(),
-        red: red.len(),
-        work: work.len(),
-    };
-    if report.len() != REPORT {
-        return of_check(refuse_decode(m, t, size, blocks, rounds, 1, have, REPORT_PLACE)).rule;
-    }
+    let n = lent_length(work.len(), report.len());
     if tally.len() != TOTALS {
-        let refused = refuse_decode(m, t, size, blocks, rounds, 1, have, PLACE);
-        return report_decoding(decoder::refused_frame(refused), report);
+        let last = Check::Refused(Refusal::Length(PLACE));
+        let a = decoder::decode_with_col(
+            last,
+            m,
+            t,
+            size,
+            0,
+            blocks,
+            rounds,
+            own,
+            parity,
+            info,
+            red,
+            &mut work[0..n],
+        );
+        return report_decoding(length_first(a), report);
     }
     let x = tally::decode_counted(
         tally_in(&tally[..]),
@@ -105,7 +125,7 @@ pub extern "C" fn bauchleton_decode_tallied(
         parity,
         info,
         red,
-        work,
+        &mut work[0..n],
     );
     let decoding = x.decoding;
     put_totals(x.tally, tally);

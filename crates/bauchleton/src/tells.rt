@@ -5,20 +5,18 @@
 ghost use mathlib.Core.Path.{_≡_};
 ghost use mathlib.Core.List.{[], _∷_};
 ghost use Rattle.staircase.specs.Frame.{Frame};
-ghost use Rattle.design.specs.Answers.{verdictOf};
-ghost use Rattle.words.specs.Checks.{countedOf};
-ghost use Rattle.decoder.specs.Answers.{correctedOf};
+ghost use Rattle.answers.specs.Answers.{verdictOf, countedOf, correctedOf};
 ghost use Rattle.rules_verdict.specs.Number.{number, placeOf, told};
 ghost use Rattle.bauchleton.specs.Answers.{wordsAnswer, correctedAnswer};
-use decoder::Decoding;
-use design::Check;
+use answers::Check;
+use answers::Decoding;
+use answers::WordCount;
 use rules_verdict::Judged;
 use rules_verdict::of_check;
 use rules_verdict::of_refusal;
 use rules_verdict::tell_five;
 use rules_verdict::tell_place;
 use rules_verdict::tell_two;
-use words::WordCount;
 
 // Tells a check's verdict.
 pub fn tell_check(c: Check, answer: &mut [u64]) -> u64

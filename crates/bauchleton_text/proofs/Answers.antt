@@ -15,8 +15,8 @@ use Rattle.staircase.specs.Rules.Verdict.{accepted, refused}
 use Rattle.design.specs.declared.Design.{Design}
 use Rattle.design.specs.declared.Designed.{Designed}
 use Rattle.design.specs.declared.Designed.the-variants as designed
-use Rattle.design.specs.declared.Refusal.{Refusal}
-use Rattle.design.specs.Answers.{refusalVerdict, designVerdict, DesignIs, Allowed}
+use Rattle.answers.specs.declared.Refusal.{Refusal}
+use Rattle.design.specs.Answers.{designVerdict, DesignIs, Allowed}
 use Rattle.rules_verdict.specs.declared.Judged.{Judged}
 use Rattle.rules_verdict.specs.Number.{number, judgedOf, told}
 use Rattle.rules_verdict.proofs.Refused.{refusal-judged}
@@ -30,6 +30,7 @@ use Rattle.text_frame.specs.Answers.{blocksVerdict, CountIs}
 use Rattle.text.specs.FrameReader.{blockRule, blockCount, blockInfo, readBlocksCall, frameRule, frameCount, frameInfo, frameRed, readFrameCall}
 use Rattle.text.specs.Rules.{kept}
 use Rattle.bauchleton_text.specs.Answers.{kitAnswer, blocksAnswer, scanBlocksFor, readBlocksFor, scanFrameFor, readFrameFor}
+use Rattle.answers.specs.Answers.{refusalVerdict}
 
 pub told-by : (answer : Verdict → List ℕ) (l : List ℕ) {u v : Verdict} {n : ℕ} {k : List ℕ} → u ≡ v → (n ≡ number u) × (k ≡ told (answer u) l)
     → (n ≡ number v) × (k ≡ told (answer v) l)
@@ -41,7 +42,7 @@ pub kit-made : (l : List ℕ) {a : KitScan} (d : Design) {n : ℕ} {k : List ℕ
     → (s : List ℕ) → KitDesign a s → (n ≡ number (kitScanVerdict a)) × (k ≡ told (kitAnswer (kitScanVerdict a) s) l)
 unfolding number kitScanVerdict KitDesign kitAnswer
 kit-made l d e (hn, hk) s is =
-    let q : (d .m ≡ headNumber s 0) × (d .t ≡ headNumber s 1) × (d .size ≡ headNumber s 2) × Allowed d = subst (λ (x : KitScan). KitDesign x s) e is in
+    let q : (d .m ≡ headNumber s 0) × (d .t ≡ headNumber s 1) × (d .size ≡ headNumber s 2) × (d .col ≡ 0) × Allowed d = subst (λ (x : KitScan). KitDesign x s) e is in
     let em : d .m ≡ headNumber s 0 = q .0 in
     let et : d .t ≡ headNumber s 1 = q .1 in
     let eM : d .size ≡ headNumber s 2 = q .2 in
@@ -92,20 +93,20 @@ blocks-broken l {a = a} p e h L = blocks-rule l (blocksVerdict a) (ap blocksVerd
 -- ---- rules 1 to 3
 
 pub record Fits (d : Design) (m t M : ℕ) : Type 0 where
-  pub allowed : designRules m t M ≡ accepted
+  pub allowed : designRules m t M 0 ≡ accepted
   pub r : d .m * d .t ≡ m * t
   pub size : d .size ≡ M
 
-pub made-fits : {x : Designed} (d : Design) (m t M : ℕ) → x ≡ designed.Made d → designVerdict x ≡ designRules m t M → DesignIs x m t M → Fits d m t M
+pub made-fits : {x : Designed} (d : Design) (m t M : ℕ) → x ≡ designed.Made d → designVerdict x ≡ designRules m t M 0 → DesignIs x m t M 0 → Fits d m t M
 unfolding designVerdict DesignIs
 made-fits d m t M e v is =
-    let q : (d .m ≡ m) × (d .t ≡ t) × (d .size ≡ M) = subst (λ (x : Designed). DesignIs x m t M) e is in
+    let q : (d .m ≡ m) × (d .t ≡ t) × (d .size ≡ M) × (d .col ≡ 0) = subst (λ (x : Designed). DesignIs x m t M 0) e is in
     let em : d .m ≡ m = q .0 in
     let et : d .t ≡ t = q .1 in
     record { allowed = sym v ∙ ap designVerdict e; r = cc; size = q .2 }
 
-pub refused-design : {x : Designed} (r : Refusal) (j : Judged) (m t M : ℕ) → x ≡ designed.Refused r → designVerdict x ≡ designRules m t M
-    → j ≡ judgedOf (refusalVerdict r) → designRules m t M ≡ refused (j .rule) (j .place)
+pub refused-design : {x : Designed} (r : Refusal) (j : Judged) (m t M : ℕ) → x ≡ designed.Refused r → designVerdict x ≡ designRules m t M 0
+    → j ≡ judgedOf (refusalVerdict r) → designRules m t M 0 ≡ refused (j .rule) (j .place)
 unfolding designVerdict
 refused-design r j m t M e v i = sym v ∙ ap designVerdict e ∙ refusal-judged r j i
 
@@ -139,30 +140,30 @@ fits g {d = d} {m = m} {t = t} f = ap (λ (z : ℕ). g z (d .m * d .t)) (f .size
 -- ---- block text
 
 module _ (l s : List ℕ) where
-  pub scan-blocks-refused : (m t M : ℕ) {rule place n : ℕ} {k : List ℕ} → designRules m t M ≡ refused rule place
+  pub scan-blocks-refused : (m t M : ℕ) {rule place n : ℕ} {k : List ℕ} → designRules m t M 0 ≡ refused rule place
       → (n ≡ rule) × (k ≡ told (place ∷ 0 ∷ []) l)
       → (n ≡ number (scanBlocksFor m t M s)) × (k ≡ told (blocksAnswer (scanBlocksFor m t M s) (blockCount M s)) l)
   unfolding scanBlocksFor
-  scan-blocks-refused m t M e h = behind-refused l (designRules m t M) (blockRule M s) (blockCount M s) e h
+  scan-blocks-refused m t M e h = behind-refused l (designRules m t M 0) (blockRule M s) (blockCount M s) e h
 
   pub scan-blocks-made : (b : Blocks) {d : Design} {m t M : ℕ} {n : ℕ} {k : List ℕ} → Fits d m t M → blocksVerdict b ≡ blockRule (d .size) s
       → CountIs b (blockCount (d .size) s) → Tells b n k l
       → (n ≡ number (scanBlocksFor m t M s)) × (k ≡ told (blocksAnswer (scanBlocksFor m t M s) (blockCount M s)) l)
   unfolding scanBlocksFor
   scan-blocks-made b {m = m} {t = t} {M = M} f v is tell =
-      behind-made l (designRules m t M) (blockRule M s) (blockCount M s) b (f .allowed) (v ∙ fits (λ (x y : ℕ). blockRule x s) f)
+      behind-made l (designRules m t M 0) (blockRule M s) (blockCount M s) b (f .allowed) (v ∙ fits (λ (x y : ℕ). blockRule x s) f)
       (subst (CountIs b) (fits (λ (x y : ℕ). blockCount x s) f) is) tell
 
   module _ (info : List ℕ) where
-    pub read-blocks-refused : (m t M : ℕ) {rule place n : ℕ} {k : List ℕ} → designRules m t M ≡ refused rule place
+    pub read-blocks-refused : (m t M : ℕ) {rule place n : ℕ} {k : List ℕ} → designRules m t M 0 ≡ refused rule place
         → (n ≡ rule) × (k ≡ told (place ∷ 0 ∷ []) l)
         → (n ≡ number (readBlocksFor m t M s info .verdict)) × (info ≡ readBlocksFor m t M s info .info)
         × (k ≡ told (blocksAnswer (readBlocksFor m t M s info .verdict) (blockCount M s)) l)
     unfolding readBlocksFor
     read-blocks-refused m t M e h =
         let v : Verdict = readBlocksCall M s info .verdict in
-        let q = behind-refused l (designRules m t M) v (blockCount M s) e h in
-        (q .0, kept-old (designRules m t M) v (blockInfo M s) info e, q .1)
+        let q = behind-refused l (designRules m t M 0) v (blockCount M s) e h in
+        (q .0, kept-old (designRules m t M 0) v (blockInfo M s) info e, q .1)
 
     pub read-blocks-made : (b : Blocks) {left : List ℕ} {d : Design} {m t M : ℕ} {n : ℕ} {k : List ℕ} → Fits d m t M
         → blocksVerdict b ≡ readBlocksCall (d .size) s info .verdict → CountIs b (blockCount (d .size) s)
@@ -172,34 +173,34 @@ module _ (l s : List ℕ) where
     unfolding readBlocksFor readBlocksCall
     read-blocks-made b {m = m} {t = t} {M = M} f v is h tell =
         let w : Verdict = readBlocksCall M s info .verdict in
-        let q = behind-made l (designRules m t M) w (blockCount M s) b (f .allowed) (v ∙ fits (λ (x y : ℕ). readBlocksCall x s info .verdict) f)
+        let q = behind-made l (designRules m t M 0) w (blockCount M s) b (f .allowed) (v ∙ fits (λ (x y : ℕ). readBlocksCall x s info .verdict) f)
         (subst (CountIs b) (fits (λ (x y : ℕ). blockCount x s) f) is) tell in
-        (q .0, h ∙ fits (λ (x y : ℕ). readBlocksCall x s info .info) f ∙ kept-on (designRules m t M) w (blockInfo M s) info (f .allowed), q .1)
+        (q .0, h ∙ fits (λ (x y : ℕ). readBlocksCall x s info .info) f ∙ kept-on (designRules m t M 0) w (blockInfo M s) info (f .allowed), q .1)
 
   -- ---- frame text
 
-  pub scan-frame-refused : (m t M : ℕ) {rule place n : ℕ} {k : List ℕ} → designRules m t M ≡ refused rule place
+  pub scan-frame-refused : (m t M : ℕ) {rule place n : ℕ} {k : List ℕ} → designRules m t M 0 ≡ refused rule place
       → (n ≡ rule) × (k ≡ told (place ∷ 0 ∷ []) l)
       → (n ≡ number (scanFrameFor m t M s)) × (k ≡ told (blocksAnswer (scanFrameFor m t M s) (frameCount M (m * t) s)) l)
   unfolding scanFrameFor
-  scan-frame-refused m t M e h = behind-refused l (designRules m t M) (frameRule M (m * t) s) (frameCount M (m * t) s) e h
+  scan-frame-refused m t M e h = behind-refused l (designRules m t M 0) (frameRule M (m * t) s) (frameCount M (m * t) s) e h
 
   pub scan-frame-made : (b : Blocks) {d : Design} {m t M : ℕ} {n : ℕ} {k : List ℕ} → Fits d m t M
       → blocksVerdict b ≡ frameRule (d .size) (d .m * d .t) s → CountIs b (frameCount (d .size) (d .m * d .t) s) → Tells b n k l
       → (n ≡ number (scanFrameFor m t M s)) × (k ≡ told (blocksAnswer (scanFrameFor m t M s) (frameCount M (m * t) s)) l)
   unfolding scanFrameFor
   scan-frame-made b {m = m} {t = t} {M = M} f v is tell =
-      behind-made l (designRules m t M) (frameRule M (m * t) s) (frameCount M (m * t) s) b (f .allowed) (v ∙ fits (λ (x y : ℕ). frameRule x y s) f)
+      behind-made l (designRules m t M 0) (frameRule M (m * t) s) (frameCount M (m * t) s) b (f .allowed) (v ∙ fits (λ (x y : ℕ). frameRule x y s) f)
       (subst (CountIs b) (fits (λ (x y : ℕ). frameCount x y s) f) is) tell
 
   module _ (info red : List ℕ) where
-    pub read-frame-refused : (m t M : ℕ) {rule place n : ℕ} {k : List ℕ} → designRules m t M ≡ refused rule place
+    pub read-frame-refused : (m t M : ℕ) {rule place n : ℕ} {k : List ℕ} → designRules m t M 0 ≡ refused rule place
         → (n ≡ rule) × (k ≡ told (place ∷ 0 ∷ []) l)
         → (n ≡ number (readFrameFor m t M s info red .verdict)) × (info ≡ readFrameFor m t M s info red .info) × (red ≡ readFrameFor m t M s info red .red)
         × (k ≡ told (blocksAnswer (readFrameFor m t M s info red .verdict) (frameCount M (m * t) s)) l)
     unfolding readFrameFor
     read-frame-refused m t M e h =
-        let u : Verdict = designRules m t M in
+        let u : Verdict = designRules m t M 0 in
         let v : Verdict = readFrameCall M (m * t) s info red .verdict in
         let q = behind-refused l u v (frameCount M (m * t) s) e h in
         (q .0, kept-old u v (frameInfo M (m * t) s) info e, kept-old u v (frameRed M (m * t) s) red e, q .1)
@@ -212,7 +213,7 @@ module _ (l s : List ℕ) where
         × (k ≡ told (blocksAnswer (readFrameFor m t M s info red .verdict) (frameCount M (m * t) s)) l)
     unfolding readFrameFor readFrameCall
     read-frame-made b {m = m} {t = t} {M = M} f v is hi hr tell =
-        let u : Verdict = designRules m t M in
+        let u : Verdict = designRules m t M 0 in
         let w : Verdict = readFrameCall M (m * t) s info red .verdict in
         let a : u ≡ accepted = f .allowed in
         let q = behind-made l u w (frameCount M (m * t) s) b a (v ∙ fits (λ (x y : ℕ). readFrameCall x y s info red .verdict) f)

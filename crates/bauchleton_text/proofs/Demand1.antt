@@ -18,9 +18,9 @@ use Rattle.text.proofs.Demand1.{scanKit-demand1, readKit-demand1, textLength-de
 use Rattle.bauchleton_text.specs.Answers.{scanBlocksFor, readBlocksFor, scanFrameFor, readFrameFor}
 
 -- rules 1 to 3, and then others
-for-byTable : (rules : List ℕ) (m t M : ℕ) (v : Verdict) → ByTable rules v → ByTable (1 ∷ 2 ∷ 3 ∷ rules) (designRules m t M then v)
+for-byTable : (rules : List ℕ) (m t M : ℕ) (v : Verdict) → ByTable rules v → ByTable (1 ∷ 2 ∷ 3 ∷ rules) (designRules m t M 0 then v)
 for-byTable rules m t M v b =
-    byTable-then (1 ∷ 2 ∷ 3 ∷ rules) (designRules m t M) v (design-byTable (1 ∷ 2 ∷ 3 ∷ rules) refl refl refl m t M)
+    byTable-then (1 ∷ 2 ∷ 3 ∷ rules) (designRules m t M 0) v (design-byTable (1 ∷ 2 ∷ 3 ∷ rules) refl refl refl m t M 0)
     (λ d. byTable-front (1 ∷ 2 ∷ 3 ∷ []) rules v b)
 
 pub bauchleton-scan-kit-demand1 : (s : List ℕ) → Demand1C (1 ∷ 2 ∷ 3 ∷ 11 ∷ []) (number (scanKit s)) (placeOf (scanKit s)) [] []
@@ -61,7 +61,7 @@ module _ (m t M : ℕ) (s info red : List ℕ) where
       demand1-number _ _ _ _
       (record {
         byTable = for-byTable (6 ∷ 12 ∷ []) m t M v (readBlocks-demand1 M s info .byTable);
-        untouched = λ h. ap (λ (z : List ℕ). z ∷ []) (kept-old (designRules m t M then v) (blockInfo M s) info h);
+        untouched = λ h. ap (λ (z : List ℕ). z ∷ []) (kept-old (designRules m t M 0 then v) (blockInfo M s) info h);
       })
 
   pub bauchleton-read-frame-demand1 :
@@ -74,5 +74,5 @@ module _ (m t M : ℕ) (s info red : List ℕ) where
       (record {
         byTable = for-byTable (6 ∷ 12 ∷ []) m t M v (readFrame-demand1 M (m * t) s info red .byTable);
         untouched = λ h i.
-            kept-old (designRules m t M then v) (frameInfo M (m * t) s) info h i ∷ kept-old (designRules m t M then v) (frameRed M (m * t) s) red h i ∷ [];
+            kept-old (designRules m t M 0 then v) (frameInfo M (m * t) s) info h i ∷ kept-old (designRules m t M 0 then v) (frameRed M (m * t) s) red h i ∷ [];
       })

@@ -31,20 +31,20 @@ lengthAnswer c = placeOf (c .verdict) ∷ c .length ∷ []
 
 -- rules 1 to 3, then 12
 unfoldable pub scanBlocksFor : ℕ → ℕ → ℕ → List ℕ → Verdict
-scanBlocksFor m t M s = designRules m t M then blockRule M s
+scanBlocksFor m t M s = designRules m t M 0 then blockRule M s
 
 -- rules 1 to 3, then 12, then 6; a refused call leaves what it was lent
 unfoldable pub readBlocksFor : ℕ → ℕ → ℕ → List ℕ → List ℕ → BlocksRead
 readBlocksFor m t M s info =
-    let v : Verdict = designRules m t M then (readBlocksCall M s info .verdict) in
+    let v : Verdict = designRules m t M 0 then (readBlocksCall M s info .verdict) in
     record { verdict = v; info = kept v (blockInfo M s) info }
 
 -- the same for frame text, where "12 covers both texts"
 unfoldable pub scanFrameFor : ℕ → ℕ → ℕ → List ℕ → Verdict
-scanFrameFor m t M s = designRules m t M then frameRule M (m * t) s
+scanFrameFor m t M s = designRules m t M 0 then frameRule M (m * t) s
 
 -- and with rule 6 for both buffers
 unfoldable pub readFrameFor : ℕ → ℕ → ℕ → List ℕ → List ℕ → List ℕ → FrameRead
 readFrameFor m t M s info red =
-    let v : Verdict = designRules m t M then (readFrameCall M (m * t) s info red .verdict) in
+    let v : Verdict = designRules m t M 0 then (readFrameCall M (m * t) s info red .verdict) in
     record { verdict = v; info = kept v (frameInfo M (m * t) s) info; red = kept v (frameRed M (m * t) s) red }

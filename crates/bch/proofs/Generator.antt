@@ -17,7 +17,7 @@ use Rattle.bch.proofs.Modulus.{iterate-timesX-linear, degree-high}
 use Rattle.bch.proofs.Minimal.{Fits, minimal}
 
 -- the degree of a product is the sum of the degrees
-product-degree : (a b p q : ℕ) → p / 2 ^ a ≡ 1 → q / 2 ^ b ≡ 1 → (p ⊗ q) / 2 ^ (a + b) ≡ 1
+pub product-degree : (a b p q : ℕ) → p / 2 ^ a ≡ 1 → q / 2 ^ b ≡ 1 → (p ⊗ q) / 2 ^ (a + b) ≡ 1
 product-degree zero b p q hp hq =
     ap (λ n. n ⊗ q / 2 ^ (0 + b)) (sym (div-one p) ∙ hp) ∙ ap (λ n. n / 2 ^ (0 + b)) (product-bit 1 q (le-refl 2) ∙ one-mul q)
     ∙ ap (λ n. q / 2 ^ n) (zero-add b) ∙ hq

@@ -20,3 +20,5 @@ pub mod Powers
 pub mod Locator
 pub mod Cubic
 pub mod Syndromes
+pub mod Mirror
+pub mod MirrorBch

@@ -23,7 +23,7 @@ use Rattle.bch.proofs.Polynomial.{linear-zero, iterate-double}
 use Rattle.bch.proofs.Modulus.{timesX-linear, timesX-small}
 use Rattle.bch.proofs.Word.{horner-shift, horner-cons, sumWord, remainder-sum, remainder-below}
 
-horner-append : (T : ℕ → ℕ) (u v : List ℕ) (s : ℕ) → horner T s (u ++ v) ≡ horner T (horner T s u) v
+pub horner-append : (T : ℕ → ℕ) (u v : List ℕ) (s : ℕ) → horner T s (u ++ v) ≡ horner T (horner T s u) v
 unfolding horner
 horner-append T [] v s = refl
 horner-append T (b ∷ u) v s = horner-append T u v (T s ⊕ b)
@@ -68,7 +68,7 @@ unfolding bitsOf
 bitsOf-length zero p = refl
 bitsOf-length (suc n) p = ap suc (bitsOf-length n p)
 
-wordPoly-cons : (b : ℕ) (w : List ℕ) → wordPoly (b ∷ w) ≡ b * 2 ^ length w ⊕ wordPoly w
+pub wordPoly-cons : (b : ℕ) (w : List ℕ) → wordPoly (b ∷ w) ≡ b * 2 ^ length w ⊕ wordPoly w
 unfolding wordPoly
 wordPoly-cons b w = horner-cons (λ v. v * 2) ⊕-double b w ∙ ap (λ n. n ⊕ horner (λ v. v * 2) 0 w) (iterate-double (length w) b)
 
@@ -85,7 +85,7 @@ wordPoly-bitsOf (suc n) p =
     ∙ plus (p / 2 ^ n % 2) n (p % 2 ^ n) (mod-lt p (pow-pos n))
     ∙ sym (mod-pow-add p 1 n) ∙ ap (λ k. p % 2 ^ k) (omega arith)
 
-wordPoly-below : (w : List ℕ) → Bits w → wordPoly w < 2 ^ length w
+pub wordPoly-below : (w : List ℕ) → Bits w → wordPoly w < 2 ^ length w
 unfolding wordPoly horner
 wordPoly-below [] h = le-refl 1
 wordPoly-below (b ∷ w) h =

@@ -4,3 +4,4 @@ pub mod Code
 pub mod Powers
 pub mod Locator
 pub mod Published
+pub mod Mirror

@@ -1,5 +1,7 @@
 // Remainders of words by a generator, from a table of powers of x.
 //   generator_of(m, t)                the generator of the code over field m that corrects t errors
+//   mirror_of(g, r)                   the reversed polynomial of g, of degree r
+//   fill_backwards(part, out)         the entries of a table from the last to the first
 //   fill_positions(g, r, top, table)  entry j of the table is the power of x that position j of a word carries, modulo g
 //   masked(b, x)                      x or 0, by a bit
 //   dot(bits, part)                   the sum of the entries of `part` at the ones of `bits`, and how many bits it has read
@@ -15,10 +17,11 @@
 // The hot loops have no jump at a bit (`masked`). Reads of bits are counted where they are made: once a bit in `dot`, and once a row in `read_rows`,
 // where each row gives every column one bit.
 ghost use mathlib.Core.Path.{_≡_};
-ghost use Prim.Native.Nat.{ℕ, _+_, _*_, _/_, _^_, _≤_, _<_};
+ghost use Prim.Native.Nat.{ℕ, _+_, _-_, _*_, _/_, _^_, _≤_, _<_};
 ghost use lib.ListN.{length, getD, replicate};
 ghost use Rattle.bch.specs.Polynomial.{_⊕_, timesX, Bits};
 ghost use Rattle.bch.specs.Code.{generator};
+ghost use Rattle.bch.specs.Mirror.{mirror};
 ghost use Rattle.bch.specs.Powers.{xorSum, PositionPowers};
 
 // A sum of entries, and how many bits were read for it.
@@ -58,6 +61,33 @@ pub fn generator_of(m: usize, t: usize) -> u32
     ensures { λ a. ⌜ (a ≡ generator m t) × (a < 2 ^ 31) ⌝ }
 {
     GENERATORS[3 * (m - 4) + (t - 1)]
+}
+
+// The reversed polynomial of g, of degree r: its r + 1 bits in the other order. One step for each bit.
+pub fn mirror_of(g: u32, r: usize) -> u32
+    requires { ⌜ r ≤ 30 ⌝ }
+    ensures { λ a. ⌜ a ≡ mirror r g ⌝ }
+{
+    let mut a: u32 = 0;
+    let mut p = g;
+    let bits = r + 1;
+    for i in 0..bits {
+        a = a * 2 + p % 2;
+        p = p / 2;
+    }
+    a
+}
+
+// Fills `out` with the entries of `table` from the last to the first. One step for each entry.
+pub fn fill_backwards(table: &[u32], out: &mut [u32])
+    requires { ⌜ length (now out) ≡ length (now table) ⌝ }
+    ensures { λ u. ⌜ (length (now (out .exit)) ≡ length (now (table .entry)))
+        × ((j : ℕ) → j < length (now (table .entry)) → getD (now (out .exit)) j 0 ≡ getD (now (table .entry)) (length (now (table .entry)) - 1 - j) 0) ⌝ }
+{
+    let n = table.len();
+    for j in 0..n {
+        out[j] = table[n - 1 - j];
+    }
 }
 
 // x times v modulo g, of degree r. `top` is 2^r.

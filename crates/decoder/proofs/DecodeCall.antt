@@ -22,23 +22,25 @@ use Rattle.staircase.specs.Tally.{decodeWith, furtherCall}
 use Rattle.staircase.specs.Window.{windowRule, positions, windowGroups, windowWords, slide, slideStuck, windowed, windowStuck, windowCounts, windowVerdict, windowCall}
 use Rattle.staircase.proofs.Rules.{then-first, then-rest}
 use Rattle.staircase.proofs.Window.{windowed-least, window-limits, whole-rounds, whole-counts}
-use Rattle.design.specs.declared.Refusal.{Refusal}
-use Rattle.design.specs.declared.Check.{Check}
-use Rattle.design.specs.declared.Check.the-variants as check
+use Rattle.answers.specs.declared.Refusal.{Refusal}
+use Rattle.answers.specs.declared.Check.{Check}
+use Rattle.answers.specs.declared.Check.the-variants as check
 use Rattle.design.specs.declared.Design.{Design}
 use Rattle.design.specs.declared.Designed.{Designed}
 use Rattle.design.specs.declared.Designed.the-variants as designed
-use Rattle.design.specs.Answers.{verdictOf, designVerdict, DesignIs}
+use Rattle.design.specs.Answers.{designVerdict, DesignIs}
 use Rattle.design.specs.Sizes.{paramsOf, listsOf}
-use Rattle.design.proofs.Answers.{check-refused, check-passed, made-params, refused-design, made-design}
+use Rattle.design.proofs.Answers.{made-params, refused-design, made-design}
 use Rattle.rules.specs.Lengths.{lengthsOf, decoderDue, frameRules}
 use Rattle.rules.proofs.Chain.{then-assoc, decoder-rules, received-bytes}
 use Rattle.words.specs.Checks.{receivedRules}
 use Rattle.decoder_frame.specs.declared.Window.{Window}
 use Rattle.decoder_frame.specs.Stretch.{WindowFits}
 use Rattle.decoder.specs.declared.Call.{Call}
-use Rattle.decoder.specs.declared.Decoding.{Decoding}
-use Rattle.decoder.specs.Answers.{copyRules, windowNumbers, correctedOf, correctedFrame, callRules, answered, refusedFrame}
+use Rattle.answers.specs.declared.Decoding.{Decoding}
+use Rattle.decoder.specs.Answers.{copyRules, windowNumbers, correctedFrame, callRules, answered}
+use Rattle.answers.specs.Answers.{verdictOf, correctedOf, refusedFrame}
+use Rattle.answers.proofs.Checks.{check-refused, check-passed}
 
 pub refused-is : (v : Verdict) (old new : Frame) (c : Counts) → v ≢ accepted → refusedFrame v old ≡ correctedBy v old new c
 unfolding refusedFrame
@@ -90,24 +92,24 @@ module _ (call : Call) (own parity info red : List ℕ) (work : ℕ) where
   counts s = windowCounts s (interleavers s own parity) (call .blocks) (call .window) (call .rounds) f
 
   abbrev asked : Params
-  asked = params (call .m) (call .t) (call .size)
+  asked = params (call .m) (call .t) (call .size) (call .col)
 
-  refused-answer : (x : Verdict) → x ≢ accepted → x ≡ (designRules (call .m) (call .t) (call .size) then rules asked)
+  refused-answer : (x : Verdict) → x ≢ accepted → x ≡ (designRules (call .m) (call .t) (call .size) (call .col) then rules asked)
       → refusedFrame x f ≡ answered call own parity info red work
   unfolding answered
   refused-answer x other e =
       refused-is x f (new asked) (counts asked) other ∙ ap (λ (v : Verdict). correctedBy v f (new asked) (counts asked)) e
 
-  module _ (a : Designed) (n : designVerdict a ≡ designRules (call .m) (call .t) (call .size)) where
+  module _ (a : Designed) (n : designVerdict a ≡ designRules (call .m) (call .t) (call .size) (call .col)) where
     pub answer-design : (c : Decoding) (x : Check) (r : Refusal) → ((g : Frame) → correctedOf c g ≡ refusedFrame (verdictOf x) g) → a ≡ designed.Refused r
         → verdictOf x ≡ designVerdict a → correctedOf c (frameOf info red) ≡ answered call own parity info red work
     answer-design c x r h g e =
-        let q = refused-design (call .m) (call .t) (call .size) rules a n x g e in h f ∙ refused-answer (verdictOf x) (q .0) (q .1)
+        let q = refused-design (call .m) (call .t) (call .size) (call .col) rules a n x g e in h f ∙ refused-answer (verdictOf x) (q .0) (q .1)
 
-    module _ (i : DesignIs a (call .m) (call .t) (call .size)) (d : Design) (g : a ≡ designed.Made d) (x : Check)
+    module _ (i : DesignIs a (call .m) (call .t) (call .size) (call .col)) (d : Design) (g : a ≡ designed.Made d) (x : Check)
         (e : verdictOf x ≡ callRules call (paramsOf d) own parity info red work) where
-      verdict-is : verdictOf x ≡ (designRules (call .m) (call .t) (call .size) then rules asked)
-      verdict-is = made-design (call .m) (call .t) (call .size) rules a n x i g e
+      verdict-is : verdictOf x ≡ (designRules (call .m) (call .t) (call .size) (call .col) then rules asked)
+      verdict-is = made-design (call .m) (call .t) (call .size) (call .col) rules a n x i g e
 
       pub answer-frame : (c : Decoding) (r : Refusal) → ((z : Frame) → correctedOf c z ≡ refusedFrame (verdictOf x) z) → x ≡ check.Refused r
           → correctedOf c (frameOf info red) ≡ answered call own parity info red work
@@ -120,7 +122,7 @@ module _ (call : Call) (own parity info red : List ℕ) (work : ℕ) where
       unfolding answered
       answer-done y w q z h =
           h ∙ frame-window (paramsOf d) (listsOf d own parity) (call .blocks) (call .rounds) f w (call .window) z
-          ∙ ap (λ (s : Params). correctedBy accepted f (new s) (counts s)) (made-params g (call .m) (call .t) (call .size) i)
+          ∙ ap (λ (s : Params). correctedBy accepted f (new s) (counts s)) (made-params g (call .m) (call .t) (call .size) (call .col) i)
           ∙ ap (λ (v : Verdict). correctedBy v f (new asked) (counts asked)) (sym (check-passed q) ∙ verdict-is)
 
 -- a frame's rules between the two checks
@@ -161,7 +163,7 @@ numbers-again accepted accepted (refused n p) d = refl
 numbers-again accepted (refused n p) c d = refl
 numbers-again (refused n p) b c d = refl
 
-module _ (m t M L k : ℕ) (own parity info red : List ℕ) (work : ℕ) where
+module _ (m t M col L k : ℕ) (own parity info red : List ℕ) (work : ℕ) where
   copy-verdict : (s : Params) → copyRules s L k own parity info red work
       ≡ (countRule L then roundsRule k then listLengths s own parity then frameLengths s L info red then lengthRule 6 work (decoderWork s L)
       then listRule s (interleavers s own parity) then frameBits info red)
@@ -171,32 +173,32 @@ module _ (m t M L k : ℕ) (own parity info red : List ℕ) (work : ℕ) where
       ∙ decoder-rules s own parity work (listRule s (interleavers s own parity) then frameBits info red) L k info red
 
   pub answered-with : (last : Check)
-      → answered (record { m = m; t = t; size = M; blocks = L; rounds = k; window = L; first = check.Passed; last = last }) own parity info red work
-      ≡ furtherCall (verdictOf last) (decodeWith m t M L k own parity info red work)
+      → answered (record { m = m; t = t; size = M; col = col; blocks = L; rounds = k; window = L; first = check.Passed; last = last }) own parity info red work
+      ≡ furtherCall (verdictOf last) (decodeWith m t M col L k own parity info red work)
   unfolding answered furtherCall decodeCall decodeVerdict verdictOf
   answered-with last =
-      let s : Params = params m t M in
+      let s : Params = params m t M col in
       let l : Interleavers = interleavers s own parity in
       let f : Frame = frameOf info red in
       let room : groups L ≤ L = omega arith in
-      let rules : Verdict = designRules m t M then countRule L then roundsRule k then listLengths s own parity then frameLengths s L info red
+      let rules : Verdict = designRules m t M col then countRule L then roundsRule k then listLengths s own parity then frameLengths s L info red
       then lengthRule 6 work (decoderWork s L) then listRule s l then frameBits info red in
-      let judged : (designRules m t M then copyRules s L k own parity info red work then verdictOf last) ≡ (rules then verdictOf last) =
-      sym (then-assoc (designRules m t M) (copyRules s L k own parity info red work) (verdictOf last))
-      ∙ ap (λ (z : Verdict). (designRules m t M then z) then verdictOf last) (copy-verdict s) in
+      let judged : (designRules m t M col then copyRules s L k own parity info red work then verdictOf last) ≡ (rules then verdictOf last) =
+      sym (then-assoc (designRules m t M col) (copyRules s L k own parity info red work) (verdictOf last))
+      ∙ ap (λ (z : Verdict). (designRules m t M col then z) then verdictOf last) (copy-verdict s) in
       (λ i. correctedBy (judged i) f (whole-rounds s l L L k f room i .frame) (whole-counts s l L L k f room i))
       ∙ further-same rules (verdictOf last) f (decoded s l L k f .frame) (countsOf s l L k f)
 
   pub answered-window : (v : ℕ) (first : Check) → verdictOf first ≡ windowNumbers L k v
-      → answered (record { m = m; t = t; size = M; blocks = L; rounds = k; window = v; first = first; last = check.Passed }) own parity info red work
-      ≡ windowCall m t M L k v own parity info red work
+      → answered (record { m = m; t = t; size = M; col = col; blocks = L; rounds = k; window = v; first = first; last = check.Passed }) own parity info red work
+      ≡ windowCall m t M col L k v own parity info red work
   unfolding answered windowCall windowVerdict windowNumbers verdictOf
   answered-window v first e =
-      let s : Params = params m t M in
+      let s : Params = params m t M col in
       let l : Interleavers = interleavers s own parity in
       let f : Frame = frameOf info red in
       let rest : Verdict = listLengths s own parity then frameLengths s L info red then lengthRule 6 work (decoderWork s L) then listRule s l then frameBits info red in
-      ap (λ (z : Verdict). correctedBy (designRules m t M then z) f (windowed s l L v k f .frame) (windowCounts s l L v k f))
+      ap (λ (z : Verdict). correctedBy (designRules m t M col then z) f (windowed s l L v k f .frame) (windowCounts s l L v k f))
       (ap₂ (λ (x y : Verdict). x then y then accepted) e (copy-verdict s) ∙ numbers-again (countRule L) (roundsRule k) (windowRule v) rest)
 
 pub numbers-some : (L k v : ℕ) → windowNumbers L k v ≡ accepted → 1 ≤ v

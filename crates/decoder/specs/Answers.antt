@@ -1,9 +1,6 @@
--- The rules on a frame that is to be decoded after the design's, and what the decoder's answer says.
+-- The rules on a frame that is to be decoded after the design's, and the decoder's result.
 --   copyRules        rules 4 to 7 and 10 for a frame that is to be decoded
 --   windowNumbers    rules 4, 5 and 18, on the numbers of a call with a window
---   refusedFrame     the result for a frame that is refused
---   countsTold       the counts that the code tells
---   correctedOf      the answer and the frame that the call leaves, as the decoder's result
 --   correctedFrame   the result for a frame that no rule refuses
 --   callRules        the first check of a call, rules 4 to 7 and 10, and its last check
 --   answered         the result of a call
@@ -16,13 +13,13 @@ use Rattle.staircase.specs.Rules.{Verdict, _then_, designRules, countRule, roun
 use Rattle.staircase.specs.Rules.Verdict.{accepted}
 use Rattle.staircase.specs.Calls.{Counts, no-counts, Corrected, correctedBy}
 use Rattle.staircase.specs.Window.{windowRule, windowed, windowCounts}
-use Rattle.design.specs.Answers.{refusalVerdict, verdictOf}
+use Rattle.answers.specs.Answers.{refusalVerdict, verdictOf}
 use Rattle.rules.specs.Lengths.{decoderDue}
 use Rattle.words.specs.Checks.{receivedRules}
-use Rattle.decoder.specs.declared.Counts as told
+use Rattle.answers.specs.declared.Counts as told
 use Rattle.decoder.specs.declared.Call.{Call}
-use Rattle.decoder.specs.declared.Decoding.{Decoding}
-use Rattle.decoder.specs.declared.Decoding.the-variants as decoding
+use Rattle.answers.specs.declared.Decoding.{Decoding}
+use Rattle.answers.specs.declared.Decoding.the-variants as decoding
 
 unfoldable pub copyRules : Params → ℕ → ℕ → List ℕ → List ℕ → List ℕ → List ℕ → ℕ → Verdict
 copyRules s L k self parity info red work = receivedRules s L k (decoderDue s L) self parity info red work
@@ -30,16 +27,6 @@ copyRules s L k self parity info red work = receivedRules s L k (decoderDue s L)
 -- document 02: "18 window, after 5"
 unfoldable pub windowNumbers : ℕ → ℕ → ℕ → Verdict
 windowNumbers L k v = countRule L then roundsRule k then windowRule v
-
-unfoldable pub refusedFrame : Verdict → Frame → Corrected
-refusedFrame v f = record { verdict = v; frame = f; counts = no-counts }
-
-abbrev pub countsTold : told.Counts → Counts
-countsTold c = record { rounds = c .rounds; turned = c .turned; outside = c .outside; stuck = c .stuck }
-
-unfoldable pub correctedOf : Decoding → Frame → Corrected
-correctedOf (decoding.Decoded c) f = correctedBy accepted f f (countsTold c)
-correctedOf (decoding.Refused r) f = refusedFrame (refusalVerdict r) f
 
 -- under a window of v groups, which may be all that the frame has
 unfoldable pub correctedFrame : Params → Interleavers → ℕ → ℕ → ℕ → Frame → Corrected
@@ -51,8 +38,8 @@ callRules c s self parity info red work =
 
 unfoldable pub answered : Call → List ℕ → List ℕ → List ℕ → List ℕ → ℕ → Corrected
 answered c self parity info red work =
-    let s : Params = params (c .m) (c .t) (c .size) in
+    let s : Params = params (c .m) (c .t) (c .size) (c .col) in
     let l : Interleavers = interleavers s self parity in
     let f : Frame = frameOf info red in
-    correctedBy (designRules (c .m) (c .t) (c .size) then callRules c s self parity info red work) f
+    correctedBy (designRules (c .m) (c .t) (c .size) (c .col) then callRules c s self parity info red work) f
     (windowed s l (c .blocks) (c .window) (c .rounds) f .frame) (windowCounts s l (c .blocks) (c .window) (c .rounds) f)

@@ -2,9 +2,9 @@
 // `decoder_frame`). Without a window they are those of a window that has all groups.
 //   decode          corrects a frame, and counts rounds, bits that differ from the received frame's, words outside the code at the end, and stuck words
 //                   of the last round made
-//   decode_with     the same with one more check, which is asked last
 //   decode_window   the same, with a window that slides over the frame
-//   refused_frame   a refusal as the decoder's answer
+//   decode_with_col   `decode` with one more check, which is asked last
+//   decode_col, decode_window_col   `decode` and `decode_window` with a column code
 ghost use mathlib.Core.Path.{_≡_};
 ghost use Prim.Native.Nat.{_+_, _≤_};
 ghost use lib.ListN.{length};
@@ -17,7 +17,7 @@ ghost use Rattle.staircase.specs.Rules.Verdict.{accepted};
 ghost use Rattle.staircase.specs.Calls.{decodeCall};
 ghost use Rattle.staircase.specs.Tally.{decodeWith, furtherCall};
 ghost use Rattle.staircase.specs.Window.{positions, windowGroups, windowCall};
-ghost use Rattle.design.specs.Answers.{Allowed, verdictOf};
+ghost use Rattle.design.specs.Answers.{Allowed};
 ghost use Rattle.design.specs.Sizes.{paramsOf, orderOf, listsOf};
 ghost use Rattle.rules.specs.Received.{Received};
 ghost use Rattle.words_lines.specs.Lines.{LineFits};
@@ -25,30 +25,24 @@ ghost use Rattle.decoder_lines.specs.Links.{listsIn};
 ghost use Rattle.decoder_words.specs.Ready.{FramesReady, FrameKept};
 ghost use Rattle.decoder_frame.specs.Filled.{Filled};
 ghost use Rattle.decoder_frame.specs.Stretch.{feedFrames, WindowFits};
-ghost use Rattle.decoder.specs.Answers.{copyRules, windowNumbers, correctedOf, correctedFrame, answered, refusedFrame};
-ghost use Rattle.decoder.specs.declared.Decoding.the-variants as Decoding;
+ghost use Rattle.decoder.specs.Answers.{copyRules, windowNumbers, correctedFrame, answered};
+ghost use Rattle.answers.specs.declared.Decoding.the-variants as Decoding;
+ghost use Rattle.answers.specs.Answers.{verdictOf, correctedOf, refusedFrame};
+use answers::Check;
+use answers::Counts;
+use answers::Decoding;
 use decoder_frame::Window;
-use design::Check;
 use design::Design;
 use design::Designed;
-use design::Refusal;
 use words::Asked;
 use words_lines::Line;
-
-// What decoding a frame has done: rounds made, bits that differ from those received, words outside the code at the end, stuck words of the last round
-// made.
-pub struct Counts {
-    pub rounds: u64,
-    pub turned: u64,
-    pub outside: u64,
-    pub stuck: u64,
-}
 
 // What a call asks: a design, a frame's blocks, the rounds and the groups of a window, and a check before and one behind the rules on the frame.
 struct Call {
     m: u64,
     t: u64,
     size: u64,
+    col: u64,
     blocks: u64,
     rounds: u64,
     window: u64,
@@ -56,19 +50,13 @@ struct Call {
     last: Check,
 }
 
-// The answer of the decoder.
-pub enum Decoding {
-    Decoded(Counts),
-    Refused(Refusal),
-}
-
-// Working entries for the positions of a word, for these with their values and those of four bits, for a field, and for the table of links. Only their
+// Working entries for the positions of a word of both kinds of lines, for those of one with their values and those of four bits, for a field, and for the table of links. Only their
 // lengths are told: the most that a design needs, or more. A word has at most 2^10 - 1 bits, and behind the values of its positions stand 128 of four
 // bits; a field has four tables of at most 2^10 entries; a list has at most 4,096 entries.
-fn position_entries() -> [u32; 1024]
-    ensures { λ a. ⌜ 1024 ≡ length a ⌝ }
+fn position_entries() -> [u32; 2048]
+    ensures { λ a. ⌜ 2048 ≡ length a ⌝ }
 {
-    [0; 1024]
+    [0; 2048]
 }
 
 fn table_entries() -> [u32; 2304]
@@ -188,14 +176,14 @@ fn fill_kept(line: Line, own: &[u8], parity: &[u8], info: &[u8], red: &[u8], kep
     let bits = line.d.n();
     let n = decoder_frame::number_bytes(line);
     let mut positions = position_entries();
-    words_positions::fill_table(line.d, &mut positions[0..bits]);
+    words::fill_lines(line.d, &mut positions[0..2 * bits]);
     decoder_frame::fill_numbers(
         line,
         own,
         parity,
         info,
         red,
-        &positions[0..bits],
+        &positions[0..2 * bits],
         &mut kept[0..n],
     );
 }
@@ -292,21 +280,6 @@ fn check_copy(
     words::check_received(d, asked, own, parity, info, red, work)
 }
 
-// A refused check as the decoder's answer; for calls that end in a decoding.
-pub fn refused_frame(a: Check) -> Decoding
-    ensures { λ c. ⌜ ((f : Frame) → correctedOf c f ≡ refusedFrame (verdictOf a) f) ⌝ }
-{
-    match a {
-        Check::Passed => Decoding::Decoded(Counts {
-            rounds: 0,
-            turned: 0,
-            outside: 0,
-            stuck: 0,
-        }),
-        Check::Refused(r) => Decoding::Refused(r),
-    }
-}
-
 // Answers a call: rules 1 to 3, then its first check, rules 4 to 7 and 10, and its last check; and where none refuses, the rounds of its window. All
 // is judged before a bit is flipped.
 fn answer_call(
@@ -321,9 +294,9 @@ fn answer_call(
     ensures { λ a. ⌜ correctedOf a (frameOf (now (info .exit)) (now (red .exit)))
         ≡ answered call (now (own .entry)) (now (parity .entry)) (now (info .entry)) (now (red .entry)) (length (now (work .entry))) ⌝ }
 {
-    let designed = Design::new(call.m, call.t, call.size);
+    let designed = Design::new_col(call.m, call.t, call.size, call.col);
     let Designed::Made(d) = designed else {
-        return refused_frame(design::design_check(designed));
+        return answers::refused_frame(design::design_check(designed));
     };
     let received = check_copy(
         d,
@@ -339,7 +312,7 @@ fn answer_call(
     let last = call.last;
     let judged = rules::first(first, rules::first(received, last));
     let Check::Passed = judged else {
-        return refused_frame(judged);
+        return answers::refused_frame(judged);
     };
     let window = window_of(call.blocks, call.rounds, call.window);
     Decoding::Decoded(correct_frame(
@@ -356,11 +329,12 @@ fn answer_call(
 
 // Corrects a frame as `decode` does, with one more check behind its rules: where none of them refuses, `last` may. The check is asked before a bit is
 // flipped. A window of as many groups as there are blocks has all groups.
-pub fn decode_with(
+pub fn decode_with_col(
     last: Check,
     m: u64,
     t: u64,
     size: u64,
+    col: u64,
     blocks: u64,
     rounds: u64,
     own: &[u8],
@@ -370,13 +344,14 @@ pub fn decode_with(
     work: &mut [u8],
 ) -> Decoding
     ensures { λ a. ⌜ correctedOf a (frameOf (now (info .exit)) (now (red .exit)))
-        ≡ furtherCall (verdictOf last) (decodeWith m t size blocks rounds (now (own .entry)) (now (parity .entry)) (now (info .entry)) (now (red .entry))
+        ≡ furtherCall (verdictOf last) (decodeWith m t size col blocks rounds (now (own .entry)) (now (parity .entry)) (now (info .entry)) (now (red .entry))
         (length (now (work .entry)))) ⌝ }
 {
     let call = Call {
         m: m,
         t: t,
         size: size,
+        col: col,
         blocks: blocks,
         rounds: rounds,
         window: blocks,
@@ -399,6 +374,40 @@ fn check_numbers(blocks: u64, rounds: u64, window: u64) -> Check
 // up to `rounds` of them, at each of its positions, from the first group to the last at which it ends with the frame. Refuses by the first of rules 1
 // to 5, 18, 6, 7 and 10; a refused frame is left as it was. Working bytes as `decode`'s. The remainders of the words are summed once, so the work is
 // that of `decode` and, for each position, a look at each word of its groups.
+pub fn decode_window_col(
+    m: u64,
+    t: u64,
+    size: u64,
+    col: u64,
+    blocks: u64,
+    rounds: u64,
+    window: u64,
+    own: &[u8],
+    parity: &[u8],
+    info: &mut [u8],
+    red: &mut [u8],
+    work: &mut [u8],
+) -> Decoding
+    ensures { λ a. ⌜ correctedOf a (frameOf (now (info .exit)) (now (red .exit)))
+        ≡ windowCall m t size col blocks rounds window (now (own .entry)) (now (parity .entry)) (now (info .entry)) (now (red .entry))
+        (length (now (work .entry))) ⌝ }
+{
+    let numbers = check_numbers(blocks, rounds, window);
+    let call = Call {
+        m: m,
+        t: t,
+        size: size,
+        col: col,
+        blocks: blocks,
+        rounds: rounds,
+        window: window,
+        first: numbers,
+        last: Check::Passed,
+    };
+    answer_call(call, own, parity, info, red, work)
+}
+
+// The same where rows and columns have one code.
 pub fn decode_window(
     m: u64,
     t: u64,
@@ -413,26 +422,61 @@ pub fn decode_window(
     work: &mut [u8],
 ) -> Decoding
     ensures { λ a. ⌜ correctedOf a (frameOf (now (info .exit)) (now (red .exit)))
-        ≡ windowCall m t size blocks rounds window (now (own .entry)) (now (parity .entry)) (now (info .entry)) (now (red .entry))
+        ≡ windowCall m t size 0 blocks rounds window (now (own .entry)) (now (parity .entry)) (now (info .entry)) (now (red .entry))
         (length (now (work .entry))) ⌝ }
 {
-    let numbers = check_numbers(blocks, rounds, window);
-    let call = Call {
-        m: m,
-        t: t,
-        size: size,
-        blocks: blocks,
-        rounds: rounds,
-        window: window,
-        first: numbers,
-        last: Check::Passed,
-    };
-    answer_call(call, own, parity, info, red, work)
+    decode_window_col(
+        m,
+        t,
+        size,
+        0,
+        blocks,
+        rounds,
+        window,
+        own,
+        parity,
+        info,
+        red,
+        work,
+    )
 }
 
 // Corrects the lent frame of `blocks` blocks in place, in at most `rounds` rounds, 0 standing for 12, or refuses it by the first of rules 1 to 7 and
 // 10; a refused frame is left as it was. The working bytes are one for each entry of a list, four for each word and one for eight bits of the frame, and
 // free afterwards. The work is one step for each bit of the words, and some more for each word that is outside the code when a round meets it.
+pub fn decode_col(
+    m: u64,
+    t: u64,
+    size: u64,
+    col: u64,
+    blocks: u64,
+    rounds: u64,
+    own: &[u8],
+    parity: &[u8],
+    info: &mut [u8],
+    red: &mut [u8],
+    work: &mut [u8],
+) -> Decoding
+    ensures { λ a. ⌜ correctedOf a (frameOf (now (info .exit)) (now (red .exit)))
+        ≡ decodeCall m t size col blocks rounds (now (own .entry)) (now (parity .entry)) (now (info .entry)) (now (red .entry)) (length (now (work .entry))) ⌝ }
+{
+    decode_with_col(
+        Check::Passed,
+        m,
+        t,
+        size,
+        col,
+        blocks,
+        rounds,
+        own,
+        parity,
+        info,
+        red,
+        work,
+    )
+}
+
+// The same where rows and columns have one code.
 pub fn decode(
     m: u64,
     t: u64,
@@ -446,19 +490,7 @@ pub fn decode(
     work: &mut [u8],
 ) -> Decoding
     ensures { λ a. ⌜ correctedOf a (frameOf (now (info .exit)) (now (red .exit)))
-        ≡ decodeCall m t size blocks rounds (now (own .entry)) (now (parity .entry)) (now (info .entry)) (now (red .entry)) (length (now (work .entry))) ⌝ }
+        ≡ decodeCall m t size 0 blocks rounds (now (own .entry)) (now (parity .entry)) (now (info .entry)) (now (red .entry)) (length (now (work .entry))) ⌝ }
 {
-    decode_with(
-        Check::Passed,
-        m,
-        t,
-        size,
-        blocks,
-        rounds,
-        own,
-        parity,
-        info,
-        red,
-        work,
-    )
+    decode_col(m, t, size, 0, blocks, rounds, own, parity, info, red, work)
 }

@@ -1,6 +1,6 @@
 -- Feed-forward frames among all kinds.
 --   feed-lines, feed-total, feed-bits   their lines, words and bits of a word
---   feed-fits                           frames of an allowed design
+--   feed-fits, feed-allowed             frames of an allowed design
 --   feed-bytes                          the bytes of the kept numbers
 -- Assumes nothing.
 use mathlib.Core.Path.{_≡_, refl, ap, _∙_}
@@ -33,6 +33,10 @@ feed-bits s = refl
 pub feed-fits : (d : Design) {L : ℕ} {links : List ℕ} → L ≤ most-blocks → Allowed d → LinksFit d links → FramesFit (feedFrames d L) links
 unfolding AllowedIn
 feed-fits d few A T = record { few-blocks = few; allowed = (A, T) }
+
+pub feed-allowed : {d : Design} {L : ℕ} {links : List ℕ} → FramesFit (feedFrames d L) links → Allowed d × LinksFit d links
+unfolding AllowedIn
+feed-allowed F = F .allowed
 
 pub feed-bytes : (d : Design) (L : ℕ) {f : Frames} {n : ℕ} → f ≡ feedFrames d L → n ≡ 4 * (linesIn (f .shape) (f .blocks) * f .d .size)
     → n ≡ 4 * wordCount (paramsOf d) L

@@ -21,13 +21,13 @@ use Rattle.bch.specs.Code.{isCodeword}
 use Rattle.bch.proofs.Word.{remainder-below}
 use Rattle.staircase.specs.Lists.{tabulate}
 use Rattle.staircase.specs.Design.{Params, Interleavers}
-use Rattle.staircase.specs.Frame.{Frame, Site, groups, frameOf, read, outsideEach, outsideAmong, outside}
+use Rattle.staircase.specs.Frame.{Frame, Site, groups, frameOf, read, outsideEach, outsideAmong}
 use Rattle.staircase.specs.Rules.{infoLength, redLength, keptWork}
-use Rattle.staircase.specs.Lines.{wordCount, frameWord}
+use Rattle.staircase.specs.Lines.{wordCount, frameWord, readFrom}
 use Rattle.staircase.proofs.Tabulate.{tabulate-length, tabulate-at, tabulate-last}
 use Rattle.staircase.proofs.Flip.{read-bits}
 use Rattle.staircase.proofs.Outside.{outside-append}
-use Rattle.staircase.proofs.Lines.{words-numbered}
+use Rattle.staircase.proofs.Lines.{read-numbered}
 use Rattle.staircase.specs.Layout.{feedForward}
 use Rattle.staircase.proofs.Lawful.{word-number}
 use Rattle.design.specs.declared.Design.{Design}
@@ -148,16 +148,15 @@ module _ (line : Line) (own parity : List ℕ) {info red : List ℕ} (A : Allowe
         }
 
     pub filled-outside : nonzeroNumbers b (wordCount (paramsOf (line .d)) (line .blocks))
-        ≡ outside (paramsOf (line .d)) (listsOf (line .d) own parity) (line .blocks) (frameOf info red)
-    unfolding outside
+        ≡ outsideAmong (paramsOf (line .d)) (frameOf info red) (readFrom (paramsOf (line .d)) (listsOf (line .d) own parity) (line .blocks) 0 (2 * groups (line .blocks)))
     filled-outside =
         numbers-outside q f b (λ w. frameWord q (listsOf (line .d) own parity) (line .blocks) w .sites) (wordCount q (line .blocks)) filled-number
-        ∙ ap (outsideAmong q f) (sym (words-numbered q (listsOf (line .d) own parity) (line .blocks)))
+        ∙ ap (outsideAmong q f) (sym (read-numbered q (listsOf (line .d) own parity) (line .blocks)))
 
 pub kept-outside : {d : Design} {L : ℕ} {links info red b : List ℕ} → FrameKept (feedFrames d L) links info red b
-    → nonzeroNumbers b (wordCount (paramsOf d) L) ≡ outside (paramsOf d) (listsIn d links) L (frameOf info red)
-unfolding outside linesIn sitesIn
+    → nonzeroNumbers b (wordCount (paramsOf d) L) ≡ outsideAmong (paramsOf d) (frameOf info red) (readFrom (paramsOf d) (listsIn d links) L 0 (2 * groups L))
+unfolding linesIn sitesIn
 kept-outside {d} {L} {links} {info} {red} {b} K =
     numbers-outside (paramsOf d) (frameOf info red) b (λ w. frameWord (paramsOf d) (listsIn d links) L w .sites) (wordCount (paramsOf d) L)
     (λ w h. K .numbers w h .number)
-    ∙ ap (outsideAmong (paramsOf d) (frameOf info red)) (sym (words-numbered (paramsOf d) (listsIn d links) L))
+    ∙ ap (outsideAmong (paramsOf d) (frameOf info red)) (sym (read-numbered (paramsOf d) (listsIn d links) L))

@@ -9,22 +9,22 @@ use Prim.Native.Nat.{ℕ, _+_, _*_, _≤_}
 use native.Mathlib.Numerals.{add-one}
 use native.Mathlib.Omega.{arith}
 use Rattle.staircase.specs.Frame.{Frame, Word, plain, groups}
-use Rattle.staircase.specs.Lines.{wordsFrom}
+use Rattle.staircase.specs.Lines.{readFrom}
 use Rattle.staircase.specs.Decoder.{Decoded, runEach}
 use Rattle.staircase.specs.Outcomes.{lastStuck}
-use Rattle.staircase.specs.Window.{windowGroups, windowWords, slide, slideStuck}
+use Rattle.staircase.specs.Window.{windowGroups, slide, slideStuck}
 use Rattle.design.specs.Sizes.{paramsOf}
 use Rattle.design.specs.declared.Design.{Design}
 use Rattle.decoder_lines.specs.Layouts.{sitesIn}
 use Rattle.decoder_lines.specs.Links.{listsIn}
-use Rattle.decoder_frame.specs.Stretch.{feedFrames, stretchWords}
+use Rattle.decoder_frame.specs.Stretch.{feedFrames, stretchWords, readWindow}
 
 pub window-at : (d : Design) (L : ℕ) (links : List ℕ) (p g : ℕ) → g ≤ groups L
-    → stretchWords (record { frames = feedFrames d L; k = 2 * p }) links (2 * g) ≡ windowWords (paramsOf d) (listsIn d links) L g p
+    → stretchWords (record { frames = feedFrames d L; k = 2 * p }) links (2 * g) ≡ readWindow (paramsOf d) (listsIn d links) L g p
 unfolding sitesIn
 window-at d L links p g h =
     let e : g ≡ windowGroups (groups L) g = omega (arith, h) in
-    ap (λ (n : ℕ). plain (paramsOf d) (wordsFrom (paramsOf d) (listsIn d links) L (2 * p) (2 * n))) e
+    ap (λ (n : ℕ). plain (paramsOf d) (readFrom (paramsOf d) (listsIn d links) L (2 * p) (2 * n))) e
 
 module _ (W : ℕ → List Word) (K : ℕ) (f : Frame) where
   pub slide-none : record { frame = f; rounds = 0; flips = 0 } ≡ slide W 0 K f

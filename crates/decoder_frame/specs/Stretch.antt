@@ -1,13 +1,16 @@
 -- A window, as code holds it: steps of the decoder, which no promise names.
 --   feedFrames      feed-forward frames of a design
---   stretchSites, stretchWords   the words of n lines, of which a line is the first
+--   stretchSites, stretchWords   the words of n lines, of which a line is the first, as they are read
+--   readWindow      those of a window
 --   WindowFits      some groups of a frame, and an allowed number of rounds
 -- Assumes nothing.
 use mathlib.Core.List.{List}
-use Prim.Native.Nat.{ℕ, _+_, _≤_}
-use Rattle.staircase.specs.Design.{most-rounds}
+use Prim.Native.Nat.{ℕ, _+_, _*_, _≤_}
+use Rattle.staircase.specs.Design.{Params, Interleavers, most-rounds}
 use Rattle.staircase.specs.Lists.{tabulate, concat}
 use Rattle.staircase.specs.Frame.{Site, Word, plain, groups}
+use Rattle.staircase.specs.Lines.{readFrom}
+use Rattle.staircase.specs.Window.{windowGroups}
 use Rattle.design.specs.declared.Design.{Design}
 use Rattle.design.specs.Sizes.{paramsOf}
 use Rattle.decoder_lines.specs.declared.Shape.the-variants.{FeedForward}
@@ -24,6 +27,9 @@ stretchSites line links n = concat n (λ i. tabulate (line .frames .d .size) (la
 
 abbrev pub stretchWords : Line → List ℕ → ℕ → List Word
 stretchWords line links n = plain (paramsOf (line .frames .d)) (stretchSites line links n)
+
+abbrev pub readWindow : Params → Interleavers → ℕ → ℕ → ℕ → List Word
+readWindow s l L v p = plain s (readFrom s l L (2 * p) (2 * windowGroups (groups L) v))
 
 pub record WindowFits (L : ℕ) (w : Window) : Type 0 where
   pub some-groups : 1 ≤ w .groups

@@ -23,19 +23,19 @@ ghost use Rattle.staircase.specs.Design.{most-M, most-blocks, most-rounds};
 ghost use Rattle.staircase.specs.Frame.{frameOf, groups};
 ghost use Rattle.staircase.specs.Decoder.{runEach, roundsAllowed};
 ghost use Rattle.staircase.specs.Outcomes.{lastStuck};
-ghost use Rattle.staircase.specs.Window.{positions, windowWords, slide, slideStuck};
+ghost use Rattle.staircase.specs.Window.{positions, slide, slideStuck};
 ghost use Rattle.staircase.specs.Lines.{wordCount};
 ghost use Rattle.design.specs.Sizes.{paramsOf};
 ghost use Rattle.rules.specs.Received.{Received};
-ghost use Rattle.words_tables.specs.Tables.{MayParts, tableLength};
-ghost use Rattle.words.specs.Words.{WordTable};
+ghost use Rattle.words_tables.specs.Tables.{tableLength};
+ghost use Rattle.words.specs.Words.{WordTable, MayBoth};
 ghost use Rattle.words_lines.specs.Lines.{LineFits};
 ghost use Rattle.decoder_lines.specs.Links.{listsIn};
 ghost use Rattle.decoder_lines.specs.Layouts.{linesIn, bitsIn};
 ghost use Rattle.decoder_tables.specs.Sizes.{WordSizes};
 ghost use Rattle.decoder_words.specs.Ready.{WordTables, FramesReady, FrameKept, LineMarks};
 ghost use Rattle.decoder_frame.specs.Filled.{Filled};
-ghost use Rattle.decoder_frame.specs.Stretch.{feedFrames, stretchWords, WindowFits};
+ghost use Rattle.decoder_frame.specs.Stretch.{feedFrames, stretchWords, readWindow, WindowFits};
 use decoder_lines::Frames;
 use decoder_lines::Shape;
 use words_lines::Line;
@@ -121,7 +121,7 @@ fn fill_line(
     requires { ⌜ Received (line .d) (line .blocks) (now own) (now parity) (now info) (now red) × LineFits line × WordTable (line .d) (now positions)
         × (length (now numbers) ≡ 4 * wordCount (paramsOf (line .d)) (line .blocks))
         × Filled line (now own) (now parity) (frameOf (now info) (now red)) (now numbers) (line .k * line .d .size)
-        × MayParts (now positions) (line .d .size) (line .d .m * line .d .t) (now tables) ⌝ }
+        × MayBoth (now positions) (line .d .size) (line .d .m * line .d .t) (now tables) ⌝ }
     ensures { λ u. ⌜ (length (now (numbers .exit)) ≡ length (now (numbers .entry)))
         × Filled line (now (own .entry)) (now (parity .entry)) (frameOf (now (info .entry)) (now (red .entry)))
         (now (numbers .exit)) (line .k * line .d .size + line .d .size) ⌝ }
@@ -154,7 +154,7 @@ fn fill_lines(
     numbers: &mut [u8],
 )
     requires { ⌜ Received (line .d) (line .blocks) (now own) (now parity) (now info) (now red) × WordTable (line .d) (now positions)
-        × (length (now numbers) ≡ 4 * wordCount (paramsOf (line .d)) (line .blocks)) × MayParts (now positions) (line .d .size) (line .d .m * line .d .t) (now tables) ⌝ }
+        × (length (now numbers) ≡ 4 * wordCount (paramsOf (line .d)) (line .blocks)) × MayBoth (now positions) (line .d .size) (line .d .m * line .d .t) (now tables) ⌝ }
     ensures { λ u. ⌜ (length (now (numbers .exit)) ≡ length (now (numbers .entry)))
         × Filled line (now (own .entry)) (now (parity .entry)) (frameOf (now (info .entry)) (now (red .entry)))
         (now (numbers .exit)) (wordCount (paramsOf (line .d)) (line .blocks)) ⌝ }
@@ -185,8 +185,9 @@ fn fill_by_tables(
 {
     let size = line.d.size();
     let r = line.d.r();
-    let mut tables = words_tables::entries();
-    words_tables::fill_parts(positions, size, r, &mut tables[0..due]);
+    let n = line.d.n();
+    let mut tables = words::both_entries();
+    words::fill_both(positions, n, size, r, due, &mut tables[0..2 * due]);
     fill_lines(
         line,
         own,
@@ -194,7 +195,7 @@ fn fill_by_tables(
         info,
         red,
         positions,
-        &tables[0..due],
+        &tables[0..2 * due],
         numbers,
     );
 }
@@ -311,9 +312,9 @@ pub fn run_window(
     requires { ⌜ FramesReady (feedFrames (line .d) (line .blocks)) (now links) (now tables) (now field) × WindowFits (line .blocks) window
         × FrameKept (feedFrames (line .d) (line .blocks)) (now links) (now info) (now red) (now kept) ⌝ }
     ensures { λ a. ⌜ (record { frame = frameOf (now (info .exit)) (now (red .exit)); rounds = a .rounds; flips = a .flips }
-        ≡ slide (windowWords (paramsOf (line .d)) (listsIn (line .d) (now (links .entry))) (line .blocks) (window .groups))
+        ≡ slide (readWindow (paramsOf (line .d)) (listsIn (line .d) (now (links .entry))) (line .blocks) (window .groups))
         (positions (groups (line .blocks)) (window .groups)) (window .limit) (frameOf (now (info .entry)) (now (red .entry))))
-        × (a .stuck ≡ slideStuck (windowWords (paramsOf (line .d)) (listsIn (line .d) (now (links .entry))) (line .blocks) (window .groups))
+        × (a .stuck ≡ slideStuck (readWindow (paramsOf (line .d)) (listsIn (line .d) (now (links .entry))) (line .blocks) (window .groups))
         (groups (line .blocks) - window .groups) (window .limit) (frameOf (now (info .entry)) (now (red .entry))))
         × FrameKept (feedFrames (line .d) (line .blocks)) (now (links .entry)) (now (info .exit)) (now (red .exit)) (now (kept .exit))
         × LineMarks (feedFrames (line .d) (line .blocks)) (now (info .entry)) (now (red .entry)) (now (kept .entry)) (now (info .exit)) (now (red .exit)) (now (kept .exit)) ⌝ }

@@ -2,6 +2,7 @@
 --   red-place                     a place of the redundancy
 --   at-row, at-column             the crossing word of a bit of the redundancy, from the table
 --   not-first                     a sent bit of the first stretch is not in the first line
+--   crossed-position, crossed-read     the position of the crossing word, and as it is read
 --   crossing-word, crossing-position   the word and the position
 --   power-added, none-added       the crossing word's number
 -- Assumes nothing.
@@ -25,6 +26,7 @@ use Rattle.staircase.specs.Lines.{even, Incidence, incidence, crossing, partner
 use Rattle.staircase.specs.Layout.{wordTotal, placeOf}
 use Rattle.staircase.proofs.Flip.{Sent, allSent-each}
 use Rattle.staircase.proofs.Crossing as feed
+use Rattle.staircase.proofs.Turned.{readCrossing-holds}
 use Rattle.original.proofs.Crossing as rows
 use Rattle.design.specs.declared.Design.{Design}
 use Rattle.design.specs.Sizes.{paramsOf, orderOf}
@@ -37,10 +39,10 @@ use Rattle.decoder_lines.specs.declared.Shape.the-variants.{FeedForward,
 use Rattle.decoder_lines.specs.declared.Line.{Line}
 use Rattle.decoder_lines.specs.declared.WordBit.{WordBit}
 use Rattle.decoder_lines.specs.Links.{listsIn, LinksFit, incidenceOf}
-use Rattle.decoder_lines.specs.Layouts.{linesIn, bitsIn, sitesIn, crossingIn, layoutOf, AllowedIn, LineFits, lineWord, placesAt, PowersFit}
+use Rattle.decoder_lines.specs.Layouts.{linesIn, bitsIn, turnIn, straightIn, acrossIn, sitesIn, crossingIn, layoutOf, AllowedIn, LineFits, lineWord, straightWord, placesAt, PowersFit}
 use Rattle.decoder_lines.proofs.Places.{red-below}
 use Rattle.decoder_lines.proofs.Links.{link-row, link-column}
-use Rattle.decoder_lines.proofs.Layouts.{thin-of, r-high, r-some, g-degree, site-first}
+use Rattle.decoder_lines.proofs.Layouts.{thin-of, r-high, r-some, g-degree, site-read, crossing-read, site-first}
 
 module _ (d : Design) (k : ℕ) {links : List ℕ} (T : LinksFit d links) (a p q : ℕ) (ha : a < d .size) (low : 2 * d .size ≤ p)
     (hp : p < wordLength (paramsOf d)) (e : q ≡ (p - 2 * d .size) * d .size + a) where
@@ -76,10 +78,20 @@ there-in : (z : Shape) (d : Design) (links : List ℕ) (L k a p : ℕ) → Allow
     → (crossingIn z (paramsOf d) (listsIn d links) k a p .word < d .size) × (crossingIn z (paramsOf d) (listsIn d links) k a p .position < bitsIn z (paramsOf d))
 unfolding AllowedIn sitesIn crossingIn bitsIn
 there-in FeedForward d links L k a p A ha hp sent =
-    let x = feed.crossing-holds (paramsOf d) L (listsIn d links) (proper-of d (A .0)) (A .1 .self) (A .1 .parity) k a p ha hp sent in (x .word, x .position)
+    let x = readCrossing-holds (paramsOf d) L (listsIn d links) (proper-of d (A .0)) (A .1 .self) (A .1 .parity) k a p ha hp sent in (x .word, x .position)
 there-in Original d links L k a p A ha hp sent =
     let thin = thin-of d links A in
     let x = rows.crossing-holds (paramsOf d) thin k a p ha hp (subst Sent (rows.row-at (paramsOf d) thin k a p hp) sent) in (x .word, x .position)
+
+across-in : (z : Shape) (d : Design) (links : List ℕ) (L k a p : ℕ) → AllowedIn z d links → a < d .size → p < bitsIn z (paramsOf d)
+    → Sent (getD (straightIn z (paramsOf d) (listsIn d links) L k a) p unsent)
+    → acrossIn z (paramsOf d) (listsIn d links) k a p .position < bitsIn z (paramsOf d)
+unfolding AllowedIn straightIn acrossIn bitsIn
+across-in FeedForward d links L k a p A ha hp sent =
+    feed.crossing-holds (paramsOf d) L (listsIn d links) (proper-of d (A .0)) (A .1 .self) (A .1 .parity) k a p ha hp sent .position
+across-in Original d links L k a p A ha hp sent =
+    let thin = thin-of d links A in
+    rows.crossing-holds (paramsOf d) thin k a p ha hp (subst Sent (rows.row-at (paramsOf d) thin k a p hp) sent) .position
 
 module _ {line : Line} {links : List ℕ} (F : LineFits line links) (a p : ℕ) (ha : a < line .frames .d .size)
     (hp : p < bitsIn (line .frames .shape) (paramsOf (line .frames .d))) (sent : allSent (getD (lineWord line links a) p unsent ∷ []) ≡ true) where
@@ -95,12 +107,35 @@ module _ {line : Line} {links : List ℕ} (F : LineFits line links) (a p : ℕ) 
   site-sent : Sent (getD (lineWord line links a) p unsent)
   site-sent = allSent-each (getD (lineWord line links a) p unsent ∷ []) sent _ (inl refl)
 
-  pub not-first : p < line .frames .d .size → 1 ≤ line .k
-  not-first h = go (line .k) (F .within) site-sent
+  -- the position in the word as it is written
+  abbrev q : ℕ
+  q = turnIn (line .frames .shape) (paramsOf (line .frames .d)) (line .k) p
+
+  straight-sent : Sent (getD (straightWord line links a) q unsent)
+  straight-sent = subst Sent (site-read (F .frames) (line .k) a p hp) site-sent
+
+  pub not-first : turnIn (line .frames .shape) (paramsOf (line .frames .d)) (line .k) p < line .frames .d .size → 1 ≤ line .k
+  not-first h = go (line .k) q (F .within) h straight-sent
     where
-      go : (k : ℕ) → k < linesIn (line .frames .shape) (line .frames .blocks) → Sent (getD (layoutOf (line .frames) links .sites k a) p unsent) → 1 ≤ k
-      go zero hk q = absurd (subst Sent (site-first (F .frames) 0 a p hk h) q)
-      go (suc k) hk q = omega arith
+      go : (k j : ℕ) → k < linesIn (line .frames .shape) (line .frames .blocks) → j < d .size
+          → Sent (getD (straightIn (line .frames .shape) (paramsOf d) (listsIn d links) (line .frames .blocks) k a) j unsent) → 1 ≤ k
+      go zero j hk h s = absurd (subst Sent (site-first (F .frames) 0 a j hk h) s)
+      go (suc k) j hk h s = omega arith
+
+  module _ {h : WordBit} (e : incidenceOf h ≡ acrossIn (line .frames .shape) (paramsOf (line .frames .d)) (listsIn (line .frames .d) links) (line .k) a
+      (turnIn (line .frames .shape) (paramsOf (line .frames .d)) (line .k) p)) where
+    pub crossed-position : turnIn (line .frames .shape) (paramsOf (line .frames .d)) (line .k) p < bitsIn (line .frames .shape) (paramsOf (line .frames .d))
+        → h .position < bitsIn (line .frames .shape) (paramsOf (line .frames .d))
+    crossed-position below =
+        subst (λ (z : Incidence). z .position < n) (sym e)
+        (across-in (line .frames .shape) d links (line .frames .blocks) (line .k) a q (F .frames .allowed) ha below straight-sent)
+
+    pub crossed-read : (at : ℕ) → at ≡ turnIn (line .frames .shape) (paramsOf (line .frames .d)) (h .line) (h .position)
+        → incidence (h .line) (h .word) at ≡ crossingIn (line .frames .shape) (paramsOf (line .frames .d)) (listsIn (line .frames .d) links) (line .k) a p
+    crossed-read at f =
+        ap (incidence (h .line) (h .word)) f
+        ∙ ap (λ (z : Incidence). incidence (z .line) (z .word) (turnIn (line .frames .shape) (paramsOf d) (z .line) (z .position))) e
+        ∙ crossing-read (line .frames .shape) (paramsOf d) (listsIn d links) (line .k) a p
 
   there : (c .word < d .size) × (c .position < n)
   there = there-in (line .frames .shape) d links (line .frames .blocks) (line .k) a p (F .frames .allowed) ha hp site-sent

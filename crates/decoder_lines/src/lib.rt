@@ -4,8 +4,8 @@
 //   word_bits             the bits of a word
 //   word_number           the number of a word among all words of the frame
 //   fill_links            the table of links of feed-forward frames, from the two lists
-//   site_at               where a position of a word stands in the buffers of a frame
-//   crossing_word         the other word that has the bit at a position of a word, and the position
+//   site_at               where a position of a word, as it is read, stands in the buffers of a frame
+//   crossing_word         the other word that has the bit at a position of a word, and the position, both as they are read
 //   add_power             adds the power of that position to the word's kept number, and takes its mark away
 //
 // A line is M words that share no bit. Line k takes block k and block k + 1, the block before the first being block 0, which is not sent, and its words
@@ -15,6 +15,8 @@
 //
 // In the redundancy the two lines of a group cross, and the table of links says where: entry q is the place in Y and then P of place q of X and then Q,
 // and entry 2n + q the way back, for lists of n entries. Original frames have no links.
+//
+// All words are read in one code: the column words of a mirrored design are read backwards.
 ghost use mathlib.Core.Path.{_≡_};
 ghost use mathlib.Core.Bool.{true, cond};
 ghost use mathlib.Core.List.{[], _∷_};
@@ -32,7 +34,7 @@ ghost use Rattle.rules.specs.Received.{ListsFit};
 ghost use Rattle.decoder_kept.specs.Words.{AddedAt};
 ghost use Rattle.decoder_flips.specs.Sites.{sitesOf, Inside};
 ghost use Rattle.decoder_lines.specs.Links.{listsIn, LinksFit, incidenceOf};
-ghost use Rattle.decoder_lines.specs.Layouts.{linesIn, bitsIn, crossingIn, redIn, layoutOf, rowsFirst, rowsSecond, LineFits, lineWord, placesAt, PowersFit};
+ghost use Rattle.decoder_lines.specs.Layouts.{linesIn, bitsIn, turnedIn, turnIn, acrossIn, crossingIn, redIn, layoutOf, rowsFirst, rowsSecond, LineFits, lineWord, straightWord, placesAt, PowersFit};
 use decoder_flips::BitSite;
 use design::Design;
 
@@ -143,6 +145,32 @@ fn rows_second(line: Line) -> bool
     }
 }
 
+// Whether the words of line k are read backwards: column words of a mirrored design.
+fn turned(frames: Frames, k: usize) -> bool
+    ensures { λ b. ⌜ b ≡ turnedIn (frames .shape) (paramsOf (frames .d)) k ⌝ }
+{
+    if k % 2 == 0 {
+        return false;
+    }
+    let d = frames.d;
+    let shape = frames.shape;
+    match shape {
+        Shape::FeedForward => d.mirrored(),
+        Shape::Original => false,
+    }
+}
+
+// Position p of a word of line k as it is read, in the word as it is written; and back.
+fn turned_position(frames: Frames, k: usize, p: usize) -> usize
+    requires { ⌜ p < bitsIn (frames .shape) (paramsOf (frames .d)) ⌝ }
+    ensures { λ q. ⌜ (q ≡ turnIn (frames .shape) (paramsOf (frames .d)) k p) × (q < bitsIn (frames .shape) (paramsOf (frames .d))) ⌝ }
+{
+    if turned(frames, k) {
+        return word_bits(frames) - 1 - p;
+    }
+    p
+}
+
 // The number of word a of a line, among all words of the frame.
 pub fn word_number(line: Line, a: usize) -> usize
     requires { ⌜ (line .k < linesIn (line .frames .shape) (line .frames .blocks)) × (line .frames .blocks ≤ most-blocks)
@@ -223,10 +251,10 @@ fn group_bit(d: Design, k: usize, links: &[u16], q: usize) -> usize
     q
 }
 
-// Where position p of word a of a line stands.
-pub fn site_at(line: Line, links: &[u16], a: usize, p: usize) -> BitSite
+// Where position p of word a of a line, as it is written, stands.
+fn straight_site(line: Line, links: &[u16], a: usize, p: usize) -> BitSite
     requires { ⌜ LineFits line (now links) × (a < line .frames .d .size) × (p < bitsIn (line .frames .shape) (paramsOf (line .frames .d))) ⌝ }
-    ensures { λ x. ⌜ (sitesOf x ≡ getD (lineWord line (now (links .entry)) a) p unsent ∷ [])
+    ensures { λ x. ⌜ (sitesOf x ≡ getD (straightWord line (now (links .entry)) a) p unsent ∷ [])
         × Inside x (line .frames .blocks * (line .frames .d .size * line .frames .d .size))
         (redIn (line .frames .shape) (paramsOf (line .frames .d)) (line .frames .blocks)) ⌝ }
 {
@@ -249,6 +277,17 @@ pub fn site_at(line: Line, links: &[u16], a: usize, p: usize) -> BitSite
     group_site(d, blocks, k / 2, group_bit(d, k, links, q))
 }
 
+// Where position p of word a of a line, as it is read, stands.
+pub fn site_at(line: Line, links: &[u16], a: usize, p: usize) -> BitSite
+    requires { ⌜ LineFits line (now links) × (a < line .frames .d .size) × (p < bitsIn (line .frames .shape) (paramsOf (line .frames .d))) ⌝ }
+    ensures { λ x. ⌜ (sitesOf x ≡ getD (lineWord line (now (links .entry)) a) p unsent ∷ [])
+        × Inside x (line .frames .blocks * (line .frames .d .size * line .frames .d .size))
+        (redIn (line .frames .shape) (paramsOf (line .frames .d)) (line .frames .blocks)) ⌝ }
+{
+    let q = turned_position(line.frames, line.k, p);
+    straight_site(line, links, a, q)
+}
+
 // Column f / size, row f % size of X and Q, or of Y and P side by side.
 fn red_bit(line: usize, f: usize, size: usize) -> WordBit
     requires { ⌜ (0 < size) × (size ≤ 500) × (f < 65536) ⌝ }
@@ -261,12 +300,12 @@ fn red_bit(line: usize, f: usize, size: usize) -> WordBit
     }
 }
 
-// The other word that has the bit at position p of word a of a line.
-pub fn crossing_word(line: Line, links: &[u16], a: usize, p: usize) -> WordBit
+// The other word that has the bit at position p of word a of a line, both as they are written.
+fn straight_crossing(line: Line, links: &[u16], a: usize, p: usize) -> WordBit
     requires { ⌜ LineFits line (now links) × (a < line .frames .d .size) × (p < bitsIn (line .frames .shape) (paramsOf (line .frames .d)))
         × (p < line .frames .d .size → 1 ≤ line .k) ⌝ }
     ensures { λ b. ⌜ incidenceOf b
-        ≡ crossingIn (line .frames .shape) (paramsOf (line .frames .d)) (listsIn (line .frames .d) (now (links .entry))) (line .k) a p ⌝ }
+        ≡ acrossIn (line .frames .shape) (paramsOf (line .frames .d)) (listsIn (line .frames .d) (now (links .entry))) (line .k) a p ⌝ }
 {
     let d = line.frames.d;
     let size = d.size();
@@ -292,6 +331,23 @@ pub fn crossing_word(line: Line, links: &[u16], a: usize, p: usize) -> WordBit
     }
     let f = link_at(links, 2 * d.order(), q);
     red_bit(k - 1, f, size)
+}
+
+// The other word that has the bit, which is sent, at position p of word a of a line, both as they are read.
+fn crossing_word(line: Line, links: &[u16], a: usize, p: usize) -> WordBit
+    requires { ⌜ LineFits line (now links) × (a < line .frames .d .size) × (p < bitsIn (line .frames .shape) (paramsOf (line .frames .d)))
+        × (allSent (getD (lineWord line (now links) a) p unsent ∷ []) ≡ true) ⌝ }
+    ensures { λ b. ⌜ incidenceOf b
+        ≡ crossingIn (line .frames .shape) (paramsOf (line .frames .d)) (listsIn (line .frames .d) (now (links .entry))) (line .k) a p ⌝ }
+{
+    let q = turned_position(line.frames, line.k, p);
+    let c = straight_crossing(line, links, a, q);
+    let at = turned_position(line.frames, c.line, c.position);
+    WordBit {
+        line: c.line,
+        word: c.word,
+        position: at,
+    }
 }
 
 // Adds the power of the bit at position p of word a of a line, which is sent, to the kept number of the other word that has it, if the frame has that

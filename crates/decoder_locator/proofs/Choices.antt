@@ -132,7 +132,7 @@ module _ (m t : ℕ) (table : List ℕ) (at : PositionPowers (generator m t) (m 
 
   pub located-is : (x : ℕ) (c : List ℕ) → Positions n t c → sumAt table c ≡ x → located table t x ≡ c
   located-is x c p e =
-      let s : Params = params m t 1 in
+      let s : Params = params m t 1 0 in
       let u : List ℕ = flipBits c zeros in
       let found =
       errorPositions-found s u c (subst (λ (z : ℕ). Positions z t c) (word-length c) p)

@@ -9,7 +9,7 @@ use Rattle.staircase.specs.Rules.{interleavers}
 use Rattle.design.specs.declared.Design.{Design}
 
 abbrev pub paramsOf : Design → Params
-paramsOf d = params (d .m) (d .t) (d .size)
+paramsOf d = params (d .m) (d .t) (d .size) (d .col)
 
 abbrev pub orderOf : Design → ℕ
 orderOf d = order (paramsOf d)

@@ -1,7 +1,9 @@
-// The design of a feed-forward staircase code, the refusals, and those rules of document 01's table that speak of numbers alone.
-//   Design::new(m, t, size)                     rules 1 to 3: the design, or its refusal
-//   m, t, size                                  the three numbers of a design
-//   r, n, k, order, area, row_bytes             its sizes
+// The designs of feed-forward and of original staircase codes, and those rules of document 01's table that speak of numbers alone.
+//   Design::new(m, t, size)                     rules 1 to 3: the design of a feed-forward code, or its refusal
+//   Design::of_original(m, t, size)             rules 1, 2 and 19: the design of an original staircase code, or its refusal
+//   Design::new_col, Design::of_original_col    the same with a column code
+//   m, t, size, mirrored                        the numbers of a design
+//   r, area, n, k, order, row_bytes, row_bits   its sizes: n, k, order and row_bytes of a feed-forward code, row_bits of an original one
 //   check_count(blocks), check_rounds(rounds)   rules 4 and 5
 //   check_batch(frames)                         rule 17
 //   check_window(window)                        rule 18
@@ -9,54 +11,38 @@
 //   MOST_BLOCKS, group_count                    the most blocks of a frame; the groups of a frame
 //   MOST_FRAMES                                 the most frames of a batch
 //
-// An answer is an enum. `refusalVerdict`, `verdictOf` and `designVerdict` of specs/ give the table's number and place of each case, and each
-// contract says that the answer is the verdict of the rule in the crate `staircase`, for every argument that the `requires` line lets in.
+// `designVerdict` of specs/ gives the table's number and place of each answer, and each contract says that the answer is the verdict of the rule in the
+// crates `staircase` and `original`, for every argument that the `requires` line lets in.
 //
-// `Design::new` tests the ranges before it multiplies, so any three numbers may be given. A design's fields are private, so another crate has no
-// design but those that rules 1 to 3 accept. They have the smallest types that hold the limits, so its sizes fit whatever the fields hold.
+// The ranges are tested before anything is multiplied, so any numbers may be given. A design's fields are private, so another crate has no design but
+// those that the rules of a kind accept; which kind it is stands in the contracts, as `Allowed` or `AllowedOriginal`, and not in the type, so that what
+// both kinds do is written once. The fields have the smallest types that hold the limits, so that the sizes fit whatever the fields hold.
 ghost use mathlib.Core.Path.{_≡_};
+ghost use mathlib.Core.Bool.{not, cond};
 ghost use Prim.Native.Nat.{_+_, _*_, _/_, _≤_, _<_};
-ghost use Rattle.staircase.specs.Design.{most-blocks};
+ghost use lib.Dec.{eqb};
+ghost use Rattle.staircase.specs.Design.{most-blocks, params};
 ghost use Rattle.staircase.specs.Frame.{groups};
-ghost use Rattle.staircase.specs.Rules.{outOfRange, designRules, countRule, roundsRule};
+ghost use Rattle.staircase.specs.Rules.{outOfRange, _then_, sizeRule, longRule, largeRule, designRules, countRule, roundsRule};
+ghost use Rattle.staircase.specs.Rules.Verdict.{accepted};
 ghost use Rattle.staircase.specs.Batch.{batchRule};
 ghost use Rattle.staircase.specs.Window.{windowRule};
-ghost use Rattle.design.specs.Answers.{verdictOf, designVerdict, DesignIs, DesignAllowed};
+ghost use Rattle.original.specs.Rules.{rowLongRule, thinRule, originalRules};
+ghost use Rattle.answers.specs.Answers.{refusalVerdict, verdictOf};
+ghost use Rattle.design.specs.Answers.{designVerdict, DesignIs, DesignAllowed, DesignOriginal};
+use answers::Check;
+use answers::Refusal;
 
-// A refusal: a rule of the table, by its name there, with the place.
-pub enum Refusal {
-    Size(u64),
-    Long(u64),
-    Large(u64),
-    Count(u64),
-    Rounds(u64),
-    Length(u64),
-    List(u64),
-    Spare(u64),
-    Inverse(u64),
-    Bit(u64),
-    Singular(u64),
-    Narrow(u64),
-    Full(u64),
-    Batch(u64),
-    Window(u64),
-    Thin(u64),
-}
-
-// The answer of a check.
-pub enum Check {
-    Passed,
-    Refused(Refusal),
-}
-
-// A design: its field's degree m, the errors t that a word may have, and M, the rows and columns of a block, as `size`.
+// A design: its field's degree m, the errors t that a word may have, M, the rows and columns of a block, as `size`, and the column code, 0 for the same code
+// as that of row words, 1 for the mirrored one.
 pub struct Design {
     m: u8,
     t: u8,
     size: u16,
+    col: u8,
 }
 
-// The answer of `Design::new`.
+// The answer of a new design.
 pub enum Designed {
     Made(Design),
     Refused(Refusal),
@@ -84,6 +70,70 @@ pub fn out_of_range(low: u64, high: u64, x: u64) -> bool
     high < x
 }
 
+// Rule 1 for the four numbers of a design. Constant work, as in the two functions below.
+fn check_size(m: u64, t: u64, size: u64, col: u64) -> Check
+    ensures { λ a. ⌜ verdictOf a ≡ sizeRule m t size col ⌝ }
+{
+    if out_of_range(Design::LEAST_M, Design::MOST_M, m) {
+        return Check::Refused(Refusal::Size(1));
+    }
+    if out_of_range(1, Design::MOST_T, t) {
+        return Check::Refused(Refusal::Size(2));
+    }
+    if out_of_range(1, Design::MOST_SIZE, size) {
+        return Check::Refused(Refusal::Size(3));
+    }
+    if Design::MOST_COL < col {
+        return Check::Refused(Refusal::Size(4));
+    }
+    Check::Passed
+}
+
+// The design of a feed-forward code of numbers that rule 1 accepts, or the first of rules 2 and 3 that refuses it.
+fn feed_forward(m: u64, t: u64, size: u64, col: u64) -> Designed
+    requires { ⌜ sizeRule m t size col ≡ accepted ⌝ }
+    ensures { λ a. ⌜ (designVerdict a ≡ (longRule m (params m t size col) then largeRule (params m t size col))) × DesignIs a m t size col × DesignAllowed a ⌝ }
+{
+    let r = m * t;
+    let n = 2 * size + 2 * r;
+    let longest = (1 << m) - 1;
+    if longest < n {
+        return Designed::Refused(Refusal::Long(n));
+    }
+    let order = size * r;
+    if Design::MOST_ORDER < order {
+        return Designed::Refused(Refusal::Large(order));
+    }
+    Designed::Made(Design {
+        m: m as u8,
+        t: t as u8,
+        size: size as u16,
+        col: col as u8,
+    })
+}
+
+// The design of an original staircase code of numbers that rule 1 accepts, or the first of rules 2, which reads 2M for n, and 19 that refuses it.
+fn original(m: u64, t: u64, size: u64, col: u64) -> Designed
+    requires { ⌜ sizeRule m t size col ≡ accepted ⌝ }
+    ensures { λ a. ⌜ (designVerdict a ≡ (rowLongRule m (params m t size col) then thinRule (params m t size col))) × DesignIs a m t size col × DesignOriginal a ⌝ }
+{
+    let n = 2 * size;
+    let longest = (1 << m) - 1;
+    if longest < n {
+        return Designed::Refused(Refusal::Long(n));
+    }
+    let r = m * t;
+    if size <= r {
+        return Designed::Refused(Refusal::Thin(r));
+    }
+    Designed::Made(Design {
+        m: m as u8,
+        t: t as u8,
+        size: size as u16,
+        col: col as u8,
+    })
+}
+
 // "these limits belong to the design itself"
 impl Design {
     pub const LEAST_M: u64 = 4;
@@ -94,50 +144,49 @@ impl Design {
 
     pub const MOST_SIZE: u64 = 500;
 
+    pub const MOST_COL: u64 = 1;
+
     pub const MOST_ORDER: u64 = 4096;
 
-    // The design of m, t and M = `size`, or the first of rules 1 to 3 that refuses it. A design that is made keeps to the limits. Constant work.
+    // The design of m, t, M = `size` and the column code, or the first of rules 1 to 3 that refuses it. A design that is made keeps to the limits. Constant
+    // work, as in the functions below.
+    pub fn new_col(m: u64, t: u64, size: u64, col: u64) -> Designed
+        ensures { λ a. ⌜ (designVerdict a ≡ designRules m t size col) × DesignIs a m t size col × DesignAllowed a ⌝ }
+    {
+        let sized = check_size(m, t, size, col);
+        match sized {
+            Check::Refused(r) => Designed::Refused(r),
+            Check::Passed => feed_forward(m, t, size, col),
+        }
+    }
+
+    // The same where rows and columns have one code.
     pub fn new(m: u64, t: u64, size: u64) -> Designed
-        ensures { λ a. ⌜ (designVerdict a ≡ designRules m t size) × DesignIs a m t size × DesignAllowed a ⌝ }
+        ensures { λ a. ⌜ (designVerdict a ≡ designRules m t size 0) × DesignIs a m t size 0 × DesignAllowed a ⌝ }
     {
-        if out_of_range(Design::LEAST_M, Design::MOST_M, m) {
-            return Designed::Refused(Refusal::Size(1));
-        }
-        if out_of_range(1, Design::MOST_T, t) {
-            return Designed::Refused(Refusal::Size(2));
-        }
-        if out_of_range(1, Design::MOST_SIZE, size) {
-            return Designed::Refused(Refusal::Size(3));
-        }
-        let r = m * t;
-        let n = 2 * size + 2 * r;
-        let longest = (1 << m) - 1;
-        if longest < n {
-            return Designed::Refused(Refusal::Long(n));
-        }
-        let order = size * r;
-        if Design::MOST_ORDER < order {
-            return Designed::Refused(Refusal::Large(order));
-        }
-        Designed::Made(Design {
-            m: m as u8,
-            t: t as u8,
-            size: size as u16,
-        })
+        Design::new_col(m, t, size, 0)
     }
 
-    // A design of three numbers that the rules of another kind of frame have judged. What a kind asks of its designs stands in its contracts.
-    pub fn of_numbers(m: u8, t: u8, size: u16) -> Design
-        ensures { λ d. ⌜ d ≡ record { m = m; t = t; size = size } ⌝ }
+    // The design of an original staircase code of m, t and M = `size`, or the first of rules 1, 2 and 19 that refuses it. The column code is judged and has no
+    // other effect: all words are rows.
+    pub fn of_original_col(m: u64, t: u64, size: u64, col: u64) -> Designed
+        ensures { λ a. ⌜ (designVerdict a ≡ originalRules m t size col) × DesignIs a m t size col × DesignOriginal a ⌝ }
     {
-        Design {
-            m: m,
-            t: t,
-            size: size,
+        let sized = check_size(m, t, size, col);
+        match sized {
+            Check::Refused(r) => Designed::Refused(r),
+            Check::Passed => original(m, t, size, col),
         }
     }
 
-    // m, the degree of the design's field. Constant work, as in the functions below.
+    // The same without a column code.
+    pub fn of_original(m: u64, t: u64, size: u64) -> Designed
+        ensures { λ a. ⌜ (designVerdict a ≡ originalRules m t size 0) × DesignIs a m t size 0 × DesignOriginal a ⌝ }
+    {
+        Design::of_original_col(m, t, size, 0)
+    }
+
+    // m, the degree of the design's field.
     pub fn m(self) -> usize
         ensures { λ a. ⌜ a ≡ self .m ⌝ }
     {
@@ -158,6 +207,13 @@ impl Design {
         self.size as usize
     }
 
+    // Column words are in the mirrored code.
+    pub fn mirrored(self) -> bool
+        ensures { λ z. ⌜ z ≡ not (eqb (self .col) 0) ⌝ }
+    {
+        self.col != 0
+    }
+
     // r, the redundancy bits of a word.
     pub fn r(self) -> usize
         ensures { λ a. ⌜ (a ≡ self .m * self .t) × (a < 65536) ⌝ }
@@ -170,6 +226,13 @@ impl Design {
         ensures { λ a. ⌜ (a ≡ 2 * self .size + 2 * (self .m * self .t)) × (a < 262144) ⌝ }
     {
         2 * (self.size as usize) + 2 * self.r()
+    }
+
+    // 2M, the bits of a word of an original code.
+    pub fn row_bits(self) -> usize
+        ensures { λ a. ⌜ (a ≡ 2 * self .size) × (a < 131072) ⌝ }
+    {
+        2 * (self.size as usize)
     }
 
     // k, the information bits of a word.
@@ -201,17 +264,24 @@ impl Design {
     }
 }
 
-// Rule 4 for a number of blocks. Constant work.
-pub fn check_count(blocks: u64) -> Check
-    ensures { λ a. ⌜ verdictOf a ≡ countRule blocks ⌝ }
+// Passed where x is from 1 to `most`, else the refusal. Constant work, as in the functions below.
+fn check_range(most: u64, x: u64, refusal: Refusal) -> Check
+    ensures { λ a. ⌜ verdictOf a ≡ cond (outOfRange 1 most x) (refusalVerdict refusal) accepted ⌝ }
 {
-    if out_of_range(1, MOST_BLOCKS, blocks) {
-        return Check::Refused(Refusal::Count(blocks));
+    if out_of_range(1, most, x) {
+        return Check::Refused(refusal);
     }
     Check::Passed
 }
 
-// Rule 5 for a number of rounds. Constant work.
+// Rule 4 for a number of blocks.
+pub fn check_count(blocks: u64) -> Check
+    ensures { λ a. ⌜ verdictOf a ≡ countRule blocks ⌝ }
+{
+    check_range(MOST_BLOCKS, blocks, Refusal::Count(blocks))
+}
+
+// Rule 5 for a number of rounds.
 pub fn check_rounds(rounds: u64) -> Check
     ensures { λ a. ⌜ verdictOf a ≡ roundsRule rounds ⌝ }
 {
@@ -221,27 +291,21 @@ pub fn check_rounds(rounds: u64) -> Check
     Check::Passed
 }
 
-// Rule 17 for a number of frames. Constant work.
+// Rule 17 for a number of frames.
 pub fn check_batch(frames: u64) -> Check
     ensures { λ a. ⌜ verdictOf a ≡ batchRule frames ⌝ }
 {
-    if out_of_range(1, MOST_FRAMES, frames) {
-        return Check::Refused(Refusal::Batch(frames));
-    }
-    Check::Passed
+    check_range(MOST_FRAMES, frames, Refusal::Batch(frames))
 }
 
-// Rule 18 for the groups of a window. Constant work.
+// Rule 18 for the groups of a window.
 pub fn check_window(window: u64) -> Check
     ensures { λ a. ⌜ verdictOf a ≡ windowRule window ⌝ }
 {
-    if out_of_range(1, MOST_WINDOW, window) {
-        return Check::Refused(Refusal::Window(window));
-    }
-    Check::Passed
+    check_range(MOST_WINDOW, window, Refusal::Window(window))
 }
 
-// The answer of `Design::new` as a check's. Constant work, as in the function below.
+// The answer of a new design as a check's.
 pub fn design_check(a: Designed) -> Check
     ensures { λ c. ⌜ verdictOf c ≡ designVerdict a ⌝ }
 {

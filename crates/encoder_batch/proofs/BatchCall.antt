@@ -14,21 +14,23 @@ use Rattle.staircase.specs.Calls.{encodedBy}
 use Rattle.staircase.specs.Batch.{batchVerdict, batchRedundancy, batchCall}
 use Rattle.staircase.proofs.Rules.{then-first, then-rest, lists-permute, bytes-bits, content-accepted}
 use Rattle.staircase.proofs.Encoded.{encodedBy-verdict}
-use Rattle.design.specs.declared.Refusal.{Refusal}
-use Rattle.design.specs.declared.Check.{Check}
-use Rattle.design.specs.declared.Check.the-variants as check
+use Rattle.answers.specs.declared.Refusal.{Refusal}
+use Rattle.answers.specs.declared.Check.{Check}
+use Rattle.answers.specs.declared.Check.the-variants as check
 use Rattle.design.specs.declared.Design.{Design}
 use Rattle.design.specs.declared.Designed.{Designed}
 use Rattle.design.specs.declared.Designed.the-variants as designed
 use Rattle.design.specs.Sizes.{paramsOf, listsOf}
-use Rattle.design.specs.Answers.{verdictOf, designVerdict, DesignIs, Allowed}
-use Rattle.design.proofs.Answers.{check-refused, check-passed, made-params, refused-design, made-design}
+use Rattle.design.specs.Answers.{designVerdict, DesignIs, Allowed}
+use Rattle.design.proofs.Answers.{made-params, refused-design, made-design}
 use Rattle.encoder_frame.specs.Groups.{Encodable}
 use Rattle.rules.specs.Lengths.{lengthsOf, kitDue, batchDue, batchRules}
 use Rattle.rules.proofs.Chain.{batch-rules}
 use Rattle.rules.proofs.Accepted.{batch-accepted}
 use Rattle.kit_inverse.specs.Fits.{KitSized}
 use Rattle.encoder_batch.specs.Checks.{framesRules}
+use Rattle.answers.specs.Answers.{verdictOf}
+use Rattle.answers.proofs.Checks.{check-refused, check-passed}
 
 module _ (d : Design) (L n : ℕ) (own parity w info red : List ℕ) (work : ℕ) (allowed : Allowed d) where
   abbrev s : Params
@@ -77,39 +79,39 @@ module _ (v : Verdict) (old new : List ℕ) (x : Check) (e : verdictOf x ≡ v) 
     a ∙ sym (ap (λ (z : Verdict). encodedBy z old new .red) (sym e ∙ check-passed g)),
   )
 
-module _ (m t M L n : ℕ) (own parity w info red : List ℕ) (work : ℕ) where
+module _ (m t M col L n : ℕ) (own parity w info red : List ℕ) (work : ℕ) where
   abbrev call : Verdict
-  call = batchVerdict m t M L n own parity w info red work
+  call = batchVerdict m t M col L n own parity w info red work
 
   abbrev new : List ℕ
-  new = batchRedundancy (params m t M) (interleavers (params m t M) own parity) w L n info
+  new = batchRedundancy (params m t M col) (interleavers (params m t M col) own parity) w L n info
 
   abbrev rules : Params → Verdict
   rules s = framesRules s L n own parity w info red work
 
-  whole : (designRules m t M then framesRules (params m t M) L n own parity w info red work) ≡ batchVerdict m t M L n own parity w info red work
+  whole : (designRules m t M col then framesRules (params m t M col) L n own parity w info red work) ≡ batchVerdict m t M col L n own parity w info red work
   unfolding batchVerdict framesRules
   whole =
-      ap (λ (z : Verdict). designRules m t M then z)
-      (batch-rules (params m t M) own parity work (contentRules (params m t M) (interleavers (params m t M) own parity) w info) L 0 info red n w)
+      ap (λ (z : Verdict). designRules m t M col then z)
+      (batch-rules (params m t M col) own parity work (contentRules (params m t M col) (interleavers (params m t M col) own parity) w info) L 0 info red n w)
 
-  module _ (a : Designed) (j : designVerdict a ≡ designRules m t M) where
+  module _ (a : Designed) (j : designVerdict a ≡ designRules m t M col) where
     pub batch-design : (x : Check) (r : Refusal) → a ≡ designed.Refused r → verdictOf x ≡ designVerdict a
-        → (verdictOf x ≡ (batchCall m t M L n own parity w info red work) .verdict) × (red ≡ (batchCall m t M L n own parity w info red work) .red)
+        → (verdictOf x ≡ (batchCall m t M col L n own parity w info red work) .verdict) × (red ≡ (batchCall m t M col L n own parity w info red work) .red)
     unfolding batchCall
-    batch-design x r g e = let q = refused-design m t M rules a j x g e in left-refused call red new x (q .1 ∙ whole) (q .0)
+    batch-design x r g e = let q = refused-design m t M col rules a j x g e in left-refused call red new x (q .1 ∙ whole) (q .0)
 
-    module _ (i : DesignIs a m t M) (d : Design) (g : a ≡ designed.Made d) (x : Check) (e : verdictOf x ≡ framesRules (paramsOf d) L n own parity w info red work) where
-      verdict-is : verdictOf x ≡ batchVerdict m t M L n own parity w info red work
-      verdict-is = made-design m t M rules a j x i g e ∙ whole
+    module _ (i : DesignIs a m t M col) (d : Design) (g : a ≡ designed.Made d) (x : Check) (e : verdictOf x ≡ framesRules (paramsOf d) L n own parity w info red work) where
+      verdict-is : verdictOf x ≡ batchVerdict m t M col L n own parity w info red work
+      verdict-is = made-design m t M col rules a j x i g e ∙ whole
 
       pub batch-frames : (r : Refusal) → x ≡ check.Refused r
-          → (verdictOf x ≡ (batchCall m t M L n own parity w info red work) .verdict) × (red ≡ (batchCall m t M L n own parity w info red work) .red)
+          → (verdictOf x ≡ (batchCall m t M col L n own parity w info red work) .verdict) × (red ≡ (batchCall m t M col L n own parity w info red work) .red)
       unfolding batchCall
       batch-frames r g = left-refused call red new x verdict-is (check-refused g)
 
       pub batch-made : (after : List ℕ) → x ≡ check.Passed → after ≡ batchRedundancy (paramsOf d) (listsOf d own parity) w L n info
-          → (verdictOf x ≡ (batchCall m t M L n own parity w info red work) .verdict) × (after ≡ (batchCall m t M L n own parity w info red work) .red)
+          → (verdictOf x ≡ (batchCall m t M col L n own parity w info red work) .verdict) × (after ≡ (batchCall m t M col L n own parity w info red work) .red)
       unfolding batchCall
       batch-made after p b =
-          left-made call red new x verdict-is after p (b ∙ ap (λ (s : Params). batchRedundancy s (interleavers s own parity) w L n info) (made-params g m t M i))
+          left-made call red new x verdict-is after p (b ∙ ap (λ (s : Params). batchRedundancy s (interleavers s own parity) w L n info) (made-params g m t M col i))

@@ -7,9 +7,10 @@ ghost use mathlib.Core.Path.{_≡_};
 ghost use lib.ListN.{length};
 ghost use Rattle.staircase.specs.Batch.{batchCall};
 ghost use Rattle.design.specs.Sizes.{paramsOf};
-ghost use Rattle.design.specs.Answers.{verdictOf, Allowed};
+ghost use Rattle.design.specs.Answers.{Allowed};
 ghost use Rattle.encoder_batch.specs.Checks.{framesRules};
-use design::Check;
+ghost use Rattle.answers.specs.Answers.{verdictOf};
+use answers::Check;
 use design::Design;
 use design::Designed;
 use rules::Lengths;
@@ -49,10 +50,11 @@ fn check_frames(
 // the table's number and place of the first that refuses. `info` and `red` are those of `encoder::encode` joined, frame after frame, and each frame's
 // redundancy is what that call makes of it alone. What the redundancy held is never read, and a refused call leaves all of it as it was. The working
 // bytes are as many as the inverse's. The work is that of the kit checker, once, and for every 64 groups one step for each byte of the inverse.
-pub fn encode_batch(
+pub fn encode_batch_col(
     m: u64,
     t: u64,
     size: u64,
+    col: u64,
     blocks: u64,
     frames: u64,
     own: &[u8],
@@ -62,12 +64,12 @@ pub fn encode_batch(
     red: &mut [u8],
     work: &mut [u8],
 ) -> Check
-    ensures { λ a. ⌜ (verdictOf a ≡ (batchCall m t size blocks frames (now (own .entry)) (now (parity .entry)) (now (inverse .entry)) (now (info .entry))
+    ensures { λ a. ⌜ (verdictOf a ≡ (batchCall m t size col blocks frames (now (own .entry)) (now (parity .entry)) (now (inverse .entry)) (now (info .entry))
         (now (red .entry)) (length (now (work .entry)))) .verdict)
-        × (now (red .exit) ≡ (batchCall m t size blocks frames (now (own .entry)) (now (parity .entry)) (now (inverse .entry)) (now (info .entry))
+        × (now (red .exit) ≡ (batchCall m t size col blocks frames (now (own .entry)) (now (parity .entry)) (now (inverse .entry)) (now (info .entry))
         (now (red .entry)) (length (now (work .entry)))) .red) ⌝ }
 {
-    let designed = Design::new(m, t, size);
+    let designed = Design::new_col(m, t, size, col);
     let Designed::Made(d) = designed else {
         return design::design_check(designed);
     };
@@ -88,4 +90,39 @@ pub fn encode_batch(
     let count = frames as usize;
     encoder_frame::make_redundancy(d, blocks as usize, count, parity, inverse, info, red);
     checked
+}
+
+// The same where rows and columns have one code.
+pub fn encode_batch(
+    m: u64,
+    t: u64,
+    size: u64,
+    blocks: u64,
+    frames: u64,
+    own: &[u8],
+    parity: &[u8],
+    inverse: &[u8],
+    info: &[u8],
+    red: &mut [u8],
+    work: &mut [u8],
+) -> Check
+    ensures { λ a. ⌜ (verdictOf a ≡ (batchCall m t size 0 blocks frames (now (own .entry)) (now (parity .entry)) (now (inverse .entry)) (now (info .entry))
+        (now (red .entry)) (length (now (work .entry)))) .verdict)
+        × (now (red .exit) ≡ (batchCall m t size 0 blocks frames (now (own .entry)) (now (parity .entry)) (now (inverse .entry)) (now (info .entry))
+        (now (red .entry)) (length (now (work .entry)))) .red) ⌝ }
+{
+    encode_batch_col(
+        m,
+        t,
+        size,
+        0,
+        blocks,
+        frames,
+        own,
+        parity,
+        inverse,
+        info,
+        red,
+        work,
+    )
 }

@@ -28,10 +28,10 @@ use Rattle.encoder_solution.specs.Bits.{remainderDigit}
 use Rattle.encoder_frame.specs.Group.{rowDigit, columnDigit, startOf}
 use Rattle.encoder_frame.specs.Groups.{startFrom, startAt, FrameReady, FramesReady}
 
-module _ (L size r : ℕ) (info positions : List ℕ) (i : ℕ) (odd even before : List ℕ) (has-even has-before : Bool)
+module _ (L size r : ℕ) (info columns positions : List ℕ) (i : ℕ) (odd even before : List ℕ) (has-even has-before : Bool)
     (eo : odd ≡ blockBytes L (size * size) info (2 * i + 1)) (ee : even ≡ blockBytes L (size * size) info (2 * i + 2))
     (eb : before ≡ blockBytes L (size * size) info (2 * i)) (se : has-even ≡ sent L (2 * i + 2)) (sb : has-before ≡ sent L (2 * i)) where
-  module _ (R : FrameReady L size r info positions) where
+  module _ (R : FrameReady L size r info columns positions) where
     pub odd-fits : i < groups L → (length odd ≡ size * size) × Bits odd
     odd-fits h = subst (λ (x : List ℕ). (length x ≡ size * size) × Bits x) (sym eo) (block-fits L (size * size) info (2 * i + 1) (R .blocks) (sent-odd L i h) (R .bits))
 
@@ -43,9 +43,9 @@ module _ (L size r : ℕ) (info positions : List ℕ) (i : ℕ) (odd even before
 
   pub start-made : (old qs ps : List ℕ) → length old ≡ 2 * (size * r)
       → qs ≡ tabulate (size * r) (rowDigit positions size r (sentBit has-before before) (λ k. getD odd k 0))
-      → ps ≡ tabulate (size * r) (columnDigit positions size r (λ k. getD odd k 0) (sentBit has-even even))
+      → ps ≡ tabulate (size * r) (columnDigit columns size r (λ k. getD odd k 0) (sentBit has-even even))
       → take (size * r) (qs ++ drop (size * r - 0) old) ++ (ps ++ drop (2 * (size * r) - size * r) (drop (size * r) (qs ++ drop (size * r - 0) old)))
-      ≡ startFrom positions size r L info i
+      ≡ startFrom columns positions size r L info i
   unfolding startFrom startOf
   start-made old qs ps room by-rows by-columns =
       let n : ℕ = size * r in
@@ -68,12 +68,13 @@ digits-made sums rest out f size r pos e made =
 pub part-of : (info : List ℕ) (f long : ℕ) → take (f * long + long - f * long) (drop (f * long) info) ≡ frameAt long info f
 part-of info f long = ap (λ (k : ℕ). take k (drop (f * long) info)) (add-sub-cancel-left (f * long) long)
 
-pub frame-of : {L n size r : ℕ} {info positions : List ℕ} → FramesReady L n size r info positions
-    → (f : ℕ) → f < n → FrameReady L size r (frameAt (L * (size * size)) info f) positions
+pub frame-of : {L n size r : ℕ} {info columns positions : List ℕ} → FramesReady L n size r info columns positions
+    → (f : ℕ) → f < n → FrameReady L size r (frameAt (L * (size * size)) info f) columns positions
 frame-of {L} {n} {size} {r} {info} R f h =
     record {
       few-blocks = R .few-blocks;
       tables = R .tables;
+      column-tables = R .column-tables;
       blocks = frame-length (L * (size * size)) info n (R .blocks) f h;
       bits = frame-bits (L * (size * size)) info (R .bits) f;
     }
@@ -88,10 +89,10 @@ group-number n zero q h = absurd (omega (arith, mul-zero n))
 group-number n (suc m) q h =
     let pos : 0 < suc m = omega arith in record { some = pos; frame = div-lt-iff-lt-mul pos .1 h; group = mod-lt q pos }
 
-pub start-at : (positions : List ℕ) (size r L : ℕ) (info : List ℕ) (q : ℕ) {count : ℕ} {out : List ℕ} → count ≡ groups L
-    → (let long : ℕ = L * (size * size) in out ≡ startFrom positions size r L (take (q / count * long + long - q / count * long) (drop (q / count * long) info)) (q % count))
-    → out ≡ startAt positions size r L info q
+pub start-at : (columns positions : List ℕ) (size r L : ℕ) (info : List ℕ) (q : ℕ) {count : ℕ} {out : List ℕ} → count ≡ groups L
+    → (let long : ℕ = L * (size * size) in out ≡ startFrom columns positions size r L (take (q / count * long + long - q / count * long) (drop (q / count * long) info)) (q % count))
+    → out ≡ startAt columns positions size r L info q
 unfolding startAt
-start-at positions size r L info q {count} e made =
-    made ∙ ap (λ (x : List ℕ). startFrom positions size r L x (q % count)) (part-of info (q / count) (L * (size * size)))
-    ∙ ap (λ (m : ℕ). startFrom positions size r L (frameAt (L * (size * size)) info (q / m)) (q % m)) e
+start-at columns positions size r L info q {count} e made =
+    made ∙ ap (λ (x : List ℕ). startFrom columns positions size r L x (q % count)) (part-of info (q / count) (L * (size * size)))
+    ∙ ap (λ (m : ℕ). startFrom columns positions size r L (frameAt (L * (size * size)) info (q / m)) (q % m)) e

@@ -11,7 +11,7 @@ use native.Mathlib.Omega.{arith}
 use lib.ListN.{length, getD}
 use Rattle.bch.specs.Powers.{PositionPowers}
 use Rattle.staircase.specs.Lists.{concat}
-use Rattle.staircase.specs.Design.{wordLength}
+use Rattle.staircase.specs.Design.{wordLength, columnGenerator}
 use Rattle.staircase.specs.System.{preimage, redundancy}
 use Rattle.staircase.specs.Frame.{groups}
 use Rattle.staircase.specs.Rules.{entries}
@@ -35,8 +35,8 @@ module _ {d : Design} {L n : ℕ} {parity inverse info red : List ℕ} (h : Enco
   red-long = h .redLength ∙ ap (λ (k : ℕ). n * (groups L * (2 * (d .size * k)))) (sym er) ∙ sym (mul-assoc n (groups L) (2 * (d .size * r)))
 
   -- the table and the places as they are lent, and as they were filled
-  module _ {o : ℕ} (eo : o ≡ orderOf d) {positions filled preimages sent : List ℕ} (is-positions : positions ≡ filled) (is-preimages : preimages ≡ sent)
-      (long : length filled ≡ wordLength (paramsOf d)) (wide : length sent ≡ o)
+  module _ {o : ℕ} (eo : o ≡ orderOf d) {columns filledColumns positions filled preimages sent : List ℕ} (is-columns : columns ≡ filledColumns) (is-positions : positions ≡ filled) (is-preimages : preimages ≡ sent)
+      (longColumns : length filledColumns ≡ wordLength (paramsOf d)) (long : length filled ≡ wordLength (paramsOf d)) (wide : length sent ≡ o)
       (at : (q : ℕ) → q < o → getD sent q 0 ≡ preimage (entries o parity) o q) where
     places : (q : ℕ) → q < orderOf d → getD preimages q 0 ≡ preimage (entries (orderOf d) parity) (orderOf d) q
     places q l =
@@ -46,34 +46,39 @@ module _ {d : Design} {L n : ℕ} {parity inverse info red : List ℕ} (h : Enco
     within : (q : ℕ) → q < orderOf d → getD preimages q 0 < orderOf d
     within q l = subst⁻¹ (λ (x : ℕ). x < orderOf d) (places q l) (preimage-sent (entries (orderOf d) parity) (orderOf d) (h .parityPermutes) q l .0)
 
-    ready : FramesReady L n (d .size) (d .m * d .t) info positions × GroupTables (d .size) (d .m * d .t) positions preimages inverse
-    ready =
-        let words : WordTables (d .size) (d .m * d .t) positions =
+    words : (t : List ℕ) → length t ≡ wordLength (paramsOf d) → WordTables (d .size) (d .m * d .t) t
+    words t e =
         record {
           some-columns = h .allowed .M-low;
           few-columns = omega (arith, h .allowed .M-high);
           some-rows = ok .rpos;
           few-rows = omega (arith, r-small d (h .allowed));
           small = h .allowed .order-high;
-          powers = ap length is-positions ∙ long;
-        } in (
-          record { few-blocks = h .few-blocks; few-frames = h .few-frames; tables = words; blocks = h .infoLength; bits = h .bits },
-          record { words = words; places = ap length is-preimages ∙ wide ∙ eo; within = within; packed = h .inverseLength },
+          powers = e;
+        }
+
+    ready : FramesReady L n (d .size) (d .m * d .t) info columns positions × GroupTables (d .size) (d .m * d .t) columns preimages inverse
+    ready =
+        let byRows = words positions (ap length is-positions ∙ long) in
+        let byColumns = words columns (ap length is-columns ∙ longColumns) in (
+          record { few-blocks = h .few-blocks; few-frames = h .few-frames; tables = byRows; column-tables = byColumns; blocks = h .infoLength; bits = h .bits },
+          record { words = byColumns; places = ap length is-preimages ∙ wide ∙ eo; within = within; packed = h .inverseLength },
         )
 
-    pub frames-ready : FramesReady L n (d .size) r info positions
-    frames-ready = subst⁻¹ (λ (k : ℕ). FramesReady L n (d .size) k info positions) er (ready .0)
+    pub frames-ready : FramesReady L n (d .size) r info columns positions
+    frames-ready = subst⁻¹ (λ (k : ℕ). FramesReady L n (d .size) k info columns positions) er (ready .0)
 
-    pub tables-ready : GroupTables (d .size) r positions preimages inverse
-    tables-ready = subst⁻¹ (λ (k : ℕ). GroupTables (d .size) k positions preimages inverse) er (ready .1)
+    pub tables-ready : GroupTables (d .size) r columns preimages inverse
+    tables-ready = subst⁻¹ (λ (k : ℕ). GroupTables (d .size) k columns preimages inverse) er (ready .1)
 
-    pub frames-made : PositionPowers ((paramsOf d) .g) (d .m * d .t) filled → {out : List ℕ} → out ≡ concat (n * groups L) (groupAt positions preimages inverse (d .size) r L info)
+    pub frames-made : PositionPowers (columnGenerator (paramsOf d)) (d .m * d .t) filledColumns → PositionPowers ((paramsOf d) .g) (d .m * d .t) filled → {out : List ℕ} → out ≡ concat (n * groups L) (groupAt columns positions preimages inverse (d .size) r L info)
         → (own : List ℕ) → out ≡ batchRedundancy (paramsOf d) (listsOf d own parity) inverse L n info
     unfolding frameFrom batchRedundancy
-    frames-made powers made own =
+    frames-made columnPowers powers made own =
         let part : ℕ → List ℕ = frameAt (L * (d .size * d .size)) info in
-        made ∙ groups-by-frames positions preimages inverse (d .size) r L n info ∙ ap (λ (k : ℕ). concat n (frameFrom positions preimages inverse (d .size) k L info)) er
-        ∙ concat-same n (frameFrom positions preimages inverse (d .size) (d .m * d .t) L info) (λ f. redundancy (paramsOf d) (listsOf d own parity) inverse L (part f))
-        (λ f l. groups-are (paramsOf d) ok (listsOf d own parity) (h .parityPermutes) positions preimages inverse
+        made ∙ groups-by-frames columns positions preimages inverse (d .size) r L n info ∙ ap (λ (k : ℕ). concat n (frameFrom columns positions preimages inverse (d .size) k L info)) er
+        ∙ concat-same n (frameFrom columns positions preimages inverse (d .size) (d .m * d .t) L info) (λ f. redundancy (paramsOf d) (listsOf d own parity) inverse L (part f))
+        (λ f l. groups-are (paramsOf d) ok (listsOf d own parity) (h .parityPermutes) columns positions preimages inverse
+        (record { long = ap length is-columns ∙ longColumns; powers = subst⁻¹ (PositionPowers (columnGenerator (paramsOf d)) (d .m * d .t)) is-columns columnPowers })
         (record { long = ap length is-positions ∙ long; powers = subst⁻¹ (PositionPowers ((paramsOf d) .g) (d .m * d .t)) is-positions powers }) places L (part f)
         (frame-length (L * (d .size * d .size)) info n (h .infoLength) f l) (frame-bits (L * (d .size * d .size)) info (h .bits) f))

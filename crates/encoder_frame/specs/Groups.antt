@@ -1,4 +1,4 @@
--- The groups of a frame by what code has at hand: parts of the information, the table of powers of x, and the places that the parity list brings.
+-- The groups of a frame by what code has at hand: parts of the information, the tables of powers of x, and the places that the parity list brings.
 --   groupFrom   the group that i groups precede
 --   frameFrom   the groups of the frame that f frames precede
 --   startFrom   Q and P of the group that i groups precede as they would be for Y = 0
@@ -25,39 +25,41 @@ use Rattle.design.specs.Sizes.{orderOf}
 use Rattle.words_blocks.specs.Blocks.{sent, blockBytes, sentBit}
 use Rattle.encoder_frame.specs.Group.{groupOf, startOf, WordTables}
 
-unfoldable pub groupFrom : List ℕ → List ℕ → List ℕ → ℕ → ℕ → ℕ → List ℕ → ℕ → List ℕ
-groupFrom positions preimages inverse size r L info i =
-    groupOf positions preimages inverse size r (sentBit (sent L (2 * i)) (blockBytes L (size * size) info (2 * i)))
+unfoldable pub groupFrom : List ℕ → List ℕ → List ℕ → List ℕ → ℕ → ℕ → ℕ → List ℕ → ℕ → List ℕ
+groupFrom columns positions preimages inverse size r L info i =
+    groupOf columns positions preimages inverse size r (sentBit (sent L (2 * i)) (blockBytes L (size * size) info (2 * i)))
     (λ k. getD (blockBytes L (size * size) info (2 * i + 1)) k 0) (sentBit (sent L (2 * i + 2)) (blockBytes L (size * size) info (2 * i + 2)))
 
-unfoldable pub frameFrom : List ℕ → List ℕ → List ℕ → ℕ → ℕ → ℕ → List ℕ → ℕ → List ℕ
-frameFrom positions preimages inverse size r L info f =
-    concat (groups L) (groupFrom positions preimages inverse size r L (frameAt (L * (size * size)) info f))
+unfoldable pub frameFrom : List ℕ → List ℕ → List ℕ → List ℕ → ℕ → ℕ → ℕ → List ℕ → ℕ → List ℕ
+frameFrom columns positions preimages inverse size r L info f =
+    concat (groups L) (groupFrom columns positions preimages inverse size r L (frameAt (L * (size * size)) info f))
 
 -- ---- steps of the code: Q and P for Y = 0, and groups numbered through all frames
 
-unfoldable pub startFrom : List ℕ → ℕ → ℕ → ℕ → List ℕ → ℕ → List ℕ
-startFrom positions size r L info i =
-    startOf positions size r (sentBit (sent L (2 * i)) (blockBytes L (size * size) info (2 * i)))
+unfoldable pub startFrom : List ℕ → List ℕ → ℕ → ℕ → ℕ → List ℕ → ℕ → List ℕ
+startFrom columns positions size r L info i =
+    startOf columns positions size r (sentBit (sent L (2 * i)) (blockBytes L (size * size) info (2 * i)))
     (λ k. getD (blockBytes L (size * size) info (2 * i + 1)) k 0) (sentBit (sent L (2 * i + 2)) (blockBytes L (size * size) info (2 * i + 2)))
 
-unfoldable pub startAt : List ℕ → ℕ → ℕ → ℕ → List ℕ → ℕ → List ℕ
-startAt positions size r L info q = startFrom positions size r L (frameAt (L * (size * size)) info (q / groups L)) (q % groups L)
+unfoldable pub startAt : List ℕ → List ℕ → ℕ → ℕ → ℕ → List ℕ → ℕ → List ℕ
+startAt columns positions size r L info q = startFrom columns positions size r L (frameAt (L * (size * size)) info (q / groups L)) (q % groups L)
 
-unfoldable pub groupAt : List ℕ → List ℕ → List ℕ → ℕ → ℕ → ℕ → List ℕ → ℕ → List ℕ
-groupAt positions preimages inverse size r L info q =
-    groupFrom positions preimages inverse size r L (frameAt (L * (size * size)) info (q / groups L)) (q % groups L)
+unfoldable pub groupAt : List ℕ → List ℕ → List ℕ → List ℕ → ℕ → ℕ → ℕ → List ℕ → ℕ → List ℕ
+groupAt columns positions preimages inverse size r L info q =
+    groupFrom columns positions preimages inverse size r L (frameAt (L * (size * size)) info (q / groups L)) (q % groups L)
 
-pub record FrameReady (L size r : ℕ) (info positions : List ℕ) : Type 0 where
+pub record FrameReady (L size r : ℕ) (info columns positions : List ℕ) : Type 0 where
   pub few-blocks : L ≤ most-blocks
   pub tables : WordTables size r positions
+  pub column-tables : WordTables size r columns
   pub blocks : length info ≡ L * (size * size)
   pub bits : Bits info
 
-pub record FramesReady (L n size r : ℕ) (info positions : List ℕ) : Type 0 where
+pub record FramesReady (L n size r : ℕ) (info columns positions : List ℕ) : Type 0 where
   pub few-blocks : L ≤ most-blocks
   pub few-frames : n ≤ most-frames
   pub tables : WordTables size r positions
+  pub column-tables : WordTables size r columns
   pub blocks : length info ≡ n * (L * (size * size))
   pub bits : Bits info
 

@@ -67,10 +67,17 @@ fn start_columns(
 
 // Makes Q and P of the group that i groups of the frame precede in the lent `out`, as they would be for Y = 0, Q first. Lent to read are the frame's
 // information and the table of the powers of x that the positions of a word carry. 4 × size² steps for the blocks.
-pub fn start_group(info: &[u8], sizes: Sizes, i: usize, positions: &[u32], out: &mut [u8])
-    requires { ⌜ FrameReady (sizes .blocks) (sizes .size) (sizes .r) (now info) (now positions) × (i < groups (sizes .blocks))
+pub fn start_group(
+    info: &[u8],
+    sizes: Sizes,
+    i: usize,
+    columns: &[u32],
+    positions: &[u32],
+    out: &mut [u8],
+)
+    requires { ⌜ FrameReady (sizes .blocks) (sizes .size) (sizes .r) (now info) (now columns) (now positions) × (i < groups (sizes .blocks))
         × (length (now out) ≡ 2 * (sizes .size * sizes .r)) ⌝ }
-    ensures { λ u. ⌜ now (out .exit) ≡ startFrom (now (positions .entry)) (sizes .size) (sizes .r) (sizes .blocks) (now (info .entry)) i ⌝ }
+    ensures { λ u. ⌜ now (out .exit) ≡ startFrom (now (columns .entry)) (now (positions .entry)) (sizes .size) (sizes .r) (sizes .blocks) (now (info .entry)) i ⌝ }
 {
     let size = sizes.size;
     let blocks = sizes.blocks;
@@ -94,7 +101,7 @@ pub fn start_group(info: &[u8], sizes: Sizes, i: usize, positions: &[u32], out: 
         odd,
         even,
         has_even,
-        positions,
+        columns,
         size,
         sizes.r,
         &mut out[n..2 * n],

@@ -35,15 +35,16 @@ fn groups_left(count: usize, first: usize) -> usize
 fn make_stretches(
     info: &[u8],
     sizes: Sizes,
+    columns: &[u32],
     positions: &[u32],
     preimages: &[u16],
     inverse: &[u8],
     red: &mut [u8],
 )
-    requires { ⌜ FramesReady (sizes .blocks) (sizes .frames) (sizes .size) (sizes .r) (now info) (now positions)
-        × GroupTables (sizes .size) (sizes .r) (now positions) (now preimages) (now inverse)
+    requires { ⌜ FramesReady (sizes .blocks) (sizes .frames) (sizes .size) (sizes .r) (now info) (now columns) (now positions)
+        × GroupTables (sizes .size) (sizes .r) (now columns) (now preimages) (now inverse)
         × (length (now red) ≡ sizes .frames * groups (sizes .blocks) * (2 * (sizes .size * sizes .r))) ⌝ }
-    ensures { λ u. ⌜ now (red .exit) ≡ concat (sizes .frames * groups (sizes .blocks)) (groupAt (now (positions .entry)) (now (preimages .entry)) (now (inverse .entry))
+    ensures { λ u. ⌜ now (red .exit) ≡ concat (sizes .frames * groups (sizes .blocks)) (groupAt (now (columns .entry)) (now (positions .entry)) (now (preimages .entry)) (now (inverse .entry))
         (sizes .size) (sizes .r) (sizes .blocks) (now (info .entry))) ⌝ }
 {
     let w = 2 * (sizes.size * sizes.r);
@@ -57,6 +58,7 @@ fn make_stretches(
             sizes,
             first,
             n,
+            columns,
             positions,
             preimages,
             inverse,
@@ -89,6 +91,8 @@ pub fn make_redundancy(
         blocks,
         frames,
     };
+    let mut columns = [0u32; 1024];
+    words_positions::fill_columns(d, &mut columns[0..bits]);
     let mut positions = [0u32; 1024];
     words_positions::fill_table(d, &mut positions[0..bits]);
     let mut preimages = [0u16; 4096];
@@ -96,6 +100,7 @@ pub fn make_redundancy(
     make_stretches(
         info,
         sizes,
+        &columns[0..bits],
         &positions[0..bits],
         &preimages[0..n],
         inverse,

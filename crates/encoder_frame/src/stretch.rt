@@ -18,15 +18,22 @@ ghost use Rattle.encoder_frame.specs.Groups.{startAt, groupAt, FramesRea
 use crate::group::Sizes;
 
 // Makes Q and P of group q of all frames' groups in the lent `out`, as they would be for Y = 0.
-fn start_at(info: &[u8], sizes: Sizes, q: usize, positions: &[u32], out: &mut [u8])
-    requires { ⌜ FramesReady (sizes .blocks) (sizes .frames) (sizes .size) (sizes .r) (now info) (now positions) × (q < sizes .frames * groups (sizes .blocks))
+fn start_at(info: &[u8], sizes: Sizes, q: usize, columns: &[u32], positions: &[u32], out: &mut [u8])
+    requires { ⌜ FramesReady (sizes .blocks) (sizes .frames) (sizes .size) (sizes .r) (now info) (now columns) (now positions) × (q < sizes .frames * groups (sizes .blocks))
         × (length (now out) ≡ 2 * (sizes .size * sizes .r)) ⌝ }
-    ensures { λ u. ⌜ now (out .exit) ≡ startAt (now (positions .entry)) (sizes .size) (sizes .r) (sizes .blocks) (now (info .entry)) q ⌝ }
+    ensures { λ u. ⌜ now (out .exit) ≡ startAt (now (columns .entry)) (now (positions .entry)) (sizes .size) (sizes .r) (sizes .blocks) (now (info .entry)) q ⌝ }
 {
     let count = design::group_count(sizes.blocks as u64) as usize;
     let area = sizes.blocks * (sizes.size * sizes.size);
     let from = q / count * area;
-    crate::group::start_group(&info[from..from + area], sizes, q % count, positions, out);
+    crate::group::start_group(
+        &info[from..from + area],
+        sizes,
+        q % count,
+        columns,
+        positions,
+        out,
+    );
 }
 
 // Makes Q and P of the groups from `first` on, as they would be for Y = 0, one group after the other.
@@ -35,18 +42,26 @@ fn start_groups(
     sizes: Sizes,
     first: usize,
     count: usize,
+    columns: &[u32],
     positions: &[u32],
     red: &mut [u8],
 )
-    requires { ⌜ FramesReady (sizes .blocks) (sizes .frames) (sizes .size) (sizes .r) (now info) (now positions) × (first + count ≤ sizes .frames * groups (sizes .blocks))
+    requires { ⌜ FramesReady (sizes .blocks) (sizes .frames) (sizes .size) (sizes .r) (now info) (now columns) (now positions) × (first + count ≤ sizes .frames * groups (sizes .blocks))
         × (length (now red) ≡ count * (2 * (sizes .size * sizes .r))) ⌝ }
     ensures { λ u. ⌜ now (red .exit)
-        ≡ concat count (λ g. startAt (now (positions .entry)) (sizes .size) (sizes .r) (sizes .blocks) (now (info .entry)) (first + g)) ⌝ }
+        ≡ concat count (λ g. startAt (now (columns .entry)) (now (positions .entry)) (sizes .size) (sizes .r) (sizes .blocks) (now (info .entry)) (first + g)) ⌝ }
 {
     let w = 2 * (sizes.size * sizes.r);
     for g in 0..count {
         let from = g * w;
-        start_at(info, sizes, first + g, positions, &mut red[from..from + w]);
+        start_at(
+            info,
+            sizes,
+            first + g,
+            columns,
+            positions,
+            &mut red[from..from + w],
+        );
     }
 }
 
@@ -84,16 +99,16 @@ fn finish_groups(words: &[u64], count: usize, part: &[u32], size: usize, r: usiz
 fn solve_groups(
     sizes: Sizes,
     count: usize,
-    positions: &[u32],
+    columns: &[u32],
     preimages: &[u16],
     inverse: &[u8],
     words: &mut [u64],
     red: &mut [u8],
 )
-    requires { ⌜ GroupTables (sizes .size) (sizes .r) (now positions) (now preimages) (now inverse) × (count ≤ 64)
+    requires { ⌜ GroupTables (sizes .size) (sizes .r) (now columns) (now preimages) (now inverse) × (count ≤ 64)
         × (length (now words) ≡ sizes .size * sizes .r) × ((q : ℕ) → getD (now words) q 0 ≡ 0)
         × (length (now red) ≡ count * (2 * (sizes .size * sizes .r))) × Bits (now red) ⌝ }
-    ensures { λ u. ⌜ now (red .exit) ≡ concat count (λ g. solvedOf (now (positions .entry)) (now (preimages .entry)) (now (inverse .entry)) (sizes .size) (sizes .r)
+    ensures { λ u. ⌜ now (red .exit) ≡ concat count (λ g. solvedOf (now (columns .entry)) (now (preimages .entry)) (now (inverse .entry)) (sizes .size) (sizes .r)
         (frameAt (2 * (sizes .size * sizes .r)) (now (red .entry)) g)) ⌝ }
 {
     let size = sizes.size;
@@ -103,7 +118,7 @@ fn solve_groups(
     finish_groups(
         &words[..],
         count,
-        &positions[2 * size..2 * size + r],
+        &columns[2 * size..2 * size + r],
         size,
         r,
         red,
@@ -118,24 +133,25 @@ pub fn make_stretch(
     sizes: Sizes,
     first: usize,
     count: usize,
+    columns: &[u32],
     positions: &[u32],
     preimages: &[u16],
     inverse: &[u8],
     red: &mut [u8],
 )
-    requires { ⌜ FramesReady (sizes .blocks) (sizes .frames) (sizes .size) (sizes .r) (now info) (now positions)
-        × GroupTables (sizes .size) (sizes .r) (now positions) (now preimages) (now inverse) × (count ≤ 64)
+    requires { ⌜ FramesReady (sizes .blocks) (sizes .frames) (sizes .size) (sizes .r) (now info) (now columns) (now positions)
+        × GroupTables (sizes .size) (sizes .r) (now columns) (now preimages) (now inverse) × (count ≤ 64)
         × (first + count ≤ sizes .frames * groups (sizes .blocks)) × (length (now red) ≡ count * (2 * (sizes .size * sizes .r))) ⌝ }
-    ensures { λ u. ⌜ now (red .exit) ≡ concat count (λ g. groupAt (now (positions .entry)) (now (preimages .entry)) (now (inverse .entry)) (sizes .size) (sizes .r)
+    ensures { λ u. ⌜ now (red .exit) ≡ concat count (λ g. groupAt (now (columns .entry)) (now (positions .entry)) (now (preimages .entry)) (now (inverse .entry)) (sizes .size) (sizes .r)
         (sizes .blocks) (now (info .entry)) (first + g)) ⌝ }
 {
     let n = sizes.size * sizes.r;
     let mut words = [0u64; 4096];
-    start_groups(info, sizes, first, count, positions, red);
+    start_groups(info, sizes, first, count, columns, positions, red);
     solve_groups(
         sizes,
         count,
-        positions,
+        columns,
         preimages,
         inverse,
         &mut words[0..n],

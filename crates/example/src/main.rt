@@ -1,6 +1,6 @@
 // Encodes the four blocks of document 01's example under kit K and prints the two groups, or the refusal.
 ghost use Rattle.io.specs.Counts.{Counts};
-use design::Check;
+use answers::Check;
 
 // The lines of the two groups at the start of `line`: each has Y and then P, four bits each. Answers how many bytes they are.
 fn group_lines(red: &[u8; 16], line: &mut [u8]) -> usize

@@ -9,9 +9,9 @@ ghost use lib.ListN.{length};
 ghost use Rattle.staircase.specs.Rules.{contentRules};
 ghost use Rattle.staircase.specs.Calls.{kitVerdict};
 ghost use Rattle.design.specs.Sizes.{paramsOf, listsOf};
-ghost use Rattle.design.specs.Answers.{verdictOf};
+ghost use Rattle.answers.specs.Answers.{verdictOf};
 ghost use Rattle.kit_inverse.specs.Fits.{KitSized};
-use design::Check;
+use answers::Check;
 use design::Design;
 use design::Designed;
 use rules::Lengths;
@@ -40,18 +40,19 @@ pub fn check_content(
 
 // Judges a kit: rules 1 to 3 and 6 to 9, with the table's number and place of the first that refuses. The lists have two bytes an entry, the
 // inverse M × r packed rows, and the working bytes are as many as the inverse's; they alone are written.
-pub fn check_kit(
+pub fn check_kit_col(
     m: u64,
     t: u64,
     size: u64,
+    col: u64,
     own: &[u8],
     parity: &[u8],
     inverse: &[u8],
     work: &mut [u8],
 ) -> Check
-    ensures { λ a. ⌜ verdictOf a ≡ kitVerdict m t size (now (own .entry)) (now (parity .entry)) (now (inverse .entry)) (length (now (work .entry))) ⌝ }
+    ensures { λ a. ⌜ verdictOf a ≡ kitVerdict m t size col (now (own .entry)) (now (parity .entry)) (now (inverse .entry)) (length (now (work .entry))) ⌝ }
 {
-    let designed = Design::new(m, t, size);
+    let designed = Design::new_col(m, t, size, col);
     let Designed::Made(d) = designed else {
         return design::design_check(designed);
     };
@@ -68,4 +69,19 @@ pub fn check_kit(
         return lengths;
     };
     check_content(d, own, parity, inverse, &own[..0], work)
+}
+
+// The same where rows and columns have one code.
+pub fn check_kit(
+    m: u64,
+    t: u64,
+    size: u64,
+    own: &[u8],
+    parity: &[u8],
+    inverse: &[u8],
+    work: &mut [u8],
+) -> Check
+    ensures { λ a. ⌜ verdictOf a ≡ kitVerdict m t size 0 (now (own .entry)) (now (parity .entry)) (now (inverse .entry)) (length (now (work .entry))) ⌝ }
+{
+    check_kit_col(m, t, size, 0, own, parity, inverse, work)
 }

@@ -11,7 +11,7 @@ use lib.Dec.{eqb}
 use lib.ListN.{length, getD}
 use borrow.Author.Tests.{lt-ltb}
 use Rattle.staircase.specs.Lists.{sumBits}
-use Rattle.staircase.specs.Design.{Params, Interleavers, order}
+use Rattle.staircase.specs.Design.{Params, Interleavers, columnCode, order}
 use Rattle.staircase.specs.System.{preimage, systemEntry, inverseEntry, product, identity}
 use Rattle.staircase.specs.Rules.{wrongEntry}
 use Rattle.staircase.specs.Demand2.{Permutes}
@@ -31,7 +31,7 @@ wrong-row f t n e x A B a b =
 
 module _ (s : Params) (ok : Proper s) (l : Interleavers)
     (ps : Permutes (order s) (λ p. getD (l .self) p 0)) (pp : Permutes (order s) (λ p. getD (l .parity) p 0))
-    (part t w : List ℕ) (P : PartOf s part) (pos : 0 < order s) where
+    (columns part t w : List ℕ) (C : PartOf (columnCode s) columns) (P : PartOf s part) (pos : 0 < order s) where
   abbrev n : ℕ
   n = order s
 
@@ -40,13 +40,13 @@ module _ (s : Params) (ok : Proper s) (l : Interleavers)
   source r e = preimage (l .parity) n (unstackOf (s .M) r e)
 
   pub wrong-is : Planes t (order s) (paddedEntry w (order s)) → (i : ℕ) → i < order s * order s
-      → productWrong part (l .self) (l .parity) (s .M) t (order s) (i / order s) (i % order s)
+      → productWrong columns part (l .self) (l .parity) (s .M) t (order s) (i / order s) (i % order s)
       ≡ wrongEntry (order s) (systemEntry s l) (inverseEntry w (order s)) i
   unfolding productWrong wrongEntry product
   wrong-is planes i h =
       let e : ℕ = i / n in
       let x : ℕ = i % n in
       let he : e < n = div-lt-iff-lt-mul pos .1 h in
-      wrong-row (rowEntry part (l .self) (s .M) (source (length part) e) e) t n e x (systemEntry s l e) (λ k. inverseEntry w n k x)
-      (λ k m. ap (λ (r : ℕ). rowEntry part (l .self) (s .M) (source r e) e k) (P .long) ∙ rowEntry-is s ok l ps pp part P e k he m)
+      wrong-row (rowEntry columns part (l .self) (s .M) (source (length part) e) e) t n e x (systemEntry s l e) (λ k. inverseEntry w n k x)
+      (λ k m. ap (λ (r : ℕ). rowEntry columns part (l .self) (s .M) (source r e) e k) (P .long) ∙ rowEntry-is s ok l ps pp columns part C P e k he m)
       (λ k m. planes k x (omega arith) (mod-lt i pos) ∙ ap (λ (z : Bool). cond z (inverseEntry w n k x) 0) (lt-ltb k n m))

@@ -17,12 +17,13 @@ use Rattle.staircase.specs.Demand2.{Permutes}
 use Rattle.matrix.specs.Packed.{planeBit}
 use Rattle.kit_system.specs.Rows.{unstackOf, rowEntry}
 
--- n is the order M × r, `part` the r powers of x that the bits of X and Y carry
-pub record Side (n size : ℕ) (list part t : List ℕ) : Type 0 where
+-- n is the order M × r, `columns` and `part` the r powers of x that the bits of Y carry in column words and those of X in row words
+pub record Side (n size : ℕ) (list columns part t : List ℕ) : Type 0 where
   pub order : n ≡ size * length part
   pub positive : 0 < n
   pub small : n ≤ most-order
   pub r-small : length part ≤ 32
+  pub both : length columns ≡ length part
   pub listLength : length list ≡ 2 * n
   pub planesLength : length t ≡ n * rowBytes n
   pub permutes : Permutes n (λ p. getD (entries n list) p 0)
@@ -32,5 +33,5 @@ unfoldable pub wrongIn : (ℕ → ℕ) → List ℕ → ℕ → ℕ → ℕ → 
 wrongIn row t n e x = not (eqb (sumBits n (λ k. row k * planeBit t n k x)) (identity e x))
 
 -- the planes t are those of W's rows
-unfoldable pub productWrong : List ℕ → List ℕ → List ℕ → ℕ → List ℕ → ℕ → ℕ → ℕ → Bool
-productWrong part own parity size t n e = wrongIn (rowEntry part own size (preimage parity n (unstackOf size (length part) e)) e) t n e
+unfoldable pub productWrong : List ℕ → List ℕ → List ℕ → List ℕ → ℕ → List ℕ → ℕ → ℕ → ℕ → Bool
+productWrong columns part own parity size t n e = wrongIn (rowEntry columns part own size (preimage parity n (unstackOf size (length part) e)) e) t n e

@@ -11,7 +11,7 @@ use native.Mathlib.Nat.{mul-assoc, zero-add}
 use native.Mathlib.Omega.{arith}
 use lib.ListN.{length, getD}
 use Rattle.staircase.specs.Lists.{tabulate, firstWhere}
-use Rattle.staircase.specs.Design.{Params, Interleavers, order}
+use Rattle.staircase.specs.Design.{Params, Interleavers, order, columnCode}
 use Rattle.staircase.specs.System.{preimage, systemEntry, rowBytes}
 use Rattle.staircase.specs.Square.{dependent, inverseMatrix, packedMatrix}
 use Rattle.staircase.specs.Rules.{entries}
@@ -45,13 +45,14 @@ matrix-long {d} h e = h .workLength ∙ work-matrix (paramsOf d) ∙ ap (λ (k :
 -- ---- the rows of A
 
 module _ (d : Design) (own parity work : List ℕ) (h : SystemFits d own parity work) (n : ℕ) (e : n ≡ orderOf d)
-    (part : List ℕ) (P : PartOf (paramsOf d) part) (preimages : List ℕ) where
-  pub rows-fit : length preimages ≡ n → ((q : ℕ) → q < n → getD preimages q 0 < n) → RowsFit n (d .size) own part preimages work
+    (columns part : List ℕ) (C : PartOf (columnCode (paramsOf d)) columns) (P : PartOf (paramsOf d) part) (preimages : List ℕ) where
+  pub rows-fit : length preimages ≡ n → ((q : ℕ) → q < n → getD preimages q 0 < n) → RowsFit n (d .size) own columns part preimages work
   rows-fit long below =
       record {
         order = e ∙ ap (λ (k : ℕ). d .size * k) (sym (P .long));
         small = omega (arith, e, h .allowed .order-high);
         r-small = omega (arith, r-small d (h .allowed), P .long);
+        both = C .long ∙ sym (P .long);
         ownLength = omega (arith, e, h .ownLength);
         ownBelow = subst (λ (k : ℕ). (q : ℕ) → q < k → getD (entries k own) q 0 < k) (sym e) (h .ownPermutes .below);
         placesLength = long;
@@ -64,7 +65,7 @@ module _ (d : Design) (own parity work : List ℕ) (h : SystemFits d own parity 
   Sent k = (q : ℕ) → q < k → getD preimages q 0 ≡ preimage (entries k parity) k q
 
   abbrev Rows : ℕ → List ℕ → Type 0
-  Rows k m = (i j : ℕ) → i < k → j < k → left k m i j ≡ sentRow part (entries k own) (d .size) preimages i j
+  Rows k m = (i j : ℕ) → i < k → j < k → left k m i j ≡ sentRow columns part (entries k own) (d .size) preimages i j
 
   abbrev s : Params
   s = paramsOf d
@@ -78,13 +79,13 @@ module _ (d : Design) (own parity work : List ℕ) (h : SystemFits d own parity 
   row-is m sent rows i j hi hj =
       let u : ℕ = unstackOf (d .size) (length part) i in
       rows i j hi hj
-      ∙ ap (λ (p : ℕ). rowEntry part (l .self) (d .size) p i j)
+      ∙ ap (λ (p : ℕ). rowEntry columns part (l .self) (d .size) p i j)
       (sent u (unstacked (d .size) (length part) (orderOf d) i (ap (λ (k : ℕ). d .size * k) (sym (P .long))) hi .below))
-      ∙ ap (λ (r : ℕ). rowEntry part (l .self) (d .size) (preimage (l .parity) (orderOf d) (unstackOf (d .size) r i)) i j) (P .long)
-      ∙ rowEntry-is s (proper-of d (h .allowed)) l (h .ownPermutes) (h .parityPermutes) part P i j hi hj
+      ∙ ap (λ (r : ℕ). rowEntry columns part (l .self) (d .size) (preimage (l .parity) (orderOf d) (unstackOf (d .size) r i)) i j) (P .long)
+      ∙ rowEntry-is s (proper-of d (h .allowed)) l (h .ownPermutes) (h .parityPermutes) columns part C P i j hi hj
 
   pub rows-are : (m : List ℕ) → ((q : ℕ) → q < n → getD preimages q 0 ≡ preimage (entries n parity) n q)
-      → ((i j : ℕ) → i < n → j < n → left n m i j ≡ sentRow part (entries n own) (d .size) preimages i j)
+      → ((i j : ℕ) → i < n → j < n → left n m i j ≡ sentRow columns part (entries n own) (d .size) preimages i j)
       → (i j : ℕ) → i < orderOf d → j < orderOf d → left (orderOf d) m i j ≡ systemEntry (paramsOf d) (listsOf d own parity) i j
   rows-are m sent rows = row-is m (subst Sent e sent) (subst (λ (k : ℕ). Rows k m) e rows)
 

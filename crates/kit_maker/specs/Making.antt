@@ -37,11 +37,12 @@ pub record SystemFits (d : Design) (own parity work : List ℕ) : Type 0 where
   pub ownPermutes : Permutes (orderOf d) (λ p. getD (listsOf d own parity .self) p 0)
   pub parityPermutes : Permutes (orderOf d) (λ p. getD (listsOf d own parity .parity) p 0)
 
--- n is the order M × r, `part` the r powers of x that the bits of X and Y carry, `preimages` the inverse of the parity list
-pub record RowsFit (n size : ℕ) (own part preimages m : List ℕ) : Type 0 where
+-- n is the order M × r, `columns` and `part` the r powers of x that the bits of Y carry in column words and those of X in row words, `preimages` the inverse of the parity list
+pub record RowsFit (n size : ℕ) (own columns part preimages m : List ℕ) : Type 0 where
   pub order : n ≡ size * length part
   pub small : n ≤ most-order
   pub r-small : length part ≤ 32
+  pub both : length columns ≡ length part
   pub ownLength : length own ≡ 2 * n
   pub ownBelow : (q : ℕ) → q < n → getD (entries n own) q 0 < n
   pub placesLength : length preimages ≡ n
@@ -49,8 +50,8 @@ pub record RowsFit (n size : ℕ) (own part preimages m : List ℕ) : Type 0 whe
   pub matrixLength : length m ≡ (n + 256) * rowWidth n
 
 -- entry k of row e of A, for the entries of the self list and the places of the parity list's inverse
-unfoldable pub sentRow : List ℕ → List ℕ → ℕ → List ℕ → ℕ → ℕ → ℕ
-sentRow part own size preimages e k = rowEntry part own size (getD preimages (unstackOf size (length part) e) 0) e k
+unfoldable pub sentRow : List ℕ → List ℕ → List ℕ → ℕ → List ℕ → ℕ → ℕ → ℕ
+sentRow columns part own size preimages e k = rowEntry columns part own size (getD preimages (unstackOf size (length part) e) 0) e k
 
 abbrev pub newInverse : Params → Interleavers → List ℕ
 newInverse s l = packedMatrix (order s) (inverseMatrix (order s) (systemEntry s l))

@@ -14,15 +14,17 @@ use Rattle.staircase.specs.Rules.Verdict.{accepted, refused}
 use Rattle.staircase.specs.Spread.{turnedTo, listBytes, narrowRule, spreadVerdict, spreadBy, spreadCall}
 use Rattle.staircase.proofs.Rules.{then-rest, list-lengths}
 use Rattle.staircase.proofs.SpreadCall.{spreadBy-verdict}
-use Rattle.design.specs.declared.Refusal.{Refusal}
-use Rattle.design.specs.declared.Check.{Check}
-use Rattle.design.specs.declared.Check.the-variants as check
+use Rattle.answers.specs.declared.Refusal.{Refusal}
+use Rattle.answers.specs.declared.Check.{Check}
+use Rattle.answers.specs.declared.Check.the-variants as check
 use Rattle.design.specs.declared.Design.{Design}
 use Rattle.design.specs.declared.Designed.{Designed}
 use Rattle.design.specs.declared.Designed.the-variants as designed
 use Rattle.design.specs.Sizes.{paramsOf}
-use Rattle.design.specs.Answers.{verdictOf, designVerdict, DesignIs}
-use Rattle.design.proofs.Answers.{check-refused, check-passed, made-params, refused-design, made-design}
+use Rattle.design.specs.Answers.{designVerdict, DesignIs}
+use Rattle.design.proofs.Answers.{made-params, refused-design, made-design}
+use Rattle.answers.specs.Answers.{verdictOf}
+use Rattle.answers.proofs.Checks.{check-refused, check-passed}
 
 abbrev pub rest : List ℕ → List ℕ → Params → Verdict
 rest own parity s = narrowRule s then listLengths s own parity
@@ -40,43 +42,43 @@ module _ (own parity : List ℕ) where
   refused-parity accepted s h = absurd (h refl)
   refused-parity (refused n p) s h = refl
 
-  module _ (m t M : ℕ) where
+  module _ (m t M col : ℕ) where
     -- the call answers v and leaves x and y
     abbrev Calls : Verdict → List ℕ → List ℕ → Type 0
-    Calls v x y = (v ≡ spreadCall m t M own parity .verdict) × (x ≡ spreadCall m t M own parity .self) × (y ≡ spreadCall m t M own parity .parity)
+    Calls v x y = (v ≡ spreadCall m t M col own parity .verdict) × (x ≡ spreadCall m t M col own parity .self) × (y ≡ spreadCall m t M col own parity .parity)
 
-    calls : (v : Verdict) (x y : List ℕ) → v ≡ (designRules m t M then rest own parity (params m t M))
-        → x ≡ spreadBy v (params m t M) own parity .self → y ≡ spreadBy v (params m t M) own parity .parity → Calls v x y
+    calls : (v : Verdict) (x y : List ℕ) → v ≡ (designRules m t M col then rest own parity (params m t M col))
+        → x ≡ spreadBy v (params m t M col) own parity .self → y ≡ spreadBy v (params m t M col) own parity .parity → Calls v x y
     unfolding spreadCall spreadVerdict
     calls v x y e f g =
-        let s : Params = params m t M in (
-          e ∙ sym (spreadBy-verdict (spreadVerdict m t M own parity) s own parity),
+        let s : Params = params m t M col in (
+          e ∙ sym (spreadBy-verdict (spreadVerdict m t M col own parity) s own parity),
           f ∙ ap (λ (z : Verdict). spreadBy z s own parity .self) e,
           g ∙ ap (λ (z : Verdict). spreadBy z s own parity .parity) e,
         )
 
-    refuses : (v : Verdict) → v ≢ accepted → v ≡ (designRules m t M then rest own parity (params m t M)) → Calls v own parity
-    refuses v h e = calls v own parity e (refused-self v (params m t M) h) (refused-parity v (params m t M) h)
+    refuses : (v : Verdict) → v ≢ accepted → v ≡ (designRules m t M col then rest own parity (params m t M col)) → Calls v own parity
+    refuses v h e = calls v own parity e (refused-self v (params m t M col) h) (refused-parity v (params m t M col) h)
 
-    module _ (a : Designed) (n : designVerdict a ≡ designRules m t M) (x : Check) where
+    module _ (a : Designed) (n : designVerdict a ≡ designRules m t M col) (x : Check) where
       pub call-refused : {r : Refusal} → a ≡ designed.Refused r → verdictOf x ≡ designVerdict a
-          → (verdictOf x ≡ spreadCall m t M own parity .verdict) × (own ≡ spreadCall m t M own parity .self) × (parity ≡ spreadCall m t M own parity .parity)
-      call-refused g e = let v = refused-design m t M (rest own parity) a n x g e in refuses (verdictOf x) (v .0) (v .1)
+          → (verdictOf x ≡ spreadCall m t M col own parity .verdict) × (own ≡ spreadCall m t M col own parity .self) × (parity ≡ spreadCall m t M col own parity .parity)
+      call-refused g e = let v = refused-design m t M col (rest own parity) a n x g e in refuses (verdictOf x) (v .0) (v .1)
 
-      module _ (i : DesignIs a m t M) {d : Design} (g : a ≡ designed.Made d) (e : verdictOf x ≡ rest own parity (paramsOf d)) where
+      module _ (i : DesignIs a m t M col) {d : Design} (g : a ≡ designed.Made d) (e : verdictOf x ≡ rest own parity (paramsOf d)) where
         pub call-judged : {r : Refusal} → x ≡ check.Refused r
-            → (verdictOf x ≡ spreadCall m t M own parity .verdict) × (own ≡ spreadCall m t M own parity .self) × (parity ≡ spreadCall m t M own parity .parity)
-        call-judged f = refuses (verdictOf x) (check-refused f) (made-design m t M (rest own parity) a n x i g e)
+            → (verdictOf x ≡ spreadCall m t M col own parity .verdict) × (own ≡ spreadCall m t M col own parity .self) × (parity ≡ spreadCall m t M col own parity .parity)
+        call-judged f = refuses (verdictOf x) (check-refused f) (made-design m t M col (rest own parity) a n x i g e)
 
         pub call-filled : (y z : List ℕ) → x ≡ check.Passed
             → y ≡ listBytes (order (paramsOf d)) (turnedTo (paramsOf d) 0) → z ≡ listBytes (order (paramsOf d)) (turnedTo (paramsOf d) (paramsOf d .r))
-            → (verdictOf check.Passed ≡ spreadCall m t M own parity .verdict) × (y ≡ spreadCall m t M own parity .self) × (z ≡ spreadCall m t M own parity .parity)
+            → (verdictOf check.Passed ≡ spreadCall m t M col own parity .verdict) × (y ≡ spreadCall m t M col own parity .self) × (z ≡ spreadCall m t M col own parity .parity)
         call-filled y z f self turned =
-            let same = made-params g m t M i in
+            let same = made-params g m t M col i in
             let passed : verdictOf x ≡ accepted = check-passed f in
             let here : verdictOf check.Passed ≡ verdictOf x = check-passed refl ∙ sym passed in
-            calls (verdictOf check.Passed) y z (here ∙ made-design m t M (rest own parity) a n x i g e)
+            calls (verdictOf check.Passed) y z (here ∙ made-design m t M col (rest own parity) a n x i g e)
             (self ∙ ap (λ (s : Params). listBytes (order s) (turnedTo s 0)) same
-            ∙ sym (ap (λ (v : Verdict). spreadBy v (params m t M) own parity .self) (here ∙ passed)))
+            ∙ sym (ap (λ (v : Verdict). spreadBy v (params m t M col) own parity .self) (here ∙ passed)))
             (turned ∙ ap (λ (s : Params). listBytes (order s) (turnedTo s (s .r))) same
-            ∙ sym (ap (λ (v : Verdict). spreadBy v (params m t M) own parity .parity) (here ∙ passed)))
+            ∙ sym (ap (λ (v : Verdict). spreadBy v (params m t M col) own parity .parity) (here ∙ passed)))

@@ -1,5 +1,5 @@
 // Spread lists: the two lists for low error floors.
-//   spread_lists(m, t, size, own, parity)   rules 1 to 3, 15 and 6, and both lists
+//   spread_lists(m, t, size, col, own, parity)   rules 1 to 3, 15 and 6, and both lists
 //
 // Column j of X is turned down by j rows, column j of Q by r + j, modulo M, so that two redundancy bits of one row word never meet in one column word
 // (`spread-apart` of the crate `staircase`). While rows and columns use one code, no kit has such lists: `kit_maker::make_inverse` refuses them by
@@ -9,12 +9,13 @@ ghost use Prim.Native.Nat.{_*_, _<_};
 ghost use lib.ListN.{length};
 ghost use Rattle.staircase.specs.Rules.{_then_, listLengths};
 ghost use Rattle.staircase.specs.Spread.{turnedTo, listBytes, narrowRule, spreadCall};
-ghost use Rattle.design.specs.Answers.{verdictOf, Allowed};
+ghost use Rattle.design.specs.Answers.{Allowed};
 ghost use Rattle.design.specs.Sizes.{paramsOf, orderOf};
-use design::Check;
+ghost use Rattle.answers.specs.Answers.{verdictOf};
+use answers::Check;
+use answers::Refusal;
 use design::Design;
 use design::Designed;
-use design::Refusal;
 
 // Rule 15. Constant work.
 fn check_narrow(d: Design) -> Check
@@ -60,12 +61,19 @@ fn fill_turned(d: Design, by: usize, list: &mut [u8])
 
 // Fills both lists with the spread lists of a design: rules 1 to 3, 15 and 6 (places 1 and 2), with the number and place of the first that refuses. A
 // list has two bytes an entry, M × r entries; what it held is not read, and a refusal leaves both as they were. A few steps for each entry.
-pub fn spread_lists(m: u64, t: u64, size: u64, own: &mut [u8], parity: &mut [u8]) -> Check
-    ensures { λ a. ⌜ (verdictOf a ≡ (spreadCall m t size (now (own .entry)) (now (parity .entry))) .verdict)
-        × (now (own .exit) ≡ (spreadCall m t size (now (own .entry)) (now (parity .entry))) .self)
-        × (now (parity .exit) ≡ (spreadCall m t size (now (own .entry)) (now (parity .entry))) .parity) ⌝ }
+pub fn spread_lists_col(
+    m: u64,
+    t: u64,
+    size: u64,
+    col: u64,
+    own: &mut [u8],
+    parity: &mut [u8],
+) -> Check
+    ensures { λ a. ⌜ (verdictOf a ≡ (spreadCall m t size col (now (own .entry)) (now (parity .entry))) .verdict)
+        × (now (own .exit) ≡ (spreadCall m t size col (now (own .entry)) (now (parity .entry))) .self)
+        × (now (parity .exit) ≡ (spreadCall m t size col (now (own .entry)) (now (parity .entry))) .parity) ⌝ }
 {
-    let designed = Design::new(m, t, size);
+    let designed = Design::new_col(m, t, size, col);
     let Designed::Made(d) = designed else {
         return design::design_check(designed);
     };
@@ -76,4 +84,13 @@ pub fn spread_lists(m: u64, t: u64, size: u64, own: &mut [u8], parity: &mut [u8]
     fill_turned(d, 0, own);
     fill_turned(d, d.r(), parity);
     Check::Passed
+}
+
+// The same where rows and columns have one code.
+pub fn spread_lists(m: u64, t: u64, size: u64, own: &mut [u8], parity: &mut [u8]) -> Check
+    ensures { λ a. ⌜ (verdictOf a ≡ (spreadCall m t size 0 (now (own .entry)) (now (parity .entry))) .verdict)
+        × (now (own .exit) ≡ (spreadCall m t size 0 (now (own .entry)) (now (parity .entry))) .self)
+        × (now (parity .exit) ≡ (spreadCall m t size 0 (now (own .entry)) (now (parity .entry))) .parity) ⌝ }
+{
+    spread_lists_col(m, t, size, 0, own, parity)
 }

@@ -4,7 +4,7 @@
 //   system_row     one packed row of A
 //
 // A bit of Y is a bit of one column word and, through the self list, of one row word. What it adds to the r parity bits of either word is the power
-// of x that its position carries. So a row of A takes two digits of each of the r powers: those of its column word side by side, those of its row word
+// of x that its position carries. So a row of A takes a digit of each of the r powers of either: those of its column word side by side, those of its row word
 // where the self list sends them. Nothing of A is kept.
 ghost use mathlib.Core.Path.{_≡_};
 ghost use Prim.Native.Nat.{ℕ, _+_, _*_, _-_, _/_, _%_, _≤_, _<_};
@@ -54,25 +54,26 @@ fn sent(list: &[u8], n: usize, size: usize, r: usize, b: usize, a: usize) -> usi
     y % size * r + y / size
 }
 
-// Makes `out` row e of A, for the self list and the place p that the parity list sends to entry e. The work grows with r and the bytes of `out`.
+// Makes `out` row e of A, for the powers of column words and of row words, the self list and the place p that the parity list sends to entry e. The work grows with r and the bytes of `out`.
 pub fn system_row(
     out: &mut [u8],
     own: &[u8],
     n: usize,
+    columns: &[u32],
     part: &[u32],
     size: usize,
     p: usize,
     e: usize,
 )
     requires { ⌜ (n ≡ size * length (now part)) × (e < n) × (p < n) × (length (now own) ≡ 2 * n) × (n ≤ 8 * length (now out)) × (length (now out) ≤ 512)
-        × (length (now part) ≤ 32) × ((q : ℕ) → q < n → getD (entries n (now own)) q 0 < n) ⌝ }
+        × (length (now part) ≤ 32) × (length (now columns) ≡ length (now part)) × ((q : ℕ) → q < n → getD (entries n (now own)) q 0 < n) ⌝ }
     ensures { λ u. ⌜ (length (now (out .exit)) ≡ length (now (out .entry)))
-        × ((k : ℕ) → packedBit (now (out .exit)) k ≡ rowEntry (now (part .entry)) (entries n (now (own .entry))) size p e k) ⌝ }
+        × ((k : ℕ) → packedBit (now (out .exit)) k ≡ rowEntry (now (columns .entry)) (now (part .entry)) (entries n (now (own .entry))) size p e k) ⌝ }
 {
     let r = part.len();
     matrix::clear(out);
     for b in 0..r {
-        let v = digit_at(part, b, e % r);
+        let v = digit_at(columns, b, e % r);
         matrix::add_bit(out, e / r * r + b, v);
         let w = digit_at(part, b, p / size);
         let k = sent(own, n, size, r, b, p % size);

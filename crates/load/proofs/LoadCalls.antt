@@ -23,22 +23,22 @@ use Rattle.load.specs.Checks.{fillRules, turnRules}
 use Rattle.load.proofs.States.{after-add}
 use Rattle.load.proofs.Turning.{drawn-on, run-front}
 
-pub fill-rules : (m t M L : ℕ) (info : List ℕ) → (designRules m t M then fillRules (params m t M) L info) ≡ fillVerdict m t M L info
+pub fill-rules : (m t M col L : ℕ) (info : List ℕ) → (designRules m t M col then fillRules (params m t M col) L info) ≡ fillVerdict m t M col L info
 unfolding fillRules fillVerdict
-fill-rules m t M L info = refl
+fill-rules m t M col L info = refl
 
-pub turn-rules : (m t M L : ℕ) (info red : List ℕ) → (designRules m t M then turnRules (params m t M) L info red) ≡ turnVerdict m t M L info red
+pub turn-rules : (m t M col L : ℕ) (info red : List ℕ) → (designRules m t M col then turnRules (params m t M col) L info red) ≡ turnVerdict m t M col L info red
 unfolding turnRules turnVerdict
-turn-rules m t M L info red = refl
+turn-rules m t M col L info red = refl
 
 -- a frame that rules 1 to 4 and 6 accept is small
-pub accepted-small : (m t M L : ℕ) (info red : List ℕ) → turnVerdict m t M L info red ≡ accepted → length info + length red < 2 ^ 63
+pub accepted-small : (m t M col L : ℕ) (info red : List ℕ) → turnVerdict m t M col L info red ≡ accepted → length info + length red < 2 ^ 63
 unfolding turnVerdict
-accepted-small m t M L info red e =
-    let v : Verdict = frameLengths (params m t M) L info red then frameBits info red in
-    let few = count-limits L (then-first (countRule L) v (then-rest (designRules m t M) (countRule L then v) e)) .1 in
-    let long = turn-lengths m t M L info red e in
-    frame-small (record { m = m; t = t; size = M }) L (length info) (length red) (design-limits m t M (then-first (designRules m t M) (countRule L then v) e)) few
+accepted-small m t M col L info red e =
+    let v : Verdict = frameLengths (params m t M col) L info red then frameBits info red in
+    let few = count-limits L (then-first (countRule L) v (then-rest (designRules m t M col) (countRule L then v) e)) .1 in
+    let long = turn-lengths m t M col L info red e in
+    frame-small (record { m = m; t = t; size = M; col = col }) L (length info) (length red) (design-limits m t M col (then-first (designRules m t M col) (countRule L then v) e)) few
     (long .0) (long .1)
 
 -- ---- filling
@@ -47,14 +47,14 @@ fill-by : (v : Verdict) (old new : List ℕ) (s : ℕ) → v ≢ accepted → fi
 fill-by accepted old new s h = absurd (h refl)
 fill-by (refused n p) old new s h = refl
 
-module _ (m t M L seed : ℕ) (info : List ℕ) (v : Verdict) (e : v ≡ fillVerdict m t M L info) where
-  pub fill-refused : v ≢ accepted → record { verdict = v; info = info; state = 0 } ≡ fillCall m t M L seed info
+module _ (m t M col L seed : ℕ) (info : List ℕ) (v : Verdict) (e : v ≡ fillVerdict m t M col L info) where
+  pub fill-refused : v ≢ accepted → record { verdict = v; info = info; state = 0 } ≡ fillCall m t M col L seed info
   unfolding fillCall
   fill-refused h =
       sym (fill-by v info (tabulate (length info) (loadBit seed)) (stateAfter seed (length info)) h)
       ∙ ap (λ (z : Verdict). filledBy z info (tabulate (length info) (loadBit seed)) (stateAfter seed (length info))) e
 
-  pub fill-done : v ≡ accepted → record { verdict = accepted; info = tabulate (length info) (loadBit seed); state = stateAfter seed (length info) } ≡ fillCall m t M L seed info
+  pub fill-done : v ≡ accepted → record { verdict = accepted; info = tabulate (length info) (loadBit seed); state = stateAfter seed (length info) } ≡ fillCall m t M col L seed info
   unfolding fillCall
   fill-done h = ap (λ (z : Verdict). filledBy z info (tabulate (length info) (loadBit seed)) (stateAfter seed (length info))) (sym h ∙ e)
 
@@ -68,7 +68,7 @@ run-by : (v : Verdict) (old new : Frame) → v ≢ accepted → runBy v old new 
 run-by accepted old new h = absurd (h refl)
 run-by (refused n p) old new h = refl
 
-module _ (m t M L : ℕ) (info red : List ℕ) (v : Verdict) (e : v ≡ turnVerdict m t M L info red) where
+module _ (m t M col L : ℕ) (info red : List ℕ) (v : Verdict) (e : v ≡ turnVerdict m t M col L info red) where
   abbrev f : Frame
   f = frameOf info red
 
@@ -76,7 +76,7 @@ module _ (m t M L : ℕ) (info red : List ℕ) (v : Verdict) (e : v ≡ turnVerd
     abbrev last : ℕ
     last = stateAfter seed (16 * (length info + length red))
 
-    pub errors-refused : v ≢ accepted → record { verdict = v; frame = frameOf info red; state = 0 } ≡ errorsCall m t M L seed limit info red
+    pub errors-refused : v ≢ accepted → record { verdict = v; frame = frameOf info red; state = 0 } ≡ errorsCall m t M col L seed limit info red
     unfolding errorsCall
     errors-refused h =
         sym (errors-by v f (turnedFrame (randomTurns seed limit) f) last h) ∙ ap (λ (z : Verdict). errorsBy z f (turnedFrame (randomTurns seed limit) f) last) e
@@ -84,7 +84,7 @@ module _ (m t M L : ℕ) (info red : List ℕ) (v : Verdict) (e : v ≡ turnVerd
     -- the redundancy's draws go on from the state after those of the information
     pub errors-done : v ≡ accepted → (between end : ℕ) (i r : List ℕ) → between ≡ stateAfter seed (16 * length info) → i ≡ turnedWhere (randomTurns seed limit) info
         → r ≡ turnedWhere (randomTurns between limit) red → end ≡ stateAfter between (16 * length red)
-        → record { verdict = accepted; frame = frameOf i r; state = end } ≡ errorsCall m t M L seed limit info red
+        → record { verdict = accepted; frame = frameOf i r; state = end } ≡ errorsCall m t M col L seed limit info red
     unfolding errorsCall
     errors-done h between end i r b ei er ee =
         let steps : 16 * length info + 16 * length red ≡ 16 * (length info + length red) = omega arith in
@@ -95,13 +95,13 @@ module _ (m t M L : ℕ) (info red : List ℕ) (v : Verdict) (e : v ≡ turnVerd
         ∙ ap (λ (z : Verdict). errorsBy z f (turnedFrame (randomTurns seed limit) f) last) (sym h ∙ e)
 
   module _ (place long : ℕ) where
-    pub run-refused : v ≢ accepted → record { verdict = v; frame = frameOf info red } ≡ runCall m t M L place long info red
+    pub run-refused : v ≢ accepted → record { verdict = v; frame = frameOf info red } ≡ runCall m t M col L place long info red
     unfolding runCall
     run-refused h = sym (run-by v f (turnedFrame (runTurns place long) f) h) ∙ ap (λ (z : Verdict). runBy z f (turnedFrame (runTurns place long) f)) e
 
     pub run-done : v ≡ accepted → (i r : List ℕ) → i ≡ turnedWhere (λ k. runTurns place long (0 + k)) info
         → r ≡ turnedWhere (λ k. runTurns place long (length info + k)) red
-        → record { verdict = accepted; frame = frameOf i r } ≡ runCall m t M L place long info red
+        → record { verdict = accepted; frame = frameOf i r } ≡ runCall m t M col L place long info red
     unfolding runCall
     run-done h i r ei er =
         ap (λ (g : Frame). record { verdict = accepted; frame = g }) (ap₂ frameOf (ei ∙ run-front place long info) er)

@@ -5,7 +5,7 @@
 use Prim.Native.Nat.{ℕ}
 use Rattle.staircase.specs.Rules.{Verdict}
 use Rattle.staircase.specs.Rules.Verdict.{accepted}
-use Rattle.design.specs.Answers.{refusalVerdict}
+use Rattle.answers.specs.Answers.{refusalVerdict}
 use Rattle.load.specs.declared.Loaded.{Loaded}
 use Rattle.load.specs.declared.Loaded.the-variants as loaded
 

@@ -15,13 +15,14 @@ ghost use Rattle.staircase.specs.Lists.{tabulate};
 ghost use Rattle.staircase.specs.Frame.{frameOf};
 ghost use Rattle.staircase.specs.Load.{stateAfter, loadBit, randomTurns, runTurns, turnedWhere, fillVerdict, turnVerdict, fillCall, errorsCall, runCall};
 ghost use Rattle.design.specs.Sizes.{paramsOf};
-ghost use Rattle.design.specs.Answers.{verdictOf, Allowed};
+ghost use Rattle.design.specs.Answers.{Allowed};
 ghost use Rattle.load.specs.Answers.{loadVerdict, loadState};
 ghost use Rattle.load.specs.Checks.{fillRules, turnRules};
-use design::Check;
+ghost use Rattle.answers.specs.Answers.{verdictOf};
+use answers::Check;
+use answers::Refusal;
 use design::Design;
 use design::Designed;
-use design::Refusal;
 
 // The answer of the calls that start from a seed: the generator's last state, or a refusal.
 pub enum Loaded {
@@ -129,10 +130,10 @@ fn check_frame(d: Design, blocks: u64, info: &[u8], red: &[u8]) -> Check
 }
 
 // The rules of `fill`: 1 to 4 and 6.
-fn check_fill(m: u64, t: u64, size: u64, blocks: u64, info: &[u8]) -> Check
-    ensures { λ a. ⌜ verdictOf a ≡ fillVerdict m t size blocks (now (info .entry)) ⌝ }
+fn check_fill(m: u64, t: u64, size: u64, col: u64, blocks: u64, info: &[u8]) -> Check
+    ensures { λ a. ⌜ verdictOf a ≡ fillVerdict m t size col blocks (now (info .entry)) ⌝ }
 {
-    let designed = Design::new(m, t, size);
+    let designed = Design::new_col(m, t, size, col);
     let Designed::Made(d) = designed else {
         return design::design_check(designed);
     };
@@ -140,10 +141,10 @@ fn check_fill(m: u64, t: u64, size: u64, blocks: u64, info: &[u8]) -> Check
 }
 
 // The rules of `errors` and `run`: 1 to 4, 6 and 10.
-fn check_turn(m: u64, t: u64, size: u64, blocks: u64, info: &[u8], red: &[u8]) -> Check
-    ensures { λ a. ⌜ verdictOf a ≡ turnVerdict m t size blocks (now (info .entry)) (now (red .entry)) ⌝ }
+fn check_turn(m: u64, t: u64, size: u64, col: u64, blocks: u64, info: &[u8], red: &[u8]) -> Check
+    ensures { λ a. ⌜ verdictOf a ≡ turnVerdict m t size col blocks (now (info .entry)) (now (red .entry)) ⌝ }
 {
-    let designed = Design::new(m, t, size);
+    let designed = Design::new_col(m, t, size, col);
     let Designed::Made(d) = designed else {
         return design::design_check(designed);
     };
@@ -162,21 +163,62 @@ fn refused_load(a: Check) -> Loaded
 
 // Fills the information of a frame of `blocks` blocks with the bits that the generator gives from `seed` on, a step a bit, and answers the last state; or
 // the first of rules 1 to 4 and 6 that refuses, and the buffer stays as it was. What it held before plays no part.
-pub fn fill(m: u64, t: u64, size: u64, blocks: u64, seed: u32, info: &mut [u8]) -> Loaded
+pub fn fill_col(
+    m: u64,
+    t: u64,
+    size: u64,
+    col: u64,
+    blocks: u64,
+    seed: u32,
+    info: &mut [u8],
+) -> Loaded
     ensures { λ a.
-        let f = fillCall m t size blocks seed (now (info .entry)) in
+        let f = fillCall m t size col blocks seed (now (info .entry)) in
         ⌜ (loadVerdict a ≡ f .verdict) × (now (info .exit) ≡ f .info) × (loadState a ≡ f .state) ⌝ }
 {
-    let checked = check_fill(m, t, size, blocks, &info[..]);
+    let checked = check_fill(m, t, size, col, blocks, &info[..]);
     let Check::Passed = checked else {
         return refused_load(checked);
     };
     Loaded::State(fill_bits(info, seed))
 }
 
+// The same where rows and columns have one code.
+pub fn fill(m: u64, t: u64, size: u64, blocks: u64, seed: u32, info: &mut [u8]) -> Loaded
+    ensures { λ a.
+        let f = fillCall m t size 0 blocks seed (now (info .entry)) in
+        ⌜ (loadVerdict a ≡ f .verdict) × (now (info .exit) ≡ f .info) × (loadState a ≡ f .state) ⌝ }
+{
+    fill_col(m, t, size, 0, blocks, seed, info)
+}
+
 // Turns each bit of a frame of `blocks` blocks whose draw, sixteen steps of the generator from `seed` on, is below `limit`, and answers the last state; or
 // the first of rules 1 to 4, 6 and 10 that refuses, and both buffers stay as they were. A bit turns in `limit` of 65,536 draws: none for 0, each for
 // 65,536 and more. Turning a second time from the same seed gives the frame back.
+pub fn errors_col(
+    m: u64,
+    t: u64,
+    size: u64,
+    col: u64,
+    blocks: u64,
+    seed: u32,
+    limit: u64,
+    info: &mut [u8],
+    red: &mut [u8],
+) -> Loaded
+    ensures { λ a.
+        let e = errorsCall m t size col blocks seed limit (now (info .entry)) (now (red .entry)) in
+        ⌜ (loadVerdict a ≡ e .verdict) × (frameOf (now (info .exit)) (now (red .exit)) ≡ e .frame) × (loadState a ≡ e .state) ⌝ }
+{
+    let checked = check_turn(m, t, size, col, blocks, &info[..], &red[..]);
+    let Check::Passed = checked else {
+        return refused_load(checked);
+    };
+    let between = turn_drawn(info, seed, limit);
+    Loaded::State(turn_drawn(red, between, limit))
+}
+
+// The same where rows and columns have one code.
 pub fn errors(
     m: u64,
     t: u64,
@@ -188,19 +230,40 @@ pub fn errors(
     red: &mut [u8],
 ) -> Loaded
     ensures { λ a.
-        let e = errorsCall m t size blocks seed limit (now (info .entry)) (now (red .entry)) in
+        let e = errorsCall m t size 0 blocks seed limit (now (info .entry)) (now (red .entry)) in
         ⌜ (loadVerdict a ≡ e .verdict) × (frameOf (now (info .exit)) (now (red .exit)) ≡ e .frame) × (loadState a ≡ e .state) ⌝ }
 {
-    let checked = check_turn(m, t, size, blocks, &info[..], &red[..]);
-    let Check::Passed = checked else {
-        return refused_load(checked);
-    };
-    let between = turn_drawn(info, seed, limit);
-    Loaded::State(turn_drawn(red, between, limit))
+    errors_col(m, t, size, 0, blocks, seed, limit, info, red)
 }
 
 // Turns `length` bits of a frame of `blocks` blocks from bit `place` on, as far as there are any; or answers the first of rules 1 to 4, 6 and 10 that
 // refuses, and both buffers stay as they were. Both numbers may be any.
+pub fn run_col(
+    m: u64,
+    t: u64,
+    size: u64,
+    col: u64,
+    blocks: u64,
+    place: u64,
+    length: u64,
+    info: &mut [u8],
+    red: &mut [u8],
+) -> Check
+    ensures { λ a.
+        let r = runCall m t size col blocks place length (now (info .entry)) (now (red .entry)) in
+        ⌜ (verdictOf a ≡ r .verdict) × (frameOf (now (info .exit)) (now (red .exit)) ≡ r .frame) ⌝ }
+{
+    let checked = check_turn(m, t, size, col, blocks, &info[..], &red[..]);
+    let Check::Passed = checked else {
+        return checked;
+    };
+    let border = info.len() as u64;
+    turn_run(info, 0, place, length);
+    turn_run(red, border, place, length);
+    Check::Passed
+}
+
+// The same where rows and columns have one code.
 pub fn run(
     m: u64,
     t: u64,
@@ -212,15 +275,8 @@ pub fn run(
     red: &mut [u8],
 ) -> Check
     ensures { λ a.
-        let r = runCall m t size blocks place length (now (info .entry)) (now (red .entry)) in
+        let r = runCall m t size 0 blocks place length (now (info .entry)) (now (red .entry)) in
         ⌜ (verdictOf a ≡ r .verdict) × (frameOf (now (info .exit)) (now (red .exit)) ≡ r .frame) ⌝ }
 {
-    let checked = check_turn(m, t, size, blocks, &info[..], &red[..]);
-    let Check::Passed = checked else {
-        return checked;
-    };
-    let border = info.len() as u64;
-    turn_run(info, 0, place, length);
-    turn_run(red, border, place, length);
-    Check::Passed
+    run_col(m, t, size, 0, blocks, place, length, info, red)
 }

@@ -25,18 +25,18 @@ module _ (K : Kit) (L : ℕ) (info old : List ℕ) (G : Given K L info old) wher
   frame = frameOf info (redundancy (sizes K) (lists K) (K .inverse) L info)
 
   pub loopback-restores : (infoErrors redErrors : List ℕ)
-      → EachWord (sizes K) (lists K) L (λ x. distance (read frame x) (read (frameOf (turned infoErrors info) (turned redErrors (frame .red))) x) ≤ K .t)
+      → EachWord (sizes K) (lists K) L (λ x. distance (read frame (x .sites)) (read (frameOf (turned infoErrors info) (turned redErrors (frame .red))) (x .sites)) ≤ K .t)
       → (k : ℕ) → k ≤ most-rounds
       → Restored (frameOf (turned infoErrors info) (turned redErrors (frame .red))) frame
-      (loopbackCall (K .m) (K .t) (K .M) L k (K .self) (K .parity) (K .inverse) infoErrors redErrors info old (loopbackWork (sizes K) L))
+      (loopbackCall (K .m) (K .t) (K .M) (K .col) L k (K .self) (K .parity) (K .inverse) infoErrors redErrors info old (loopbackWork (sizes K) L))
   loopback-restores infoErrors redErrors few k hk =
       let made : List ℕ = redundancy (sizes K) (lists K) (K .inverse) L info in
-      let e = ap (encodeCall (K .m) (K .t) (K .M) L (K .self) (K .parity) (K .inverse) info old) (front-work (sizes K) L)
+      let e = ap (encodeCall (K .m) (K .t) (K .M) (K .col) L (K .self) (K .parity) (K .inverse) info old) (front-work (sizes K) L)
       ∙ encode-made K L info old G info old (G .bits) (G .info-fits) (G .old-fits) in
       let r = made-restored K L info old G (frameOf (turned infoErrors info) (turned redErrors made)) (turned-length infoErrors info) (turned-length redErrors made)
       (turned-bits infoErrors info (G .bits)) (turned-bits redErrors made (made-bits K L info old G)) few k hk in (
         r .0,
-        sym (loopback-decoded (K .m) (K .t) (K .M) L k (K .self) (K .parity) (K .inverse) infoErrors redErrors info old (loopbackWork (sizes K) L)
+        sym (loopback-decoded (K .m) (K .t) (K .M) (K .col) L k (K .self) (K .parity) (K .inverse) infoErrors redErrors info old (loopbackWork (sizes K) L)
             (numbers-accepted K L info old G k hk) (ap (λ (x : Encoded). x .verdict) e) _ made (decoderWork (sizes K) L) (sym (ap (λ (x : Encoded). x .red) e)) refl refl)
             ∙ r .1,
       )

@@ -35,12 +35,11 @@ use Rattle.staircase.proofs.Rules.{then-first, then-rest, then-accepted, refuse
 use Rattle.staircase.proofs.BchCode.{proper-of}
 use Rattle.staircase.proofs.Demand3.{decode-admits, made-length, made-bits}
 use Rattle.staircase.proofs.Encoded.{encodedBy-verdict, encode-accepted, encode-work}
-use Rattle.design.specs.declared.Refusal.{Refusal}
-use Rattle.design.specs.declared.Check.{Check}
-use Rattle.design.specs.declared.Check.the-variants as check
-use Rattle.design.specs.Answers.{verdictOf}
-use Rattle.design.proofs.Answers.{refused-then, check-refused}
-use Rattle.decoder.specs.Answers.{refusedFrame}
+use Rattle.answers.specs.declared.Refusal.{Refusal}
+use Rattle.answers.specs.declared.Check.{Check}
+use Rattle.answers.specs.declared.Check.the-variants as check
+use Rattle.answers.specs.Answers.{verdictOf, refusedFrame}
+use Rattle.answers.proofs.Checks.{refused-then, check-refused}
 use Rattle.decoder.proofs.DecodeCall.{refused-is}
 use Rattle.loopback.specs.Link.{turned, numberRules, loopbackWork, loopbackVerdict, loopbackCall}
 
@@ -76,29 +75,29 @@ less-rule w x a h = ap (λ (z : Bool). refuse (not z) 6 6) (go (ℕ-discrete (w 
     go (yes e) = eq-eqb (w - x) a e ∙ sym (eq-eqb w (a + x) (omega (arith, e)))
     go (no n) = ne-eqb (w - x) a n ∙ sym (ne-eqb w (a + x) (λ e. n (omega (arith, e))))
 
-pub numbers-accepted : (K : Kit) (L : ℕ) (info old : List ℕ) → Given K L info old → (k : ℕ) → k ≤ most-rounds → numberRules (K .m) (K .t) (K .M) L k ≡ accepted
+pub numbers-accepted : (K : Kit) (L : ℕ) (info old : List ℕ) → Given K L info old → (k : ℕ) → k ≤ most-rounds → numberRules (K .m) (K .t) (K .M) (K .col) L k ≡ accepted
 unfolding numberRules countRule roundsRule
 numbers-accepted K L info old G k h =
     then-accepted (G .design)
     (then-accepted (refuse-accepted 4 L (inRange 1 most-blocks L (G .some) (G .few))) (refuse-accepted 5 k (le-ltb most-rounds k h)))
 
-pub decode-same : (m t M L k : ℕ) (self parity : List ℕ) {i i' r r' : List ℕ} {n n' : ℕ} → i ≡ i' → r ≡ r' → n ≡ n'
-    → decodeCall m t M L k self parity i r n ≡ decodeCall m t M L k self parity i' r' n'
-decode-same m t M L k self parity {i} {i'} {r} {r'} {n} {n'} p q e =
-    ap₂ (λ (x y : List ℕ). decodeCall m t M L k self parity x y n) p q ∙ ap (λ (z : ℕ). decodeCall m t M L k self parity i' r' z) e
+pub decode-same : (m t M col L k : ℕ) (self parity : List ℕ) {i i' r r' : List ℕ} {n n' : ℕ} → i ≡ i' → r ≡ r' → n ≡ n'
+    → decodeCall m t M col L k self parity i r n ≡ decodeCall m t M col L k self parity i' r' n'
+decode-same m t M col L k self parity {i} {i'} {r} {r'} {n} {n'} p q e =
+    ap₂ (λ (x y : List ℕ). decodeCall m t M col L k self parity x y n) p q ∙ ap (λ (z : ℕ). decodeCall m t M col L k self parity i' r' z) e
 
-module _ (m t M L k : ℕ) (self parity w infoErrors redErrors info red : List ℕ) (work : ℕ) where
+module _ (m t M col L k : ℕ) (self parity w infoErrors redErrors info red : List ℕ) (work : ℕ) where
   abbrev K : Kit
-  K = record { m = m; t = t; M = M; self = self; parity = parity; inverse = w }
+  K = record { m = m; t = t; M = M; col = col; self = self; parity = parity; inverse = w }
 
   abbrev s : Params
-  s = params m t M
+  s = params m t M col
 
   abbrev l : Interleavers
-  l = interleavers (params m t M) self parity
+  l = interleavers (params m t M col) self parity
 
   abbrev received : Frame
-  received = frameOf (turned infoErrors info) (turned redErrors (redundancy (params m t M) (interleavers (params m t M) self parity) w L info))
+  received = frameOf (turned infoErrors info) (turned redErrors (redundancy (params m t M col) (interleavers (params m t M col) self parity) w L info))
 
   abbrev done : Frame
   done = decoded s l L k received .frame
@@ -107,75 +106,75 @@ module _ (m t M L k : ℕ) (self parity w infoErrors redErrors info red : List �
   counts = countsOf s l L k received
 
   -- a refused call counts nothing and leaves the frame
-  refused-result : (v : Verdict) → v ≢ accepted → loopbackVerdict m t M L k self parity w info red work ≡ v
-      → refusedFrame v (frameOf info red) ≡ loopbackCall m t M L k self parity w infoErrors redErrors info red work
+  refused-result : (v : Verdict) → v ≢ accepted → loopbackVerdict m t M col L k self parity w info red work ≡ v
+      → refusedFrame v (frameOf info red) ≡ loopbackCall m t M col L k self parity w infoErrors redErrors info red work
   unfolding loopbackCall
   refused-result v h e = refused-is v (frameOf info red) done counts h ∙ sym (ap (λ (x : Verdict). correctedBy x (frameOf info red) done counts) e)
 
   -- refused by rules 1 to 5
-  pub loopback-numbers : (x : Check) → verdictOf x ≡ numberRules m t M L k → {r : Refusal} → x ≡ check.Refused r
-      → refusedFrame (verdictOf x) (frameOf info red) ≡ loopbackCall m t M L k self parity w infoErrors redErrors info red work
+  pub loopback-numbers : (x : Check) → verdictOf x ≡ numberRules m t M col L k → {r : Refusal} → x ≡ check.Refused r
+      → refusedFrame (verdictOf x) (frameOf info red) ≡ loopbackCall m t M col L k self parity w infoErrors redErrors info red work
   unfolding loopbackVerdict
   loopback-numbers x v e =
       refused-result (verdictOf x) (check-refused e)
       (sym (refused-then (kitLengths s self parity w then frameLengths s L info red then lengthRule 6 work (loopbackWork s L) then contentRules s l w info) v e))
 
-  module _ (ok : numberRules m t M L k ≡ accepted) where
+  module _ (ok : numberRules m t M col L k ≡ accepted) where
     counted : (countRule L then roundsRule k) ≡ accepted
     unfolding numberRules
-    counted = then-rest (designRules m t M) (countRule L then roundsRule k) ok
+    counted = then-rest (designRules m t M col) (countRule L then roundsRule k) ok
 
     few-rounds : k ≤ most-rounds
     unfolding roundsRule
     few-rounds = ltb-false most-rounds k (refuse-false (ltb most-rounds k) 5 k (then-rest (countRule L) (roundsRule k) counted))
 
-    designed : designRules m t M ≡ accepted
+    designed : designRules m t M col ≡ accepted
     unfolding numberRules
-    designed = then-first (designRules m t M) (countRule L then roundsRule k) ok
+    designed = then-first (designRules m t M col) (countRule L then roundsRule k) ok
 
-    pub small-frame : (designRules m t M ≡ accepted) × (L ≤ most-blocks) × (order (params m t M) ≤ most-order)
+    pub small-frame : (designRules m t M col ≡ accepted) × (L ≤ most-blocks) × (order (params m t M col) ≤ most-order)
     small-frame =
-        let limits = design-limits m t M designed in (designed, count-limits L (then-first (countRule L) (roundsRule k) counted) .1, limits .order-high)
+        let limits = design-limits m t M col designed in (designed, count-limits L (then-first (countRule L) (roundsRule k) counted) .1, limits .order-high)
 
     abbrev more : ℕ
-    more = keptWork (params m t M) L
+    more = keptWork (params m t M col) L
 
     kit-some : (0 < kitWork s) × (order s ≤ kitWork s)
     unfolding kitWork
     kit-some =
-        let fit = proper-of (design-limits m t M designed) in
+        let fit = proper-of (design-limits m t M col designed) in
         let p = small-product 1 1 M (m * t) (fit .mpos) (fit .rpos) in
         let one : 1 ≤ rowBytes (order s) = omega (arith, p) in
         let q = small-product (order s) 1 (order s) (rowBytes (order s)) (omega arith) one in
         (omega (arith, p, q), omega (arith, q))
 
     -- the last of the working bytes are left out: those of what the decoder keeps
-    same-rule : lengthRule 6 (work - keptWork (params m t M) L) (kitWork s) ≡ lengthRule 6 work (loopbackWork s L)
+    same-rule : lengthRule 6 (work - keptWork (params m t M col) L) (kitWork s) ≡ lengthRule 6 work (loopbackWork s L)
     unfolding loopbackWork
     same-rule = less-rule work more (kitWork s) (kit-some .0)
 
     -- the encoder's rules 1 to 4 are passed, so that the others decide
-    verdict-encodes : loopbackVerdict m t M L k self parity w info red work ≡ encodeVerdict m t M L self parity w info red (work - keptWork (params m t M) L)
+    verdict-encodes : loopbackVerdict m t M col L k self parity w info red work ≡ encodeVerdict m t M col L self parity w info red (work - keptWork (params m t M col) L)
     unfolding loopbackVerdict encodeVerdict numberRules
     verdict-encodes =
         let rest : Verdict = kitLengths s self parity w then frameLengths s L info red then lengthRule 6 (work - more) (kitWork s) then contentRules s l w info in
         ap (λ (v : Verdict). v then kitLengths s self parity w then frameLengths s L info red then lengthRule 6 work (loopbackWork s L) then contentRules s l w info) ok
         ∙ ap (λ (v : Verdict). kitLengths s self parity w then frameLengths s L info red then v then contentRules s l w info) (sym same-rule)
-        ∙ sym (ap (λ (v : Verdict). v then countRule L then rest) (then-first (designRules m t M) (countRule L then roundsRule k) ok)
+        ∙ sym (ap (λ (v : Verdict). v then countRule L then rest) (then-first (designRules m t M col) (countRule L then roundsRule k) ok)
         ∙ ap (λ (v : Verdict). v then rest) (then-first (countRule L) (roundsRule k) counted))
 
-    encoder-verdict : encodeCall m t M L self parity w info red (work - keptWork (params m t M) L) .verdict ≡ encodeVerdict m t M L self parity w info red (work - keptWork (params m t M) L)
+    encoder-verdict : encodeCall m t M col L self parity w info red (work - keptWork (params m t M col) L) .verdict ≡ encodeVerdict m t M col L self parity w info red (work - keptWork (params m t M col) L)
     unfolding encodeCall
-    encoder-verdict = encodedBy-verdict (encodeVerdict m t M L self parity w info red (work - keptWork (params m t M) L)) red (redundancy s l w L info)
+    encoder-verdict = encodedBy-verdict (encodeVerdict m t M col L self parity w info red (work - keptWork (params m t M col) L)) red (redundancy s l w L info)
 
     -- refused by the encoder, which leaves the redundancy
-    pub loopback-encoder : (x : Check) (after : List ℕ) → verdictOf x ≡ encodeCall m t M L self parity w info red (work - keptWork (params m t M) L) .verdict
-        → after ≡ encodeCall m t M L self parity w info red (work - keptWork (params m t M) L) .red → {r : Refusal} → x ≡ check.Refused r
-        → refusedFrame (verdictOf x) (frameOf info after) ≡ loopbackCall m t M L k self parity w infoErrors redErrors info red work
+    pub loopback-encoder : (x : Check) (after : List ℕ) → verdictOf x ≡ encodeCall m t M col L self parity w info red (work - keptWork (params m t M col) L) .verdict
+        → after ≡ encodeCall m t M col L self parity w info red (work - keptWork (params m t M col) L) .red → {r : Refusal} → x ≡ check.Refused r
+        → refusedFrame (verdictOf x) (frameOf info after) ≡ loopbackCall m t M col L k self parity w infoErrors redErrors info red work
     unfolding encodeCall
     loopback-encoder x after v a e =
         let n : verdictOf x ≢ accepted = check-refused e in
-        let u : Verdict = encodeVerdict m t M L self parity w info red (work - keptWork (params m t M) L) in
+        let u : Verdict = encodeVerdict m t M col L self parity w info red (work - keptWork (params m t M col) L) in
         ap (λ (z : List ℕ). refusedFrame (verdictOf x) (frameOf info z)) (a ∙ red-stays u (λ z. n (v ∙ encoder-verdict ∙ z)))
         ∙ refused-result (verdictOf x) n (verdict-encodes ∙ sym (v ∙ encoder-verdict))
       where
@@ -184,37 +183,37 @@ module _ (m t M L k : ℕ) (self parity w infoErrors redErrors info red : List �
         red-stays (refused n p) h = refl
 
     -- encoded: the decoder's answer
-    module _ (v : encodeCall m t M L self parity w info red (work - keptWork (params m t M) L) .verdict ≡ accepted) where
-      accepts : encodeVerdict m t M L self parity w info red (work - keptWork (params m t M) L) ≡ accepted
+    module _ (v : encodeCall m t M col L self parity w info red (work - keptWork (params m t M col) L) .verdict ≡ accepted) where
+      accepts : encodeVerdict m t M col L self parity w info red (work - keptWork (params m t M col) L) ≡ accepted
       accepts = sym encoder-verdict ∙ v
 
       G : Given K L info red
-      G = encode-accepted K L info red (work - keptWork (params m t M) L) accepts
+      G = encode-accepted K L info red (work - keptWork (params m t M col) L) accepts
 
-      made-red : encodeCall m t M L self parity w info red (work - keptWork (params m t M) L) .red ≡ redundancy s l w L info
+      made-red : encodeCall m t M col L self parity w info red (work - keptWork (params m t M col) L) .red ≡ redundancy s l w L info
       unfolding encodeCall
       made-red = ap (λ (x : Verdict). encodedBy x red (redundancy s l w L info) .red) accepts
 
-      pub own-length : length self ≡ 2 * order (params m t M)
+      pub own-length : length self ≡ 2 * order (params m t M col)
       own-length = G .fits .selfLength
 
-      pub working-fits : order (params m t M) + keptWork (params m t M) L ≤ work
+      pub working-fits : order (params m t M col) + keptWork (params m t M col) L ≤ work
       working-fits =
-          let e : work - more ≡ kitWork s = encode-work K L info red (work - keptWork (params m t M) L) accepts in
+          let e : work - more ≡ kitWork s = encode-work K L info red (work - keptWork (params m t M col) L) accepts in
           omega (arith, e, kit-some .0, kit-some .1)
 
-      pub loopback-decoded : (x : Corrected) (after : List ℕ) (n : ℕ) → after ≡ encodeCall m t M L self parity w info red (work - keptWork (params m t M) L) .red → n ≡ decoderWork (params m t M) L
-          → x ≡ decodeCall m t M L k self parity (turned infoErrors info) (turned redErrors after) n
-          → x ≡ loopbackCall m t M L k self parity w infoErrors redErrors info red work
+      pub loopback-decoded : (x : Corrected) (after : List ℕ) (n : ℕ) → after ≡ encodeCall m t M col L self parity w info red (work - keptWork (params m t M col) L) .red → n ≡ decoderWork (params m t M col) L
+          → x ≡ decodeCall m t M col L k self parity (turned infoErrors info) (turned redErrors after) n
+          → x ≡ loopbackCall m t M col L k self parity w infoErrors redErrors info red work
       unfolding loopbackCall decodeCall
       loopback-decoded x after n a q e =
           let made : List ℕ = redundancy s l w L info in
           let i : List ℕ = turned infoErrors info in
           let o : List ℕ = turned redErrors made in
-          let ev : decodeVerdict m t M L k self parity i o (decoderWork s L) ≡ accepted =
+          let ev : decodeVerdict m t M col L k self parity i o (decoderWork s L) ≡ accepted =
           decode-admits K L info red G k few-rounds i o (turned-length infoErrors info ∙ G .info-fits) (turned-length redErrors made ∙ made-length K L info red G)
           (turned-bits infoErrors info (G .bits)) (turned-bits redErrors made (made-bits K L info red G)) in
           e
-          ∙ ap₂ (λ (z : List ℕ) (y : ℕ). decodeCall m t M L k self parity i (turned redErrors z) y) (a ∙ made-red) q
+          ∙ ap₂ (λ (z : List ℕ) (y : ℕ). decodeCall m t M col L k self parity i (turned redErrors z) y) (a ∙ made-red) q
           ∙ ap (λ (z : Verdict). correctedBy z received done counts) ev
           ∙ sym (ap (λ (z : Verdict). correctedBy z (frameOf info red) done counts) (verdict-encodes ∙ accepts))

@@ -22,25 +22,25 @@ use Rattle.staircase.specs.Calls.{countsOf, Corrected, correctedBy}
 unfoldable pub turned : List ℕ → List ℕ → List ℕ
 turned errors b = tabulate (length b) (λ k. cond (eqb (getD errors k 0) 0) (getD b k 0) (1 - getD b k 0))
 
-unfoldable pub numberRules : ℕ → ℕ → ℕ → ℕ → ℕ → Verdict
-numberRules m t M L k = designRules m t M then countRule L then roundsRule k
+unfoldable pub numberRules : ℕ → ℕ → ℕ → ℕ → ℕ → ℕ → Verdict
+numberRules m t M col L k = designRules m t M col then countRule L then roundsRule k
 
 -- the encoder's, and what the decoder keeps
 unfoldable pub loopbackWork : Params → ℕ → ℕ
 loopbackWork s L = kitWork s + keptWork s L
 
 -- "Checks run in rising order": the decoder's rule 5 among those of the encoder, and before anything is written
-unfoldable pub loopbackVerdict : ℕ → ℕ → ℕ → ℕ → ℕ → List ℕ → List ℕ → List ℕ → List ℕ → List ℕ → ℕ → Verdict
-loopbackVerdict m t M L k self parity w info red work =
-    let s : Params = params m t M in
-    numberRules m t M L k
+unfoldable pub loopbackVerdict : ℕ → ℕ → ℕ → ℕ → ℕ → ℕ → List ℕ → List ℕ → List ℕ → List ℕ → List ℕ → ℕ → Verdict
+loopbackVerdict m t M col L k self parity w info red work =
+    let s : Params = params m t M col in
+    numberRules m t M col L k
     then kitLengths s self parity w then frameLengths s L info red then lengthRule 6 work (loopbackWork s L)
     then contentRules s (interleavers s self parity) w info
 
 -- the result is the decoder's, on the encoder's frame with the named bits turned; a refused call leaves both buffers as they were
-unfoldable pub loopbackCall : ℕ → ℕ → ℕ → ℕ → ℕ → List ℕ → List ℕ → List ℕ → List ℕ → List ℕ → List ℕ → List ℕ → ℕ → Corrected
-loopbackCall m t M L k self parity w infoErrors redErrors info red work =
-    let s : Params = params m t M in
+unfoldable pub loopbackCall : ℕ → ℕ → ℕ → ℕ → ℕ → ℕ → List ℕ → List ℕ → List ℕ → List ℕ → List ℕ → List ℕ → List ℕ → ℕ → Corrected
+loopbackCall m t M col L k self parity w infoErrors redErrors info red work =
+    let s : Params = params m t M col in
     let l : Interleavers = interleavers s self parity in
     let received : Frame = frameOf (turned infoErrors info) (turned redErrors (redundancy s l w L info)) in
-    correctedBy (loopbackVerdict m t M L k self parity w info red work) (frameOf info red) (decoded s l L k received .frame) (countsOf s l L k received)
+    correctedBy (loopbackVerdict m t M col L k self parity w info red work) (frameOf info red) (decoded s l L k received .frame) (countsOf s l L k received)

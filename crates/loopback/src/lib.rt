@@ -13,11 +13,10 @@ ghost use Rattle.staircase.specs.Design.{params, most-blocks};
 ghost use Rattle.staircase.specs.Frame.{frameOf};
 ghost use Rattle.staircase.specs.Rules.{designRules, keptWork};
 ghost use Rattle.staircase.specs.Rules.Verdict.{accepted};
-ghost use Rattle.decoder.specs.Answers.{correctedOf};
-ghost use Rattle.design.specs.Answers.{verdictOf};
+ghost use Rattle.answers.specs.Answers.{correctedOf, verdictOf};
 ghost use Rattle.loopback.specs.Link.{turned, numberRules, loopbackCall};
-use decoder::Decoding;
-use design::Check;
+use answers::Check;
+use answers::Decoding;
 use design::Design;
 use design::Designed;
 
@@ -55,10 +54,10 @@ fn turn_bits(errors: &[u8], bits: &mut [u8])
 }
 
 // Rules 1 to 5.
-fn check_numbers(m: u64, t: u64, size: u64, blocks: u64, rounds: u64) -> Check
-    ensures { λ a. ⌜ verdictOf a ≡ numberRules m t size blocks rounds ⌝ }
+fn check_numbers(m: u64, t: u64, size: u64, col: u64, blocks: u64, rounds: u64) -> Check
+    ensures { λ a. ⌜ verdictOf a ≡ numberRules m t size col blocks rounds ⌝ }
 {
-    let designed = design::design_check(Design::new(m, t, size));
+    let designed = design::design_check(Design::new_col(m, t, size, col));
     let Check::Passed = designed else {
         return designed;
     };
@@ -70,11 +69,11 @@ fn check_numbers(m: u64, t: u64, size: u64, blocks: u64, rounds: u64) -> Check
 }
 
 // The working bytes of what the decoder keeps: four for each word of a frame, and one for eight bits.
-fn kept_bytes(m: u64, t: u64, size: u64, blocks: u64) -> usize
-    requires { ⌜ (designRules m t size ≡ accepted) × (blocks ≤ most-blocks) ⌝ }
-    ensures { λ a. ⌜ (a ≡ keptWork (params m t size) blocks) × (a ≤ 1100000000) ⌝ }
+fn kept_bytes(m: u64, t: u64, size: u64, col: u64, blocks: u64) -> usize
+    requires { ⌜ (designRules m t size col ≡ accepted) × (blocks ≤ most-blocks) ⌝ }
+    ensures { λ a. ⌜ (a ≡ keptWork (params m t size col) blocks) × (a ≤ 1100000000) ⌝ }
 {
-    let designed = Design::new(m, t, size);
+    let designed = Design::new_col(m, t, size, col);
     let Designed::Made(d) = designed else {
         return 0;
     };
@@ -95,6 +94,67 @@ fn bytes_before(all: usize, more: usize) -> usize
 // 12. Byte k of a pattern that is not 0 turns bit k of its buffer; a pattern may have any length. The answer is the decoder's: its counts, or the
 // first of rules 1 to 10 that refuses; a refused call leaves both buffers as they were. The working bytes are as many as the inverse's, and four for each
 // word and one for eight bits of the frame: the encoder is lent all but these. The work is that of the two calls.
+pub fn loopback_col(
+    m: u64,
+    t: u64,
+    size: u64,
+    col: u64,
+    blocks: u64,
+    rounds: u64,
+    own: &[u8],
+    parity: &[u8],
+    inverse: &[u8],
+    info_errors: &[u8],
+    red_errors: &[u8],
+    info: &mut [u8],
+    red: &mut [u8],
+    work: &mut [u8],
+) -> Decoding
+    ensures { λ a. ⌜ correctedOf a (frameOf (now (info .exit)) (now (red .exit)))
+        ≡ loopbackCall m t size col blocks rounds (now (own .entry)) (now (parity .entry)) (now (inverse .entry)) (now («info_errors» .entry))
+        (now («red_errors» .entry)) (now (info .entry)) (now (red .entry)) (length (now (work .entry))) ⌝ }
+{
+    let numbers = check_numbers(m, t, size, col, blocks, rounds);
+    let Check::Passed = numbers else {
+        return answers::refused_frame(numbers);
+    };
+    let kept = kept_bytes(m, t, size, col, blocks);
+    let front = bytes_before(work.len(), kept);
+    let encoded = encoder::encode_col(
+        m,
+        t,
+        size,
+        col,
+        blocks,
+        own,
+        parity,
+        inverse,
+        &info[..],
+        red,
+        &mut work[0..front],
+    );
+    let Check::Passed = encoded else {
+        return answers::refused_frame(encoded);
+    };
+    turn_bits(info_errors, info);
+    turn_bits(red_errors, red);
+    let n = own.len() / 2 + kept;
+    decoder::decode_col(
+        m,
+        t,
+        size,
+        col,
+        blocks,
+        rounds,
+        own,
+        parity,
+        info,
+        red,
+        &mut work[0..n],
+    )
+}
+
+// The same where rows and columns have one code.
 pub fn loopback(
     m: u64,
     t: u64,
@@ -111,43 +171,23 @@ pub fn loopback(
     work: &mut [u8],
 ) -> Decoding
     ensures { λ a. ⌜ correctedOf a (frameOf (now (info .exit)) (now (red .exit)))
-        ≡ loopbackCall m t size blocks rounds (now (own .entry)) (now (parity .entry)) (now (inverse .entry)) (now («info_errors» .entry))
+        ≡ loopbackCall m t size 0 blocks rounds (now (own .entry)) (now (parity .entry)) (now (inverse .entry)) (now («info_errors» .entry))
         (now («red_errors» .entry)) (now (info .entry)) (now (red .entry)) (length (now (work .entry))) ⌝ }
 {
-    let numbers = check_numbers(m, t, size, blocks, rounds);
-    let Check::Passed = numbers else {
-        return decoder::refused_frame(numbers);
-    };
-    let kept = kept_bytes(m, t, size, blocks);
-    let front = bytes_before(work.len(), kept);
-    let encoded = encoder::encode(
+    loopback_col(
         m,
         t,
         size,
-        blocks,
-        own,
-        parity,
-        inverse,
-        &info[..],
-        red,
-        &mut work[0..front],
-    );
-    let Check::Passed = encoded else {
-        return decoder::refused_frame(encoded);
-    };
-    turn_bits(info_errors, info);
-    turn_bits(red_errors, red);
-    let n = own.len() / 2 + kept;
-    decoder::decode(
-        m,
-        t,
-        size,
+        0,
         blocks,
         rounds,
         own,
         parity,
+        inverse,
+        info_errors,
+        red_errors,
         info,
         red,
-        &mut work[0..n],
+        work,
     )
 }

@@ -41,23 +41,23 @@ use Rattle.original.proofs.Buffer.{cleared-length, cleared-bits, encode
 use Rattle.original.proofs.Rules.{original-limits, degree-some, degree-of, distance-of, bits-infoBits}
 
 -- the encoder's call
-pub encode-made : (m t M L : ℕ) (l : List ℕ) → OriginalGiven m t M L l
-    → originalEncodeCall m t M L l ≡ record { verdict = accepted; buffer = encoded (params m t M) L l }
+pub encode-made : (m t M col L : ℕ) (l : List ℕ) → OriginalGiven m t M col L l
+    → originalEncodeCall m t M col L l ≡ record { verdict = accepted; buffer = encoded (params m t M col) L l }
 unfolding originalEncodeCall originalEncodeVerdict countRule
-encode-made m t M L l G =
-    ap (λ (v : Verdict). writtenBy v l (encoded (params m t M) L l))
+encode-made m t M col L l G =
+    ap (λ (v : Verdict). writtenBy v l (encoded (params m t M col) L l))
     (then-accepted (G .design) (then-accepted (refuse-accepted 4 L (inRange 1 most-blocks L (G .some) (G .few)))
-    (then-accepted (length-accepted 4 (length l) (infoLength (params m t M) L) (G .fits)) (bits-infoBits (params m t M) l (G .bits)))))
+    (then-accepted (length-accepted 4 (length l) (infoLength (params m t M col) L) (G .fits)) (bits-infoBits (params m t M col) l (G .bits)))))
 
-module _ (m t M L : ℕ) (l : List ℕ) (G : OriginalGiven m t M L l) where
+module _ (m t M col L : ℕ) (l : List ℕ) (G : OriginalGiven m t M col L l) where
   abbrev s : Params
-  s = params m t M
+  s = params m t M col
 
   abbrev made : List ℕ
-  made = encoded (params m t M) L l
+  made = encoded (params m t M col) L l
 
-  d : Original m t M
-  d = original-limits m t M (G .design)
+  d : Original m t M col
+  d = original-limits m t M col (G .design)
 
   rpos : 0 < m * t
   rpos = degree-some d
@@ -69,7 +69,7 @@ module _ (m t M L : ℕ) (l : List ℕ) (G : OriginalGiven m t M L l) where
   deg = degree-of d
 
   pub decode-admits : (k : ℕ) → k ≤ most-rounds → (received : List ℕ) → length received ≡ infoLength s L → Bits received
-      → originalDecodeVerdict m t M L k received (originalWork s L) ≡ accepted
+      → originalDecodeVerdict m t M col L k received (originalWork s L) ≡ accepted
   unfolding originalDecodeVerdict countRule roundsRule
   decode-admits k hk received long bits =
       then-accepted (G .design) (then-accepted (refuse-accepted 4 L (inRange 1 most-blocks L (G .some) (G .few)))
@@ -125,7 +125,7 @@ module _ (m t M L : ℕ) (l : List ℕ) (G : OriginalGiven m t M L l) where
 
   pub made-restored : (received : List ℕ) → length received ≡ length made → Bits received
       → ((b a : ℕ) → b < L → a < M → distance (read (bufferOf made) (rowSites s b a)) (read (bufferOf received) (rowSites s b a)) ≤ t)
-      → (k : ℕ) → k ≤ most-rounds → RestoredBuffer received made (originalDecodeCall m t M L k received (originalWork s L))
+      → (k : ℕ) → k ≤ most-rounds → RestoredBuffer received made (originalDecodeCall m t M col L k received (originalWork s L))
   unfolding originalDecodeCall originalCounts originalDecoded lineErrors distance
   made-restored received long bits few k hk =
       let ws : List Word = rowWords s L in
@@ -151,16 +151,16 @@ module _ (m t M L : ℕ) (l : List ℕ) (G : OriginalGiven m t M L l) where
             }),
       )
 
-  pub original-demand : OriginalDemand m t M L l
+  pub original-demand : OriginalDemand m t M col L l
   original-demand =
       record {
         made = made;
-        encodes = encode-made m t M L l G;
+        encodes = encode-made m t M col L l G;
         keeps = encoded-info s rpos thin deg L l (G .fits);
         allInCode = encoded-in-code s rpos thin deg L l (G .fits) (G .bits);
         onlyChoice = λ other like. only-choice other (like .0) (like .1);
         reach = λ l₂ G₂ c same k h.
             encoded-reach s rpos thin deg L l (G .fits) (G .bits) l₂ (G₂ .fits ∙ sym (G .fits)) c same k h
-            ∙ sym (ap (λ (z : Written). getD (z .buffer) k 0) (encode-made m t M L l₂ G₂));
+            ∙ sym (ap (λ (z : Written). getD (z .buffer) k 0) (encode-made m t M col L l₂ G₂));
         restores = λ received like. made-restored received (like .0) (like .1);
       }

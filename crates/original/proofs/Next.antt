@@ -340,9 +340,9 @@ module _ (s : Params) (rpos : 0 < s .r) (thin : s .r < s .M) (deg : s .g / 2 ^ s
 
 -- ---- the theorem
 
-pub original-next : (m t M L : ℕ) → OriginalNext m t M L
-original-next m t M L l l₂ G G₂ c but k out =
-    let d : Original m t M = original-limits m t M (G .design) in
-    ap (λ (z : Written). getD (z .buffer) k 0) (encode-made m t M L l G)
-    ∙ encoded-next (params m t M) (degree-some d) (d .thin) (degree-of d) L l l₂ (G .fits) (G₂ .fits) (G .bits) (G₂ .bits) c but k out
-    ∙ sym (ap (λ (z : Written). getD (z .buffer) k 0) (encode-made m t M L l₂ G₂))
+pub original-next : (m t M col L : ℕ) → OriginalNext m t M col L
+original-next m t M col L l l₂ G G₂ c but k out =
+    let d : Original m t M col = original-limits m t M col (G .design) in
+    ap (λ (z : Written). getD (z .buffer) k 0) (encode-made m t M col L l G)
+    ∙ encoded-next (params m t M col) (degree-some d) (d .thin) (degree-of d) L l l₂ (G .fits) (G₂ .fits) (G .bits) (G₂ .bits) c but k out
+    ∙ sym (ap (λ (z : Written). getD (z .buffer) k 0) (encode-made m t M col L l₂ G₂))

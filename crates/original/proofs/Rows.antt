@@ -398,6 +398,6 @@ module _ (s : Params) (rpos : 0 < s .r) (thin : s .r < s .M) (deg : s .g / 2 ^ s
       )
 
 -- "Rule 2 reads 2M for n": the code of a design that rules 1, 2 and 19 let through
-pub row-distance : (m t M : ℕ) → 4 ≤ m → m ≤ 10 → 1 ≤ t → t ≤ 3 → m * t < M → 2 * M ≤ 2 ^ m - 1 → CodeDistance (params m t M) (2 * M)
-row-distance m t M a b c d thin l u v lu lv hu hv =
+pub row-distance : (m t M col : ℕ) → 4 ≤ m → m ≤ 10 → 1 ≤ t → t ≤ 3 → m * t < M → 2 * M ≤ 2 ^ m - 1 → CodeDistance (params m t M col) (2 * M)
+row-distance m t M col a b c d thin l u v lu lv hu hv =
     bch-bound m t (record { m-low = a; m-high = b; t-low = c; t-high = d; fits = omega (arith, thin, l) }) u v hu hv (lu ∙ sym lv) (subst (λ (z : ℕ). z ≤ 2 ^ m - 1) (sym lu) l)

@@ -23,23 +23,24 @@ use Rattle.staircase.proofs.Rules.{then-first, then-rest, refuse-false, refuseF
 use Rattle.staircase.proofs.Correction.{CodeDistance}
 use Rattle.original.proofs.Rows.{row-distance}
 
-pub original-limits : (m t M : ℕ) → originalRules m t M ≡ accepted → Original m t M
+pub original-limits : (m t M col : ℕ) → originalRules m t M col ≡ accepted → Original m t M col
 unfolding originalRules rowLongRule thinRule
-original-limits m t M e =
-    let s : Params = params m t M in
-    let rest : (rowLongRule m s then thinRule s) ≡ accepted = then-rest (sizeRule m t M) (rowLongRule m s then thinRule s) e in
-    let (a, b, c, d, f, g) = size-limits m t M (then-first (sizeRule m t M) (rowLongRule m s then thinRule s) e) in
+original-limits m t M col e =
+    let s : Params = params m t M col in
+    let rest : (rowLongRule m s then thinRule s) ≡ accepted = then-rest (sizeRule m t M col) (rowLongRule m s then thinRule s) e in
+    let (a, b, c, d, f, g, h) = size-limits m t M col (then-first (sizeRule m t M col) (rowLongRule m s then thinRule s) e) in
     record {
       m-low = a;
       m-high = b;
       t-low = c;
       t-high = d;
       M-high = g;
+      col-high = h;
       long = ltb-false (2 ^ m - 1) (rowLength s) (refuse-false (ltb (2 ^ m - 1) (rowLength s)) 2 (rowLength s) (then-first (rowLongRule m s) (thinRule s) rest));
       thin = leb-false M (s .r) (refuse-false (leb M (s .r)) 19 (s .r) (then-rest (rowLongRule m s) (thinRule s) rest));
     }
 
-module _ {m t M : ℕ} (d : Original m t M) where
+module _ {m t M col : ℕ} (d : Original m t M col) where
   code-of : Code m t
   code-of =
       record { m-low = d .m-low; m-high = d .m-high; t-low = d .t-low; t-high = d .t-high; fits = let a = d .long in let b = d .thin in omega (arith, a, b) }
@@ -50,8 +51,8 @@ module _ {m t M : ℕ} (d : Original m t M) where
   pub degree-of : generator m t / 2 ^ (m * t) ≡ 1
   degree-of = degree m t code-of
 
-  pub distance-of : CodeDistance (params m t M) (2 * M)
-  distance-of = row-distance m t M (d .m-low) (d .m-high) (d .t-low) (d .t-high) (d .thin) (d .long)
+  pub distance-of : CodeDistance (params m t M col) (2 * M)
+  distance-of = row-distance m t M col (d .m-low) (d .m-high) (d .t-low) (d .t-high) (d .thin) (d .long)
 
 -- "the encoder doesn't judge old parity by rule 10"
 pub infoBits-bits : (s : Params) (l : List ℕ) → infoBits s l ≡ accepted → InfoBits s l

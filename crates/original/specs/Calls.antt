@@ -22,9 +22,9 @@ use Rattle.original.specs.Rules.{originalRules, infoBits, originalWork}
 -- ---- the encoder
 
 -- "The buffer has place 4 in rule 6, and the encoder doesn't judge old parity by rule 10"
-unfoldable pub originalEncodeVerdict : ℕ → ℕ → ℕ → ℕ → List ℕ → Verdict
-originalEncodeVerdict m t M L l =
-    originalRules m t M then countRule L then lengthRule 4 (length l) (infoLength (params m t M) L) then infoBits (params m t M) l
+unfoldable pub originalEncodeVerdict : ℕ → ℕ → ℕ → ℕ → ℕ → List ℕ → Verdict
+originalEncodeVerdict m t M col L l =
+    originalRules m t M col then countRule L then lengthRule 4 (length l) (infoLength (params m t M col) L) then infoBits (params m t M col) l
 
 pub record Written : Type 0 where
   pub verdict : Verdict
@@ -35,23 +35,23 @@ abbrev pub writtenBy : Verdict → List ℕ → List ℕ → Written
 writtenBy accepted old new = record { verdict = accepted; buffer = new }
 writtenBy (refused n p) old new = record { verdict = refused n p; buffer = old }
 
-unfoldable pub originalEncodeCall : ℕ → ℕ → ℕ → ℕ → List ℕ → Written
-originalEncodeCall m t M L l = writtenBy (originalEncodeVerdict m t M L l) l (encoded (params m t M) L l)
+unfoldable pub originalEncodeCall : ℕ → ℕ → ℕ → ℕ → ℕ → List ℕ → Written
+originalEncodeCall m t M col L l = writtenBy (originalEncodeVerdict m t M col L l) l (encoded (params m t M col) L l)
 
 -- ---- the word checker
 
-unfoldable pub originalWordsVerdict : ℕ → ℕ → ℕ → ℕ → List ℕ → Verdict
-originalWordsVerdict m t M L l = originalRules m t M then countRule L then lengthRule 4 (length l) (infoLength (params m t M) L) then bitRule 0 l
+unfoldable pub originalWordsVerdict : ℕ → ℕ → ℕ → ℕ → ℕ → List ℕ → Verdict
+originalWordsVerdict m t M col L l = originalRules m t M col then countRule L then lengthRule 4 (length l) (infoLength (params m t M col) L) then bitRule 0 l
 
-unfoldable pub originalWordsCall : ℕ → ℕ → ℕ → ℕ → List ℕ → Counted
-originalWordsCall m t M L l = countedBy (originalWordsVerdict m t M L l) (outsideEach (bufferOf l) (rowWords (params m t M) L))
+unfoldable pub originalWordsCall : ℕ → ℕ → ℕ → ℕ → ℕ → List ℕ → Counted
+originalWordsCall m t M col L l = countedBy (originalWordsVerdict m t M col L l) (outsideEach (bufferOf l) (rowWords (params m t M col) L))
 
 -- ---- the decoder
 
-unfoldable pub originalDecodeVerdict : ℕ → ℕ → ℕ → ℕ → ℕ → List ℕ → ℕ → Verdict
-originalDecodeVerdict m t M L k l work =
-    let s : Params = params m t M in
-    originalRules m t M then countRule L then roundsRule k
+unfoldable pub originalDecodeVerdict : ℕ → ℕ → ℕ → ℕ → ℕ → ℕ → List ℕ → ℕ → Verdict
+originalDecodeVerdict m t M col L k l work =
+    let s : Params = params m t M col in
+    originalRules m t M col then countRule L then roundsRule k
     then lengthRule 4 (length l) (infoLength s L) then lengthRule 6 work (originalWork s L) then bitRule 0 l
 
 -- "A round takes the blocks in order, in each the rows 0 to M - 1"
@@ -79,7 +79,7 @@ abbrev pub correctedBufferBy : Verdict → List ℕ → List ℕ → Counts → 
 correctedBufferBy accepted old new c = record { verdict = accepted; buffer = new; counts = c }
 correctedBufferBy (refused n p) old new c = record { verdict = refused n p; buffer = old; counts = no-counts }
 
-unfoldable pub originalDecodeCall : ℕ → ℕ → ℕ → ℕ → ℕ → List ℕ → ℕ → CorrectedBuffer
-originalDecodeCall m t M L k l work =
-    let s : Params = params m t M in
-    correctedBufferBy (originalDecodeVerdict m t M L k l work) l (originalDecoded s L k l .frame .info) (originalCounts s L k l)
+unfoldable pub originalDecodeCall : ℕ → ℕ → ℕ → ℕ → ℕ → ℕ → List ℕ → ℕ → CorrectedBuffer
+originalDecodeCall m t M col L k l work =
+    let s : Params = params m t M col in
+    correctedBufferBy (originalDecodeVerdict m t M col L k l work) l (originalDecoded s L k l .frame .info) (originalCounts s L k l)

@@ -33,12 +33,12 @@ abbrev pub SameInfoBefore : Params → ℕ → List ℕ → List ℕ → Type 0
 SameInfoBefore s c l v = (k : ℕ) → k < c * (s .M * s .M) → k % s .M < s .M - s .r → getD l k 0 ≡ getD v k 0
 
 -- "Whole blocks stand in one buffer", with any information; the last r columns may hold anything
-pub record OriginalGiven (m t M L : ℕ) (l : List ℕ) : Type 0 where
-  pub design : originalRules m t M ≡ accepted
+pub record OriginalGiven (m t M col L : ℕ) (l : List ℕ) : Type 0 where
+  pub design : originalRules m t M col ≡ accepted
   pub some : 1 ≤ L
   pub few : L ≤ most-blocks
-  pub fits : length l ≡ infoLength (params m t M) L
-  pub bits : InfoBits (params m t M) l
+  pub fits : length l ≡ infoLength (params m t M col) L
+  pub bits : InfoBits (params m t M col) l
 
 -- accepted, with the buffer `made`; the turned bits are the wrong ones, no word is outside the code and none was stuck
 abbrev pub RestoredBuffer : List ℕ → List ℕ → CorrectedBuffer → Type 0
@@ -46,23 +46,23 @@ RestoredBuffer received made c =
     (rounds : ℕ)
     × (c ≡ record { verdict = accepted; buffer = made; counts = record { rounds = rounds; turned = distance received made; outside = 0; stuck = 0 } })
 
-pub record OriginalDemand (m t M L : ℕ) (l : List ℕ) : Type 0 where
+pub record OriginalDemand (m t M col L : ℕ) (l : List ℕ) : Type 0 where
   -- the encoder's call is accepted, and leaves `made`
   pub made : List ℕ
-  pub encodes : originalEncodeCall m t M L l ≡ record { verdict = accepted; buffer = made }
+  pub encodes : originalEncodeCall m t M col L l ≡ record { verdict = accepted; buffer = made }
   -- "the encoder writes only their last r columns"
-  pub keeps : SameInfo (params m t M) made l
+  pub keeps : SameInfo (params m t M col) made l
   -- "makes every row a codeword"
-  pub allInCode : (b a : ℕ) → b < L → a < M → inCode (params m t M) (bufferOf made) (rowSites (params m t M) b a) ≡ true
+  pub allInCode : (b a : ℕ) → b < L → a < M → inCode (params m t M col) (bufferOf made) (rowSites (params m t M col) b a) ≡ true
   -- "The parity is the only one that makes every row a codeword"
-  pub onlyChoice : (other : List ℕ) → Like made other → SameInfo (params m t M) other l → other ≢ made
-      → 0 < outsideEach (bufferOf other) (rowWords (params m t M) L)
+  pub onlyChoice : (other : List ℕ) → Like made other → SameInfo (params m t M col) other l → other ≢ made
+      → 0 < outsideEach (bufferOf other) (rowWords (params m t M col) L)
   -- "a changed block may alter its own and every later parity, never an earlier one": information that differs in no block before block c changes no
   -- byte before it, whatever the parity of either buffer held
-  pub reach : (l₂ : List ℕ) → OriginalGiven m t M L l₂ → (c : ℕ) → SameInfoBefore (params m t M) c l l₂
-      → (k : ℕ) → k < c * (M * M) → getD made k 0 ≡ getD (originalEncodeCall m t M L l₂ .buffer) k 0
+  pub reach : (l₂ : List ℕ) → OriginalGiven m t M col L l₂ → (c : ℕ) → SameInfoBefore (params m t M col) c l l₂
+      → (k : ℕ) → k < c * (M * M) → getD made k 0 ≡ getD (originalEncodeCall m t M col L l₂ .buffer) k 0
   -- "copies with at most t wrong bits a word are recovered", at every allowed number of rounds, 0 included
   pub restores : (received : List ℕ) → Like made received
       → ((b a : ℕ) → b < L → a < M
-      → distance (read (bufferOf made) (rowSites (params m t M) b a)) (read (bufferOf received) (rowSites (params m t M) b a)) ≤ t)
-      → (k : ℕ) → k ≤ most-rounds → RestoredBuffer received made (originalDecodeCall m t M L k received (originalWork (params m t M) L))
+      → distance (read (bufferOf made) (rowSites (params m t M col) b a)) (read (bufferOf received) (rowSites (params m t M col) b a)) ≤ t)
+      → (k : ℕ) → k ≤ most-rounds → RestoredBuffer received made (originalDecodeCall m t M col L k received (originalWork (params m t M col) L))

@@ -23,7 +23,7 @@ SameInfoBut s c l v = (k : ℕ) → OutsideBlocks s c 1 k → k % s .M < s .M - 
 
 -- "a changed block may alter its own and every later parity, never an earlier one": of the later ones it alters the next one's alone. Information that
 -- differs in no block but block c changes no byte outside blocks c and c + 1, whatever the parity of either buffer held
-abbrev pub OriginalNext : ℕ → ℕ → ℕ → ℕ → Type 0
-OriginalNext m t M L =
-    (l l₂ : List ℕ) → OriginalGiven m t M L l → OriginalGiven m t M L l₂ → (c : ℕ) → SameInfoBut (params m t M) c l l₂
-    → (k : ℕ) → OutsideBlocks (params m t M) c 2 k → getD (originalEncodeCall m t M L l .buffer) k 0 ≡ getD (originalEncodeCall m t M L l₂ .buffer) k 0
+abbrev pub OriginalNext : ℕ → ℕ → ℕ → ℕ → ℕ → Type 0
+OriginalNext m t M col L =
+    (l l₂ : List ℕ) → OriginalGiven m t M col L l → OriginalGiven m t M col L l₂ → (c : ℕ) → SameInfoBut (params m t M col) c l l₂
+    → (k : ℕ) → OutsideBlocks (params m t M col) c 2 k → getD (originalEncodeCall m t M col L l .buffer) k 0 ≡ getD (originalEncodeCall m t M col L l₂ .buffer) k 0

@@ -4,14 +4,14 @@
 --   originalRules             rules 1, 2 and 19, those of a design
 --   inInformation, infoBits   the columns of the information, and rule 10 over them
 --   originalWork              the decoder's working length
---   Original m t M            the design is an allowed one
+--   Original m t M col        the design is an allowed one
 -- Assumes nothing.
 use mathlib.Core.Bool.{Bool, false, cond}
 use mathlib.Core.List.{List}
 use Prim.Native.Nat.{ℕ, _+_, _-_, _*_, _/_, _%_, _^_, _≤_, _<_}
 use lib.Dec.{ltb, leb}
 use lib.ListN.{getD, length}
-use Rattle.staircase.specs.Design.{Params, params, least-m, most-m, most-t, most-M}
+use Rattle.staircase.specs.Design.{Params, params, least-m, most-m, most-t, most-M, most-col}
 use Rattle.staircase.specs.Rules.{Verdict, _then_, refuse, refuseFirst, sizeRule, infoLength}
 
 -- "Word length is 2M"
@@ -27,8 +27,8 @@ unfoldable pub thinRule : Params → Verdict
 thinRule s = refuse (leb (s .M) (s .r)) 19 (s .r)
 
 -- "rule 3 doesn't apply"
-unfoldable pub originalRules : ℕ → ℕ → ℕ → Verdict
-originalRules m t M = sizeRule m t M then rowLongRule m (params m t M) then thinRule (params m t M)
+unfoldable pub originalRules : ℕ → ℕ → ℕ → ℕ → Verdict
+originalRules m t M col = sizeRule m t M col then rowLongRule m (params m t M col) then thinRule (params m t M col)
 
 -- byte k of the buffer is in none of the last r columns of its block
 abbrev pub inInformation : Params → ℕ → Bool
@@ -43,11 +43,12 @@ unfoldable pub originalWork : Params → ℕ → ℕ
 originalWork s L = 4 * (L * s .M) + (infoLength s L + 7) / 8
 
 -- what rules 1, 2 and 19 let through
-pub record Original (m t M : ℕ) : Type 0 where
+pub record Original (m t M col : ℕ) : Type 0 where
   pub m-low : least-m ≤ m
   pub m-high : m ≤ most-m
   pub t-low : 1 ≤ t
   pub t-high : t ≤ most-t
   pub M-high : M ≤ most-M
+  pub col-high : col ≤ most-col
   pub long : 2 * M ≤ 2 ^ m - 1
   pub thin : m * t < M

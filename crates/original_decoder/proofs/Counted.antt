@@ -20,12 +20,12 @@ use Rattle.staircase.proofs.Idle.{roundOf-stays, runEach-stays}
 use Rattle.staircase.proofs.Outcomes.{stuckEach-idle, lastStuck-idle}
 use Rattle.staircase.proofs.Decoded.{roundsAllowed-some}
 use Rattle.decoder_frame.proofs.Limit.{allowed-itself}
-use Rattle.decoder.specs.declared.Counts.{Counts}
-use Rattle.decoder.specs.declared.Decoding.the-variants as decoding
-use Rattle.decoder.specs.Answers.{correctedOf}
+use Rattle.answers.specs.declared.Counts.{Counts}
+use Rattle.answers.specs.declared.Decoding.the-variants as decoding
+use Rattle.answers.specs.Answers.{correctedOf, bufferDecoded}
 use Rattle.original.specs.Frame.{rowWords, bufferOf}
 use Rattle.original.specs.Calls.{originalDecoded, originalCounts}
-use Rattle.original_decoder.specs.Answers.{bufferDecoded, decodedBuffer}
+use Rattle.original_decoder.specs.Answers.{decodedBuffer}
 
 module _ (s : Params) (L k : ℕ) (l : List ℕ) where
   abbrev ws : List Word

@@ -17,33 +17,33 @@ use Rattle.staircase.specs.Rules.{Verdict, _then_, countRule, roundsRule, lengt
 use Rattle.staircase.specs.Rules.Verdict.{accepted, refused}
 use Rattle.staircase.specs.Calls.{Counts}
 use Rattle.staircase.proofs.Rules.{then-first, then-rest, length-equal, bytes-bits}
-use Rattle.design.specs.declared.Refusal.{Refusal}
-use Rattle.design.specs.declared.Check.{Check}
-use Rattle.design.specs.declared.Check.the-variants as check
-use Rattle.design.specs.Answers.{verdictOf}
-use Rattle.design.proofs.Answers.{refused-then, check-refused, check-passed}
+use Rattle.answers.specs.declared.Refusal.{Refusal}
+use Rattle.answers.specs.declared.Check.{Check}
+use Rattle.answers.specs.declared.Check.the-variants as check
+use Rattle.answers.specs.Answers.{verdictOf, correctedOf, refusedFrame, bufferResult, bufferDecoded}
+use Rattle.answers.proofs.Checks.{refused-then, check-refused, check-passed}
 use Rattle.decoder_frame.proofs.Limit.{allowed-itself}
-use Rattle.decoder.specs.declared.Decoding.{Decoding}
-use Rattle.decoder.specs.Answers.{correctedOf, refusedFrame}
+use Rattle.answers.specs.declared.Decoding.{Decoding}
+use Rattle.design.specs.Answers.{designVerdict, DesignIs, AllowedOriginal}
 use Rattle.original.specs.Frame.{rowWords, bufferOf}
 use Rattle.original.specs.Rules.{originalRules, originalWork}
 use Rattle.original.specs.Calls.{originalDecodeVerdict, originalDecoded, originalCounts, CorrectedBuffer, correctedBufferBy, originalDecodeCall}
-use Rattle.original_design.specs.declared.OriginalDesign.{OriginalDesign}
-use Rattle.original_design.specs.declared.OriginalDesigned.{OriginalDesigned}
-use Rattle.original_design.specs.declared.OriginalDesigned.the-variants as designed
-use Rattle.original_design.specs.Answers.{originalVerdict, OriginalIs, Allowed, paramsOf}
-use Rattle.original_design.proofs.Answers.{original-refused, original-made, made-params}
+use Rattle.design.specs.declared.Design.{Design}
+use Rattle.design.specs.declared.Designed.{Designed}
+use Rattle.design.specs.declared.Designed.the-variants as designed
+use Rattle.design.specs.Sizes.{paramsOf}
+use Rattle.design.proofs.Answers.{design-refused, design-made, made-params}
 use Rattle.original_rows.specs.Rows.{BufferFits, bufferRules}
 use Rattle.original_rows.proofs.Checked.{buffer-limits}
-use Rattle.original_decoder.specs.Answers.{decodeSizes, decodeRules, bufferResult, bufferDecoded, decodedBuffer}
+use Rattle.original_decoder.specs.Answers.{decodeSizes, decodeRules, decodedBuffer}
 
 -- what is left of a buffer, its working bytes and a number of rounds
-pub record Decodes (d : OriginalDesign) (L k : ℕ) (l : List ℕ) (work : ℕ) : Type 0 where
+pub record Decodes (d : Design) (L k : ℕ) (l : List ℕ) (work : ℕ) : Type 0 where
   pub fits : BufferFits d L l
   pub room : work ≡ originalWork (paramsOf d) L
   pub few-rounds : k ≤ most-rounds
 
-pub decode-fits : (d : OriginalDesign) → Allowed d → (L k : ℕ) (l : List ℕ) (work : ℕ) → decodeRules (paramsOf d) L k l work ≡ accepted → Decodes d L k l work
+pub decode-fits : (d : Design) → AllowedOriginal d → (L k : ℕ) (l : List ℕ) (work : ℕ) → decodeRules (paramsOf d) L k l work ≡ accepted → Decodes d L k l work
 unfolding decodeRules decodeSizes
 decode-fits d a L k l work e =
     let s : Params = paramsOf d in
@@ -62,7 +62,7 @@ unfolding refusedFrame
 refused-is accepted l new c h = absurd (h refl)
 refused-is (refused n p) l new c h = refl
 
-module _ (m t M L k : ℕ) (l : List ℕ) (work : ℕ) where
+module _ (m t M col L k : ℕ) (l : List ℕ) (work : ℕ) where
   abbrev new : Params → List ℕ
   new s = originalDecoded s L k l .frame .info
 
@@ -70,7 +70,7 @@ module _ (m t M L k : ℕ) (l : List ℕ) (work : ℕ) where
   counts s = originalCounts s L k l
 
   abbrev asked : Params
-  asked = params m t M
+  asked = params m t M col
 
   -- after at most n rounds
   abbrev left : ℕ → CorrectedBuffer
@@ -87,10 +87,10 @@ module _ (m t M L k : ℕ) (l : List ℕ) (work : ℕ) where
         };
       }
 
-  whole : (originalRules m t M then decodeRules (params m t M) L k l work) ≡ originalDecodeVerdict m t M L k l work
+  whole : (originalRules m t M col then decodeRules (params m t M col) L k l work) ≡ originalDecodeVerdict m t M col L k l work
   unfolding originalDecodeVerdict decodeRules decodeSizes bufferRules
   whole =
-      ap (λ (z : Verdict). originalRules m t M then z)
+      ap (λ (z : Verdict). originalRules m t M col then z)
       (flat (countRule L) (roundsRule k) (lengthRule 4 (length l) (infoLength asked L)) (lengthRule 6 work (originalWork asked L)) (bitRule 0 l))
     where
       flat : (u v w x y : Verdict) → (((u then v then w) then x) then y) ≡ (u then v then w then x then y)
@@ -100,36 +100,36 @@ module _ (m t M L k : ℕ) (l : List ℕ) (work : ℕ) where
       flat (refused n p) v w x y = refl
 
   refused-call : (c : Decoding) (x : Check) → ((g : Frame) → correctedOf c g ≡ refusedFrame (verdictOf x) g) → verdictOf x ≢ accepted
-      → verdictOf x ≡ originalDecodeVerdict m t M L k l work → bufferDecoded c l ≡ originalDecodeCall m t M L k l work
+      → verdictOf x ≡ originalDecodeVerdict m t M col L k l work → bufferDecoded c l ≡ originalDecodeCall m t M col L k l work
   unfolding bufferDecoded originalDecodeCall
   refused-call c x h other e =
       ap bufferResult (h (bufferOf l)) ∙ refused-is (verdictOf x) l (new asked) (counts asked) other
       ∙ ap (λ (v : Verdict). correctedBufferBy v l (new asked) (counts asked)) e
 
-  module _ (a : OriginalDesigned) (n : originalVerdict a ≡ originalRules m t M) where
+  module _ (a : Designed) (n : designVerdict a ≡ originalRules m t M col) where
     pub decode-design : (c : Decoding) (x : Check) (r : Refusal) → ((g : Frame) → correctedOf c g ≡ refusedFrame (verdictOf x) g) → a ≡ designed.Refused r
-        → verdictOf x ≡ originalVerdict a → bufferDecoded c l ≡ originalDecodeCall m t M L k l work
+        → verdictOf x ≡ designVerdict a → bufferDecoded c l ≡ originalDecodeCall m t M col L k l work
     decode-design c x r h g e =
-        let same : verdictOf x ≡ verdictOf (check.Refused r) = e ∙ original-refused g in
+        let same : verdictOf x ≡ verdictOf (check.Refused r) = e ∙ design-refused g in
         refused-call c x h (λ z. check-refused {r = r} refl (sym same ∙ z))
-        (same ∙ refused-then (decodeRules asked L k l work) (sym (original-refused g) ∙ n) refl ∙ whole)
+        (same ∙ refused-then (decodeRules asked L k l work) (sym (design-refused g) ∙ n) refl ∙ whole)
 
-    module _ (i : OriginalIs a m t M) (d : OriginalDesign) (g : a ≡ designed.Made d) (x : Check) (e : verdictOf x ≡ decodeRules (paramsOf d) L k l work) where
-      verdict-is : verdictOf x ≡ originalDecodeVerdict m t M L k l work
+    module _ (i : DesignIs a m t M col) (d : Design) (g : a ≡ designed.Made d) (x : Check) (e : verdictOf x ≡ decodeRules (paramsOf d) L k l work) where
+      verdict-is : verdictOf x ≡ originalDecodeVerdict m t M col L k l work
       verdict-is =
-          e ∙ ap (λ (s : Params). decodeRules s L k l work) (made-params g m t M i)
-          ∙ ap (λ (z : Verdict). z then decodeRules asked L k l work) (sym (original-made g) ∙ n) ∙ whole
+          e ∙ ap (λ (s : Params). decodeRules s L k l work) (made-params g m t M col i)
+          ∙ ap (λ (z : Verdict). z then decodeRules asked L k l work) (sym (design-made g) ∙ n) ∙ whole
 
       pub decode-refused : (c : Decoding) (r : Refusal) → ((z : Frame) → correctedOf c z ≡ refusedFrame (verdictOf x) z) → x ≡ check.Refused r
-          → bufferDecoded c l ≡ originalDecodeCall m t M L k l work
+          → bufferDecoded c l ≡ originalDecodeCall m t M col L k l work
       decode-refused c r h p = refused-call c x h (check-refused p) verdict-is
 
       -- the rounds that a number stands for
       pub decode-done : (y : CorrectedBuffer) (limit : ℕ) → x ≡ check.Passed → limit ≡ roundsAllowed k → 1 ≤ limit → y ≡ decodedBuffer (paramsOf d) L limit l
-          → y ≡ originalDecodeCall m t M L k l work
+          → y ≡ originalDecodeCall m t M col L k l work
       unfolding decodedBuffer originalDecodeCall originalDecoded originalCounts
       decode-done y limit p q some b =
           let twice : roundsAllowed limit ≡ roundsAllowed k = sym (allowed-itself limit (λ z. omega (arith, some, z))) ∙ q in
-          b ∙ ap (λ (s : Params). correctedBufferBy accepted l (originalDecoded s L limit l .frame .info) (originalCounts s L limit l)) (made-params g m t M i)
+          b ∙ ap (λ (s : Params). correctedBufferBy accepted l (originalDecoded s L limit l .frame .info) (originalCounts s L limit l)) (made-params g m t M col i)
           ∙ ap left twice
           ∙ ap (λ (v : Verdict). correctedBufferBy v l (new asked) (counts asked)) (sym (check-passed p) ∙ verdict-is)

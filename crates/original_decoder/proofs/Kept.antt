@@ -36,8 +36,8 @@ use Rattle.original.specs.Rules.{originalWork}
 use Rattle.original.specs.Crossing.{rowCount, rowWord}
 use Rattle.original.proofs.Words.{rowWords-plain}
 use Rattle.original.proofs.Rules.{degree-some, degree-of}
-use Rattle.original_design.specs.declared.OriginalDesign.{OriginalDesign}
-use Rattle.original_design.specs.Answers.{paramsOf}
+use Rattle.design.specs.declared.Design.{Design}
+use Rattle.design.specs.Sizes.{paramsOf}
 use Rattle.original_rows.specs.Rows.{BufferFits}
 use Rattle.original_rows.proofs.Checked.{buffer-small}
 use Rattle.original_decoder.specs.Filled.{RowsFilled}
@@ -45,11 +45,11 @@ use Rattle.original_decoder.specs.Kept.{BufferKept, numbersIn, marksIn}
 
 -- ---- filled numbers are right
 
-pub work-room : (d : OriginalDesign) (L size work : ℕ) → work ≡ originalWork (paramsOf d) L → size ≡ d .size → 4 * (L * size) ≤ work
+pub work-room : (d : Design) (L size work : ℕ) → work ≡ originalWork (paramsOf d) L → size ≡ d .size → 4 * (L * size) ≤ work
 unfolding originalWork
 work-room d L size work e f = let same : L * size ≡ L * d .size = ap (λ (z : ℕ). L * z) f in omega (arith, e, same)
 
-module _ (d : OriginalDesign) (L : ℕ) (l : List ℕ) (F : BufferFits d L l) where
+module _ (d : Design) (L : ℕ) (l : List ℕ) (F : BufferFits d L l) where
   abbrev s : Params
   s = paramsOf d
 
@@ -103,7 +103,7 @@ module _ (d : OriginalDesign) (L : ℕ) (l : List ℕ) (F : BufferFits d L l) wh
 
 -- ---- where the numbers end
 
-pub numbers-end : {d : OriginalDesign} {L : ℕ} {l kept : List ℕ} → BufferKept d L l kept → (size : ℕ) → size ≡ d .size
+pub numbers-end : {d : Design} {L : ℕ} {l kept : List ℕ} → BufferKept d L l kept → (size : ℕ) → size ≡ d .size
     → (4 * (L * size) ≤ length kept) × (L * size ≤ 2048000) × (length kept ≤ 136192001)
 numbers-end {d} {L} K size e =
     let same : L * size ≡ L * d .size = ap (λ (z : ℕ). L * z) e in
@@ -116,7 +116,7 @@ part-short l a k = omega (arith, length-take k (drop a l), length-drop a l)
 
 -- ---- rows outside the code
 
-module _ {d : OriginalDesign} {L : ℕ} {l kept : List ℕ} (K : BufferKept d L l kept) where
+module _ {d : Design} {L : ℕ} {l kept : List ℕ} (K : BufferKept d L l kept) where
   pub rows-outside : nonzeroNumbers (numbersIn d L kept) (rowCount (paramsOf d) L) ≡ outsideEach (bufferOf l) (rowWords (paramsOf d) L)
   unfolding outsideAmong
   rows-outside =
@@ -127,7 +127,7 @@ module _ {d : OriginalDesign} {L : ℕ} {l kept : List ℕ} (K : BufferKept d L 
 -- ---- the marks
 
 -- other marks, C, behind the numbers
-module _ (d : OriginalDesign) (L : ℕ) (l K C : List ℕ) (B : BufferKept d L l K) (n all : ℕ) (en : n ≡ 4 * (L * d .size)) (ea : all ≡ length K)
+module _ (d : Design) (L : ℕ) (l K C : List ℕ) (B : BufferKept d L l K) (n all : ℕ) (en : n ≡ 4 * (L * d .size)) (ea : all ≡ length K)
     (lC : length C ≡ length (take (all - n) (drop n K))) where
   abbrev after : List ℕ
   after = take n K ++ (C ++ drop (all - n) (drop n K))

@@ -35,11 +35,12 @@ use Rattle.original.specs.Frame.{rowSites, rowWords, bufferOf}
 use Rattle.original.specs.Rules.{rowLength}
 use Rattle.original.specs.Crossing.{rowCount, rowWord}
 use Rattle.original.proofs.Words.{blockRows, rowWords-plain}
-use Rattle.original_design.specs.declared.OriginalDesign.{OriginalDesign}
-use Rattle.original_design.specs.Answers.{Allowed, paramsOf}
+use Rattle.design.specs.declared.Design.{Design}
+use Rattle.design.specs.Answers.{AllowedOriginal}
 use Rattle.original_decoder.specs.Kept.{rowFrames, marksIn, BufferKept}
+use Rattle.design.specs.Sizes.{paramsOf}
 
-module _ (d : OriginalDesign) (h : Allowed d) where
+module _ (d : Design) (h : AllowedOriginal d) where
   pub word-sizes : WordSizes (d .m) (d .t) (bitsIn Original (paramsOf d))
   unfolding bitsIn
   word-sizes =
@@ -80,11 +81,11 @@ pub row-lines : (L : ℕ) → linesIn Original L ≡ L
 unfolding linesIn
 row-lines L = refl
 
-pub rows-fit : (d : OriginalDesign) {L : ℕ} (links : List ℕ) → Allowed d → L ≤ most-blocks → FramesFit (rowFrames d L) links
+pub rows-fit : (d : Design) {L : ℕ} (links : List ℕ) → AllowedOriginal d → L ≤ most-blocks → FramesFit (rowFrames d L) links
 unfolding AllowedIn
 rows-fit d links A few = record { few-blocks = few; allowed = A }
 
-pub kept-frame : (d : OriginalDesign) (L : ℕ) {l kept : List ℕ} (links : List ℕ) → BufferKept d L l kept → FrameKept (rowFrames d L) links l [] kept
+pub kept-frame : (d : Design) (L : ℕ) {l kept : List ℕ} (links : List ℕ) → BufferKept d L l kept → FrameKept (rowFrames d L) links l [] kept
 unfolding linesIn sitesIn redIn
 kept-frame d L {l} {kept} links K =
     record {
@@ -99,11 +100,11 @@ kept-frame d L {l} {kept} links K =
 no-entry : (l : List ℕ) → length l ≡ 0 → l ≡ []
 no-entry l e = sym (take-all 0 l (omega (arith, e)))
 
-no-red : (d : OriginalDesign) (L : ℕ) (links : List ℕ) {l red kept : List ℕ} → FrameKept (rowFrames d L) links l red kept → red ≡ []
+no-red : (d : Design) (L : ℕ) (links : List ℕ) {l red kept : List ℕ} → FrameKept (rowFrames d L) links l red kept → red ≡ []
 unfolding redIn
 no-red d L links {l} {red} K = no-entry red (K .frame .redLength)
 
-frame-kept : (d : OriginalDesign) (L : ℕ) {l' kept : List ℕ} (links : List ℕ) → Allowed d → L ≤ most-blocks → FrameKept (rowFrames d L) links l' [] kept
+frame-kept : (d : Design) (L : ℕ) {l' kept : List ℕ} (links : List ℕ) → AllowedOriginal d → L ≤ most-blocks → FrameKept (rowFrames d L) links l' [] kept
     → BufferKept d L l' kept
 unfolding linesIn sitesIn redIn
 frame-kept d L {l'} {kept} links A few K =
@@ -116,19 +117,19 @@ frame-kept d L {l'} {kept} links A few K =
           (keptAt-take kept (rowCount (paramsOf d) L) w hw) (K .numbers w hw);
     }
 
-stretch-rows : (d : OriginalDesign) (L : ℕ) (links : List ℕ) → stretchWords (record { frames = rowFrames d L; k = 0 }) links L ≡ rowWords (paramsOf d) L
+stretch-rows : (d : Design) (L : ℕ) (links : List ℕ) → stretchWords (record { frames = rowFrames d L; k = 0 }) links L ≡ rowWords (paramsOf d) L
 unfolding sitesIn
 stretch-rows d L links =
     ap (plain (paramsOf d)) (concat-same L _ (blockRows (paramsOf d)) (λ b h. ap (λ (n : ℕ). tabulate (d .size) (rowSites (paramsOf d) n)) (zero-add b)))
     ∙ sym (rowWords-plain (paramsOf d) L)
 
-same-marks : (d : OriginalDesign) (L : ℕ) (l l' kept kept' : List ℕ) → LineMarks (rowFrames d L) l [] kept l' [] kept'
+same-marks : (d : Design) (L : ℕ) (l l' kept kept' : List ℕ) → LineMarks (rowFrames d L) l [] kept l' [] kept'
     → MarksKept (bufferOf l) (marksIn d L kept) (bufferOf l') (marksIn d L kept')
 unfolding linesIn
 same-marks d L l l' kept kept' M = M
 
 -- what rounds over all lines leave
-pub rounds-back : (d : OriginalDesign) (L k : ℕ) (links : List ℕ) (l kept l' red' kept' : List ℕ) (a : Made) → Allowed d → L ≤ most-blocks
+pub rounds-back : (d : Design) (L k : ℕ) (links : List ℕ) (l kept l' red' kept' : List ℕ) (a : Made) → AllowedOriginal d → L ≤ most-blocks
     → record { frame = frameOf l' red'; rounds = a .rounds; flips = a .flips } ≡ runEach (stretchWords (record { frames = rowFrames d L; k = 0 }) links L) k (bufferOf l)
     → a .stuck ≡ lastStuck (stretchWords (record { frames = rowFrames d L; k = 0 }) links L) k (bufferOf l)
     → FrameKept (rowFrames d L) links l' red' kept' → LineMarks (rowFrames d L) l [] kept l' red' kept'

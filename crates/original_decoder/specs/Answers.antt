@@ -1,7 +1,6 @@
--- The rules on a buffer that is to be decoded after the design's, and what the decoder's answer says.
+-- The rules on a buffer that is to be decoded after the design's, and the decoder's result.
 --   decodeSizes      rules 4 to 6 for a buffer that is to be decoded, by its length
 --   decodeRules      and rule 10
---   bufferDecoded    the answer and the buffer that the call leaves, as the decoder's result
 --   decodedBuffer    the result for a buffer that no rule refuses, after at most k rounds
 -- Assumes nothing.
 use mathlib.Core.List.{List}
@@ -11,8 +10,8 @@ use Rattle.staircase.specs.Design.{Params}
 use Rattle.staircase.specs.Rules.{Verdict, _then_, lengthRule, bitRule}
 use Rattle.staircase.specs.Rules.Verdict.{accepted}
 use Rattle.staircase.specs.Calls.{Corrected}
-use Rattle.decoder.specs.declared.Decoding.{Decoding}
-use Rattle.decoder.specs.Answers.{correctedOf}
+use Rattle.answers.specs.declared.Decoding.{Decoding}
+use Rattle.answers.specs.Answers.{correctedOf}
 use Rattle.original.specs.Frame.{bufferOf}
 use Rattle.original.specs.Rules.{originalWork}
 use Rattle.original.specs.Calls.{originalDecoded, originalCounts, CorrectedBuffer, correctedBufferBy}
@@ -23,12 +22,6 @@ decodeSizes s L k have work = bufferRules s L k have then lengthRule 6 work (ori
 
 unfoldable pub decodeRules : Params → ℕ → ℕ → List ℕ → ℕ → Verdict
 decodeRules s L k l work = decodeSizes s L k (length l) work then bitRule 0 l
-
-abbrev pub bufferResult : Corrected → CorrectedBuffer
-bufferResult c = record { verdict = c .verdict; buffer = c .frame .info; counts = c .counts }
-
-unfoldable pub bufferDecoded : Decoding → List ℕ → CorrectedBuffer
-bufferDecoded a l = bufferResult (correctedOf a (bufferOf l))
 
 unfoldable pub decodedBuffer : Params → ℕ → ℕ → List ℕ → CorrectedBuffer
 decodedBuffer s L k l = correctedBufferBy accepted l (originalDecoded s L k l .frame .info) (originalCounts s L k l)

@@ -13,21 +13,21 @@ use Rattle.decoder_lines.specs.declared.Shape.the-variants.{Original}
 use Rattle.decoder_lines.specs.declared.Frames.{Frames}
 use Rattle.original.specs.Frame.{bufferOf}
 use Rattle.original.specs.Crossing.{rowCount, rowWord}
-use Rattle.original_design.specs.declared.OriginalDesign.{OriginalDesign}
-use Rattle.original_design.specs.Answers.{paramsOf}
+use Rattle.design.specs.declared.Design.{Design}
+use Rattle.design.specs.Sizes.{paramsOf}
 use Rattle.original_rows.specs.Rows.{BufferFits}
 
-abbrev pub rowFrames : OriginalDesign → ℕ → Frames
-rowFrames d L = record { d = record { m = d .m; t = d .t; size = d .size }; shape = Original; blocks = L }
+abbrev pub rowFrames : Design → ℕ → Frames
+rowFrames d L = record { d = d; shape = Original; blocks = L }
 
-abbrev pub numbersIn : OriginalDesign → ℕ → List ℕ → List ℕ
+abbrev pub numbersIn : Design → ℕ → List ℕ → List ℕ
 numbersIn d L kept = take (4 * rowCount (paramsOf d) L) kept
 
-abbrev pub marksIn : OriginalDesign → ℕ → List ℕ → List ℕ
+abbrev pub marksIn : Design → ℕ → List ℕ → List ℕ
 marksIn d L kept = drop (4 * rowCount (paramsOf d) L) kept
 
 -- the kept bytes are as many as the decoder's working bytes
-pub record BufferKept (d : OriginalDesign) (L : ℕ) (buffer kept : List ℕ) : Type 0 where
+pub record BufferKept (d : Design) (L : ℕ) (buffer kept : List ℕ) : Type 0 where
   pub frame : BufferFits d L buffer
   pub long : length kept ≡ 4 * rowCount (paramsOf d) L + (L * (d .size * d .size) + 7) / 8
   pub numbers : Keeps (rowWord (paramsOf d)) (rowCount (paramsOf d) L) (bufferOf buffer) (keptOf (numbersIn d L kept))

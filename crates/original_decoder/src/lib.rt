@@ -13,33 +13,34 @@ ghost use lib.ListN.{length};
 ghost use Rattle.staircase.specs.Design.{most-blocks, most-rounds};
 ghost use Rattle.staircase.specs.Decoder.{runEach};
 ghost use Rattle.staircase.specs.Outcomes.{lastStuck};
-ghost use Rattle.design.specs.Answers.{verdictOf};
+ghost use Rattle.answers.specs.Answers.{verdictOf, bufferDecoded};
 ghost use Rattle.words_tables.specs.Tables.{MayHalves};
 ghost use Rattle.decoder_marks.specs.Marks.{MarksKept};
-ghost use Rattle.decoder.specs.declared.Decoding.the-variants as Decoding;
+ghost use Rattle.answers.specs.declared.Decoding.the-variants as Decoding;
 ghost use Rattle.original.specs.Frame.{rowWords, bufferOf};
 ghost use Rattle.original.specs.Rules.{originalWork};
 ghost use Rattle.original.specs.Calls.{originalDecodeCall};
-ghost use Rattle.original_design.specs.Answers.{Allowed, paramsOf};
+ghost use Rattle.design.specs.Answers.{AllowedOriginal};
 ghost use Rattle.original_rows.specs.Rows.{RowTable, BufferFits};
 ghost use Rattle.decoder_words.specs.Ready.{WordTables};
 ghost use Rattle.original_decoder.specs.Kept.{rowFrames, marksIn, BufferKept};
 ghost use Rattle.original_decoder.specs.Filled.{RowsFilled};
-ghost use Rattle.original_decoder.specs.Answers.{decodeSizes, decodeRules, bufferDecoded, decodedBuffer};
-use decoder::Counts;
-use decoder::Decoding;
+ghost use Rattle.original_decoder.specs.Answers.{decodeSizes, decodeRules, decodedBuffer};
+ghost use Rattle.design.specs.Sizes.{paramsOf};
+use answers::Check;
+use answers::Counts;
+use answers::Decoding;
 use decoder_frame::Made;
 use decoder_frame::Stretch;
 use decoder_lines::Frames;
 use decoder_lines::Shape;
-use design::Check;
-use original_design::OriginalDesign;
-use original_design::OriginalDesigned;
+use design::Design;
+use design::Designed;
 
 // Fills the kept numbers of the rows of the block that b blocks precede, those of the blocks before it being filled. The tables are those of the powers that
 // the two blocks of a row's word carry, or none.
 fn fill_rows(
-    d: OriginalDesign,
+    d: Design,
     blocks: usize,
     b: usize,
     buffer: &[u8],
@@ -61,7 +62,7 @@ fn fill_rows(
 
 // Fills the kept numbers of all rows of a buffer, block by block. The tables are those of the powers that the two blocks of a row's word carry, or none.
 fn fill_blocks(
-    d: OriginalDesign,
+    d: Design,
     blocks: usize,
     buffer: &[u8],
     positions: &[u32],
@@ -81,7 +82,7 @@ fn fill_blocks(
 
 // `fill_numbers` by tables of sums, which are to have `due` entries.
 fn fill_by_tables(
-    d: OriginalDesign,
+    d: Design,
     blocks: usize,
     buffer: &[u8],
     positions: &[u32],
@@ -110,13 +111,7 @@ fn fill_by_tables(
 
 // Fills the kept numbers of all rows of a buffer, by tables of sums where the buffer has bits enough. One step for each bit of the rows, or for each eight
 // by the tables.
-fn fill_numbers(
-    d: OriginalDesign,
-    blocks: usize,
-    buffer: &[u8],
-    positions: &[u32],
-    numbers: &mut [u8],
-)
+fn fill_numbers(d: Design, blocks: usize, buffer: &[u8], positions: &[u32], numbers: &mut [u8])
     requires { ⌜ BufferFits d blocks (now buffer) × RowTable (paramsOf d) (now positions) × (length (now numbers) ≡ 4 * (blocks * d .size)) ⌝ }
     ensures { λ u. ⌜ (length (now (numbers .exit)) ≡ length (now (numbers .entry)))
         × RowsFilled (paramsOf d) (now (buffer .entry)) (now (numbers .exit)) blocks ⌝ }
@@ -140,8 +135,8 @@ fn fill_numbers(
 }
 
 // The working bytes: four for each row, and a mark for each bit of the buffer, eight in a byte.
-fn work_due(d: OriginalDesign, blocks: usize) -> usize
-    requires { ⌜ Allowed d × (blocks ≤ most-blocks) ⌝ }
+fn work_due(d: Design, blocks: usize) -> usize
+    requires { ⌜ AllowedOriginal d × (blocks ≤ most-blocks) ⌝ }
     ensures { λ a. ⌜ a ≡ originalWork (paramsOf d) blocks ⌝ }
 {
     let size = d.size();
@@ -150,8 +145,8 @@ fn work_due(d: OriginalDesign, blocks: usize) -> usize
 }
 
 // Rules 4 to 6 for a buffer of blocks that is to be decoded, whose length is `have`, with `work` working bytes. Constant work.
-pub fn check_sizes(d: OriginalDesign, blocks: u64, rounds: u64, have: usize, work: usize) -> Check
-    requires { ⌜ Allowed d ⌝ }
+pub fn check_sizes(d: Design, blocks: u64, rounds: u64, have: usize, work: usize) -> Check
+    requires { ⌜ AllowedOriginal d ⌝ }
     ensures { λ a. ⌜ verdictOf a ≡ decodeSizes (paramsOf d) blocks rounds have work ⌝ }
 {
     let lengths = original_rows::check_buffer(d, blocks, rounds, have);
@@ -163,8 +158,8 @@ pub fn check_sizes(d: OriginalDesign, blocks: u64, rounds: u64, have: usize, wor
 }
 
 // Rules 4 to 6 and 10 for a buffer of blocks that is to be decoded, with `work` working bytes. One pass over it.
-fn check_received(d: OriginalDesign, blocks: u64, rounds: u64, buffer: &[u8], work: usize) -> Check
-    requires { ⌜ Allowed d ⌝ }
+fn check_received(d: Design, blocks: u64, rounds: u64, buffer: &[u8], work: usize) -> Check
+    requires { ⌜ AllowedOriginal d ⌝ }
     ensures { λ a. ⌜ verdictOf a ≡ decodeRules (paramsOf d) blocks rounds (now (buffer .entry)) work ⌝ }
 {
     let sizes = check_sizes(d, blocks, rounds, buffer.len(), work);
@@ -175,11 +170,11 @@ fn check_received(d: OriginalDesign, blocks: u64, rounds: u64, buffer: &[u8], wo
 }
 
 // The frames of a design, for functions that serve every kind.
-fn frames_of(d: OriginalDesign, blocks: usize) -> Frames
+fn frames_of(d: Design, blocks: usize) -> Frames
     ensures { λ f. ⌜ f ≡ rowFrames d blocks ⌝ }
 {
     Frames {
-        d: d.as_design(),
+        d: d,
         shape: Shape::Original,
         blocks: blocks,
     }
@@ -187,7 +182,7 @@ fn frames_of(d: OriginalDesign, blocks: usize) -> Frames
 
 // Makes rounds over all rows until one flips nothing or `limit` of them are made.
 fn run_rounds(
-    d: OriginalDesign,
+    d: Design,
     blocks: usize,
     limit: usize,
     tables: &[u32],
@@ -239,7 +234,7 @@ fn field_entries() -> [u16; 4096]
 // Runs the rounds over a buffer, with the tables of the design lent, and counts. The kept numbers of all rows stand first in `kept`, and behind them is
 // room for the marks of the bits that differ from those received.
 fn correct_rows(
-    d: OriginalDesign,
+    d: Design,
     blocks: usize,
     limit: usize,
     tables: &[u32],
@@ -269,7 +264,7 @@ fn correct_rows(
 
 // Corrects a buffer some of whose rows are outside the code, and counts; `kept` as `correct_rows` has it.
 fn correct_outside(
-    d: OriginalDesign,
+    d: Design,
     blocks: usize,
     limit: usize,
     buffer: &mut [u8],
@@ -279,7 +274,7 @@ fn correct_outside(
     ensures { λ a. ⌜ (bufferDecoded (Decoding.Decoded a) (now (buffer .exit)) ≡ decodedBuffer (paramsOf d) blocks limit (now (buffer .entry)))
         × (length (now (buffer .exit)) ≡ length (now (buffer .entry))) × (length (now (kept .exit)) ≡ length (now (kept .entry))) ⌝ }
 {
-    let due = 2 * d.n() + 128;
+    let due = 2 * d.row_bits() + 128;
     let powers = 1 << d.m();
     let mut tables = table_entries();
     let mut field = field_entries();
@@ -300,12 +295,12 @@ fn correct_outside(
 }
 
 // Fills the kept numbers of all rows of a buffer, which stand first in `work`. What follows them stays.
-fn fill_kept(d: OriginalDesign, blocks: usize, buffer: &[u8], work: &mut [u8])
+fn fill_kept(d: Design, blocks: usize, buffer: &[u8], work: &mut [u8])
     requires { ⌜ BufferFits d blocks (now buffer) × (length (now work) ≡ originalWork (paramsOf d) blocks) ⌝ }
     ensures { λ u. ⌜ BufferKept d blocks (now (buffer .entry)) (now (work .exit)) ⌝ }
 {
     let size = d.size();
-    let bits = d.n();
+    let bits = d.row_bits();
     let m = d.m();
     let t = d.t();
     let n = 4 * (blocks * size);
@@ -317,7 +312,7 @@ fn fill_kept(d: OriginalDesign, blocks: usize, buffer: &[u8], work: &mut [u8])
 // Corrects a received buffer whose arguments have passed all rules, and counts. Where all rows are in the code, no table of the field is made, no mark
 // and no round: there would be a single idle one.
 fn correct_buffer(
-    d: OriginalDesign,
+    d: Design,
     blocks: usize,
     limit: usize,
     buffer: &mut [u8],
@@ -344,6 +339,31 @@ fn correct_buffer(
 // Corrects the lent buffer of `blocks` blocks in place, in at most `rounds` rounds, 0 standing for the default, or refuses it by the first of rules 1, 2,
 // 19, 4, 5, 6 and 10; a refused buffer is left as it was. The working bytes are four for each row and an eighth of the buffer's, and free afterwards. The
 // work is one step for each bit of the rows, two for each bit of the buffer, and some more for each row that is outside the code when a round meets it.
+pub fn decode_col(
+    m: u64,
+    t: u64,
+    size: u64,
+    col: u64,
+    blocks: u64,
+    rounds: u64,
+    buffer: &mut [u8],
+    work: &mut [u8],
+) -> Decoding
+    ensures { λ a. ⌜ bufferDecoded a (now (buffer .exit)) ≡ originalDecodeCall m t size col blocks rounds (now (buffer .entry)) (length (now (work .entry))) ⌝ }
+{
+    let designed = Design::of_original_col(m, t, size, col);
+    let Designed::Made(d) = designed else {
+        return answers::refused_frame(design::design_check(designed));
+    };
+    let received = check_received(d, blocks, rounds, &buffer[..], work.len());
+    let Check::Passed = received else {
+        return answers::refused_frame(received);
+    };
+    let limit = decoder_frame::rounds_allowed(rounds);
+    Decoding::Decoded(correct_buffer(d, blocks as usize, limit, buffer, work))
+}
+
+// The same where rows and columns have one code.
 pub fn decode(
     m: u64,
     t: u64,
@@ -353,16 +373,7 @@ pub fn decode(
     buffer: &mut [u8],
     work: &mut [u8],
 ) -> Decoding
-    ensures { λ a. ⌜ bufferDecoded a (now (buffer .exit)) ≡ originalDecodeCall m t size blocks rounds (now (buffer .entry)) (length (now (work .entry))) ⌝ }
+    ensures { λ a. ⌜ bufferDecoded a (now (buffer .exit)) ≡ originalDecodeCall m t size 0 blocks rounds (now (buffer .entry)) (length (now (work .entry))) ⌝ }
 {
-    let designed = OriginalDesign::new(m, t, size);
-    let OriginalDesigned::Made(d) = designed else {
-        return decoder::refused_frame(original_design::original_check(designed));
-    };
-    let received = check_received(d, blocks, rounds, &buffer[..], work.len());
-    let Check::Passed = received else {
-        return decoder::refused_frame(received);
-    };
-    let limit = decoder_frame::rounds_allowed(rounds);
-    Decoding::Decoded(correct_buffer(d, blocks as usize, limit, buffer, work))
+    decode_col(m, t, size, 0, blocks, rounds, buffer, work)
 }

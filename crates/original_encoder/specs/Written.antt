@@ -1,4 +1,4 @@
--- What the steps of the encoder leave in the buffer, and what its answer says.
+-- What the steps of the encoder leave in the buffer.
 --   digit            bit j of the r digits of a number, the highest first
 --   DigitsAt         the digits of a number are written from a byte on, and nothing else
 --   RowsAt           the digits of a number for each row are written at the row's end
@@ -6,7 +6,6 @@
 --   BufferLong       a buffer of L blocks
 --   widthBits        rule 10 over the first columns of rows
 --   encodeRules      rules 4, 6 and 10
---   writtenOf        the verdict and the buffer that an answer stands for
 -- Assumes nothing.
 use mathlib.Core.Path.{_≡_}
 use mathlib.Core.Bool.{false, cond}
@@ -16,12 +15,12 @@ use lib.Dec.{ltb}
 use lib.ListN.{length, getD}
 use Rattle.staircase.specs.Design.{Params, most-blocks}
 use Rattle.staircase.specs.Rules.{Verdict, _then_, refuseFirst}
-use Rattle.design.specs.declared.Check.{Check}
-use Rattle.design.specs.Answers.{verdictOf}
+use Rattle.answers.specs.declared.Check.{Check}
+use Rattle.answers.specs.Answers.{verdictOf}
 use Rattle.original.specs.Rules.{infoBits}
 use Rattle.original.specs.Calls.{Written}
-use Rattle.original_design.specs.declared.OriginalDesign.{OriginalDesign}
-use Rattle.original_design.specs.Answers.{Allowed}
+use Rattle.design.specs.declared.Design.{Design}
+use Rattle.design.specs.Answers.{AllowedOriginal}
 use Rattle.original_rows.specs.Rows.{bufferRules}
 
 abbrev pub digit : ℕ → ℕ → ℕ → ℕ
@@ -45,8 +44,8 @@ pub record RowsAt (n size r at : ℕ) (x : ℕ → ℕ) (old new : List ℕ) : T
 abbrev pub ParityZero : Params → List ℕ → Type 0
 ParityZero s l = (k : ℕ) → s .M - s .r ≤ k % s .M → getD l k 0 ≡ 0
 
-pub record BufferLong (d : OriginalDesign) (L : ℕ) (l : List ℕ) : Type 0 where
-  pub allowed : Allowed d
+pub record BufferLong (d : Design) (L : ℕ) (l : List ℕ) : Type 0 where
+  pub allowed : AllowedOriginal d
   pub few-blocks : L ≤ most-blocks
   pub long : length l ≡ L * (d .size * d .size)
 
@@ -55,7 +54,3 @@ widthBits size width l = refuseFirst 10 0 (length l) (λ k. cond (ltb (k % size)
 
 unfoldable pub encodeRules : Params → ℕ → List ℕ → Verdict
 encodeRules s L l = bufferRules s L 0 (length l) then infoBits s l
-
--- "a definition gives this paper's number and values for each of its cases"
-abbrev pub writtenOf : Check → List ℕ → Written
-writtenOf c l = record { verdict = verdictOf c; buffer = l }

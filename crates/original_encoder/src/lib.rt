@@ -8,17 +8,18 @@
 ghost use mathlib.Core.Path.{_≡_};
 ghost use Prim.Native.Nat.{_+_, _-_, _*_, _/_, _%_, _≤_, _<_};
 ghost use lib.ListN.{length, getD};
-ghost use Rattle.design.specs.Answers.{verdictOf};
+ghost use Rattle.answers.specs.Answers.{verdictOf, writtenOf};
 ghost use Rattle.words_tables.specs.Tables.{MayHalves};
 ghost use Rattle.original.specs.Frame.{encoded};
 ghost use Rattle.original.specs.Demand.{InfoBits};
 ghost use Rattle.original.specs.Calls.{originalEncodeCall};
-ghost use Rattle.original_design.specs.Answers.{Allowed, paramsOf};
+ghost use Rattle.design.specs.Answers.{AllowedOriginal};
 ghost use Rattle.original_rows.specs.Rows.{rowRemainders, RowTable, BufferFits};
-ghost use Rattle.original_encoder.specs.Written.{DigitsAt, RowsAt, ParityZero, BufferLong, widthBits, encodeRules, writtenOf};
-use design::Check;
-use original_design::OriginalDesign;
-use original_design::OriginalDesigned;
+ghost use Rattle.original_encoder.specs.Written.{DigitsAt, RowsAt, ParityZero, BufferLong, widthBits, encodeRules};
+ghost use Rattle.design.specs.Sizes.{paramsOf};
+use answers::Check;
+use design::Design;
+use design::Designed;
 
 // Writes the r low bits of x, the highest first, from byte `from` on.
 fn put_digits(x: u32, r: usize, from: usize, buffer: &mut [u8])
@@ -54,7 +55,7 @@ fn clear_parity(size: usize, r: usize, rows: usize, buffer: &mut [u8])
 // Encodes the block that b blocks precede, whose parity is 0. The tables are those of the powers that the two blocks of a row's word carry, or none. `sums` are
 // working entries, one for each row.
 fn encode_block(
-    d: OriginalDesign,
+    d: Design,
     blocks: usize,
     b: usize,
     positions: &[u32],
@@ -76,7 +77,7 @@ fn encode_block(
 // Encodes all blocks of a buffer of bits whose parity is 0, one after the other. The tables are those of the powers that the two blocks of a row's word carry,
 // or none.
 fn encode_blocks(
-    d: OriginalDesign,
+    d: Design,
     blocks: usize,
     positions: &[u32],
     tables: &[u32],
@@ -93,13 +94,7 @@ fn encode_blocks(
 }
 
 // `encode_cleared` by tables of sums, which are to have `due` entries.
-fn encode_by_tables(
-    d: OriginalDesign,
-    blocks: usize,
-    positions: &[u32],
-    due: usize,
-    buffer: &mut [u8],
-)
+fn encode_by_tables(d: Design, blocks: usize, positions: &[u32], due: usize, buffer: &mut [u8])
     requires { ⌜ BufferFits d blocks (now buffer) × RowTable (paramsOf d) (now positions) × ParityZero (paramsOf d) (now buffer) × (due ≤ 32768)
         × (due ≡ 2 * (256 * ((d .size + 7) / 8))) ⌝ }
     ensures { λ u. ⌜ now (buffer .exit) ≡ encoded (paramsOf d) blocks (now (buffer .entry)) ⌝ }
@@ -119,7 +114,7 @@ fn encode_by_tables(
 }
 
 // Encodes a buffer of bits whose parity is 0, with the powers of x lent: by tables of sums where the buffer has bits enough.
-fn encode_cleared(d: OriginalDesign, blocks: usize, positions: &[u32], buffer: &mut [u8])
+fn encode_cleared(d: Design, blocks: usize, positions: &[u32], buffer: &mut [u8])
     requires { ⌜ BufferFits d blocks (now buffer) × RowTable (paramsOf d) (now positions) × ParityZero (paramsOf d) (now buffer) ⌝ }
     ensures { λ u. ⌜ now (buffer .exit) ≡ encoded (paramsOf d) blocks (now (buffer .entry)) ⌝ }
 {
@@ -140,12 +135,12 @@ fn encode_cleared(d: OriginalDesign, blocks: usize, positions: &[u32], buffer: &
 }
 
 // Encodes a buffer of blocks whose information is bits.
-fn encode_buffer(d: OriginalDesign, blocks: usize, buffer: &mut [u8])
+fn encode_buffer(d: Design, blocks: usize, buffer: &mut [u8])
     requires { ⌜ BufferLong d blocks (now buffer) × InfoBits (paramsOf d) (now buffer) ⌝ }
     ensures { λ u. ⌜ now (buffer .exit) ≡ encoded (paramsOf d) blocks (now (buffer .entry)) ⌝ }
 {
     let size = d.size();
-    let bits = d.n();
+    let bits = d.row_bits();
     let r = d.r();
     let m = d.m();
     let t = d.t();
@@ -171,8 +166,8 @@ fn check_rows(size: usize, width: usize, rows: usize, buffer: &[u8]) -> Check
 }
 
 // Rules 4, 6 and 10 for a buffer that is to be encoded. One pass over its information.
-fn check_information(d: OriginalDesign, blocks: u64, buffer: &[u8]) -> Check
-    requires { ⌜ Allowed d ⌝ }
+fn check_information(d: Design, blocks: u64, buffer: &[u8]) -> Check
+    requires { ⌜ AllowedOriginal d ⌝ }
     ensures { λ a. ⌜ verdictOf a ≡ encodeRules (paramsOf d) blocks (now (buffer .entry)) ⌝ }
 {
     let lengths = original_rows::check_buffer(d, blocks, 0, buffer.len());
@@ -187,12 +182,12 @@ fn check_information(d: OriginalDesign, blocks: u64, buffer: &[u8]) -> Check
 // The encoder: writes the last r columns of each block of the lent buffer of `blocks` blocks, or refuses it by the first of rules 1, 2, 19, 4, 6 and 10;
 // a refused buffer is left as it was. Rule 10 does not judge what the last r columns held. The work is one step for each bit of the rows, two for each bit
 // of the buffer.
-pub fn encode(m: u64, t: u64, size: u64, blocks: u64, buffer: &mut [u8]) -> Check
-    ensures { λ a. ⌜ writtenOf a (now (buffer .exit)) ≡ originalEncodeCall m t size blocks (now (buffer .entry)) ⌝ }
+pub fn encode_col(m: u64, t: u64, size: u64, col: u64, blocks: u64, buffer: &mut [u8]) -> Check
+    ensures { λ a. ⌜ writtenOf a (now (buffer .exit)) ≡ originalEncodeCall m t size col blocks (now (buffer .entry)) ⌝ }
 {
-    let designed = OriginalDesign::new(m, t, size);
-    let OriginalDesigned::Made(d) = designed else {
-        return original_design::original_check(designed);
+    let designed = Design::of_original_col(m, t, size, col);
+    let Designed::Made(d) = designed else {
+        return design::design_check(designed);
     };
     let information = check_information(d, blocks, &buffer[..]);
     let Check::Passed = information else {
@@ -200,4 +195,11 @@ pub fn encode(m: u64, t: u64, size: u64, blocks: u64, buffer: &mut [u8]) -> Chec
     };
     encode_buffer(d, blocks as usize, buffer);
     Check::Passed
+}
+
+// The same where rows and columns have one code.
+pub fn encode(m: u64, t: u64, size: u64, blocks: u64, buffer: &mut [u8]) -> Check
+    ensures { λ a. ⌜ writtenOf a (now (buffer .exit)) ≡ originalEncodeCall m t size 0 blocks (now (buffer .entry)) ⌝ }
+{
+    encode_col(m, t, size, 0, blocks, buffer)
 }

@@ -31,8 +31,8 @@ use Rattle.words_blocks.specs.Blocks.{partSum, bitPlace, PartAdded, sentBit, se
 use Rattle.words_blocks.proofs.Sums.{part-same, added-twice, zeros-are}
 use Rattle.words_blocks.proofs.Blocks.{block-is, odd-is, sent-some, block-fits}
 use Rattle.original.specs.Frame.{blockSite, rowOf, rowSites, bufferOf}
-use Rattle.original_design.specs.declared.OriginalDesign.{OriginalDesign}
-use Rattle.original_design.specs.Answers.{paramsOf}
+use Rattle.design.specs.declared.Design.{Design}
+use Rattle.design.specs.Sizes.{paramsOf}
 use Rattle.original_rows.specs.Rows.{transposeSum, rowRemainders, RowTable, BufferFits}
 
 -- ---- the two sums
@@ -142,7 +142,7 @@ module _ (s : Params) (positions : List ℕ) (T : RowTable s positions) (L : ℕ
 
 -- ---- as `row_sums` is lent them
 
-module _ (d : OriginalDesign) (L b : ℕ) (l positions : List ℕ) (F : BufferFits d L l) (h : b < L) (T : RowTable (paramsOf d) positions)
+module _ (d : Design) (L b : ℕ) (l positions : List ℕ) (F : BufferFits d L l) (h : b < L) (T : RowTable (paramsOf d) positions)
     (area : ℕ) (is : area ≡ d .size * d .size) (n : ℕ) (wide : n ≡ d .size) (first : List ℕ) (ef : first ≡ blockBytes L area l b) (has : Bool) (eh : has ≡ sent L b)
     (own : List ℕ) (eo : own ≡ blockBytes L area l (b + 1)) where
   square-is : area ≡ n * n

@@ -20,8 +20,8 @@ use Rattle.staircase.specs.Rules.{Verdict, _then_, countRule, roundsRule, lengt
 use Rattle.words_blocks.specs.Blocks.{partSum}
 use Rattle.original.specs.Frame.{rowSites, bufferOf}
 use Rattle.original.specs.Rules.{rowLength}
-use Rattle.original_design.specs.declared.OriginalDesign.{OriginalDesign}
-use Rattle.original_design.specs.Answers.{Allowed}
+use Rattle.design.specs.declared.Design.{Design}
+use Rattle.design.specs.Answers.{AllowedOriginal}
 
 unfoldable pub transposeSum : List ℕ → ℕ → Contents → Contents → ℕ → ℕ
 transposeSum positions size before own a = partSum positions 0 size (λ j. before (j * size + a)) ⊕ partSum positions size size (λ j. own (a * size + j))
@@ -34,8 +34,8 @@ pub record RowTable (s : Params) (positions : List ℕ) : Type 0 where
   pub long : length positions ≡ rowLength s
   pub powers : PositionPowers (s .g) (s .r) positions
 
-pub record BufferFits (d : OriginalDesign) (L : ℕ) (l : List ℕ) : Type 0 where
-  pub allowed : Allowed d
+pub record BufferFits (d : Design) (L : ℕ) (l : List ℕ) : Type 0 where
+  pub allowed : AllowedOriginal d
   pub few-blocks : L ≤ most-blocks
   pub long : length l ≡ L * (d .size * d .size)
   pub bits : Bits l

@@ -14,18 +14,18 @@ ghost use lib.ListN.{length, getD};
 ghost use Rattle.bch.specs.Polynomial.{Bits};
 ghost use Rattle.staircase.specs.Lists.{tabulate};
 ghost use Rattle.staircase.specs.Frame.{outsideEach};
-ghost use Rattle.design.specs.Answers.{verdictOf};
+ghost use Rattle.answers.specs.Answers.{verdictOf, countedOf};
 ghost use Rattle.words_tables.specs.Tables.{MayHalves};
 ghost use Rattle.words_blocks.specs.Blocks.{Sent, sentBit};
-ghost use Rattle.words.specs.Checks.{countedOf};
+ghost use Rattle.design.specs.Answers.{AllowedOriginal};
 ghost use Rattle.original.specs.Frame.{bufferOf, rowWords};
 ghost use Rattle.original.specs.Calls.{originalWordsCall};
-ghost use Rattle.original_design.specs.Answers.{Allowed, paramsOf};
+ghost use Rattle.design.specs.Sizes.{paramsOf};
 ghost use Rattle.original_rows.specs.Rows.{transposeSum, rowRemainders, RowTable, BufferFits, bufferRules, receivedRules};
-use design::Check;
-use original_design::OriginalDesign;
-use original_design::OriginalDesigned;
-use words::WordCount;
+use answers::Check;
+use answers::WordCount;
+use design::Design;
+use design::Designed;
 
 // Makes `sums` the remainders of the rows of a block, `own`: a column of the block before it, then a row of its own. The tables are those of the powers that
 // the two blocks of a row's word carry, or none.
@@ -53,7 +53,7 @@ fn row_sums(
 // Makes `sums` the remainders of the rows of the block that b blocks precede. The tables are those of the powers that the two blocks of a row's word carry,
 // or none. One step for each bit of the rows, or for each eight by the tables.
 pub fn row_remainders(
-    d: OriginalDesign,
+    d: Design,
     blocks: usize,
     b: usize,
     buffer: &[u8],
@@ -75,7 +75,7 @@ pub fn row_remainders(
 // How many rows of a buffer are outside the code, with the powers of x and working entries lent. The tables are those of the powers that the two blocks of a
 // row's word carry, or none.
 fn count_rows(
-    d: OriginalDesign,
+    d: Design,
     blocks: usize,
     buffer: &[u8],
     positions: &[u32],
@@ -95,13 +95,7 @@ fn count_rows(
 }
 
 // `count_buffer` by tables of sums, which are to have `due` entries.
-fn count_by_tables(
-    d: OriginalDesign,
-    blocks: usize,
-    buffer: &[u8],
-    positions: &[u32],
-    due: usize,
-) -> u64
+fn count_by_tables(d: Design, blocks: usize, buffer: &[u8], positions: &[u32], due: usize) -> u64
     requires { ⌜ BufferFits d blocks (now buffer) × RowTable (paramsOf d) (now positions) × (due ≤ 32768) × (due ≡ 2 * (256 * ((d .size + 7) / 8))) ⌝ }
     ensures { λ a. ⌜ a ≡ outsideEach (bufferOf (now (buffer .entry))) (rowWords (paramsOf d) blocks) ⌝ }
 {
@@ -120,7 +114,7 @@ fn count_by_tables(
 }
 
 // How many rows of a buffer are outside the code, with the powers of x lent: by tables of sums where the buffer has bits enough.
-fn count_buffer(d: OriginalDesign, blocks: usize, buffer: &[u8], positions: &[u32]) -> u64
+fn count_buffer(d: Design, blocks: usize, buffer: &[u8], positions: &[u32]) -> u64
     requires { ⌜ BufferFits d blocks (now buffer) × RowTable (paramsOf d) (now positions) ⌝ }
     ensures { λ a. ⌜ a ≡ outsideEach (bufferOf (now (buffer .entry))) (rowWords (paramsOf d) blocks) ⌝ }
 {
@@ -141,11 +135,11 @@ fn count_buffer(d: OriginalDesign, blocks: usize, buffer: &[u8], positions: &[u3
 }
 
 // How many rows of a buffer of blocks are outside the code. One step for each bit of the rows, or for each eight by tables of sums.
-fn count_outside(d: OriginalDesign, blocks: usize, buffer: &[u8]) -> u64
+fn count_outside(d: Design, blocks: usize, buffer: &[u8]) -> u64
     requires { ⌜ BufferFits d blocks (now buffer) ⌝ }
     ensures { λ a. ⌜ a ≡ outsideEach (bufferOf (now (buffer .entry))) (rowWords (paramsOf d) blocks) ⌝ }
 {
-    let bits = d.n();
+    let bits = d.row_bits();
     let m = d.m();
     let t = d.t();
     let mut positions = [0u32; 1024];
@@ -154,8 +148,8 @@ fn count_outside(d: OriginalDesign, blocks: usize, buffer: &[u8]) -> u64
 }
 
 // Rules 4 to 6 for a buffer of `blocks` blocks, whose length is `have`. Constant work.
-pub fn check_buffer(d: OriginalDesign, blocks: u64, rounds: u64, have: usize) -> Check
-    requires { ⌜ Allowed d ⌝ }
+pub fn check_buffer(d: Design, blocks: u64, rounds: u64, have: usize) -> Check
+    requires { ⌜ AllowedOriginal d ⌝ }
     ensures { λ a. ⌜ verdictOf a ≡ bufferRules (paramsOf d) blocks rounds have ⌝ }
 {
     let count = design::check_count(blocks);
@@ -172,8 +166,8 @@ pub fn check_buffer(d: OriginalDesign, blocks: u64, rounds: u64, have: usize) ->
 }
 
 // Rules 4, 6 and 10 for a buffer of blocks. One pass over it.
-fn check_received(d: OriginalDesign, blocks: u64, buffer: &[u8]) -> Check
-    requires { ⌜ Allowed d ⌝ }
+fn check_received(d: Design, blocks: u64, buffer: &[u8]) -> Check
+    requires { ⌜ AllowedOriginal d ⌝ }
     ensures { λ a. ⌜ verdictOf a ≡ receivedRules (paramsOf d) blocks (now (buffer .entry)) ⌝ }
 {
     let lengths = check_buffer(d, blocks, 0, buffer.len());
@@ -185,16 +179,23 @@ fn check_received(d: OriginalDesign, blocks: u64, buffer: &[u8]) -> Check
 
 // The word checker: how many rows of the lent buffer of `blocks` blocks are outside the code, or the table's number and place of the first of rules 1,
 // 2, 19, 4, 6 and 10 that refuses. The work is one step for each bit of the rows, two for each bit of the buffer.
-pub fn check_words(m: u64, t: u64, size: u64, blocks: u64, buffer: &[u8]) -> WordCount
-    ensures { λ a. ⌜ countedOf a ≡ originalWordsCall m t size blocks (now (buffer .entry)) ⌝ }
+pub fn check_words_col(m: u64, t: u64, size: u64, col: u64, blocks: u64, buffer: &[u8]) -> WordCount
+    ensures { λ a. ⌜ countedOf a ≡ originalWordsCall m t size col blocks (now (buffer .entry)) ⌝ }
 {
-    let designed = OriginalDesign::new(m, t, size);
-    let OriginalDesigned::Made(d) = designed else {
-        return words::refused_count(original_design::original_check(designed));
+    let designed = Design::of_original_col(m, t, size, col);
+    let Designed::Made(d) = designed else {
+        return answers::refused_count(design::design_check(designed));
     };
     let received = check_received(d, blocks, buffer);
     let Check::Passed = received else {
-        return words::refused_count(received);
+        return answers::refused_count(received);
     };
     WordCount::Counted(count_outside(d, blocks as usize, buffer))
+}
+
+// The same where rows and columns have one code.
+pub fn check_words(m: u64, t: u64, size: u64, blocks: u64, buffer: &[u8]) -> WordCount
+    ensures { λ a. ⌜ countedOf a ≡ originalWordsCall m t size 0 blocks (now (buffer .entry)) ⌝ }
+{
+    check_words_col(m, t, size, 0, blocks, buffer)
 }

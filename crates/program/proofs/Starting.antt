@@ -13,8 +13,8 @@ use lib.ListN.{length}
 use Rattle.staircase.specs.Rules.{Verdict, _then_}
 use Rattle.staircase.specs.Rules.Verdict.{refused}
 use Rattle.design.specs.declared.Design.{Design}
-use Rattle.design.specs.declared.Refusal.{Refusal}
-use Rattle.design.specs.Answers.{refusalVerdict}
+use Rattle.answers.specs.declared.Refusal.{Refusal}
+use Rattle.answers.specs.Answers.{refusalVerdict}
 use Rattle.rules_verdict.specs.declared.Judged.{Judged}
 use Rattle.rules_verdict.specs.Number.{judgedOf}
 use Rattle.rules_verdict.proofs.Refused.{refusal-judged}
@@ -61,7 +61,8 @@ module _ (kit text : List ℕ) (a : length kit ≤ most-input) (b : length text 
         m-is = g .0;
         t-is = g .1;
         M-is = g .2;
-        allowed = g .3;
+        col-is = g .3;
+        allowed = g .4;
       }
 
   module _ (framed : Bool) where

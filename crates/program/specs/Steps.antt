@@ -54,6 +54,7 @@ pub record Started (d : Design) (kit text : List ℕ) : Type 0 where
   pub m-is : d .m ≡ headNumber kit 0
   pub t-is : d .t ≡ headNumber kit 1
   pub M-is : d .size ≡ headNumber kit 2
+  pub col-is : d .col ≡ 0
   pub allowed : Allowed d
 
 pub record Scanned (framed : Bool) (d : Design) (L : ℕ) (kit text : List ℕ) : Type 0 where

@@ -17,9 +17,9 @@ use Rattle.staircase.specs.Rules.{Verdict, frameLengths, kitWork}
 use Rattle.staircase.specs.Rules.Verdict.{accepted, refused}
 use Rattle.staircase.specs.Calls.{Encoded, encodeVerdict, encodedBy, encodeCall}
 use Rattle.design.specs.declared.Design.{Design}
-use Rattle.design.specs.declared.Check.{Check}
-use Rattle.design.specs.declared.Check.the-variants as check
-use Rattle.design.specs.Answers.{verdictOf}
+use Rattle.answers.specs.declared.Check.{Check}
+use Rattle.answers.specs.declared.Check.the-variants as check
+use Rattle.answers.specs.Answers.{verdictOf}
 use Rattle.design.specs.Sizes.{orderOf}
 use Rattle.text.specs.FrameText.{groupText}
 use Rattle.text.specs.Programs.{refusalText, printed, frameCall, frameOutput}
@@ -78,7 +78,7 @@ called-by d L kit text B =
     ∙ rw (order-is d kit text S, c, S .M-is)
 
 -- the old redundancy is measured and not looked at
-measured : (m t M L k : ℕ) (o p w i a b : List ℕ) → length a ≡ length b → encodeVerdict m t M L o p w i a k ≡ encodeVerdict m t M L o p w i b k
+measured : (m t M L k : ℕ) (o p w i a b : List ℕ) → length a ≡ length b → encodeVerdict m t M 0 L o p w i a k ≡ encodeVerdict m t M 0 L o p w i b k
 unfolding encodeVerdict frameLengths
 measured m t M L k o p w i a b e = rw e
 
@@ -106,7 +106,7 @@ module _ (d : Design) (L : ℕ) (kit text o₀ p₀ w₀ i₀ red : List ℕ) (w
   shown x = printed (x .verdict) (groupText (orderOf d) (groups L) (x .red))
 
   -- the call on what the texts show
-  whole : encodeCall (d .m) (d .t) (d .size) L o p w i (replicate (groups L * (2 * orderOf d)) 0) work ≡ frameCall kit text
+  whole : encodeCall (d .m) (d .t) (d .size) 0 L o p w i (replicate (groups L * (2 * orderOf d)) 0) work ≡ frameCall kit text
   unfolding frameCall kitWork
   whole =
       let k = kit-left d kit text S o₀ p₀ w₀ (F .own-length) (F .parity-length) (F .inverse-length) in
@@ -115,16 +115,16 @@ module _ (d : Design) (L : ℕ) (kit text o₀ p₀ w₀ i₀ red : List ℕ) (w
       blocks-left (d .size) text i₀ a (F .info-length ∙ ap (λ (j : ℕ). j * (d .size * d .size)) c) in
       rw (eo ∙ k .0, ep ∙ k .1, ew ∙ k .2, ei ∙ b, F .work-length, c, S .m-is, S .t-is, S .M-is)
 
-  same : shown (encodeCall (d .m) (d .t) (d .size) L o p w i red work) ≡ shown (encodeCall (d .m) (d .t) (d .size) L o p w i zeros work)
+  same : shown (encodeCall (d .m) (d .t) (d .size) 0 L o p w i red work) ≡ shown (encodeCall (d .m) (d .t) (d .size) 0 L o p w i zeros work)
   unfolding encodeCall
   same =
       let f : List ℕ → List ℕ = λ x. groupText (orderOf d) (groups L) x in
-      let verdict : List ℕ → Verdict = λ x. encodeVerdict (d .m) (d .t) (d .size) L o p w i x work in
+      let verdict : List ℕ → Verdict = λ x. encodeVerdict (d .m) (d .t) (d .size) 0 L o p w i x work in
       old-apart f (verdict red) (verdict zeros) red zeros _
       (measured (d .m) (d .t) (d .size) L work o p w i red zeros (F .red-length ∙ sym (length-replicate (groups L * (2 * orderOf d)) 0)))
 
-  pub frame-printed : (c : Check) (red′ : List ℕ) → verdictOf c ≡ encodeCall (d .m) (d .t) (d .size) L o p w i red work .verdict
-      → red′ ≡ encodeCall (d .m) (d .t) (d .size) L o p w i red work .red
+  pub frame-printed : (c : Check) (red′ : List ℕ) → verdictOf c ≡ encodeCall (d .m) (d .t) (d .size) 0 L o p w i red work .verdict
+      → red′ ≡ encodeCall (d .m) (d .t) (d .size) 0 L o p w i red work .red
       → frameOutput kit text ≡ printed (verdictOf c) (groupText (orderOf d) (groups L) red′)
   frame-printed c red′ ev er =
       called-by d L kit text (F .scanned) ∙ ap shown (sym whole) ∙ sym same

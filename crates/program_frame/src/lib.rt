@@ -4,13 +4,13 @@ ghost use mathlib.Core.Bool.{false};
 ghost use Prim.Native.Nat.{_≤_};
 ghost use lib.ListN.{length};
 ghost use Rattle.staircase.specs.Frame.{groups};
-ghost use Rattle.design.specs.Answers.{verdictOf};
+ghost use Rattle.answers.specs.Answers.{verdictOf};
 ghost use Rattle.design.specs.Sizes.{orderOf};
 ghost use Rattle.text.specs.FrameText.{groupText};
 ghost use Rattle.program.specs.Output.{Printed, most-output, Output};
 ghost use Rattle.text.specs.Programs.{printed, frameOutput};
 ghost use Rattle.program.specs.Steps.{Scanned, RoomFor, FrameReady, GroupsFit};
-use design::Check;
+use answers::Check;
 use design::Design;
 use program::Start;
 

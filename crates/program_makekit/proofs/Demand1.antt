@@ -51,13 +51,13 @@ makekit-output-demand1 s =
     let call : Verdict = makeKitCall s .verdict in
     record {
       byTable =
-          byTable-then numbers input (headRule s then designRules m t M then listsRule s then textRule s then call)
+          byTable-then numbers input (headRule s then designRules m t M 0 then listsRule s then textRule s then call)
           (byTable-refuse numbers (ltb most-input (length s)) 13 2 refl (λ e. table.input refl (omega arith) (omega arith)))
-          (λ a. byTable-then numbers (headRule s) (designRules m t M then listsRule s then textRule s then call) (walked (walk headItems s 0))
-          (λ b. byTable-then numbers (designRules m t M) (listsRule s then textRule s then call) (design-byTable numbers refl refl refl m t M)
+          (λ a. byTable-then numbers (headRule s) (designRules m t M 0 then listsRule s then textRule s then call) (walked (walk headItems s 0))
+          (λ b. byTable-then numbers (designRules m t M 0) (listsRule s then textRule s then call) (design-byTable numbers refl refl refl m t M 0)
           (λ d. byTable-then numbers (listsRule s) (textRule s then call) (scanned (listsScan s))
           (λ e. byTable-then numbers (textRule s) call
           (byTable-refuse numbers (ltb most-input (textLength m t M (selfShown s) (parityShown s))) 13 1 refl (λ f. table.input refl (omega arith) (omega arith)))
-          (λ f. byTable-more (1 ∷ 2 ∷ 3 ∷ 6 ∷ 7 ∷ 14 ∷ []) (11 ∷ 13 ∷ []) call (make-demand1 m t M (selfShown s) (parityShown s) _ _ .byTable))))));
+          (λ f. byTable-more (1 ∷ 2 ∷ 3 ∷ 6 ∷ 7 ∷ 14 ∷ []) (11 ∷ 13 ∷ []) call (make-demand1 m t M 0 (selfShown s) (parityShown s) _ _ .byTable))))));
       untouched = λ h. refl;
     }

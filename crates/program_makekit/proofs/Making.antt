@@ -26,10 +26,10 @@ use Rattle.staircase.specs.Rules.{Verdict, refuse, kitLengths}
 use Rattle.staircase.specs.Rules.Verdict.{accepted, refused}
 use Rattle.staircase.specs.Maker.{Made, makeWork, makeVerdict, madeBy, makeCall}
 use Rattle.design.specs.declared.Design.{Design}
-use Rattle.design.specs.declared.Check.{Check}
-use Rattle.design.specs.declared.Check.the-variants as check
-use Rattle.design.specs.declared.Refusal.{Refusal}
-use Rattle.design.specs.Answers.{refusalVerdict, verdictOf, Allowed}
+use Rattle.answers.specs.declared.Check.{Check}
+use Rattle.answers.specs.declared.Check.the-variants as check
+use Rattle.answers.specs.declared.Refusal.{Refusal}
+use Rattle.design.specs.Answers.{Allowed}
 use Rattle.design.specs.Sizes.{paramsOf, orderOf}
 use Rattle.rules_verdict.specs.declared.Judged.{Judged}
 use Rattle.rules_verdict.specs.Number.{judgedOf}
@@ -52,6 +52,7 @@ use Rattle.program.proofs.Bounds.{few-rows}
 use Rattle.program.proofs.Printing.{printed-text}
 use Rattle.program_makekit.specs.Steps.{kitMade, kitOutput, Fronted, Listed, ListsFit, Measured, MakeReady, WriteReady}
 use Rattle.text.proofs.MakeKitLaws.{front-refused, lists-refused, behind-lists, lists-accepted, self-values, parity-values, rows-below}
+use Rattle.answers.specs.Answers.{refusalVerdict, verdictOf}
 
 -- ---- the two lines
 
@@ -60,7 +61,7 @@ module _ (s : List ℕ) (short : length s ≤ most-input) (x : Front) (ev : fron
   unfolding frontVerdict FrontIs
   front-starts d at f i =
       let g : FrontIs (Starts d at) s = rw f at i in
-      record { short = short; front = sym ev ∙ ap frontVerdict f; m-is = g .0; t-is = g .1; M-is = g .2; allowed = g .3; at-is = g .4 }
+      record { short = short; front = sym ev ∙ ap frontVerdict f; m-is = g .0; t-is = g .1; M-is = g .2; col-is = g .3; allowed = g .4; at-is = g .5 }
 
   pub front-ruled : (r : Refusal) (j : Judged) → x ≡ Ruled r → j ≡ judgedOf (refusalVerdict r) → makeKitOutput s ≡ refusalText (j .rule) (j .place)
   unfolding frontVerdict frontRule
@@ -173,7 +174,7 @@ module _ (d : Design) (own parity : List ℕ) (long : ℕ) (S : Measured d own p
 -- ---- the maker
 
 -- the old inverse is measured and not looked at
-measured-only : (m t M k : ℕ) (own parity a b : List ℕ) → length a ≡ length b → makeVerdict m t M own parity a k ≡ makeVerdict m t M own parity b k
+measured-only : (m t M k : ℕ) (own parity a b : List ℕ) → length a ≡ length b → makeVerdict m t M 0 own parity a k ≡ makeVerdict m t M 0 own parity b k
 unfolding makeVerdict kitLengths
 measured-only m t M k own parity a b e = rw e
 
@@ -195,20 +196,20 @@ module _ (d : Design) (own parity : List ℕ) (long : ℕ) (inverse : List ℕ) 
   abbrev shown : Made → List ℕ
   shown x = printed (x .verdict) (kitBytes (d .m) (d .t) (d .size) own parity (x .inverse))
 
-  same : shown (kitMade (d .m) (d .t) (d .size) own parity) ≡ shown (makeCall (d .m) (d .t) (d .size) own parity inverse (makeWork (paramsOf d)))
-  unfolding kitMade makeCall
+  same : shown (kitMade (d .m) (d .t) (d .size) own parity) ≡ shown (makeCall (d .m) (d .t) (d .size) 0 own parity inverse (makeWork (paramsOf d)))
+  unfolding kitMade makeCall makeWork
   same =
-      let verdict : List ℕ → Verdict = λ x. makeVerdict (d .m) (d .t) (d .size) own parity x (makeWork (paramsOf d)) in
+      let verdict : List ℕ → Verdict = λ x. makeVerdict (d .m) (d .t) (d .size) 0 own parity x (makeWork (paramsOf d)) in
       old-apart (λ x. kitBytes (d .m) (d .t) (d .size) own parity x) (verdict zeros) (verdict inverse) zeros inverse _
       (measured-only (d .m) (d .t) (d .size) (makeWork (paramsOf d)) own parity zeros inverse
       (length-replicate (orderOf d * rowBytes (orderOf d)) 0 ∙ sym (R .inverse-length)))
 
-  pub made-prints : (c : Check) (inverse′ : List ℕ) → verdictOf c ≡ makeCall (d .m) (d .t) (d .size) own parity inverse work .verdict
-      → inverse′ ≡ makeCall (d .m) (d .t) (d .size) own parity inverse work .inverse
+  pub made-prints : (c : Check) (inverse′ : List ℕ) → verdictOf c ≡ makeCall (d .m) (d .t) (d .size) 0 own parity inverse work .verdict
+      → inverse′ ≡ makeCall (d .m) (d .t) (d .size) 0 own parity inverse work .inverse
       → kitOutput (d .m) (d .t) (d .size) own parity ≡ printed (verdictOf c) (kitBytes (d .m) (d .t) (d .size) own parity inverse′)
   made-prints c inverse′ ev ei =
       short-output d own parity long (R .measured) ∙ same
-      ∙ ap (λ (k : ℕ). shown (makeCall (d .m) (d .t) (d .size) own parity inverse k)) (sym (R .work-length))
+      ∙ ap (λ (k : ℕ). shown (makeCall (d .m) (d .t) (d .size) 0 own parity inverse k)) (sym (R .work-length))
       ∙ sym (ap₂ (λ (v : Verdict) (l : List ℕ). printed v (kitBytes (d .m) (d .t) (d .size) own parity l)) ev ei)
 
 -- ---- what is written

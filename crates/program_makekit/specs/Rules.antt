@@ -12,5 +12,5 @@ use Rattle.text.specs.MakeKit.{listsRule, textRule, makeKitCall}
 
 unfoldable pub makeKitVerdict : List ℕ → Verdict
 makeKitVerdict s =
-    refuse (ltb most-input (length s)) 13 2 then headRule s then designRules (headNumber s 0) (headNumber s 1) (headNumber s 2) then listsRule s
+    refuse (ltb most-input (length s)) 13 2 then headRule s then designRules (headNumber s 0) (headNumber s 1) (headNumber s 2) 0 then listsRule s
     then textRule s then makeKitCall s .verdict

@@ -35,7 +35,7 @@ use Rattle.text_kit_scan.specs.Answers.{frontRule}
 -- the inverse that is lent is zero
 unfoldable pub kitMade : ℕ → ℕ → ℕ → List ℕ → List ℕ → Made
 kitMade m t M own parity =
-    makeCall m t M own parity (replicate (order (params m t M) * rowBytes (order (params m t M))) 0) (makeWork (params m t M))
+    makeCall m t M 0 own parity (replicate (order (params m t M 0) * rowBytes (order (params m t M 0))) 0) (makeWork (params m t M 0))
 
 -- rule 13 for the text, then the maker's rules, then the text
 unfoldable pub kitOutput : ℕ → ℕ → ℕ → List ℕ → List ℕ → List ℕ
@@ -51,6 +51,7 @@ pub record Fronted (d : Design) (at : ℕ) (s : List ℕ) : Type 0 where
   pub m-is : d .m ≡ headNumber s 0
   pub t-is : d .t ≡ headNumber s 1
   pub M-is : d .size ≡ headNumber s 2
+  pub col-is : d .col ≡ 0
   pub allowed : Allowed d
   pub at-is : at ≡ passed (walk headItems s 0)
 

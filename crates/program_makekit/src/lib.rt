@@ -5,14 +5,14 @@
 // bytes has at most 181 rows, so the inverse and the maker's working bytes fit into fixed arrays. Nothing is printed before the maker has answered.
 ghost use Prim.Native.Nat.{_≤_};
 ghost use lib.ListN.{length};
-ghost use Rattle.design.specs.Answers.{verdictOf};
+ghost use Rattle.answers.specs.Answers.{verdictOf};
 ghost use Rattle.text.specs.KitText.{kitBytes};
 ghost use Rattle.text.specs.Programs.{printed};
 ghost use Rattle.text.specs.MakeKit.{makeKitOutput};
 ghost use Rattle.program.specs.Output.{Printed, most-output, Output};
 ghost use Rattle.program.specs.Steps.{RoomFor};
 ghost use Rattle.program_makekit.specs.Steps.{kitOutput, Fronted, Listed, ListsFit, Measured, MakeReady, WriteReady};
-use design::Check;
+use answers::Check;
 use design::Design;
 use text_items::Step;
 use text_kit_scan::Front;

@@ -20,15 +20,14 @@ use Rattle.staircase.specs.Rules.{wordWork, keptWork, decoderWork}
 use Rattle.staircase.specs.Rules.Verdict.{accepted, refused}
 use Rattle.staircase.specs.Calls.{Corrected, decodeCall}
 use Rattle.design.specs.declared.Design.{Design}
-use Rattle.design.specs.declared.Refusal.{Refusal}
-use Rattle.design.specs.Answers.{refusalVerdict}
+use Rattle.answers.specs.declared.Refusal.{Refusal}
+use Rattle.answers.specs.Answers.{refusalVerdict, refusedFrame, correctedOf}
 use Rattle.design.specs.Sizes.{paramsOf, orderOf}
 use Rattle.rules_verdict.specs.declared.Judged.{Judged}
 use Rattle.rules_verdict.specs.Number.{judgedOf}
-use Rattle.decoder.specs.declared.Counts.{Counts}
-use Rattle.decoder.specs.declared.Decoding.{Decoding}
-use Rattle.decoder.specs.declared.Decoding.the-variants as decoding
-use Rattle.decoder.specs.Answers.{refusedFrame, correctedOf}
+use Rattle.answers.specs.declared.Counts.{Counts}
+use Rattle.answers.specs.declared.Decoding.{Decoding}
+use Rattle.answers.specs.declared.Decoding.the-variants as decoding
 use Rattle.text.specs.FrameText.{blockText, groupText}
 use Rattle.text.specs.Programs.{refusalText, countsText, most-input, printed, mendCall, mendText, mendOutput}
 use Rattle.text_lines.proofs.Decimal.{dec-short}
@@ -177,7 +176,7 @@ module _ (d : Design) (L : ℕ) (kit text o₀ p₀ w₀ i₀ q₀ : List ℕ) (
     (eo : o ≡ readKitCall kit o₀ p₀ w₀ .self) (ep : p ≡ readKitCall kit o₀ p₀ w₀ .parity)
     (ei : i ≡ readFrameCall (d .size) (d .m * d .t) text i₀ q₀ .info) (eq : q ≡ readFrameCall (d .size) (d .m * d .t) text i₀ q₀ .red) where
   -- the call on what the texts show
-  whole : decodeCall (d .m) (d .t) (d .size) L 0 o p i q work ≡ mendCall kit text
+  whole : decodeCall (d .m) (d .t) (d .size) 0 L 0 o p i q work ≡ mendCall kit text
   unfolding mendCall
   whole =
       let S = F .scanned .started in
@@ -186,8 +185,8 @@ module _ (d : Design) (L : ℕ) (kit text o₀ p₀ w₀ i₀ q₀ : List ℕ) (
       let (a, c) = frame-scanned d L kit text (F .scanned) in
       let f = frame-left (d .size) r text i₀ q₀ a (F .info-length ∙ ap (λ (j : ℕ). j * (d .size * d .size)) c)
       (F .red-length ∙ ap (λ (j : ℕ). groups j * (2 * (d .size * r))) c) in
-      rw (eo ∙ k .0, ep ∙ k .1, ei ∙ f .0, eq ∙ f .1, F .work-length, c, S .m-is, S .t-is, S .M-is)
+      rw (eo ∙ k .0, ep ∙ k .1, ei ∙ f .0, eq ∙ f .1, F .work-length, c, S .m-is, S .t-is, S .M-is, S .col-is)
 
-  pub mend-printed : (x : Decoding) (i′ q′ : List ℕ) → correctedOf x (frameOf i′ q′) ≡ decodeCall (d .m) (d .t) (d .size) L 0 o p i q work
+  pub mend-printed : (x : Decoding) (i′ q′ : List ℕ) → correctedOf x (frameOf i′ q′) ≡ decodeCall (d .m) (d .t) (d .size) 0 L 0 o p i q work
       → mendOutput kit text ≡ printed (correctedOf x (frameOf i′ q′) .verdict) (mendText (d .size) (orderOf d) L (correctedOf x (frameOf i′ q′)))
   mend-printed x i′ q′ e = called-by d L kit text (F .scanned) ∙ ap (shown d L) (sym (e ∙ whole))

@@ -5,13 +5,13 @@ ghost use Prim.Native.Nat.{_≤_};
 ghost use lib.ListN.{length};
 ghost use Rattle.staircase.specs.Frame.{frameOf};
 ghost use Rattle.design.specs.Sizes.{orderOf};
-ghost use Rattle.decoder.specs.declared.Decoding.the-variants.{Decoded};
-ghost use Rattle.decoder.specs.Answers.{correctedOf};
+ghost use Rattle.answers.specs.declared.Decoding.the-variants.{Decoded};
+ghost use Rattle.answers.specs.Answers.{correctedOf};
 ghost use Rattle.program.specs.Output.{Printed, most-output, Output};
 ghost use Rattle.text.specs.Programs.{printed, mendText, mendOutput};
 ghost use Rattle.program.specs.Steps.{Scanned, RoomFor, MendReady, FrameSized};
-use decoder::Counts;
-use decoder::Decoding;
+use answers::Counts;
+use answers::Decoding;
 use design::Design;
 use program::Start;
 

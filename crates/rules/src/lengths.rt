@@ -16,11 +16,12 @@ ghost use Rattle.staircase.specs.Design.{most-blocks};
 ghost use Rattle.staircase.specs.Rules.{_then_, lengthRule, listLengths, kitLengths, frameLengths, keptWork};
 ghost use Rattle.staircase.specs.Batch.{most-frames};
 ghost use Rattle.design.specs.Sizes.{paramsOf};
-ghost use Rattle.design.specs.Answers.{verdictOf, Allowed};
+ghost use Rattle.design.specs.Answers.{Allowed};
 ghost use Rattle.rules.specs.Lengths.{lengthsRule, kitDue, makeDue, listsDue, decoderDue, frameDue, batchDue, frameRules, batchRules};
-use design::Check;
+ghost use Rattle.answers.specs.Answers.{verdictOf};
+use answers::Check;
+use answers::Refusal;
 use design::Design;
-use design::Refusal;
 
 // "1 self, 2 parity, 3 inverse, 4 information, 5 redundancy, 6 working"
 pub const SELF: u64 = 1;

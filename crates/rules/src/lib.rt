@@ -47,12 +47,12 @@ ghost use lib.ListN.{length, getD, replicate};
 ghost use Rattle.staircase.specs.Design.{most-order};
 ghost use Rattle.staircase.specs.System.{rowBytes};
 ghost use Rattle.staircase.specs.Rules.{_then_, refuseFirst, entries, badEntry, spareRow, bitRule};
-ghost use Rattle.design.specs.Answers.{verdictOf};
+ghost use Rattle.answers.specs.Answers.{verdictOf};
 ghost use Rattle.design.specs.Sizes.{paramsOf, listsOf};
 ghost use Rattle.rules.specs.Bytes.{byteRules, Measured};
-use design::Check;
+use answers::Check;
+use answers::Refusal;
 use design::Design;
-use design::Refusal;
 
 // A byte as a wider number.
 fn wide(x: u8) -> usize

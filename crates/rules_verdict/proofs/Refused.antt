@@ -6,10 +6,10 @@ use mathlib.Core.Path.{_≡_, refl}
 use mathlib.Core.Logic.{_≢_}
 use Rattle.staircase.specs.Rules.{Verdict}
 use Rattle.staircase.specs.Rules.Verdict.{accepted, refused}
-use Rattle.design.specs.declared.Refusal.{Refusal}
-use Rattle.design.specs.declared.Check.the-variants as check
-use Rattle.design.specs.Answers.{refusalVerdict, verdictOf}
-use Rattle.design.proofs.Answers.{check-refused}
+use Rattle.answers.specs.declared.Refusal.{Refusal}
+use Rattle.answers.specs.declared.Check.the-variants as check
+use Rattle.answers.specs.Answers.{refusalVerdict, verdictOf}
+use Rattle.answers.proofs.Checks.{check-refused}
 use Rattle.rules_verdict.specs.Number.{number, placeOf, judgedOf}
 use Rattle.rules_verdict.specs.declared.Judged.{Judged}
 

@@ -5,10 +5,10 @@
 // A slice of another length is left as it was. Each of the three answers the rule's number.
 ghost use mathlib.Core.Path.{_≡_};
 ghost use mathlib.Core.List.{[], _∷_};
-ghost use Rattle.design.specs.Answers.{refusalVerdict, verdictOf};
+ghost use Rattle.answers.specs.Answers.{refusalVerdict, verdictOf};
 ghost use Rattle.rules_verdict.specs.Number.{judgedOf, told};
-use design::Check;
-use design::Refusal;
+use answers::Check;
+use answers::Refusal;
 
 // The number of the rule that refuses and the refusal's place; 0 and 0 for accepted.
 pub struct Judged {

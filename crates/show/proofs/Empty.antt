@@ -19,16 +19,16 @@ empty-by : (v : Verdict) (l : List ℕ) → (v ≡ accepted → l ≢ []) → ((
 empty-by accepted l h = (λ e. absurd (h refl e), λ n. absurd (n refl))
 empty-by (refused n p) l h = (λ e d. let z : _≡_ {A = ℕ} 0 1 = cc in omega arith, λ d. refl)
 
-accepted-some : (m t M L : ℕ) (part : Part) (info red : List ℕ) → showVerdict m t M L part info red ≡ accepted
-    → stretch (params m t M) part info red ≢ []
+accepted-some : (m t M col L : ℕ) (part : Part) (info red : List ℕ) → showVerdict m t M col L part info red ≡ accepted
+    → stretch (params m t M col) part info red ≢ []
 unfolding HasPart
-accepted-some m t M L (block b) info red a =
-    stretch-some (accepted-part m t M L (block b) info red a) (accepted-size m t M L (block b) info red a .0)
-accepted-some m t M L (group i) info red a =
-    stretch-some (accepted-part m t M L (group i) info red a) (accepted-size m t M L (group i) info red a .1)
+accepted-some m t M col L (block b) info red a =
+    stretch-some (accepted-part m t M col L (block b) info red a) (accepted-size m t M col L (block b) info red a .0)
+accepted-some m t M col L (group i) info red a =
+    stretch-some (accepted-part m t M col L (group i) info red a) (accepted-size m t M col L (group i) info red a .1)
 
-pub shown-empty : (m t M L : ℕ) (part : Part) (info red : List ℕ)
-    → ((showCall m t M L part info red) .bits ≡ []) ↔ ¬ ((showCall m t M L part info red) .verdict ≡ accepted)
+pub shown-empty : (m t M col L : ℕ) (part : Part) (info red : List ℕ)
+    → ((showCall m t M col L part info red) .bits ≡ []) ↔ ¬ ((showCall m t M col L part info red) .verdict ≡ accepted)
 unfolding showCall
-shown-empty m t M L part info red =
-    empty-by (showVerdict m t M L part info red) (stretch (params m t M) part info red) (accepted-some m t M L part info red)
+shown-empty m t M col L part info red =
+    empty-by (showVerdict m t M col L part info red) (stretch (params m t M col) part info red) (accepted-some m t M col L part info red)

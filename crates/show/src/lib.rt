@@ -13,13 +13,13 @@ ghost use Rattle.staircase.specs.Design.{most-blocks};
 ghost use Rattle.staircase.specs.Rules.{refuse, outOfRange, partRule};
 ghost use Rattle.staircase.specs.Calls.{stretch, showCall};
 ghost use Rattle.design.specs.Sizes.{paramsOf};
-ghost use Rattle.design.specs.Answers.{verdictOf};
+ghost use Rattle.answers.specs.Answers.{verdictOf};
 ghost use Rattle.show.specs.Answers.{partOf};
 ghost use Rattle.show.specs.Show.{frameRules, HasStretch, HasPart};
-use design::Check;
+use answers::Check;
+use answers::Refusal;
 use design::Design;
 use design::Designed;
-use design::Refusal;
 
 // What is shown: a block or a group, by its number from 1.
 pub enum Part {
@@ -105,6 +105,26 @@ fn shown_part<'a, 'b: 'a>(d: Design, part: Part, info: &'a [u8], red: &'b [u8]) 
 
 // The check of the arguments of `show`: rules 1 to 4 and 6, with the table's number and place of the first that refuses. Reads the lengths of the
 // lent information and redundancy alone. Constant work.
+pub fn check_show_col(
+    m: u64,
+    t: u64,
+    size: u64,
+    col: u64,
+    blocks: u64,
+    part: Part,
+    info: &[u8],
+    red: &[u8],
+) -> Check
+    ensures { λ a. ⌜ verdictOf a ≡ (showCall m t size col blocks (partOf part) (now (info .entry)) (now (red .entry))) .verdict ⌝ }
+{
+    let designed = Design::new_col(m, t, size, col);
+    let Designed::Made(d) = designed else {
+        return design::design_check(designed);
+    };
+    check_frame(d, blocks, part, info, red)
+}
+
+// The same where rows and columns have one code.
 pub fn check_show(
     m: u64,
     t: u64,
@@ -114,17 +134,37 @@ pub fn check_show(
     info: &[u8],
     red: &[u8],
 ) -> Check
-    ensures { λ a. ⌜ verdictOf a ≡ (showCall m t size blocks (partOf part) (now (info .entry)) (now (red .entry))) .verdict ⌝ }
+    ensures { λ a. ⌜ verdictOf a ≡ (showCall m t size 0 blocks (partOf part) (now (info .entry)) (now (red .entry))) .verdict ⌝ }
 {
-    let designed = Design::new(m, t, size);
-    let Designed::Made(d) = designed else {
-        return design::design_check(designed);
-    };
-    check_frame(d, blocks, part, info, red)
+    check_show_col(m, t, size, 0, blocks, part, info, red)
 }
 
 // The block or the group of the frame of `blocks` blocks in the lent information and redundancy: M × M bytes of the one or 2 M r of the other, as
 // they stand there, and no byte where `check_show` of the same arguments refuses. Constant work.
+pub fn show_col<'a, 'b: 'a>(
+    m: u64,
+    t: u64,
+    size: u64,
+    col: u64,
+    blocks: u64,
+    part: Part,
+    info: &'a [u8],
+    red: &'b [u8],
+) -> &'a [u8]
+    ensures { λ r. ⌜ now r ≡ (showCall m t size col blocks (partOf part) (now (info .entry)) (now (red .entry))) .bits ⌝ }
+{
+    let designed = Design::new_col(m, t, size, col);
+    let Designed::Made(d) = designed else {
+        return &info[0..0];
+    };
+    let frame = check_frame(d, blocks, part, info, red);
+    let Check::Passed = frame else {
+        return &info[0..0];
+    };
+    shown_part(d, part, info, red)
+}
+
+// The same where rows and columns have one code.
 pub fn show<'a, 'b: 'a>(
     m: u64,
     t: u64,
@@ -134,15 +174,7 @@ pub fn show<'a, 'b: 'a>(
     info: &'a [u8],
     red: &'b [u8],
 ) -> &'a [u8]
-    ensures { λ r. ⌜ now r ≡ (showCall m t size blocks (partOf part) (now (info .entry)) (now (red .entry))) .bits ⌝ }
+    ensures { λ r. ⌜ now r ≡ (showCall m t size 0 blocks (partOf part) (now (info .entry)) (now (red .entry))) .bits ⌝ }
 {
-    let designed = Design::new(m, t, size);
-    let Designed::Made(d) = designed else {
-        return &info[0..0];
-    };
-    let frame = check_frame(d, blocks, part, info, red);
-    let Check::Passed = frame else {
-        return &info[0..0];
-    };
-    shown_part(d, part, info, red)
+    show_col(m, t, size, 0, blocks, part, info, red)
 }

@@ -105,7 +105,7 @@ module _ (K : Kit) (L n : ℕ) (info red : List ℕ) (work : ℕ) where
   l = lists K
 
   abbrev verdict : Verdict
-  verdict = batchVerdict (K .m) (K .t) (K .M) L n (K .self) (K .parity) (K .inverse) info red work
+  verdict = batchVerdict (K .m) (K .t) (K .M) (K .col) L n (K .self) (K .parity) (K .inverse) info red work
 
   abbrev new : List ℕ
   new = batchRedundancy (sizes K) (lists K) (K .inverse) L n info
@@ -119,7 +119,7 @@ module _ (K : Kit) (L n : ℕ) (info red : List ℕ) (work : ℕ) where
       go accepted h = absurd (h refl)
       go (refused i p) h = refl
 
-  of-verdict : encodeBatch K L n info red work .verdict ≡ accepted → batchVerdict (K .m) (K .t) (K .M) L n (K .self) (K .parity) (K .inverse) info red work ≡ accepted
+  of-verdict : encodeBatch K L n info red work .verdict ≡ accepted → batchVerdict (K .m) (K .t) (K .M) (K .col) L n (K .self) (K .parity) (K .inverse) info red work ≡ accepted
   unfolding batchCall
   of-verdict e = sym (encodedBy-verdict verdict red new) ∙ e
 
@@ -139,15 +139,15 @@ module _ (K : Kit) (L n : ℕ) (info red : List ℕ) (work : ℕ) where
     abbrev numbers : Verdict
     numbers = batchRule n then kit then lengths then v6
 
-    whole-verdict : (designRules (K .m) (K .t) (K .M) then countRule L then numbers) ≡ accepted
+    whole-verdict : (designRules (K .m) (K .t) (K .M) (K .col) then countRule L then numbers) ≡ accepted
     unfolding batchVerdict
     whole-verdict = of-verdict e
 
-    designed : designRules (K .m) (K .t) (K .M) ≡ accepted
-    designed = then-first (designRules (K .m) (K .t) (K .M)) (countRule L then numbers) whole-verdict
+    designed : designRules (K .m) (K .t) (K .M) (K .col) ≡ accepted
+    designed = then-first (designRules (K .m) (K .t) (K .M) (K .col)) (countRule L then numbers) whole-verdict
 
     after-design : (countRule L then numbers) ≡ accepted
-    after-design = then-rest (designRules (K .m) (K .t) (K .M)) (countRule L then numbers) whole-verdict
+    after-design = then-rest (designRules (K .m) (K .t) (K .M) (K .col)) (countRule L then numbers) whole-verdict
 
     after-count : numbers ≡ accepted
     after-count = then-rest (countRule L) numbers after-design
@@ -175,7 +175,7 @@ module _ (K : Kit) (L n : ℕ) (info red : List ℕ) (work : ℕ) where
         record {
           design = designed;
           fits = lengths-fit s (K .self) (K .parity) (K .inverse) (then-first kit (lengths then v6) after-batch);
-          passes = kit-passes s l (K .inverse) (proper-of (design-limits (K .m) (K .t) (K .M) designed)) .0 (content .0);
+          passes = kit-passes s l (K .inverse) (proper-of (design-limits (K .m) (K .t) (K .M) (K .col) designed)) .0 (content .0);
           some = count .0;
           few = count .1;
           bits = frame-bits (infoLength s L) info (bytes-bits 0 info (content .1)) f;
@@ -192,8 +192,8 @@ module _ (K : Kit) (L n : ℕ) (info red : List ℕ) (work : ℕ) where
 
     part-length : (f : ℕ) → length (part f) ≡ redLength s L
     part-length f =
-        let passes = kit-passes s l (K .inverse) (proper-of (design-limits (K .m) (K .t) (K .M) designed)) .0 (content .0) in
-        redundancy-length s l L (proper-of (design-limits (K .m) (K .t) (K .M) designed)) (passes .self) (passes .parity) (K .inverse) (infoAt K L info f)
+        let passes = kit-passes s l (K .inverse) (proper-of (design-limits (K .m) (K .t) (K .M) (K .col) designed)) .0 (content .0) in
+        redundancy-length s l L (proper-of (design-limits (K .m) (K .t) (K .M) (K .col) designed)) (passes .self) (passes .parity) (K .inverse) (infoAt K L info f)
 
     pub batch-long : length (encodeBatch K L n info red work .red) ≡ n * redLength (sizes K) L
     unfolding batchRedundancy
@@ -222,10 +222,10 @@ module _ (K : Kit) (L n : ℕ) (info red : List ℕ) (hi : length info ≡ n * i
       let work : ℕ = kitWork s₂ in
       let given : (f : ℕ) → f < n → Given K L (infoAt K L info f) (redAt K L red f) = λ f h.
       encode-accepted K L (infoAt K L info f) (redAt K L red f) work
-      (sym (encodedBy-verdict (encodeVerdict (K .m) (K .t) (K .M) L (K .self) (K .parity) (K .inverse) (infoAt K L info f) (redAt K L red f) work) (redAt K L red f)
+      (sym (encodedBy-verdict (encodeVerdict (K .m) (K .t) (K .M) (K .col) L (K .self) (K .parity) (K .inverse) (infoAt K L info f) (redAt K L red f) work) (redAt K L red f)
       (redundancy s₂ (lists K) (K .inverse) L (infoAt K L info f))) ∙ each f h) in
       let G = given 0 (omega arith) in
-      let limits = design-limits (K .m) (K .t) (K .M) (G .design) in
+      let limits = design-limits (K .m) (K .t) (K .M) (K .col) (G .design) in
       let area : 0 < infoLength s₂ L = mul-pos (G .some) (mul-pos (limits .M-low) (limits .M-low)) in
       let bits : Bits info = bits-frames (infoLength s₂ L) info n hi area (λ f h. given f h .bits) in
       encodedBy-verdict _ red (batchRedundancy s₂ (lists K) (K .inverse) L n info)
@@ -300,15 +300,15 @@ batch-one s l w L info e =
     ∙ ap (redundancy s l w L) (ap (λ (k : ℕ). take (infoLength s L) (drop k info)) (zero-mul (infoLength s L)) ∙ take-all (infoLength s L) info (omega arith))
 
 -- the encoder's call is the batch of one
-pub batch-single : (m t M L : ℕ) (self parity w info red : List ℕ) (work : ℕ)
-    → batchCall m t M L 1 self parity w info red work ≡ encodeCall m t M L self parity w info red work
+pub batch-single : (m t M col L : ℕ) (self parity w info red : List ℕ) (work : ℕ)
+    → batchCall m t M col L 1 self parity w info red work ≡ encodeCall m t M col L self parity w info red work
 unfolding batchCall batchVerdict batchRule batchLengths encodeCall encodeVerdict frameLengths
-batch-single m t M L self parity w info red work =
-    let s : Params = params m t M in
+batch-single m t M col L self parity w info red work =
+    let s : Params = params m t M col in
     let l : Interleavers = interleavers s self parity in
     let lengths : ℕ → ℕ → Verdict = λ i o. lengthRule 4 (length info) i then lengthRule 5 (length red) o in
     let rest : Verdict = lengthRule 6 work (kitWork s) then contentRules s l w info in
-    let front : Verdict → Verdict = λ v. designRules m t M then countRule L then kitLengths s self parity w then v then rest in
+    let front : Verdict → Verdict = λ v. designRules m t M col then countRule L then kitLengths s self parity w then v then rest in
     let left : List ℕ = batchRedundancy s l w L 1 info in
     ap (λ (v : Verdict). encodedBy (front v) red left) (ap₂ lengths (one-mul (infoLength s L)) (one-mul (redLength s L)))
     ∙ made (front (lengths (infoLength s L) (redLength s L)))
@@ -318,7 +318,7 @@ batch-single m t M L self parity w info red work =
     (then-first (lengths (infoLength s L) (redLength s L)) rest
     (then-rest (kitLengths s self parity w) (lengths (infoLength s L) (redLength s L) then rest)
     (then-rest (countRule L) (kitLengths s self parity w then lengths (infoLength s L) (redLength s L) then rest)
-    (then-rest (designRules m t M) (countRule L then kitLengths s self parity w then lengths (infoLength s L) (redLength s L) then rest) e)))))))
+    (then-rest (designRules m t M col) (countRule L then kitLengths s self parity w then lengths (infoLength s L) (redLength s L) then rest) e)))))))
   where
     made : (v : Verdict) {a b : List ℕ} → (v ≡ accepted → a ≡ b) → encodedBy v red a ≡ encodedBy v red b
     made accepted h = ap (λ (x : List ℕ). record { verdict = accepted; red = x }) (h refl)

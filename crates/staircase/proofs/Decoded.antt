@@ -14,7 +14,7 @@ use mathlib.Core.List.{List}
 use Prim.Native.Nat.{ℕ, zero, suc, _-_, _<_}
 use lib.ListN.{length}
 use Rattle.staircase.specs.Design.{Params, Interleavers, params}
-use Rattle.staircase.specs.Frame.{Frame, Site, Word, plain, frameOf, words, inCode, outsideEach, outsideAmong, outside}
+use Rattle.staircase.specs.Frame.{Frame, Site, Word, frameOf, words, inCode, outsideEach, outside}
 use Rattle.staircase.specs.Frame.Site.{inInfo, inRed}
 use Rattle.staircase.specs.Decoder.{Progress, roundOf, Decoded, runEach, runRounds, default-rounds, roundsAllowed, decoded}
 use Rattle.staircase.specs.LineErrors.{lineErrors}
@@ -25,8 +25,8 @@ use Rattle.staircase.specs.Calls.{Counts, countsOf, correctedBy, decodeV
 use Rattle.staircase.proofs.Rules.{then-first, then-rest, then-accepted, length-accepted, frame-lengths, bits-accepted, frame-bits}
 use Rattle.staircase.proofs.Flip.{Received, bitAt-bits}
 use Rattle.staircase.proofs.Member.{In}
-use Rattle.staircase.proofs.Rounds.{plain-each, runRounds-received}
-use Rattle.staircase.proofs.Outside.{all-inside, outsideEach-inside}
+use Rattle.staircase.proofs.Rounds.{runEach-received}
+use Rattle.staircase.proofs.Outside.{each-inside, outsideEach-inside}
 use Rattle.staircase.proofs.Idle.{roundOf-stays, decoded-stays}
 use Rattle.staircase.proofs.LineErrors.{lineErrors-same}
 use Rattle.staircase.proofs.Outcomes.{stuckEach-idle, lastStuck-idle, lastStuck-outside, runEach-early}
@@ -44,16 +44,15 @@ roundsAllowed-some (suc k) = (k, refl)
 
 module _ (s : Params) (l : Interleavers) (L k : ℕ) (f : Frame) where
   abbrev ws : List Word
-  ws = plain s (words s l L)
+  ws = words s l L
 
-  pub countsOf-stays : ((w : List Site) → In w (words s l L) → inCode s f w ≡ true) → countsOf s l L k f ≡ record { rounds = 1; turned = 0; outside = 0; stuck = 0 }
-  unfolding countsOf outside outsideAmong
+  pub countsOf-stays : ((w : Word) → In w (words s l L) → inCode (w .code) f (w .sites) ≡ true) → countsOf s l L k f ≡ record { rounds = 1; turned = 0; outside = 0; stuck = 0 }
+  unfolding countsOf outside
   countsOf-stays h =
-      let each : (w : Word) → In w ws → inCode (w .code) f (w .sites) ≡ true = plain-each s (λ (w : Word). inCode (w .code) f (w .sites) ≡ true) (words s l L) h in
       let (j, some) = roundsAllowed-some k in
       let ed : decoded s l L k f ≡ record { frame = f; rounds = 1; flips = 0 } = decoded-stays s f l L k h in
-      let none : outsideEach f ws ≡ 0 = outsideEach-inside f ws each in
-      let idle : roundOf ws f .flips ≡ 0 = ap (λ (x : Progress). x .flips) (roundOf-stays f ws each) in
+      let none : outsideEach f ws ≡ 0 = outsideEach-inside f ws h in
+      let idle : roundOf ws f .flips ≡ 0 = ap (λ (x : Progress). x .flips) (roundOf-stays f ws h) in
       let eo : outsideEach (decoded s l L k f .frame) ws ≡ 0 = ap (λ (d : Decoded). outsideEach (d .frame) ws) ed ∙ none in
       let es : lastStuck ws (roundsAllowed k) f ≡ 0 =
       ap (λ (n : ℕ). lastStuck ws n f) some ∙ lastStuck-idle ws j f idle ∙ stuckEach-idle ws f idle .0 ∙ none in
@@ -61,16 +60,16 @@ module _ (s : Params) (l : Interleavers) (L k : ℕ) (f : Frame) where
       λ i. record { rounds = ed i .rounds; turned = et i; outside = eo i; stuck = es i }
 
   -- where the last round made flips nothing, the stuck words are those outside at the end
-  pub countsOf-idle : roundOf (plain s (words s l L)) (beforeLast (plain s (words s l L)) (roundsAllowed k) f) .flips ≡ 0
+  pub countsOf-idle : roundOf (words s l L) (beforeLast (words s l L) (roundsAllowed k) f) .flips ≡ 0
       → countsOf s l L k f .stuck ≡ countsOf s l L k f .outside
-  unfolding countsOf decoded runRounds outside outsideAmong
+  unfolding countsOf decoded outside
   countsOf-idle =
       let (j, some) = roundsAllowed-some k in
       subst⁻¹ (λ (n : ℕ). roundOf ws (beforeLast ws n f) .flips ≡ 0 → lastStuck ws n f ≡ outsideEach (runEach ws n f .frame) ws) some (lastStuck-outside ws j f)
 
   -- and so it is where fewer rounds are made than allowed
   pub countsOf-early : countsOf s l L k f .rounds < roundsAllowed k → countsOf s l L k f .stuck ≡ countsOf s l L k f .outside
-  unfolding countsOf decoded runRounds
+  unfolding countsOf decoded
   countsOf-early h =
       let (j, some) = roundsAllowed-some k in
       countsOf-idle
@@ -78,20 +77,20 @@ module _ (s : Params) (l : Interleavers) (L k : ℕ) (f : Frame) where
 
 -- ---- the call
 
-pub record Decodes (m t M L k : ℕ) (self parity info red : List ℕ) : Type 0 where
-  pub design : designRules m t M ≡ accepted
+pub record Decodes (m t M col L k : ℕ) (self parity info red : List ℕ) : Type 0 where
+  pub design : designRules m t M col ≡ accepted
   pub count : countRule L ≡ accepted
   pub rounds : roundsRule k ≡ accepted
-  pub lists-fit : listLengths (params m t M) self parity ≡ accepted
-  pub frame-fits : frameLengths (params m t M) L info red ≡ accepted
-  pub lists : listRule (params m t M) (interleavers (params m t M) self parity) ≡ accepted
+  pub lists-fit : listLengths (params m t M col) self parity ≡ accepted
+  pub frame-fits : frameLengths (params m t M col) L info red ≡ accepted
+  pub lists : listRule (params m t M col) (interleavers (params m t M col) self parity) ≡ accepted
   pub bits : frameBits info red ≡ accepted
 
-pub decode-accepted : (m t M L k : ℕ) (self parity info red : List ℕ) (work : ℕ) → decodeVerdict m t M L k self parity info red work ≡ accepted
-    → Decodes m t M L k self parity info red
+pub decode-accepted : (m t M col L k : ℕ) (self parity info red : List ℕ) (work : ℕ) → decodeVerdict m t M col L k self parity info red work ≡ accepted
+    → Decodes m t M col L k self parity info red
 unfolding decodeVerdict
-decode-accepted m t M L k self parity info red work e =
-    let s : Params = params m t M in
+decode-accepted m t M col L k self parity info red work e =
+    let s : Params = params m t M col in
     let l : Interleavers = interleavers s self parity in
     let v7 : Verdict = listRule s l then frameBits info red in
     let v6 : Verdict = lengthRule 6 work (decoderWork s L) then v7 in
@@ -99,14 +98,14 @@ decode-accepted m t M L k self parity info red work e =
     let v3 : Verdict = listLengths s self parity then v5 in
     let v2 : Verdict = roundsRule k then v3 in
     let v1 : Verdict = countRule L then v2 in
-    let e1 : v1 ≡ accepted = then-rest (designRules m t M) v1 e in
+    let e1 : v1 ≡ accepted = then-rest (designRules m t M col) v1 e in
     let e2 : v2 ≡ accepted = then-rest (countRule L) v2 e1 in
     let e3 : v3 ≡ accepted = then-rest (roundsRule k) v3 e2 in
     let e5 : v5 ≡ accepted = then-rest (listLengths s self parity) v5 e3 in
     let e6 : v6 ≡ accepted = then-rest (frameLengths s L info red) v6 e5 in
     let e7 : v7 ≡ accepted = then-rest (lengthRule 6 work (decoderWork s L)) v7 e6 in
     record {
-      design = then-first (designRules m t M) v1 e;
+      design = then-first (designRules m t M col) v1 e;
       count = then-first (countRule L) v2 e1;
       rounds = then-first (roundsRule k) v3 e2;
       lists-fit = then-first (listLengths s self parity) v5 e3;
@@ -115,9 +114,9 @@ decode-accepted m t M L k self parity info red work e =
       bits = then-rest (listRule s l) (frameBits info red) e7;
     }
 
-module _ (m t M L k : ℕ) (self parity info red : List ℕ) (ok : decodeVerdict m t M L k self parity info red (decoderWork (params m t M) L) ≡ accepted) where
+module _ (m t M col L k : ℕ) (self parity info red : List ℕ) (ok : decodeVerdict m t M col L k self parity info red (decoderWork (params m t M col) L) ≡ accepted) where
   abbrev s : Params
-  s = params m t M
+  s = params m t M col
 
   abbrev l : Interleavers
   l = interleavers s self parity
@@ -125,26 +124,26 @@ module _ (m t M L k : ℕ) (self parity info red : List ℕ) (ok : decodeVerdict
   abbrev d : Decoded
   d = decoded s l L k (frameOf info red)
 
-  D : Decodes m t M L k self parity info red
-  D = decode-accepted m t M L k self parity info red (decoderWork s L) ok
+  D : Decodes m t M col L k self parity info red
+  D = decode-accepted m t M col L k self parity info red (decoderWork s L) ok
 
-  pub decode-received : Received (frameOf info red) (decoded (params m t M) (interleavers (params m t M) self parity) L k (frameOf info red) .frame)
+  pub decode-received : Received (frameOf info red) (decoded (params m t M col) (interleavers (params m t M col) self parity) L k (frameOf info red) .frame)
   unfolding decoded
   decode-received =
       let b = frame-bits info red (D .bits) in
-      runRounds-received s (words s l L) (frameOf info red) (roundsAllowed k) (frameOf info red)
+      runEach-received (words s l L) (frameOf info red) (roundsAllowed k) (frameOf info red)
       (record { infoLength = refl; redLength = refl; binary = bitAt-bits (frameOf info red) (b .0) (b .1) })
 
-  pub decode-left : decodeCall m t M L k self parity info red (decoderWork (params m t M) L)
+  pub decode-left : decodeCall m t M col L k self parity info red (decoderWork (params m t M col) L)
       ≡ record {
         verdict = accepted;
-        frame = decoded (params m t M) (interleavers (params m t M) self parity) L k (frameOf info red) .frame;
-        counts = countsOf (params m t M) (interleavers (params m t M) self parity) L k (frameOf info red);
+        frame = decoded (params m t M col) (interleavers (params m t M col) self parity) L k (frameOf info red) .frame;
+        counts = countsOf (params m t M col) (interleavers (params m t M col) self parity) L k (frameOf info red);
       }
   unfolding decodeCall
   decode-left = ap (λ (v : Verdict). correctedBy v (frameOf info red) (d .frame) (countsOf s l L k (frameOf info red))) ok
 
-  verdict-again : decodeVerdict m t M L k self parity (d .frame .info) (d .frame .red) (decoderWork s L) ≡ accepted
+  verdict-again : decodeVerdict m t M col L k self parity (d .frame .info) (d .frame .red) (decoderWork s L) ≡ accepted
   unfolding decodeVerdict frameLengths frameBits
   verdict-again =
       let x : List ℕ = d .frame .info in
@@ -157,27 +156,27 @@ module _ (m t M L k : ℕ) (self parity info red : List ℕ) (ok : decodeVerdict
       then-accepted (D .design) (then-accepted (D .count) (then-accepted (D .rounds) (then-accepted (D .lists-fit)
       (then-accepted (then-accepted info-fits red-fits) (then-accepted (length-accepted 6 (decoderWork s L) (decoderWork s L) refl) (then-accepted (D .lists) bits))))))
 
-  pub decode-again : outside (params m t M) (interleavers (params m t M) self parity) L
-      (decoded (params m t M) (interleavers (params m t M) self parity) L k (frameOf info red) .frame) ≡ 0
-      → decodeCall m t M L k self parity
-      (decoded (params m t M) (interleavers (params m t M) self parity) L k (frameOf info red) .frame .info)
-      (decoded (params m t M) (interleavers (params m t M) self parity) L k (frameOf info red) .frame .red) (decoderWork (params m t M) L)
+  pub decode-again : outside (params m t M col) (interleavers (params m t M col) self parity) L
+      (decoded (params m t M col) (interleavers (params m t M col) self parity) L k (frameOf info red) .frame) ≡ 0
+      → decodeCall m t M col L k self parity
+      (decoded (params m t M col) (interleavers (params m t M col) self parity) L k (frameOf info red) .frame .info)
+      (decoded (params m t M col) (interleavers (params m t M col) self parity) L k (frameOf info red) .frame .red) (decoderWork (params m t M col) L)
       ≡ record {
         verdict = accepted;
-        frame = decoded (params m t M) (interleavers (params m t M) self parity) L k (frameOf info red) .frame;
+        frame = decoded (params m t M col) (interleavers (params m t M col) self parity) L k (frameOf info red) .frame;
         counts = record { rounds = 1; turned = 0; outside = 0; stuck = 0 };
       }
   unfolding decodeCall outside
   decode-again e =
       let f : Frame = d .frame in
-      let h : (w : List Site) → In w (words s l L) → inCode s f w ≡ true = all-inside s f (words s l L) e in
+      let h : (w : Word) → In w (words s l L) → inCode (w .code) f (w .sites) ≡ true = each-inside f (words s l L) e in
       ap (λ (v : Verdict). correctedBy v f (decoded s l L k f .frame) (countsOf s l L k f)) verdict-again
       ∙ (λ j. record { verdict = accepted; frame = decoded-stays s f l L k h j .frame; counts = countsOf-stays s l L k f h j })
 
 -- "in the last round made": of every call, also a refused one, which counts nothing. Where fewer rounds are made than allowed, the last one is idle.
-module _ (m t M L k : ℕ) (self parity info red : List ℕ) (work : ℕ) where
+module _ (m t M col L k : ℕ) (self parity info red : List ℕ) (work : ℕ) where
   abbrev sizes : Params
-  sizes = params m t M
+  sizes = params m t M col
 
   abbrev lists : Interleavers
   lists = interleavers sizes self parity
@@ -186,16 +185,16 @@ module _ (m t M L k : ℕ) (self parity info red : List ℕ) (work : ℕ) where
   by accepted old new c e = e
   by (refused n p) old new c e = refl
 
-  pub idle-stuck : roundOf (plain (params m t M) (words (params m t M) (interleavers (params m t M) self parity) L))
-      (beforeLast (plain (params m t M) (words (params m t M) (interleavers (params m t M) self parity) L)) (roundsAllowed k) (frameOf info red)) .flips ≡ 0
-      → decodeCall m t M L k self parity info red work .counts .stuck ≡ decodeCall m t M L k self parity info red work .counts .outside
+  pub idle-stuck : roundOf (words (params m t M col) (interleavers (params m t M col) self parity) L)
+      (beforeLast (words (params m t M col) (interleavers (params m t M col) self parity) L) (roundsAllowed k) (frameOf info red)) .flips ≡ 0
+      → decodeCall m t M col L k self parity info red work .counts .stuck ≡ decodeCall m t M col L k self parity info red work .counts .outside
   unfolding decodeCall
-  idle-stuck e = by (decodeVerdict m t M L k self parity info red work) _ _ _ (countsOf-idle sizes lists L k (frameOf info red) e)
+  idle-stuck e = by (decodeVerdict m t M col L k self parity info red work) _ _ _ (countsOf-idle sizes lists L k (frameOf info red) e)
 
-  pub early-stuck : decodeCall m t M L k self parity info red work .counts .rounds < roundsAllowed k
-      → decodeCall m t M L k self parity info red work .counts .stuck ≡ decodeCall m t M L k self parity info red work .counts .outside
+  pub early-stuck : decodeCall m t M col L k self parity info red work .counts .rounds < roundsAllowed k
+      → decodeCall m t M col L k self parity info red work .counts .stuck ≡ decodeCall m t M col L k self parity info red work .counts .outside
   unfolding decodeCall
-  early-stuck = go (decodeVerdict m t M L k self parity info red work)
+  early-stuck = go (decodeVerdict m t M col L k self parity info red work)
     where
       f : Frame
       f = frameOf info red

@@ -18,7 +18,7 @@ use lib.Dec.{ltb, eqb}
 use lib.Pow.{pow-add, pow-pos}
 use lib.ListN.{length, getD}
 use Rattle.staircase.specs.Lists.{firstWhere}
-use Rattle.staircase.specs.Design.{Params, Interleavers, params, wordLength, order, least-m, most-m, most-t, most-M, most-order, most-blocks, most-rounds}
+use Rattle.staircase.specs.Design.{Params, Interleavers, params, wordLength, order, least-m, most-m, most-t, most-M, most-col, most-order, most-blocks, most-rounds}
 use Rattle.staircase.specs.Frame.{Frame, groups}
 use Rattle.staircase.specs.System.{systemEntry, inverseEntry, rowBytes, redundancy}
 use Rattle.staircase.specs.Rules.{Verdict, _then_, refuse, refuseFirst, outOfRange, Part, sizeRule, longRule, largeRule, designRules, countRule, partRule, roundsRule, lengthRule, listLengths, kitLengths, infoLength, redLength, frameLengths, kitWork, wordWork, decoderWork, interleavers, badEntry, listRule, spareRow, spareRule, wrongEntry, inverseRule, kitRules, bitRule, frameBits, contentRules}
@@ -55,15 +55,17 @@ module _ (rules : List ℕ) where
 
   -- ---- rules 1 to 6
 
-  pub size-byTable : among 1 rules ≡ true → (m t M : ℕ) → ByTable rules (sizeRule m t M)
+  pub size-byTable : among 1 rules ≡ true → (m t M col : ℕ) → ByTable rules (sizeRule m t M col)
   unfolding sizeRule
-  size-byTable has1 m t M =
+  size-byTable has1 m t M col =
       let rm : Verdict = refuse (outOfRange least-m most-m m) 1 1 in
       let rt : Verdict = refuse (outOfRange 1 most-t t) 1 2 in
       let rM : Verdict = refuse (outOfRange 1 most-M M) 1 3 in
-      byTable-then rm (rt then rM) (byTable-refuse (outOfRange least-m most-m m) 1 1 has1 (λ e. table.size refl (omega arith) (omega arith)))
-      (λ a. byTable-then rt rM (byTable-refuse (outOfRange 1 most-t t) 1 2 has1 (λ e. table.size refl (omega arith) (omega arith)))
-      (λ b. byTable-refuse (outOfRange 1 most-M M) 1 3 has1 (λ e. table.size refl (omega arith) (omega arith))))
+      let rc : Verdict = refuse (ltb most-col col) 1 4 in
+      byTable-then rm (rt then rM then rc) (byTable-refuse (outOfRange least-m most-m m) 1 1 has1 (λ e. table.size refl (omega arith) (omega arith)))
+      (λ a. byTable-then rt (rM then rc) (byTable-refuse (outOfRange 1 most-t t) 1 2 has1 (λ e. table.size refl (omega arith) (omega arith)))
+      (λ b. byTable-then rM rc (byTable-refuse (outOfRange 1 most-M M) 1 3 has1 (λ e. table.size refl (omega arith) (omega arith)))
+      (λ c. byTable-refuse (ltb most-col col) 1 4 has1 (λ e. table.size refl (omega arith) (omega arith)))))
 
   long-place : (m n : ℕ) → 4 ≤ m → 2 ^ m - 1 < n → 15 < n
   long-place m n h l =
@@ -72,16 +74,16 @@ module _ (rules : List ℕ) where
       omega (arith, p, pow-pos (m - 4))
 
   -- rule 2 for words of n bits, after rule 1
-  pub long-byTable : among 2 rules ≡ true → (m t M n : ℕ) → sizeRule m t M ≡ accepted → ByTable rules (refuse (ltb (2 ^ m - 1) n) 2 n)
-  long-byTable has2 m t M n a =
-      byTable-refuse (ltb (2 ^ m - 1) n) 2 n has2 (λ e. table.long refl (long-place m n (size-limits m t M a .0) (ltb-true (2 ^ m - 1) n e)))
+  pub long-byTable : among 2 rules ≡ true → (m t M col n : ℕ) → sizeRule m t M col ≡ accepted → ByTable rules (refuse (ltb (2 ^ m - 1) n) 2 n)
+  long-byTable has2 m t M col n a =
+      byTable-refuse (ltb (2 ^ m - 1) n) 2 n has2 (λ e. table.long refl (long-place m n (size-limits m t M col a .0) (ltb-true (2 ^ m - 1) n e)))
 
-  pub design-byTable : among 1 rules ≡ true → among 2 rules ≡ true → among 3 rules ≡ true → (m t M : ℕ) → ByTable rules (designRules m t M)
+  pub design-byTable : among 1 rules ≡ true → among 2 rules ≡ true → among 3 rules ≡ true → (m t M col : ℕ) → ByTable rules (designRules m t M col)
   unfolding designRules longRule largeRule
-  design-byTable has1 has2 has3 m t M =
-      let s : Params = params m t M in
-      byTable-then (sizeRule m t M) (longRule m s then largeRule s) (size-byTable has1 m t M)
-      (λ a. byTable-then (longRule m s) (largeRule s) (long-byTable has2 m t M (wordLength s) a)
+  design-byTable has1 has2 has3 m t M col =
+      let s : Params = params m t M col in
+      byTable-then (sizeRule m t M col) (longRule m s then largeRule s) (size-byTable has1 m t M col)
+      (λ a. byTable-then (longRule m s) (largeRule s) (long-byTable has2 m t M col (wordLength s) a)
       (λ b. byTable-refuse (ltb most-order (order s)) 3 (order s) has3 (λ e. table.large refl (ltb-true most-order (order s) e))))
 
   pub count-byTable : among 4 rules ≡ true → (L : ℕ) → ByTable rules (countRule L)
@@ -216,26 +218,26 @@ shownBy-verdict (refused n p) l = refl
 
 -- ---- the calls
 
-pub design-demand1 : (m t M : ℕ) → Demand1 (1 ∷ 2 ∷ 3 ∷ []) (designRules m t M) [] []
-design-demand1 m t M = record { byTable = design-byTable (1 ∷ 2 ∷ 3 ∷ []) refl refl refl m t M; untouched = λ h. refl }
+pub design-demand1 : (m t M col : ℕ) → Demand1 (1 ∷ 2 ∷ 3 ∷ []) (designRules m t M col) [] []
+design-demand1 m t M col = record { byTable = design-byTable (1 ∷ 2 ∷ 3 ∷ []) refl refl refl m t M col; untouched = λ h. refl }
 
 -- "The kit checker has 1 to 3 and 6 to 9"
 abbrev kitNumbers : List ℕ
 kitNumbers = 1 ∷ 2 ∷ 3 ∷ 6 ∷ 7 ∷ 8 ∷ 9 ∷ []
 
-pub kit-demand1 : (m t M : ℕ) (self parity w : List ℕ) (work : ℕ)
-    → Demand1 (1 ∷ 2 ∷ 3 ∷ 6 ∷ 7 ∷ 8 ∷ 9 ∷ []) (kitVerdict m t M self parity w work) [] []
+pub kit-demand1 : (m t M col : ℕ) (self parity w : List ℕ) (work : ℕ)
+    → Demand1 (1 ∷ 2 ∷ 3 ∷ 6 ∷ 7 ∷ 8 ∷ 9 ∷ []) (kitVerdict m t M col self parity w work) [] []
 unfolding kitVerdict
-kit-demand1 m t M self parity w work =
-    let s : Params = params m t M in
+kit-demand1 m t M col self parity w work =
+    let s : Params = params m t M col in
     let v9 : Verdict = kitRules s (interleavers s self parity) w in
     let v6 : Verdict = lengthRule 6 work (kitWork s) in
     record {
       byTable =
-          byTable-then kitNumbers (designRules m t M) (kitLengths s self parity w then v6 then v9) (design-byTable kitNumbers refl refl refl m t M)
+          byTable-then kitNumbers (designRules m t M col) (kitLengths s self parity w then v6 then v9) (design-byTable kitNumbers refl refl refl m t M col)
           (λ d. byTable-then kitNumbers (kitLengths s self parity w) (v6 then v9) (kit-fits-byTable kitNumbers refl s self parity w)
           (λ e. byTable-then kitNumbers v6 v9 (length-byTable kitNumbers refl 6 work (kitWork s) (omega arith) (omega arith))
-          (λ f. kit-byTable kitNumbers s (design-limits m t M d .order-high) refl refl refl (interleavers s self parity) w)));
+          (λ f. kit-byTable kitNumbers s (design-limits m t M col d .order-high) refl refl refl (interleavers s self parity) w)));
       untouched = λ h. refl;
     }
 
@@ -251,29 +253,29 @@ madeBy-verdict : (v : Verdict) (old new : List ℕ) → madeBy v old new .verdic
 madeBy-verdict accepted old new = refl
 madeBy-verdict (refused n p) old new = refl
 
-make-byTable : (m t M : ℕ) (self parity old : List ℕ) (work : ℕ) → ByTable makerNumbers (makeVerdict m t M self parity old work)
+make-byTable : (m t M col : ℕ) (self parity old : List ℕ) (work : ℕ) → ByTable makerNumbers (makeVerdict m t M col self parity old work)
 unfolding makeVerdict singularRule
-make-byTable m t M self parity old work =
-    let s : Params = params m t M in
+make-byTable m t M col self parity old work =
+    let s : Params = params m t M col in
     let l : Interleavers = interleavers s self parity in
     let v14 : Verdict = refuseFirst 14 0 (order s) (dependent (order s) (systemEntry s l)) in
     let v6 : Verdict = lengthRule 6 work (makeWork s) in
-    byTable-then makerNumbers (designRules m t M) (kitLengths s self parity old then v6 then listRule s l then v14) (design-byTable makerNumbers refl refl refl m t M)
+    byTable-then makerNumbers (designRules m t M col) (kitLengths s self parity old then v6 then listRule s l then v14) (design-byTable makerNumbers refl refl refl m t M col)
     (λ d. byTable-then makerNumbers (kitLengths s self parity old) (v6 then listRule s l then v14) (kit-fits-byTable makerNumbers refl s self parity old)
     (λ e. byTable-then makerNumbers v6 (listRule s l then v14) (length-byTable makerNumbers refl 6 work (makeWork s) (omega arith) (omega arith))
-    (λ f. byTable-then makerNumbers (listRule s l) v14 (lists-byTable makerNumbers s (design-limits m t M d .order-high) refl l)
+    (λ f. byTable-then makerNumbers (listRule s l) v14 (lists-byTable makerNumbers s (design-limits m t M col d .order-high) refl l)
     (λ g. byTable-first makerNumbers 14 0 (order s) (dependent (order s) (systemEntry s l)) refl
-    (λ i k. table.singular refl (omega (arith, k, design-limits m t M d .order-high)))))))
+    (λ i k. table.singular refl (omega (arith, k, design-limits m t M col d .order-high)))))))
 
-pub make-demand1 : (m t M : ℕ) (self parity old : List ℕ) (work : ℕ)
-    → Demand1 (1 ∷ 2 ∷ 3 ∷ 6 ∷ 7 ∷ 14 ∷ []) (makeCall m t M self parity old work .verdict) (old ∷ []) (makeCall m t M self parity old work .inverse ∷ [])
+pub make-demand1 : (m t M col : ℕ) (self parity old : List ℕ) (work : ℕ)
+    → Demand1 (1 ∷ 2 ∷ 3 ∷ 6 ∷ 7 ∷ 14 ∷ []) (makeCall m t M col self parity old work .verdict) (old ∷ []) (makeCall m t M col self parity old work .inverse ∷ [])
 unfolding makeCall
-make-demand1 m t M self parity old work =
-    let s : Params = params m t M in
-    let v : Verdict = makeVerdict m t M self parity old work in
+make-demand1 m t M col self parity old work =
+    let s : Params = params m t M col in
+    let v : Verdict = makeVerdict m t M col self parity old work in
     let new : List ℕ = packedMatrix (order s) (inverseMatrix (order s) (systemEntry s (interleavers s self parity))) in
     record {
-      byTable = subst⁻¹ (ByTable makerNumbers) (madeBy-verdict v old new) (make-byTable m t M self parity old work);
+      byTable = subst⁻¹ (ByTable makerNumbers) (madeBy-verdict v old new) (make-byTable m t M col self parity old work);
       untouched = madeBy-untouched v old new;
     }
 
@@ -281,14 +283,14 @@ make-demand1 m t M self parity old work =
 abbrev spreadNumbers : List ℕ
 spreadNumbers = 1 ∷ 2 ∷ 3 ∷ 6 ∷ 15 ∷ []
 
-spread-byTable : (m t M : ℕ) (self parity : List ℕ) → ByTable spreadNumbers (spreadVerdict m t M self parity)
+spread-byTable : (m t M col : ℕ) (self parity : List ℕ) → ByTable spreadNumbers (spreadVerdict m t M col self parity)
 unfolding spreadVerdict narrowRule
-spread-byTable m t M self parity =
-    let s : Params = params m t M in
+spread-byTable m t M col self parity =
+    let s : Params = params m t M col in
     let v15 : Verdict = refuse (ltb M (2 * (m * t))) 15 M in
-    byTable-then spreadNumbers (designRules m t M) (v15 then listLengths s self parity) (design-byTable spreadNumbers refl refl refl m t M)
+    byTable-then spreadNumbers (designRules m t M col) (v15 then listLengths s self parity) (design-byTable spreadNumbers refl refl refl m t M col)
     (λ d. byTable-then spreadNumbers v15 (listLengths s self parity)
-    (byTable-refuse spreadNumbers (ltb M (2 * (m * t))) 15 M refl (λ e. table.narrow refl (design-limits m t M d .M-high)))
+    (byTable-refuse spreadNumbers (ltb M (2 * (m * t))) 15 M refl (λ e. table.narrow refl (design-limits m t M col d .M-high)))
     (λ e. lists-fit-byTable spreadNumbers refl s self parity))
 
 spreadBy-untouched : (v : Verdict) (s : Params) (self parity : List ℕ) → spreadBy v s self parity .verdict ≢ accepted
@@ -296,15 +298,15 @@ spreadBy-untouched : (v : Verdict) (s : Params) (self parity : List ℕ) → spr
 spreadBy-untouched accepted s self parity h = absurd (h refl)
 spreadBy-untouched (refused n p) s self parity h = refl
 
-pub spread-demand1 : (m t M : ℕ) (self parity : List ℕ)
-    → Demand1 (1 ∷ 2 ∷ 3 ∷ 6 ∷ 15 ∷ []) (spreadCall m t M self parity .verdict) (self ∷ parity ∷ [])
-    (spreadCall m t M self parity .self ∷ spreadCall m t M self parity .parity ∷ [])
+pub spread-demand1 : (m t M col : ℕ) (self parity : List ℕ)
+    → Demand1 (1 ∷ 2 ∷ 3 ∷ 6 ∷ 15 ∷ []) (spreadCall m t M col self parity .verdict) (self ∷ parity ∷ [])
+    (spreadCall m t M col self parity .self ∷ spreadCall m t M col self parity .parity ∷ [])
 unfolding spreadCall
-spread-demand1 m t M self parity =
-    let v : Verdict = spreadVerdict m t M self parity in
+spread-demand1 m t M col self parity =
+    let v : Verdict = spreadVerdict m t M col self parity in
     record {
-      byTable = subst⁻¹ (ByTable spreadNumbers) (spreadBy-verdict v (params m t M) self parity) (spread-byTable m t M self parity);
-      untouched = spreadBy-untouched v (params m t M) self parity;
+      byTable = subst⁻¹ (ByTable spreadNumbers) (spreadBy-verdict v (params m t M col) self parity) (spread-byTable m t M col self parity);
+      untouched = spreadBy-untouched v (params m t M col) self parity;
     }
 
 -- "the encoder 1 to 4 and 6 to 10"
@@ -313,40 +315,40 @@ encoderNumbers = 1 ∷ 2 ∷ 3 ∷ 4 ∷ 6 ∷ 7 ∷ 8 ∷ 9 ∷ 10 ∷ []
 
 -- rules 6 to 10 of a call with a kit, by those on its frames
 framed-byTable : (rules : List ℕ) → among 6 rules ≡ true → among 7 rules ≡ true → among 8 rules ≡ true → among 9 rules ≡ true → among 10 rules ≡ true
-    → (m t M : ℕ) → designRules m t M ≡ accepted → (self parity w info : List ℕ) (work : ℕ) (frame : Verdict) → ByTable rules frame
+    → (m t M col : ℕ) → designRules m t M col ≡ accepted → (self parity w info : List ℕ) (work : ℕ) (frame : Verdict) → ByTable rules frame
     → ByTable rules
-    (kitLengths (params m t M) self parity w then frame then lengthRule 6 work (kitWork (params m t M))
-    then contentRules (params m t M) (interleavers (params m t M) self parity) w info)
-framed-byTable rules h6 h7 h8 h9 h10 m t M d self parity w info work frame fits =
-    let s : Params = params m t M in
+    (kitLengths (params m t M col) self parity w then frame then lengthRule 6 work (kitWork (params m t M col))
+    then contentRules (params m t M col) (interleavers (params m t M col) self parity) w info)
+framed-byTable rules h6 h7 h8 h9 h10 m t M col d self parity w info work frame fits =
+    let s : Params = params m t M col in
     let l : Interleavers = interleavers s self parity in
     let v9 : Verdict = contentRules s l w info in
     let v6 : Verdict = lengthRule 6 work (kitWork s) in
     byTable-then rules (kitLengths s self parity w) (frame then v6 then v9) (kit-fits-byTable rules h6 s self parity w)
     (λ e. byTable-then rules frame (v6 then v9) fits
     (λ f. byTable-then rules v6 v9 (length-byTable rules h6 6 work (kitWork s) (omega arith) (omega arith))
-    (λ g. content-byTable rules h10 h7 h8 h9 s (design-limits m t M d .order-high) l w info)))
+    (λ g. content-byTable rules h10 h7 h8 h9 s (design-limits m t M col d .order-high) l w info)))
 
-encode-byTable : (m t M L : ℕ) (self parity w info red : List ℕ) (work : ℕ) → ByTable encoderNumbers (encodeVerdict m t M L self parity w info red work)
+encode-byTable : (m t M col L : ℕ) (self parity w info red : List ℕ) (work : ℕ) → ByTable encoderNumbers (encodeVerdict m t M col L self parity w info red work)
 unfolding encodeVerdict
-encode-byTable m t M L self parity w info red work =
-    let s : Params = params m t M in
+encode-byTable m t M col L self parity w info red work =
+    let s : Params = params m t M col in
     let frame : Verdict = frameLengths s L info red in
     let rest : Verdict = kitLengths s self parity w then frame then lengthRule 6 work (kitWork s) then contentRules s (interleavers s self parity) w info in
-    byTable-then encoderNumbers (designRules m t M) (countRule L then rest) (design-byTable encoderNumbers refl refl refl m t M)
+    byTable-then encoderNumbers (designRules m t M col) (countRule L then rest) (design-byTable encoderNumbers refl refl refl m t M col)
     (λ d. byTable-then encoderNumbers (countRule L) rest (count-byTable encoderNumbers refl L)
-    (λ c. framed-byTable encoderNumbers refl refl refl refl refl m t M d self parity w info work frame (frame-fits-byTable encoderNumbers refl s L info red)))
+    (λ c. framed-byTable encoderNumbers refl refl refl refl refl m t M col d self parity w info work frame (frame-fits-byTable encoderNumbers refl s L info red)))
 
-pub encode-demand1 : (m t M L : ℕ) (self parity w info red : List ℕ) (work : ℕ)
-    → Demand1 (1 ∷ 2 ∷ 3 ∷ 4 ∷ 6 ∷ 7 ∷ 8 ∷ 9 ∷ 10 ∷ []) (encodeCall m t M L self parity w info red work .verdict)
-    (red ∷ []) (encodeCall m t M L self parity w info red work .red ∷ [])
+pub encode-demand1 : (m t M col L : ℕ) (self parity w info red : List ℕ) (work : ℕ)
+    → Demand1 (1 ∷ 2 ∷ 3 ∷ 4 ∷ 6 ∷ 7 ∷ 8 ∷ 9 ∷ 10 ∷ []) (encodeCall m t M col L self parity w info red work .verdict)
+    (red ∷ []) (encodeCall m t M col L self parity w info red work .red ∷ [])
 unfolding encodeCall
-encode-demand1 m t M L self parity w info red work =
-    let s : Params = params m t M in
-    let v : Verdict = encodeVerdict m t M L self parity w info red work in
+encode-demand1 m t M col L self parity w info red work =
+    let s : Params = params m t M col in
+    let v : Verdict = encodeVerdict m t M col L self parity w info red work in
     let new : List ℕ = redundancy s (interleavers s self parity) w L info in
     record {
-      byTable = subst (ByTable encoderNumbers) (sym (encodedBy-verdict v red new)) (encode-byTable m t M L self parity w info red work);
+      byTable = subst (ByTable encoderNumbers) (sym (encodedBy-verdict v red new)) (encode-byTable m t M col L self parity w info red work);
       untouched = encodedBy-untouched v red new;
     }
 
@@ -362,42 +364,42 @@ none-or-above high n e pos = go (decLt high n)
 abbrev batchNumbers : List ℕ
 batchNumbers = 1 ∷ 2 ∷ 3 ∷ 4 ∷ 6 ∷ 7 ∷ 8 ∷ 9 ∷ 10 ∷ 17 ∷ []
 
-batch-byTable : (m t M L n : ℕ) (self parity w info red : List ℕ) (work : ℕ) → ByTable batchNumbers (batchVerdict m t M L n self parity w info red work)
+batch-byTable : (m t M col L n : ℕ) (self parity w info red : List ℕ) (work : ℕ) → ByTable batchNumbers (batchVerdict m t M col L n self parity w info red work)
 unfolding batchVerdict batchRule batchLengths
-batch-byTable m t M L n self parity w info red work =
-    let s : Params = params m t M in
+batch-byTable m t M col L n self parity w info red work =
+    let s : Params = params m t M col in
     let v17 : Verdict = refuse (outOfRange 1 most-frames n) 17 n in
     let v4 : Verdict = lengthRule 4 (length info) (n * infoLength s L) in
     let v5 : Verdict = lengthRule 5 (length red) (n * redLength s L) in
     let rest : Verdict = kitLengths s self parity w then (v4 then v5) then lengthRule 6 work (kitWork s) then contentRules s (interleavers s self parity) w info in
-    byTable-then batchNumbers (designRules m t M) (countRule L then v17 then rest) (design-byTable batchNumbers refl refl refl m t M)
+    byTable-then batchNumbers (designRules m t M col) (countRule L then v17 then rest) (design-byTable batchNumbers refl refl refl m t M col)
     (λ d. byTable-then batchNumbers (countRule L) (v17 then rest) (count-byTable batchNumbers refl L)
     (λ c. byTable-then batchNumbers v17 rest (byTable-refuse batchNumbers (outOfRange 1 most-frames n) 17 n refl (λ e. table.batch refl (none-or-above most-frames n e)))
-    (λ b. framed-byTable batchNumbers refl refl refl refl refl m t M d self parity w info work (v4 then v5)
+    (λ b. framed-byTable batchNumbers refl refl refl refl refl m t M col d self parity w info work (v4 then v5)
     (byTable-then batchNumbers v4 v5 (length-byTable batchNumbers refl 4 (length info) (n * infoLength s L) (omega arith) (omega arith))
     (λ f. length-byTable batchNumbers refl 5 (length red) (n * redLength s L) (omega arith) (omega arith))))))
 
-pub batch-demand1 : (m t M L n : ℕ) (self parity w info red : List ℕ) (work : ℕ)
-    → Demand1 (1 ∷ 2 ∷ 3 ∷ 4 ∷ 6 ∷ 7 ∷ 8 ∷ 9 ∷ 10 ∷ 17 ∷ []) (batchCall m t M L n self parity w info red work .verdict)
-    (red ∷ []) (batchCall m t M L n self parity w info red work .red ∷ [])
+pub batch-demand1 : (m t M col L n : ℕ) (self parity w info red : List ℕ) (work : ℕ)
+    → Demand1 (1 ∷ 2 ∷ 3 ∷ 4 ∷ 6 ∷ 7 ∷ 8 ∷ 9 ∷ 10 ∷ 17 ∷ []) (batchCall m t M col L n self parity w info red work .verdict)
+    (red ∷ []) (batchCall m t M col L n self parity w info red work .red ∷ [])
 unfolding batchCall
-batch-demand1 m t M L n self parity w info red work =
-    let s : Params = params m t M in
-    let v : Verdict = batchVerdict m t M L n self parity w info red work in
+batch-demand1 m t M col L n self parity w info red work =
+    let s : Params = params m t M col in
+    let v : Verdict = batchVerdict m t M col L n self parity w info red work in
     let new : List ℕ = batchRedundancy s (interleavers s self parity) w L n info in
     record {
-      byTable = subst⁻¹ (ByTable batchNumbers) (encodedBy-verdict v red new) (batch-byTable m t M L n self parity w info red work);
+      byTable = subst⁻¹ (ByTable batchNumbers) (encodedBy-verdict v red new) (batch-byTable m t M col L n self parity w info red work);
       untouched = encodedBy-untouched v red new;
     }
 
 -- a received frame, behind the rules on numbers: rules 6, 7 and 10
-received-byTable : (rules : List ℕ) → among 6 rules ≡ true → among 7 rules ≡ true → among 10 rules ≡ true → (m t M L : ℕ) → designRules m t M ≡ accepted
+received-byTable : (rules : List ℕ) → among 6 rules ≡ true → among 7 rules ≡ true → among 10 rules ≡ true → (m t M col L : ℕ) → designRules m t M col ≡ accepted
     → (self parity info red : List ℕ) (work due : ℕ)
     → ByTable rules
-    (listLengths (params m t M) self parity then frameLengths (params m t M) L info red then lengthRule 6 work due
-    then listRule (params m t M) (interleavers (params m t M) self parity) then frameBits info red)
-received-byTable rules h6 h7 h10 m t M L d self parity info red work due =
-    let s : Params = params m t M in
+    (listLengths (params m t M col) self parity then frameLengths (params m t M col) L info red then lengthRule 6 work due
+    then listRule (params m t M col) (interleavers (params m t M col) self parity) then frameBits info red)
+received-byTable rules h6 h7 h10 m t M col L d self parity info red work due =
+    let s : Params = params m t M col in
     let l : Interleavers = interleavers s self parity in
     let v10 : Verdict = frameBits info red in
     let v7 : Verdict = listRule s l in
@@ -406,29 +408,29 @@ received-byTable rules h6 h7 h10 m t M L d self parity info red work due =
     byTable-then rules (listLengths s self parity) (frame then v6 then v7 then v10) (lists-fit-byTable rules h6 s self parity)
     (λ e. byTable-then rules frame (v6 then v7 then v10) (frame-fits-byTable rules h6 s L info red)
     (λ f. byTable-then rules v6 (v7 then v10) (length-byTable rules h6 6 work due (omega arith) (omega arith))
-    (λ g. byTable-then rules v7 v10 (lists-byTable rules s (design-limits m t M d .order-high) h7 l) (λ h. frame-bits-byTable rules h10 info red))))
+    (λ g. byTable-then rules v7 v10 (lists-byTable rules s (design-limits m t M col d .order-high) h7 l) (λ h. frame-bits-byTable rules h10 info red))))
 
 -- "the word checker 1 to 4, 6, 7 and 10"
 abbrev wordNumbers : List ℕ
 wordNumbers = 1 ∷ 2 ∷ 3 ∷ 4 ∷ 6 ∷ 7 ∷ 10 ∷ []
 
-words-byTable : (m t M L : ℕ) (self parity info red : List ℕ) (work : ℕ) → ByTable wordNumbers (wordsVerdict m t M L self parity info red work)
+words-byTable : (m t M col L : ℕ) (self parity info red : List ℕ) (work : ℕ) → ByTable wordNumbers (wordsVerdict m t M col L self parity info red work)
 unfolding wordsVerdict
-words-byTable m t M L self parity info red work =
-    let s : Params = params m t M in
+words-byTable m t M col L self parity info red work =
+    let s : Params = params m t M col in
     let rest : Verdict = listLengths s self parity then frameLengths s L info red then lengthRule 6 work (wordWork s)
     then listRule s (interleavers s self parity) then frameBits info red in
-    byTable-then wordNumbers (designRules m t M) (countRule L then rest) (design-byTable wordNumbers refl refl refl m t M)
+    byTable-then wordNumbers (designRules m t M col) (countRule L then rest) (design-byTable wordNumbers refl refl refl m t M col)
     (λ d. byTable-then wordNumbers (countRule L) rest (count-byTable wordNumbers refl L)
-    (λ c. received-byTable wordNumbers refl refl refl m t M L d self parity info red work (wordWork s)))
+    (λ c. received-byTable wordNumbers refl refl refl m t M col L d self parity info red work (wordWork s)))
 
-pub words-demand1 : (m t M L : ℕ) (self parity info red : List ℕ) (work : ℕ)
-    → Demand1 (1 ∷ 2 ∷ 3 ∷ 4 ∷ 6 ∷ 7 ∷ 10 ∷ []) (wordsCall m t M L self parity info red work .verdict) [] []
+pub words-demand1 : (m t M col L : ℕ) (self parity info red : List ℕ) (work : ℕ)
+    → Demand1 (1 ∷ 2 ∷ 3 ∷ 4 ∷ 6 ∷ 7 ∷ 10 ∷ []) (wordsCall m t M col L self parity info red work .verdict) [] []
 unfolding wordsCall
-words-demand1 m t M L self parity info red work =
+words-demand1 m t M col L self parity info red work =
     record {
       byTable =
-          subst (ByTable wordNumbers) (sym (countedBy-verdict (wordsVerdict m t M L self parity info red work) _)) (words-byTable m t M L self parity info red work);
+          subst (ByTable wordNumbers) (sym (countedBy-verdict (wordsVerdict m t M col L self parity info red work) _)) (words-byTable m t M col L self parity info red work);
       untouched = λ h. refl;
     }
 
@@ -436,25 +438,25 @@ words-demand1 m t M L self parity info red work =
 abbrev decoderNumbers : List ℕ
 decoderNumbers = 1 ∷ 2 ∷ 3 ∷ 4 ∷ 5 ∷ 6 ∷ 7 ∷ 10 ∷ []
 
-pub decode-byTable : (m t M L k : ℕ) (self parity info red : List ℕ) (work : ℕ) → ByTable decoderNumbers (decodeVerdict m t M L k self parity info red work)
+pub decode-byTable : (m t M col L k : ℕ) (self parity info red : List ℕ) (work : ℕ) → ByTable decoderNumbers (decodeVerdict m t M col L k self parity info red work)
 unfolding decodeVerdict
-decode-byTable m t M L k self parity info red work =
-    let s : Params = params m t M in
+decode-byTable m t M col L k self parity info red work =
+    let s : Params = params m t M col in
     let rest : Verdict = listLengths s self parity then frameLengths s L info red then lengthRule 6 work (decoderWork s L)
     then listRule s (interleavers s self parity) then frameBits info red in
-    byTable-then decoderNumbers (designRules m t M) (countRule L then roundsRule k then rest) (design-byTable decoderNumbers refl refl refl m t M)
+    byTable-then decoderNumbers (designRules m t M col) (countRule L then roundsRule k then rest) (design-byTable decoderNumbers refl refl refl m t M col)
     (λ d. byTable-then decoderNumbers (countRule L) (roundsRule k then rest) (count-byTable decoderNumbers refl L)
     (λ c. byTable-then decoderNumbers (roundsRule k) rest (rounds-byTable decoderNumbers refl k)
-    (λ r. received-byTable decoderNumbers refl refl refl m t M L d self parity info red work (decoderWork s L))))
+    (λ r. received-byTable decoderNumbers refl refl refl m t M col L d self parity info red work (decoderWork s L))))
 
-pub decode-demand1 : (m t M L k : ℕ) (self parity info red : List ℕ) (work : ℕ)
-    → Demand1 (1 ∷ 2 ∷ 3 ∷ 4 ∷ 5 ∷ 6 ∷ 7 ∷ 10 ∷ []) (decodeCall m t M L k self parity info red work .verdict) (info ∷ red ∷ [])
-    (decodeCall m t M L k self parity info red work .frame .info ∷ decodeCall m t M L k self parity info red work .frame .red ∷ [])
+pub decode-demand1 : (m t M col L k : ℕ) (self parity info red : List ℕ) (work : ℕ)
+    → Demand1 (1 ∷ 2 ∷ 3 ∷ 4 ∷ 5 ∷ 6 ∷ 7 ∷ 10 ∷ []) (decodeCall m t M col L k self parity info red work .verdict) (info ∷ red ∷ [])
+    (decodeCall m t M col L k self parity info red work .frame .info ∷ decodeCall m t M col L k self parity info red work .frame .red ∷ [])
 unfolding decodeCall
-decode-demand1 m t M L k self parity info red work =
-    let v : Verdict = decodeVerdict m t M L k self parity info red work in
+decode-demand1 m t M col L k self parity info red work =
+    let v : Verdict = decodeVerdict m t M col L k self parity info red work in
     record {
-      byTable = subst (ByTable decoderNumbers) (sym (correctedBy-verdict v _ _ _)) (decode-byTable m t M L k self parity info red work);
+      byTable = subst (ByTable decoderNumbers) (sym (correctedBy-verdict v _ _ _)) (decode-byTable m t M col L k self parity info red work);
       untouched = correctedBy-untouched v _ _ _;
     }
 
@@ -462,28 +464,28 @@ decode-demand1 m t M L k self parity info red work =
 abbrev windowNumbers : List ℕ
 windowNumbers = 1 ∷ 2 ∷ 3 ∷ 4 ∷ 5 ∷ 6 ∷ 7 ∷ 10 ∷ 18 ∷ []
 
-window-byTable : (m t M L k v : ℕ) (self parity info red : List ℕ) (work : ℕ) → ByTable windowNumbers (windowVerdict m t M L k v self parity info red work)
+window-byTable : (m t M col L k v : ℕ) (self parity info red : List ℕ) (work : ℕ) → ByTable windowNumbers (windowVerdict m t M col L k v self parity info red work)
 unfolding windowVerdict windowRule
-window-byTable m t M L k v self parity info red work =
-    let s : Params = params m t M in
+window-byTable m t M col L k v self parity info red work =
+    let s : Params = params m t M col in
     let v18 : Verdict = refuse (outOfRange 1 most-window v) 18 v in
     let rest : Verdict = listLengths s self parity then frameLengths s L info red then lengthRule 6 work (decoderWork s L)
     then listRule s (interleavers s self parity) then frameBits info red in
-    byTable-then windowNumbers (designRules m t M) (countRule L then roundsRule k then v18 then rest) (design-byTable windowNumbers refl refl refl m t M)
+    byTable-then windowNumbers (designRules m t M col) (countRule L then roundsRule k then v18 then rest) (design-byTable windowNumbers refl refl refl m t M col)
     (λ d. byTable-then windowNumbers (countRule L) (roundsRule k then v18 then rest) (count-byTable windowNumbers refl L)
     (λ c. byTable-then windowNumbers (roundsRule k) (v18 then rest) (rounds-byTable windowNumbers refl k)
     (λ r. byTable-then windowNumbers v18 rest
     (byTable-refuse windowNumbers (outOfRange 1 most-window v) 18 v refl (λ e. table.window refl (none-or-above most-window v e)))
-    (λ w. received-byTable windowNumbers refl refl refl m t M L d self parity info red work (decoderWork s L)))))
+    (λ w. received-byTable windowNumbers refl refl refl m t M col L d self parity info red work (decoderWork s L)))))
 
-pub window-demand1 : (m t M L k v : ℕ) (self parity info red : List ℕ) (work : ℕ)
-    → Demand1 (1 ∷ 2 ∷ 3 ∷ 4 ∷ 5 ∷ 6 ∷ 7 ∷ 10 ∷ 18 ∷ []) (windowCall m t M L k v self parity info red work .verdict) (info ∷ red ∷ [])
-    (windowCall m t M L k v self parity info red work .frame .info ∷ windowCall m t M L k v self parity info red work .frame .red ∷ [])
+pub window-demand1 : (m t M col L k v : ℕ) (self parity info red : List ℕ) (work : ℕ)
+    → Demand1 (1 ∷ 2 ∷ 3 ∷ 4 ∷ 5 ∷ 6 ∷ 7 ∷ 10 ∷ 18 ∷ []) (windowCall m t M col L k v self parity info red work .verdict) (info ∷ red ∷ [])
+    (windowCall m t M col L k v self parity info red work .frame .info ∷ windowCall m t M col L k v self parity info red work .frame .red ∷ [])
 unfolding windowCall
-window-demand1 m t M L k v self parity info red work =
-    let x : Verdict = windowVerdict m t M L k v self parity info red work in
+window-demand1 m t M col L k v self parity info red work =
+    let x : Verdict = windowVerdict m t M col L k v self parity info red work in
     record {
-      byTable = subst⁻¹ (ByTable windowNumbers) (correctedBy-verdict x _ _ _) (window-byTable m t M L k v self parity info red work);
+      byTable = subst⁻¹ (ByTable windowNumbers) (correctedBy-verdict x _ _ _) (window-byTable m t M col L k v self parity info red work);
       untouched = correctedBy-untouched x _ _ _;
     }
 
@@ -491,17 +493,17 @@ window-demand1 m t M L k v self parity info red work =
 abbrev showNumbers : List ℕ
 showNumbers = 1 ∷ 2 ∷ 3 ∷ 4 ∷ 6 ∷ []
 
-pub show-demand1 : (m t M L : ℕ) (x : Part) (info red : List ℕ)
-    → Demand1 (1 ∷ 2 ∷ 3 ∷ 4 ∷ 6 ∷ []) (showCall m t M L x info red .verdict) [] []
+pub show-demand1 : (m t M col L : ℕ) (x : Part) (info red : List ℕ)
+    → Demand1 (1 ∷ 2 ∷ 3 ∷ 4 ∷ 6 ∷ []) (showCall m t M col L x info red .verdict) [] []
 unfolding showCall showVerdict
-show-demand1 m t M L x info red =
-    let frame : Verdict = frameLengths (params m t M) L info red in
+show-demand1 m t M col L x info red =
+    let frame : Verdict = frameLengths (params m t M col) L info red in
     record {
       byTable =
-          subst (ByTable showNumbers) (sym (shownBy-verdict (designRules m t M then countRule L then partRule L x then frame) _))
-          (byTable-then showNumbers (designRules m t M) (countRule L then partRule L x then frame) (design-byTable showNumbers refl refl refl m t M)
+          subst (ByTable showNumbers) (sym (shownBy-verdict (designRules m t M col then countRule L then partRule L x then frame) _))
+          (byTable-then showNumbers (designRules m t M col) (countRule L then partRule L x then frame) (design-byTable showNumbers refl refl refl m t M col)
           (λ d. byTable-then showNumbers (countRule L) (partRule L x then frame) (count-byTable showNumbers refl L)
           (λ c. byTable-then showNumbers (partRule L x) frame (part-byTable showNumbers refl L x)
-          (λ e. frame-fits-byTable showNumbers refl (params m t M) L info red))));
+          (λ e. frame-fits-byTable showNumbers refl (params m t M col) L info red))));
       untouched = λ h. refl;
     }

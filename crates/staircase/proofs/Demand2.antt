@@ -58,20 +58,20 @@ module _ (s : Params) (l : Interleavers) (w : List ℕ) where
   pub kit-passes : Proper s → (kitRules s l w ≡ accepted) ↔ KitPasses s l w
   kit-passes ok = (passes ok, accepts ok)
 
-module _ (m t M : ℕ) (self parity w : List ℕ) where
+module _ (m t M col : ℕ) (self parity w : List ℕ) where
   abbrev s : Params
-  s = params m t M
+  s = params m t M col
 
-  pub demand2 : designRules m t M ≡ accepted → FitsOrder (order (params m t M)) self parity w
-      → (kitVerdict m t M self parity w (kitWork (params m t M)) ≡ accepted) ↔ KitPasses (params m t M) (interleavers (params m t M) self parity) w
+  pub demand2 : designRules m t M col ≡ accepted → FitsOrder (order (params m t M col)) self parity w
+      → (kitVerdict m t M col self parity w (kitWork (params m t M col)) ≡ accepted) ↔ KitPasses (params m t M col) (interleavers (params m t M col) self parity) w
   unfolding kitVerdict
   demand2 d k =
       let l : Interleavers = interleavers s self parity in
       let v6 : Verdict = lengthRule 6 (kitWork s) (kitWork s) in
-      let both = kit-passes s l w (proper-of (design-limits m t M d)) in (
+      let both = kit-passes s l w (proper-of (design-limits m t M col d)) in (
         λ e. both .0
             (then-rest v6 (kitRules s l w)
-            (then-rest (kitLengths s self parity w) (v6 then kitRules s l w) (then-rest (designRules m t M) (kitLengths s self parity w then v6 then kitRules s l w) e))),
+            (then-rest (kitLengths s self parity w) (v6 then kitRules s l w) (then-rest (designRules m t M col) (kitLengths s self parity w then v6 then kitRules s l w) e))),
         λ q. then-accepted d
             (then-accepted (lengths-accepted s self parity w k) (then-accepted (length-accepted 6 (kitWork s) (kitWork s) refl) (both .1 q))),
       )

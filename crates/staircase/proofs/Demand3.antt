@@ -18,10 +18,10 @@ use lib.ListN.{length, getD}
 use borrow.Author.Tests.{le-ltb}
 use Rattle.bch.specs.Polynomial.{Bits}
 use Rattle.bch.specs.Code.{distance}
-use Rattle.staircase.specs.Design.{Params, Interleavers, wordLength, order, Limits, most-blocks, most-rounds}
-use Rattle.staircase.specs.Frame.{Frame, Site, Word, word, plain, frameOf, groups, rowSites, columnSites, words, read, inCode, outsideAmong, outside}
+use Rattle.staircase.specs.Design.{Params, Interleavers, columnCode, wordLength, order, Limits, most-blocks, most-rounds}
+use Rattle.staircase.specs.Frame.{Frame, Site, Word, frameOf, groups, rowSites, columnSites, rowAt, columnAt, words, read, inCode, outsideEach, outside}
 use Rattle.staircase.specs.System.{redundancy}
-use Rattle.staircase.specs.Decoder.{Decoded, runEach, runRounds, default-rounds, roundsAllowed, decoded}
+use Rattle.staircase.specs.Decoder.{Decoded, runEach, default-rounds, roundsAllowed, decoded}
 use Rattle.staircase.specs.Outcomes.{lastStuck}
 use Rattle.staircase.specs.LineErrors.{lineErrors}
 use Rattle.staircase.specs.Rules.{Verdict, countRule, roundsRule, listLengths, infoLength, redLength, frameLengths, kitWork, decoderWork, listRule, kitRules, frameBits}
@@ -30,15 +30,14 @@ use Rattle.staircase.specs.Calls.{encodeVerdict, Encoded, encodedBy, enc
 use Rattle.staircase.specs.Demand2.{KitPasses}
 use Rattle.staircase.specs.Demand3.{Kit, sizes, lists, decode, Given, EachWord, SameBut, Restored, Demand3}
 use Rattle.staircase.proofs.Rules.{then-first, then-accepted, refuse-accepted, inRange, length-accepted, design-limits, lengths-accepted, bits-accepted, accepted-content}
-use Rattle.staircase.proofs.Member.{In, in-map}
+use Rattle.staircase.proofs.Member.{In}
 use Rattle.staircase.proofs.Flip.{Received, bitAt-bits}
-use Rattle.staircase.proofs.Rounds.{plain-each}
-use Rattle.staircase.proofs.Outside.{all-inside}
+use Rattle.staircase.proofs.Outside.{each-inside}
 use Rattle.staircase.proofs.Correction.{CodeDistance, Sound, FewWrong, Covers, outsideEach-none, runEach-restore}
 use Rattle.staircase.proofs.Freed.{lastStuck-free}
 use Rattle.staircase.proofs.Decoded.{roundsAllowed-some}
 use Rattle.staircase.proofs.System.{Proper}
-use Rattle.staircase.proofs.BchCode.{proper-of, apart-of}
+use Rattle.staircase.proofs.BchCode.{proper-of, apart-of, columns-apart}
 use Rattle.staircase.proofs.Sites.{rowSites-length, columnSites-length, row-among-words, column-among-words, each-word, info-covered, red-covered}
 use Rattle.staircase.proofs.Redundancy.{redundancy-length, redundancy-bits, rows-in-code, columns-in-code, redundancy-only}
 use Rattle.staircase.proofs.Reach.{reach}
@@ -55,6 +54,9 @@ module _ (K : Kit) (L : ℕ) (info old : List ℕ) (G : Given K L info old) wher
 
   abbrev M : ℕ
   M = K .M
+
+  abbrev col : ℕ
+  col = K .col
 
   abbrev self : List ℕ
   self = K .self
@@ -80,8 +82,8 @@ module _ (K : Kit) (L : ℕ) (info old : List ℕ) (G : Given K L info old) wher
   abbrev frame : Frame
   frame = frameOf info (redundancy (sizes K) (lists K) (K .inverse) L info)
 
-  limits : Limits m t M
-  limits = design-limits m t M (G .design)
+  limits : Limits m t M col
+  limits = design-limits m t M col (G .design)
 
   ok : Proper s
   ok = proper-of limits
@@ -100,7 +102,7 @@ module _ (K : Kit) (L : ℕ) (info old : List ℕ) (G : Given K L info old) wher
   sized i o hi ho = then-accepted (length-accepted 4 (length i) (infoLength s L) hi) (length-accepted 5 (length o) (redLength s L) ho)
 
   pub encode-made : (i o : List ℕ) → Bits i → length i ≡ infoLength s L → length o ≡ redLength s L
-      → encodeCall m t M L self parity w i o (kitWork s) ≡ record { verdict = accepted; red = redundancy s l w L i }
+      → encodeCall m t M col L self parity w i o (kitWork s) ≡ record { verdict = accepted; red = redundancy s l w L i }
   unfolding encodeCall encodeVerdict
   encode-made i o hb hi ho =
       ap (λ (v : Verdict). encodedBy v o (redundancy s l w L i))
@@ -108,7 +110,7 @@ module _ (K : Kit) (L : ℕ) (info old : List ℕ) (G : Given K L info old) wher
       (then-accepted (sized i o hi ho) (then-accepted (length-accepted 6 (kitWork s) (kitWork s) refl) (accepted-content s l w i rules (bits-accepted 0 i hb)))))))
 
   pub decode-admits : (k : ℕ) → k ≤ most-rounds → (i o : List ℕ) → length i ≡ infoLength s L → length o ≡ redLength s L → Bits i → Bits o
-      → decodeVerdict m t M L k self parity i o (decoderWork s L) ≡ accepted
+      → decodeVerdict m t M col L k self parity i o (decoderWork s L) ≡ accepted
   unfolding decodeVerdict roundsRule listLengths frameBits kitRules
   decode-admits k hk i o hi ho bi bo =
       then-accepted (G .design) (then-accepted counted (then-accepted (refuse-accepted 5 k (le-ltb most-rounds k hk))
@@ -122,7 +124,7 @@ module _ (K : Kit) (L : ℕ) (info old : List ℕ) (G : Given K L info old) wher
   pub made-rows : (i a : ℕ) → i < groups L → a < M → inCode s frame (rowSites s l L i a) ≡ true
   made-rows = rows-in-code s l L ok (kit .self) (kit .parity) w (kit .rightInverse) (kit .leftInverse) info (G .bits)
 
-  pub made-columns : (i a : ℕ) → i < groups L → a < M → inCode s frame (columnSites s L i a) ≡ true
+  pub made-columns : (i a : ℕ) → i < groups L → a < M → inCode (columnCode s) frame (columnSites s L i a) ≡ true
   made-columns = columns-in-code s l L ok (kit .self) (kit .parity) w (kit .rightInverse) (kit .leftInverse) info (G .bits)
 
   pub made-length : length made ≡ redLength s L
@@ -134,83 +136,75 @@ module _ (K : Kit) (L : ℕ) (info old : List ℕ) (G : Given K L info old) wher
   pub frame-itself : Received frame frame
   frame-itself = record { infoLength = refl; redLength = refl; binary = bitAt-bits frame (G .bits) made-bits }
 
-  pub sound : (w : Word) → In w (plain s (words s l L)) → Sound frame w
+  pub sound : (w : Word) → In w (words s l L) → Sound frame w
   sound =
-      plain-each s (Sound frame) (words s l L)
-      (each-word s L l ok (kit .self) (kit .parity) (λ (v : List Site). Sound frame (word s v))
-      (λ i a hi ha. record { coded = made-rows i a hi ha; apart = far (rowSites s l L i a) (rowSites-length s L l ok (kit .self) (kit .parity) i a) })
-      (λ i a hi ha. record { coded = made-columns i a hi ha; apart = far (columnSites s L i a) (columnSites-length s L l ok (kit .self) (kit .parity) i a) }))
+      each-word s L l ok (kit .self) (kit .parity) (Sound frame)
+      (λ i a hi ha. record { coded = made-rows i a hi ha; apart = far s (rowSites s l L i a) (rowSites-length s L l ok (kit .self) (kit .parity) i a) (apart-of limits) })
+      (λ i a hi ha.
+      record { coded = made-columns i a hi ha; apart = far (columnCode s) (columnSites s L i a) (columnSites-length s L l ok (kit .self) (kit .parity) i a) (columns-apart limits) })
     where
-      far : (v : List Site) → length v ≡ wordLength s → CodeDistance s (length v)
-      far v e = subst (CodeDistance s) (sym e) (apart-of limits)
+      far : (c : Params) (v : List Site) → length v ≡ wordLength s → CodeDistance c (wordLength s) → CodeDistance c (length v)
+      far c v e = subst (CodeDistance c) (sym e)
 
-  pub covered : Covers frame (plain s (words s l L))
+  pub covered : Covers frame (words s l L)
   covered = (
-    λ k h. among (info-covered s L l ok (kit .self) (kit .parity) k (subst (λ (z : ℕ). k < z) (G .info-fits) h)),
-    λ k h. among (red-covered s L l ok (kit .self) (kit .parity) k (subst (λ (z : ℕ). k < z) made-length h)),
+    λ k h. info-covered s L l ok (kit .self) (kit .parity) k (subst (λ (z : ℕ). k < z) (G .info-fits) h),
+    λ k h. red-covered s L l ok (kit .self) (kit .parity) k (subst (λ (z : ℕ). k < z) made-length h),
   )
-    where
-      among : {y : Site} → (v : List Site) × In v (words s l L) × In y v → (w : Word) × In w (plain s (words s l L)) × In y (w .sites)
-      among c = (word s (c .0), in-map (word s) (words s l L) (c .0) (c .1), c .2)
 
   -- the four parts
 
   onlyChoice : (other : List ℕ) → length other ≡ length made → Bits other → other ≢ made → 0 < outside s l L (frameOf info other)
   unfolding outside
-  onlyChoice other long hb ne = go (decLt 0 (outsideAmong s x (words s l L)))
+  onlyChoice other long hb ne = go (decLt 0 (outsideEach x (words s l L)))
     where
       x : Frame
       x = frameOf info other
 
-      go : Dec (0 < outsideAmong s x (words s l L)) → 0 < outsideAmong s x (words s l L)
+      go : Dec (0 < outsideEach x (words s l L)) → 0 < outsideEach x (words s l L)
       go (yes h) = h
       go (no h) =
-          let all : (v : List Site) → In v (words s l L) → inCode s x v ≡ true = all-inside s x (words s l L) (omega arith) in
+          let all : (v : Word) → In v (words s l L) → inCode (v .code) x (v .sites) ≡ true = each-inside x (words s l L) (omega arith) in
           absurd (ne (redundancy-only s l L ok (kit .self) (kit .parity) w (kit .rightInverse) (kit .leftInverse) info (G .bits) other long hb
-          (λ i a hi ha. all (rowSites s l L i a) (row-among-words s L l ok (kit .self) (kit .parity) i a hi ha))
-          (λ i a hi ha. all (columnSites s L i a) (column-among-words s L l ok (kit .self) (kit .parity) i a hi ha))))
+          (λ i a hi ha. all (rowAt s l L i a) (row-among-words s L l ok (kit .self) (kit .parity) i a hi ha))
+          (λ i a hi ha. all (columnAt s L i a) (column-among-words s L l ok (kit .self) (kit .parity) i a hi ha))))
 
   reaches : (info₂ old₂ : List ℕ) → length info₂ ≡ length info → Bits info₂ → length old₂ ≡ length old → (c : ℕ) → SameBut (M * M) c info info₂ → (k : ℕ)
       → (let i : ℕ = k / (2 * order s) in (c + 1 ≢ 2 * i) → (c + 1 ≢ 2 * i + 1) → (c + 1 ≢ 2 * i + 2)
-      → getD made k 0 ≡ getD ((encodeCall m t M L self parity w info₂ old₂ (kitWork s)) .red) k 0)
+      → getD made k 0 ≡ getD ((encodeCall m t M col L self parity w info₂ old₂ (kitWork s)) .red) k 0)
   reaches info₂ old₂ li hb lo c same k d₀ d₁ d₂ =
       reach s l L ok (kit .self) (kit .parity) w info info₂ c same k d₀ d₁ d₂
       ∙ sym (ap (λ (z : Encoded). getD (z .red) k 0) (encode-made info₂ old₂ hb (li ∙ (G .info-fits)) (lo ∙ (G .old-fits))))
 
   restored : (k : ℕ) (received : Frame) → Received frame received
-      → ((v : List Site) → In v (words s l L) → distance (read frame v) (read received v) ≤ t) → (runRounds s (words s l L) (roundsAllowed k) received) .frame ≡ frame
-  unfolding runRounds
+      → ((v : Word) → In v (words s l L) → FewWrong frame received v) → runEach (words s l L) (roundsAllowed k) received .frame ≡ frame
   restored k received like few = go k
     where
-      each : (w : Word) → In w (plain s (words s l L)) → FewWrong frame received w
-      each = plain-each s (FewWrong frame received) (words s l L) few
-
-      go : (k : ℕ) → runEach (plain s (words s l L)) (roundsAllowed k) received .frame ≡ frame
-      go zero = runEach-restore frame frame-itself (plain s (words s l L)) sound covered (default-rounds - 1) received like each
-      go (suc k) = runEach-restore frame frame-itself (plain s (words s l L)) sound covered k received like each
+      go : (k : ℕ) → runEach (words s l L) (roundsAllowed k) received .frame ≡ frame
+      go zero = runEach-restore frame frame-itself (words s l L) sound covered (default-rounds - 1) received like few
+      go (suc k) = runEach-restore frame frame-itself (words s l L) sound covered k received like few
 
   -- no word is ever stuck
   freed : (k : ℕ) (received : Frame) → Received frame received
-      → ((v : List Site) → In v (words s l L) → distance (read frame v) (read received v) ≤ t) → lastStuck (plain s (words s l L)) (roundsAllowed k) received ≡ 0
+      → ((v : Word) → In v (words s l L) → FewWrong frame received v) → lastStuck (words s l L) (roundsAllowed k) received ≡ 0
   freed k received like few =
       let (j, some) = roundsAllowed-some k in
-      ap (λ (n : ℕ). lastStuck (plain s (words s l L)) n received) some
-      ∙ lastStuck-free frame frame-itself (plain s (words s l L)) sound j received like (plain-each s (FewWrong frame received) (words s l L) few)
+      ap (λ (n : ℕ). lastStuck (words s l L) n received) some
+      ∙ lastStuck-free frame frame-itself (words s l L) sound j received like few
 
-  pub none-outside : outsideAmong s frame (words s l L) ≡ 0
-  unfolding outsideAmong
-  none-outside = outsideEach-none frame frame-itself (plain s (words s l L)) sound
+  pub none-outside : outsideEach frame (words s l L) ≡ 0
+  none-outside = outsideEach-none frame frame-itself (words s l L) sound
 
   pub made-restored : (received : Frame) → length (received .info) ≡ length info → length (received .red) ≡ length made
-      → Bits (received .info) → Bits (received .red) → EachWord s l L (λ x. distance (read frame x) (read received x) ≤ t)
+      → Bits (received .info) → Bits (received .red) → EachWord s l L (λ x. distance (read frame (x .sites)) (read received (x .sites)) ≤ t)
       → (k : ℕ) → k ≤ most-rounds → Restored received frame (decode K L k received)
   unfolding decodeCall countsOf decoded outside
   made-restored received li lr hi hr few k hk =
-      let d : Decoded = runRounds s (words s l L) (roundsAllowed k) received in
+      let d : Decoded = runEach (words s l L) (roundsAllowed k) received in
       let like : Received frame received = record { infoLength = li; redLength = lr; binary = bitAt-bits received hi hr } in
-      let near = each-word s L l ok (kit .self) (kit .parity) (λ x. distance (read frame x) (read received x) ≤ t) (few .rows) (few .columns) in
+      let near = each-word s L l ok (kit .self) (kit .parity) (FewWrong frame received) (few .rows) (few .columns) in
       let same : d .frame ≡ frame = restored k received like near in
-      let none : outsideAmong s (d .frame) (words s l L) ≡ 0 = ap (λ (x : Frame). outsideAmong s x (words s l L)) same ∙ none-outside in
+      let none : outsideEach (d .frame) (words s l L) ≡ 0 = ap (λ (x : Frame). outsideEach x (words s l L)) same ∙ none-outside in
       let free = freed k received like near in (
         d .rounds,
         ap (λ (v : Verdict). correctedBy v received (d .frame) (countsOf s l L k received))

@@ -12,7 +12,7 @@ use mathlib.Core.List.{List}
 use Prim.Native.Nat.{ℕ, _≤_}
 use lib.ListN.{length}
 use Rattle.staircase.specs.Design.{Params, Interleavers, params, most-rounds}
-use Rattle.staircase.specs.Frame.{Frame, Site, frameOf, words, inCode}
+use Rattle.staircase.specs.Frame.{Frame, Word, frameOf, words, inCode}
 use Rattle.staircase.specs.System.{redundancy}
 use Rattle.staircase.specs.Decoder.{decoded}
 use Rattle.staircase.specs.Rules.{Verdict, _then_, designRules, countRule, lengthRule, kitLengths, infoLength, redLength, frameLengths, kitWork, interleavers, contentRules}
@@ -35,12 +35,12 @@ encodedBy-verdict (refused n p) old new = refl
 -- ---- from the verdict
 
 pub encode-accepted : (K : Kit) (L : ℕ) (info old : List ℕ) (work : ℕ)
-    → encodeVerdict (K .m) (K .t) (K .M) L (K .self) (K .parity) (K .inverse) info old work ≡ accepted → Given K L info old
+    → encodeVerdict (K .m) (K .t) (K .M) (K .col) L (K .self) (K .parity) (K .inverse) info old work ≡ accepted → Given K L info old
 unfolding encodeVerdict
 encode-accepted K L info old work e =
     let s : Params = sizes K in
     let l : Interleavers = lists K in
-    let v1 : Verdict = designRules (K .m) (K .t) (K .M) in
+    let v1 : Verdict = designRules (K .m) (K .t) (K .M) (K .col) in
     let v6 : Verdict = kitLengths s (K .self) (K .parity) (K .inverse) in
     let after-work : Verdict = contentRules s l (K .inverse) info in
     let after-frame : Verdict = lengthRule 6 work (kitWork s) then after-work in
@@ -58,7 +58,7 @@ encode-accepted K L info old work e =
     record {
       design = design;
       fits = lengths-fit s (K .self) (K .parity) (K .inverse) (then-first v6 after-kit e6);
-      passes = kit-passes s l (K .inverse) (proper-of (design-limits (K .m) (K .t) (K .M) design)) .0 (content .0);
+      passes = kit-passes s l (K .inverse) (proper-of (design-limits (K .m) (K .t) (K .M) (K .col) design)) .0 (content .0);
       some = count .0;
       few = count .1;
       bits = bytes-bits 0 info (content .1);
@@ -67,7 +67,7 @@ encode-accepted K L info old work e =
     }
 
 pub encode-work : (K : Kit) (L : ℕ) (info old : List ℕ) (work : ℕ)
-    → encodeVerdict (K .m) (K .t) (K .M) L (K .self) (K .parity) (K .inverse) info old work ≡ accepted → work ≡ kitWork (sizes K)
+    → encodeVerdict (K .m) (K .t) (K .M) (K .col) L (K .self) (K .parity) (K .inverse) info old work ≡ accepted → work ≡ kitWork (sizes K)
 unfolding encodeVerdict
 encode-work K L info old work e =
     let s : Params = sizes K in
@@ -76,14 +76,14 @@ encode-work K L info old work e =
     let v6 : Verdict = kitLengths s (K .self) (K .parity) (K .inverse) in
     let after-kit : Verdict = frameLengths s L info old then after-frame in
     let e6 : (v6 then after-kit) ≡ accepted =
-    then-rest (countRule L) (v6 then after-kit) (then-rest (designRules (K .m) (K .t) (K .M)) (countRule L then v6 then after-kit) e) in
+    then-rest (countRule L) (v6 then after-kit) (then-rest (designRules (K .m) (K .t) (K .M) (K .col)) (countRule L then v6 then after-kit) e) in
     length-equal 6 work (kitWork s)
     (then-first (lengthRule 6 work (kitWork s)) after-work (then-rest (frameLengths s L info old) after-frame (then-rest v6 after-kit e6)))
 
 pub accepted-demand3 : (K : Kit) (L : ℕ) (info old : List ℕ) → encode K L info old .verdict ≡ accepted → Demand3 K L info old
 unfolding encodeCall
 accepted-demand3 K L info old e =
-    let v : Verdict = encodeVerdict (K .m) (K .t) (K .M) L (K .self) (K .parity) (K .inverse) info old (kitWork (sizes K)) in
+    let v : Verdict = encodeVerdict (K .m) (K .t) (K .M) (K .col) L (K .self) (K .parity) (K .inverse) info old (kitWork (sizes K)) in
     demand3 K L info old
     (encode-accepted K L info old (kitWork (sizes K)) (sym (encodedBy-verdict v old (redundancy (sizes K) (lists K) (K .inverse) L info)) ∙ e))
 
@@ -102,9 +102,9 @@ module _ (K : Kit) (L : ℕ) (info old : List ℕ) (G : Given K L info old) wher
   abbrev frame : Frame
   frame = frameOf info (redundancy (sizes K) (lists K) (K .inverse) L info)
 
-  inside : (v : List Site) → In v (words s l L) → inCode s frame v ≡ true
+  inside : (v : Word) → In v (words s l L) → inCode (v .code) frame (v .sites) ≡ true
   inside =
-      each-word s L l (proper-of (design-limits (K .m) (K .t) (K .M) (G .design))) (G .passes .self) (G .passes .parity) (λ x. inCode s frame x ≡ true)
+      each-word s L l (proper-of (design-limits (K .m) (K .t) (K .M) (K .col) (G .design))) (G .passes .self) (G .passes .parity) (λ v. inCode (v .code) frame (v .sites) ≡ true)
       (made-rows K L info old G) (made-columns K L info old G)
 
   pub made-idle : (k : ℕ) → k ≤ most-rounds
@@ -118,15 +118,15 @@ module _ (K : Kit) (L : ℕ) (info old : List ℕ) (G : Given K L info old) wher
 -- ---- another old redundancy
 
 -- "whatever its redundancy buffer held"
-pub encode-old : (m t M L : ℕ) (self parity w info old old₂ red : List ℕ) (work : ℕ) → length old₂ ≡ length old
-    → encodeCall m t M L self parity w info old work ≡ record { verdict = accepted; red = red }
-    → encodeCall m t M L self parity w info old₂ work ≡ record { verdict = accepted; red = red }
+pub encode-old : (m t M col L : ℕ) (self parity w info old old₂ red : List ℕ) (work : ℕ) → length old₂ ≡ length old
+    → encodeCall m t M col L self parity w info old work ≡ record { verdict = accepted; red = red }
+    → encodeCall m t M col L self parity w info old₂ work ≡ record { verdict = accepted; red = red }
 unfolding encodeCall encodeVerdict frameLengths
-encode-old m t M L self parity w info old old₂ red work same e =
-    let s : Params = params m t M in
+encode-old m t M col L self parity w info old old₂ red work same e =
+    let s : Params = params m t M col in
     let l : Interleavers = interleavers s self parity in
     by-length
-    (λ k. designRules m t M then countRule L
+    (λ k. designRules m t M col then countRule L
     then kitLengths s self parity w then (lengthRule 4 (length info) (infoLength s L) then lengthRule 5 k (redLength s L)) then lengthRule 6 work (kitWork s)
     then contentRules s l w info)
     (redundancy s l w L info) e

@@ -24,7 +24,7 @@ use Rattle.bch.specs.Powers.{powerMod, xorSum}
 use Rattle.bch.proofs.Sum.{bit-ind, mod2-bit, ⊕-shift, ⊕-mod, ⊕-zero-left}
 use Rattle.bch.proofs.PowerSum.{xorSum-same, xorSum-zero, xorSum-append, shifted-powers, parity-at}
 use Rattle.staircase.specs.Lists.{bitSum, sumBits, tabulate}
-use Rattle.staircase.specs.Design.{Params, Interleavers, wordLength, order}
+use Rattle.staircase.specs.Design.{Params, Interleavers, columnGenerator, columnCode, wordLength, order}
 use Rattle.staircase.specs.Word.{rowInfo, columnInfo}
 use Rattle.staircase.specs.System.{Contents, zeros, unit, stack, unstack, preimage, columnParity, rowParity, residual, systemEntry}
 use Rattle.staircase.specs.Demand2.{Permutes}
@@ -116,7 +116,7 @@ blocksRemainder s f h =
     xorSum (s .M) (λ j. f j * powerMod (s .g) (s .r) (wordLength s - 1 - j)) ⊕ xorSum (s .M) (λ j. h j * powerMod (s .g) (s .r) (wordLength s - 1 - (s .M + j)))
 
 unfoldable pub columnRemainder : Params → Contents → Contents → ℕ → ℕ
-columnRemainder s odd even a = blocksRemainder s (λ j. odd (j * s .M + a)) (λ j. even (j * s .M + a))
+columnRemainder s odd even a = blocksRemainder (columnCode s) (λ j. odd (j * s .M + a)) (λ j. even (j * s .M + a))
 
 unfoldable pub rowRemainder : Params → Contents → Contents → ℕ → ℕ
 rowRemainder s before odd a = blocksRemainder s (λ j. before (a * s .M + j)) (λ j. odd (a * s .M + j))
@@ -152,11 +152,11 @@ module _ (s : Params) where
 module _ (s : Params) (ok : Proper s) where
   pub columnParity-powers : (o e y : Contents) → Binary o → Binary e → Binary y → (q : ℕ) → q < order s
       → columnParity s o e y q
-      ≡ (columnRemainder s o e (q % s .M) ⊕ xorSum (s .r) (λ b. y (b * s .M + q % s .M) * powerMod (s .g) (s .r) (2 * s .r - 1 - b))) / 2 ^ (s .r - 1 - q / s .M) % 2
+      ≡ (columnRemainder s o e (q % s .M) ⊕ xorSum (s .r) (λ b. y (b * s .M + q % s .M) * powerMod (columnGenerator s) (s .r) (2 * s .r - 1 - b))) / 2 ^ (s .r - 1 - q / s .M) % 2
   unfolding columnParity columnInfo columnRemainder
   columnParity-powers o e y ho he hy q h =
       let at : ℕ → ℕ = λ j. j * s .M + q % s .M in
-      parity-powers s (λ j. o (at j)) (λ j. e (at j)) (λ b. y (at b)) (λ j. ho (at j)) (λ j. he (at j)) (λ b. hy (at b)) (q / s .M) (row-of s ok q h)
+      parity-powers (columnCode s) (λ j. o (at j)) (λ j. e (at j)) (λ b. y (at b)) (λ j. ho (at j)) (λ j. he (at j)) (λ b. hy (at b)) (q / s .M) (row-of s ok q h)
 
   pub rowParity-powers : (l : Interleavers) (f o y : Contents) → Binary f → Binary o → Binary y → (p : ℕ) → p < order s
       → rowParity s l f o y p
@@ -168,9 +168,9 @@ module _ (s : Params) (ok : Proper s) where
       parity-powers s (λ j. f (at j)) (λ j. o (at j)) (λ b. y (to b)) (λ j. hf (at j)) (λ j. ho (at j)) (λ b. hy (to b)) (p / s .M) (row-of s ok p h)
 
   column-terms : (y : Contents) → Binary y → (q : ℕ) → q < order s
-      → columnParity s zeros zeros y q ≡ sumBits (s .r) (λ b. y (b * s .M + q % s .M) * coefficient s b (q / s .M))
+      → columnParity s zeros zeros y q ≡ sumBits (s .r) (λ b. y (b * s .M + q % s .M) * coefficient (columnCode s) b (q / s .M))
   unfolding columnParity columnInfo
-  column-terms y hy q h = parity-terms s (λ b. y (b * s .M + q % s .M)) (λ b. hy (b * s .M + q % s .M)) (q / s .M) (row-of s ok q h)
+  column-terms y hy q h = parity-terms (columnCode s) (λ b. y (b * s .M + q % s .M)) (λ b. hy (b * s .M + q % s .M)) (q / s .M) (row-of s ok q h)
 
   row-terms : (l : Interleavers) (y : Contents) → Binary y → (p : ℕ) → p < order s
       → rowParity s l zeros zeros y p ≡ sumBits (s .r) (λ b. y (getD (l .self) (b * s .M + p % s .M) 0) * coefficient s b (p / s .M))
@@ -216,7 +216,7 @@ module _ (s : Params) (ok : Proper s) (l : Interleavers)
 
   pub system-row : (e j : ℕ) → e < order s → j < order s
       → systemEntry s l e j
-      ≡ bitSum (sumBits (s .r) (λ b. cond (eqb (e / s .r * s .r + b) j) (coefficient s b (e % s .r)) 0))
+      ≡ bitSum (sumBits (s .r) (λ b. cond (eqb (e / s .r * s .r + b) j) (coefficient (columnCode s) b (e % s .r)) 0))
       (sumBits (s .r) (λ b. cond (eqb (stack s (getD (l .self) (b * s .M + sourceOf e % s .M) 0)) j) (coefficient s b (sourceOf e / s .M)) 0))
   unfolding systemEntry residual
   system-row e j he hj =
@@ -229,10 +229,11 @@ module _ (s : Params) (ok : Proper s) (l : Interleavers)
       let y : Contents = unit (unstack s j) in
       ap₂ bitSum
       (column-terms s ok y (unit-binary (unstack s j)) q (unstack-lt s ok e he)
-      ∙ sumBits-same (s .r) (λ b. y (b * s .M + q % s .M) * coefficient s b (q / s .M)) (λ b. cond (eqb (c * s .r + b) j) (coefficient s b (e % s .r)) 0)
-      (λ b m. ap₂ (λ (x z : ℕ). y (b * s .M + x) * coefficient s b z) qc qa
-      ∙ row-term j (b * s .M + c) (coefficient s b (e % s .r)) (place-lt s ok b c m hc) hj
-      ∙ ap (λ (x : ℕ). cond (eqb x j) (coefficient s b (e % s .r)) 0) (stack-place b c hc)))
+      ∙ sumBits-same (s .r) (λ b. y (b * s .M + q % s .M) * coefficient (columnCode s) b (q / s .M))
+      (λ b. cond (eqb (c * s .r + b) j) (coefficient (columnCode s) b (e % s .r)) 0)
+      (λ b m. ap₂ (λ (x z : ℕ). y (b * s .M + x) * coefficient (columnCode s) b z) qc qa
+      ∙ row-term j (b * s .M + c) (coefficient (columnCode s) b (e % s .r)) (place-lt s ok b c m hc) hj
+      ∙ ap (λ (x : ℕ). cond (eqb x j) (coefficient (columnCode s) b (e % s .r)) 0) (stack-place b c hc)))
       (row-terms s ok l y (unit-binary (unstack s j)) p (source-below e he)
       ∙ sumBits-same (s .r) (λ b. y (getD (l .self) (b * s .M + p % s .M) 0) * coefficient s b (p / s .M))
       (λ b. cond (eqb (stack s (getD (l .self) (b * s .M + p % s .M) 0)) j) (coefficient s b (p / s .M)) 0)

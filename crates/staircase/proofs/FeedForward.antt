@@ -1,6 +1,6 @@
 -- The words of feed-forward frames as a layout.
---   line-length, line-distinct, line-within   the words of a line: their length, no sent site twice, and all sent sites bytes of the frame
---   feedForward-lawful                        all that is asked of a kind of frame
+--   line-within, read-within    all sent sites of a line's words are bytes of the frame
+--   feedForward-lawful          all that is asked of a kind of frame
 -- Assumes nothing.
 use mathlib.Core.Path.{_≡_, sym, ap, _∙_, subst}
 use mathlib.Core.Logic.{_⊎_, inl, inr}
@@ -16,31 +16,20 @@ use Rattle.staircase.specs.Word.{rowInfo, rowWord, columnInfo, columnWor
 use Rattle.staircase.specs.Frame.{Frame, Site, groups, blockAt, yAt, pAt, rowSites, columnSites}
 use Rattle.staircase.specs.Frame.Site.{unsent}
 use Rattle.staircase.specs.Demand2.{Permutes}
-use Rattle.staircase.specs.Lines.{lineSites, Incidence, incidence, crossing}
+use Rattle.staircase.specs.Lines.{lineSites, readSites, Incidence, incidence, readCrossing}
 use Rattle.staircase.specs.Layout.{wordAt, placeOf, feedForward}
 use Rattle.staircase.proofs.Member.{In}
 use Rattle.staircase.proofs.Stretches.{four-all}
-use Rattle.staircase.proofs.Flip.{Sent, Within, Distinct}
+use Rattle.staircase.proofs.Flip.{Sent, Within}
 use Rattle.staircase.proofs.System.{Proper, place-lt}
-use Rattle.staircase.proofs.Sites.{block-sent, rowSites-distinct, columnSites-distinct, rowSites-length, columnSites-length}
+use Rattle.staircase.proofs.Sites.{block-sent}
 use Rattle.staircase.proofs.Weight.{weight, weight-at}
 use Rattle.staircase.proofs.Lawful.{Lawful, position-of, word-number, one-elsewhere, one-there}
 use Rattle.staircase.proofs.Lines.{line-ind, line-row, line-column}
-use Rattle.staircase.proofs.Crossing.{Crosses, crossing-holds, only-two}
+use Rattle.staircase.proofs.Turned.{read-length, read-distinct, read-in, ReadCrosses, readCrossing-holds, read-only-two}
 
 module _ (s : Params) (L : ℕ) (l : Interleavers) (ok : Proper s) (ps : Permutes (order s) (λ p. getD (l .self) p 0))
     (pp : Permutes (order s) (λ p. getD (l .parity) p 0)) where
-  pub line-length : (k a : ℕ) → length (lineSites s l L k a) ≡ wordLength s
-  line-length k a =
-      line-ind (λ (k : ℕ). length (lineSites s l L k a) ≡ wordLength s) (λ i. ap length (line-row s l L i a) ∙ rowSites-length s L l ok ps pp i a)
-      (λ i. ap length (line-column s l L i a) ∙ columnSites-length s L l ok ps pp i a) k
-
-  pub line-distinct : (k a : ℕ) → a < s .M → Distinct (lineSites s l L k a)
-  line-distinct k a ha =
-      line-ind (λ (k : ℕ). Distinct (lineSites s l L k a))
-      (λ i. subst Distinct (sym (line-row s l L i a)) (rowSites-distinct s L l ok ps pp i a ha))
-      (λ i. subst Distinct (sym (line-column s l L i a)) (columnSites-distinct s L l ok ps pp i a ha)) k
-
   module _ (f : Frame) (info : length (f .info) ≡ L * (s .M * s .M)) (red : length (f .red) ≡ groups L * (2 * order s)) where
     in-block : (b c : ℕ) → c < s .M * s .M → Sent (blockAt s L b c) → Within (blockAt s L b c) f
     in-block b c h sent =
@@ -78,41 +67,44 @@ module _ (s : Params) (L : ℕ) (l : Interleavers) (ok : Proper s) (ps : Permute
         (λ i hi m. row-within i a (omega arith) ha y (subst (λ (v : List Site). In y v) (line-row s l L i a) m) sent)
         (λ i hi m. column-within i a (omega arith) ha y (subst (λ (v : List Site). In y v) (line-column s l L i a) m) sent) k hk
 
+    pub read-within : (k a : ℕ) → k < 2 * groups L → a < s .M → (y : Site) → Sent y → In y (readSites s l L k a) → Within y f
+    read-within k a hk ha y sent i = line-within k a hk ha y sent (read-in s L l k a y i)
+
   -- ---- the bit at position p of word a of line k
 
-  module _ (k a p : ℕ) (ha : a < s .M) (hp : p < wordLength s) (sent : Sent (getD (lineSites s l L k a) p unsent)) where
+  module _ (k a p : ℕ) (ha : a < s .M) (hp : p < wordLength s) (sent : Sent (getD (readSites s l L k a) p unsent)) where
     abbrev y : Site
-    y = getD (lineSites s l L k a) p unsent
+    y = getD (readSites s l L k a) p unsent
 
     abbrev c : Incidence
-    c = crossing s l k a p
+    c = readCrossing s l k a p
 
-    x : Crosses s L l ok ps pp k a p c
-    x = crossing-holds s L l ok ps pp k a p ha hp sent
+    x : ReadCrosses s L l ok ps pp k a p c
+    x = readCrossing-holds s L l ok ps pp k a p ha hp sent
 
     -- a word that has the bit is the word itself or the crossing word
     holder : (w : ℕ) → In y (wordAt (feedForward s l L) w .sites) → (w ≡ k * s .M + a) ⊎ (w ≡ c .line * s .M + c .word)
     holder w m =
         let t = position-of y (wordAt (feedForward s l L) w .sites) m in
-        let hq : t .0 < wordLength s = subst (λ (n : ℕ). t .0 < n) (line-length (w / s .M) (w % s .M)) (t .1) in
-        go (t .0) (only-two s L l ok ps pp k a p (w / s .M) (w % s .M) (t .0) ha hp sent (mod-lt w (ok .mpos)) hq (t .2))
+        let hq : t .0 < wordLength s = subst (λ (n : ℕ). t .0 < n) (read-length s L l ok ps pp (w / s .M) (w % s .M)) (t .1) in
+        go (read-only-two s L l ok ps pp k a p (w / s .M) (w % s .M) (t .0) ha hp sent (mod-lt w (ok .mpos)) hq (t .2))
       where
-        number : (q : Incidence) (j : ℕ) → incidence (w / s .M) (w % s .M) j ≡ q → w ≡ q .line * s .M + q .word
-        number q j e = sym (div-add-mod' w (s .M)) ∙ ap (λ (z : Incidence). z .line * s .M + z .word) e
+        number : (q : Incidence) → incidence (w / s .M) (w % s .M) 0 ≡ incidence (q .line) (q .word) 0 → w ≡ q .line * s .M + q .word
+        number q e = sym (div-add-mod' w (s .M)) ∙ ap (λ (z : Incidence). z .line * s .M + z .word) e
 
-        go : (j : ℕ) → (incidence (w / s .M) (w % s .M) j ≡ incidence k a p) ⊎ (incidence (w / s .M) (w % s .M) j ≡ c)
+        go : (incidence (w / s .M) (w % s .M) 0 ≡ incidence k a 0) ⊎ (incidence (w / s .M) (w % s .M) 0 ≡ incidence (c .line) (c .word) 0)
             → (w ≡ k * s .M + a) ⊎ (w ≡ c .line * s .M + c .word)
-        go j (inl e) = inl (number (incidence k a p) j e)
-        go j (inr e) = inr (number c j e)
+        go (inl e) = inl (number (incidence k a p) e)
+        go (inr e) = inr (number c e)
 
     crossing-weight : (w : ℕ) → w ≡ c .line * s .M + c .word
         → weight (s .g) (s .r) y (wordAt (feedForward s l L) w .sites) ≡ powerMod (s .g) (s .r) (wordLength s - 1 - c .position)
     crossing-weight w e =
-        let v : List Site = lineSites s l L (c .line) (c .word) in
-        let long : length v ≡ wordLength s = line-length (c .line) (c .word) in
+        let v : List Site = readSites s l L (c .line) (c .word) in
+        let long : length v ≡ wordLength s = read-length s L l ok ps pp (c .line) (c .word) in
         ap (λ (n : ℕ). weight (s .g) (s .r) y (wordAt (feedForward s l L) n .sites)) e
         ∙ ap (weight (s .g) (s .r) y) (word-number (feedForward s l L) (c .line) (c .word) (x .word))
-        ∙ weight-at (s .g) (s .r) y v (line-distinct (c .line) (c .word) (x .word)) (c .position)
+        ∙ weight-at (s .g) (s .r) y v (read-distinct s L l ok ps pp (c .line) (c .word) (x .word)) (c .position)
         (subst (λ (n : ℕ). c .position < n) (sym long) (x .position)) (x .holds) sent
         ∙ ap (λ (n : ℕ). powerMod (s .g) (s .r) (n - 1 - c .position)) long
 
@@ -120,9 +112,9 @@ module _ (s : Params) (L : ℕ) (l : Interleavers) (ok : Proper s) (ps : Permute
   feedForward-lawful =
       record {
         some = ok .mpos;
-        long = λ k a hk ha. line-length k a;
-        distinct = λ k a hk ha. line-distinct k a ha;
-        within = λ k a hk ha f info red y sent i. line-within f info red k a hk ha y sent i;
-        elsewhere = λ k a p hk ha hp sent w hw d e. one-elsewhere (placeOf s (wordLength s) (crossing s l k a p)) w (k * s .M + a) (holder k a p ha hp sent w) d e;
-        there = λ k a p hk ha hp sent w hw d e. one-there s (placeOf s (wordLength s) (crossing s l k a p)) w (crossing-weight k a p ha hp sent w) e;
+        long = λ k a hk ha. read-length s L l ok ps pp k a;
+        distinct = λ k a hk ha. read-distinct s L l ok ps pp k a ha;
+        within = λ k a hk ha f info red y sent i. read-within f info red k a hk ha y sent i;
+        elsewhere = λ k a p hk ha hp sent w hw d e. one-elsewhere (placeOf s (wordLength s) (readCrossing s l k a p)) w (k * s .M + a) (holder k a p ha hp sent w) d e;
+        there = λ k a p hk ha hp sent w hw d e. one-there s (placeOf s (wordLength s) (readCrossing s l k a p)) w (crossing-weight k a p ha hp sent w) e;
       }

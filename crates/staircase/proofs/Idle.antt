@@ -13,11 +13,11 @@ use lib.ListN.{length, getD}
 use Rattle.bch.specs.Code.{isCodeword}
 use Rattle.staircase.specs.Design.{Params, Interleavers}
 use Rattle.staircase.specs.Lists.{tabulate}
-use Rattle.staircase.specs.Frame.{Frame, Site, Word, plain, words, read, inCode}
+use Rattle.staircase.specs.Frame.{Frame, Site, Word, words, read, inCode}
 use Rattle.staircase.specs.Frame.Site.{unsent}
 use Rattle.staircase.specs.Decoder.{choices, flipBits, firstCorrecting, errorPositions, everyOccurrence, once, permitted, correction, flipAll, Progress, correctWord, correctEach, roundOf, runEach, runRounds, default-rounds, roundsAllowed, decoded}
 use Rattle.staircase.proofs.Member.{In}
-use Rattle.staircase.proofs.Rounds.{runEach-idle, plain-each}
+use Rattle.staircase.proofs.Rounds.{runEach-idle}
 
 -- the empty choice comes first
 choices-first : (t : ℕ) (w : List ℕ) → (rest : List (List ℕ)) × (choices t w ≡ [] ∷ rest)
@@ -61,14 +61,11 @@ module _ (f : Frame) where
         runEach-idle ws k f (ap (λ (x : Progress). x .flips) roundOf-stays)
         ∙ ap (λ (x : Progress). record { frame = x .frame; rounds = 1; flips = 0 }) roundOf-stays
 
-pub decoded-stays : (s : Params) (f : Frame) (l : Interleavers) (L k : ℕ) → ((w : List Site) → In w (words s l L) → inCode s f w ≡ true)
+pub decoded-stays : (s : Params) (f : Frame) (l : Interleavers) (L k : ℕ) → ((w : Word) → In w (words s l L) → inCode (w .code) f (w .sites) ≡ true)
     → decoded s l L k f ≡ record { frame = f; rounds = 1; flips = 0 }
-unfolding decoded runRounds
+unfolding decoded
 decoded-stays s f l L k h = go k
   where
-    each : (w : Word) → In w (plain s (words s l L)) → inCode (w .code) f (w .sites) ≡ true
-    each = plain-each s (λ (w : Word). inCode (w .code) f (w .sites) ≡ true) (words s l L) h
-
-    go : (k : ℕ) → runEach (plain s (words s l L)) (roundsAllowed k) f ≡ record { frame = f; rounds = 1; flips = 0 }
-    go zero = runEach-stays f (plain s (words s l L)) each (default-rounds - 1)
-    go (suc k) = runEach-stays f (plain s (words s l L)) each k
+    go : (k : ℕ) → runEach (words s l L) (roundsAllowed k) f ≡ record { frame = f; rounds = 1; flips = 0 }
+    go zero = runEach-stays f (words s l L) h (default-rounds - 1)
+    go (suc k) = runEach-stays f (words s l L) h k

@@ -20,6 +20,7 @@ pub mod Flip
 pub mod Errors
 pub mod Occurrences
 pub mod Correction
+pub mod Mirrored
 pub mod Sites
 pub mod Positions
 pub mod Apart
@@ -38,6 +39,7 @@ pub mod Lines
 pub mod Readings
 pub mod Crossing
 pub mod Lawful
+pub mod Turned
 pub mod FeedForward
 pub mod Rules
 pub mod OrderMoved
@@ -51,6 +53,7 @@ pub mod Singular
 pub mod SpreadCall
 pub mod Demand3
 pub mod Window
+pub mod Alike
 pub mod Encoded
 pub mod Batch
 pub mod Demand1

@@ -10,22 +10,22 @@ use mathlib.Core.Path.{_≡_, refl, sym, ap, ap₂, _∙_, subst}
 use mathlib.Core.Bool.{Bool, true, false, not, cond}
 use mathlib.Core.List.{List, _++_, append-assoc}
 use Prim.Native.Nat.{ℕ, zero, suc, _+_, _-_, _*_, _/_, _%_, _≤_, _<_}
-use native.Mathlib.Nat.{zero-mul, suc-mul, add-mul, mul-comm, mul-assoc, add-assoc}
+use native.Mathlib.Nat.{zero-add, zero-mul, suc-mul, add-mul, mul-comm, mul-assoc, add-assoc}
 use native.Mathlib.Decide.{decLt}
 use native.Mathlib.Numerals.{add-one}
 use native.Mathlib.Omega.{arith}
 use lib.Arith.{digits-lt, digits-div, digits-mod}
 use lib.Dec.{ltb}
-use lib.ListN.{getD}
+use lib.ListN.{length, getD}
 use borrow.Author.Tests.{eq-eqb, ne-eqb, lt-ltb, le-ltb}
 use Rattle.staircase.specs.Lists.{tabulate, concat}
 use Rattle.staircase.specs.Design.{Params, Interleavers, wordLength, order}
-use Rattle.staircase.specs.Frame.{Site, groups, blockAt, rowSites, columnSites, words}
+use Rattle.staircase.specs.Frame.{Site, Word, groups, blockAt, rowSites, columnSites, rowAt, columnAt, words}
 use Rattle.staircase.specs.Frame.Site.{unsent, inRed}
 use Rattle.staircase.specs.Demand2.{Permutes}
-use Rattle.staircase.specs.Lines.{even, lineSites, wordCount, frameWord, along, partner}
+use Rattle.staircase.specs.Lines.{even, lineSites, lineWord, readSites, readFrom, wordCount, frameWord, along, partner}
 use Rattle.staircase.proofs.Search.{cond-true, cond-false}
-use Rattle.staircase.proofs.Tabulate.{tabulate-same, tabulate-append, concat-last, concat-same}
+use Rattle.staircase.proofs.Tabulate.{tabulate-same, tabulate-length, tabulate-append, concat-last, concat-same}
 use Rattle.staircase.proofs.Permutation.{preimage-sent, preimage-of}
 use Rattle.staircase.proofs.System.{Proper, place-lt}
 use Rattle.staircase.proofs.Positions.{row-at-before, row-at-odd, row-at-self, row-at-parity, column-at-odd, column-at-even, column-at-self, column-at-parity}
@@ -88,15 +88,37 @@ concat-tabulate {A} M (suc n) F =
     ∙ sym (tabulate-append (n * M) M (λ w. F (w / M) (w % M))) ∙ ap (λ (k : ℕ). tabulate k (λ w. F (w / M) (w % M))) (sym (suc-mul n M))
 
 module _ (s : Params) (l : Interleavers) (L : ℕ) where
-  pub words-lines : words s l L ≡ concat (2 * groups L) (λ k. tabulate (s .M) (lineSites s l L k))
+  pub word-row : (i a : ℕ) → lineWord s l L (2 * i) a ≡ rowAt s l L i a
+  unfolding lineWord
+  word-row i a =
+      let h : 2 * i / 2 ≡ i = omega arith in
+      ap (λ (z : Bool). cond z (rowAt s l L (2 * i / 2) a) (columnAt s L (2 * i / 2) a)) (even-twice i) ∙ ap (λ (j : ℕ). rowAt s l L j a) h
+
+  pub word-column : (i a : ℕ) → lineWord s l L (2 * i + 1) a ≡ columnAt s L i a
+  unfolding lineWord
+  word-column i a =
+      let h : (2 * i + 1) / 2 ≡ i = omega arith in
+      ap (λ (z : Bool). cond z (rowAt s l L ((2 * i + 1) / 2) a) (columnAt s L ((2 * i + 1) / 2) a)) (odd-twice i)
+      ∙ ap (λ (j : ℕ). columnAt s L j a) h
+
+  pub words-lines : words s l L ≡ concat (2 * groups L) (λ k. tabulate (s .M) (lineWord s l L k))
   unfolding words
   words-lines =
       concat-same (groups L) _ _
-      (λ i h. ap₂ _++_ (tabulate-same (s .M) _ _ (λ a m. sym (line-row s l L i a))) (tabulate-same (s .M) _ _ (λ a m. sym (line-column s l L i a))))
-      ∙ concat-pairs (groups L) (λ k. tabulate (s .M) (lineSites s l L k))
+      (λ i h. ap₂ _++_ (tabulate-same (s .M) _ _ (λ a m. sym (word-row i a))) (tabulate-same (s .M) _ _ (λ a m. sym (word-column i a))))
+      ∙ concat-pairs (groups L) (λ k. tabulate (s .M) (lineWord s l L k))
 
-  pub words-numbered : words s l L ≡ tabulate (wordCount s L) (λ w. frameWord s l L w .sites)
-  words-numbered = words-lines ∙ concat-tabulate (s .M) (2 * groups L) (lineSites s l L)
+  pub words-length : length (words s l L) ≡ wordCount s L
+  words-length =
+      ap length (words-lines ∙ concat-tabulate (s .M) (2 * groups L) (lineWord s l L))
+      ∙ tabulate-length (wordCount s L) (λ w. lineWord s l L (w / s .M) (w % s .M))
+
+  -- as code reads them, by their numbers
+  pub read-numbered : readFrom s l L 0 (2 * groups L) ≡ tabulate (wordCount s L) (λ w. frameWord s l L w .sites)
+  read-numbered =
+      concat-same (2 * groups L) (λ i. tabulate (s .M) (readSites s l L (0 + i))) (λ i. tabulate (s .M) (readSites s l L i))
+      (λ i h. ap (λ (k : ℕ). tabulate (s .M) (readSites s l L k)) (zero-add i))
+      ∙ concat-tabulate (s .M) (2 * groups L) (readSites s l L)
 
 -- ---- the places of the redundancy
 

@@ -129,16 +129,16 @@ module _ (test : ℕ → Bool) (f : Frame) where
 
 -- ---- what the rules of the calls that turn say of an accepted frame, and that they accept what is left of it
 
-module _ (m t M L : ℕ) (info red : List ℕ) (e : turnVerdict m t M L info red ≡ accepted) where
+module _ (m t M col L : ℕ) (info red : List ℕ) (e : turnVerdict m t M col L info red ≡ accepted) where
   abbrev s : Params
-  s = params m t M
+  s = params m t M col
 
   abbrev lengths : Verdict
   lengths = frameLengths s L info red
 
   counted : (countRule L then lengths then frameBits info red) ≡ accepted
   unfolding turnVerdict
-  counted = then-rest (designRules m t M) (countRule L then lengths then frameBits info red) e
+  counted = then-rest (designRules m t M col) (countRule L then lengths then frameBits info red) e
 
   measured : (lengths then frameBits info red) ≡ accepted
   measured = then-rest (countRule L) (lengths then frameBits info red) counted
@@ -149,16 +149,16 @@ module _ (m t M L : ℕ) (info red : List ℕ) (e : turnVerdict m t M L info red
   pub turn-lengths : (length info ≡ infoLength s L) × (length red ≡ redLength s L)
   turn-lengths = frame-lengths s L info red (then-first lengths (frameBits info red) measured)
 
-  turn-again : (i r : List ℕ) → length i ≡ length info → length r ≡ length red → Bits i → Bits r → turnVerdict m t M L i r ≡ accepted
+  turn-again : (i r : List ℕ) → length i ≡ length info → length r ≡ length red → Bits i → Bits r → turnVerdict m t M col L i r ≡ accepted
   unfolding turnVerdict frameLengths frameBits
   turn-again i r li lr bi br =
-      then-accepted (then-first (designRules m t M) (countRule L then lengths then frameBits info red) e)
+      then-accepted (then-first (designRules m t M col) (countRule L then lengths then frameBits info red) e)
       (then-accepted (then-first (countRule L) (lengths then frameBits info red) counted)
       (then-accepted
       (then-accepted (length-accepted 4 (length i) (infoLength s L) (li ∙ turn-lengths .0)) (length-accepted 5 (length r) (redLength s L) (lr ∙ turn-lengths .1)))
       (then-accepted (bits-accepted 0 i bi) (bits-accepted (length i) r br))))
 
-  turned-accepted : (test : ℕ → Bool) → turnVerdict m t M L (turnedFrame test (frameOf info red) .info) (turnedFrame test (frameOf info red) .red) ≡ accepted
+  turned-accepted : (test : ℕ → Bool) → turnVerdict m t M col L (turnedFrame test (frameOf info red) .info) (turnedFrame test (frameOf info red) .red) ≡ accepted
   turned-accepted test =
       turn-again (turnedWhere test info) (turnedWhere (λ j. test (length info + j)) red) (turned-length test info) (turned-length (λ j. test (length info + j)) red)
       (turned-bits test info (turn-bits .0)) (turned-bits (λ j. test (length info + j)) red (turn-bits .1))
@@ -179,17 +179,17 @@ runBy-verdict (refused n p) old new = refl
 
 -- ---- filling
 
-pub fill-bits : (m t M L seed : ℕ) (info : List ℕ) → fillCall m t M L seed info .verdict ≡ accepted → Bits (fillCall m t M L seed info .info)
+pub fill-bits : (m t M col L seed : ℕ) (info : List ℕ) → fillCall m t M col L seed info .verdict ≡ accepted → Bits (fillCall m t M col L seed info .info)
 unfolding fillCall
-fill-bits m t M L seed info e =
+fill-bits m t M col L seed info e =
     let new : List ℕ = tabulate (length info) (loadBit seed) in
     let last : ℕ = stateAfter seed (length info) in
-    let v : fillVerdict m t M L info ≡ accepted = sym (filledBy-verdict (fillVerdict m t M L info) info new last) ∙ e in
+    let v : fillVerdict m t M col L info ≡ accepted = sym (filledBy-verdict (fillVerdict m t M col L info) info new last) ∙ e in
     subst⁻¹ Bits (ap (λ (z : Verdict). filledBy z info new last .info) v) (tabulate-bits (length info) (loadBit seed) (λ k. rw (add-one k) (output-bit seed k)))
 
 -- ---- turning twice gives the frame back; a refused call is refused again
 
-module _ (m t M L seed limit : ℕ) (info red : List ℕ) where
+module _ (m t M col L seed limit : ℕ) (info red : List ℕ) where
   abbrev old : Frame
   old = frameOf info red
 
@@ -199,40 +199,40 @@ module _ (m t M L seed limit : ℕ) (info red : List ℕ) where
   abbrev last : ℕ
   last = stateAfter seed (16 * (length info + length red))
 
-  pub errors-twice : errorsCall m t M L seed limit (errorsCall m t M L seed limit info red .frame .info) (errorsCall m t M L seed limit info red .frame .red)
-      ≡ record { verdict = errorsCall m t M L seed limit info red .verdict; frame = frameOf info red; state = errorsCall m t M L seed limit info red .state }
+  pub errors-twice : errorsCall m t M col L seed limit (errorsCall m t M col L seed limit info red .frame .info) (errorsCall m t M col L seed limit info red .frame .red)
+      ≡ record { verdict = errorsCall m t M col L seed limit info red .verdict; frame = frameOf info red; state = errorsCall m t M col L seed limit info red .state }
   unfolding errorsCall
-  errors-twice = go (turnVerdict m t M L info red) refl
+  errors-twice = go (turnVerdict m t M col L info red) refl
     where
-      go : (v : Verdict) → turnVerdict m t M L info red ≡ v
-          → errorsCall m t M L seed limit (errorsBy v old new last .frame .info) (errorsBy v old new last .frame .red)
+      go : (v : Verdict) → turnVerdict m t M col L info red ≡ v
+          → errorsCall m t M col L seed limit (errorsBy v old new last .frame .info) (errorsBy v old new last .frame .red)
           ≡ record { verdict = errorsBy v old new last .verdict; frame = old; state = errorsBy v old new last .state }
       go accepted e =
           ap (λ (z : Verdict). errorsBy z new (turnedFrame (randomTurns seed limit) new) (stateAfter seed (16 * (length (new .info) + length (new .red)))))
-          (turned-accepted m t M L info red e (randomTurns seed limit))
+          (turned-accepted m t M col L info red e (randomTurns seed limit))
           ∙ ap₂ (λ (f : Frame) (n : ℕ). record { verdict = accepted; frame = f; state = stateAfter seed (16 * n) })
-          (frame-twice (randomTurns seed limit) old (turn-bits m t M L info red e .0) (turn-bits m t M L info red e .1)) (lengths-stay (randomTurns seed limit) old)
+          (frame-twice (randomTurns seed limit) old (turn-bits m t M col L info red e .0) (turn-bits m t M col L info red e .1)) (lengths-stay (randomTurns seed limit) old)
       go (refused n p) e = ap (λ (z : Verdict). errorsBy z old new last) e
 
-module _ (m t M L place long : ℕ) (info red : List ℕ) where
+module _ (m t M col L place long : ℕ) (info red : List ℕ) where
   abbrev before : Frame
   before = frameOf info red
 
   abbrev after : Frame
   after = turnedFrame (runTurns place long) (frameOf info red)
 
-  pub run-twice : runCall m t M L place long (runCall m t M L place long info red .frame .info) (runCall m t M L place long info red .frame .red)
-      ≡ record { verdict = runCall m t M L place long info red .verdict; frame = frameOf info red }
+  pub run-twice : runCall m t M col L place long (runCall m t M col L place long info red .frame .info) (runCall m t M col L place long info red .frame .red)
+      ≡ record { verdict = runCall m t M col L place long info red .verdict; frame = frameOf info red }
   unfolding runCall
-  run-twice = go (turnVerdict m t M L info red) refl
+  run-twice = go (turnVerdict m t M col L info red) refl
     where
-      go : (v : Verdict) → turnVerdict m t M L info red ≡ v
-          → runCall m t M L place long (runBy v before after .frame .info) (runBy v before after .frame .red)
+      go : (v : Verdict) → turnVerdict m t M col L info red ≡ v
+          → runCall m t M col L place long (runBy v before after .frame .info) (runBy v before after .frame .red)
           ≡ record { verdict = runBy v before after .verdict; frame = before }
       go accepted e =
-          ap (λ (z : Verdict). runBy z after (turnedFrame (runTurns place long) after)) (turned-accepted m t M L info red e (runTurns place long))
+          ap (λ (z : Verdict). runBy z after (turnedFrame (runTurns place long) after)) (turned-accepted m t M col L info red e (runTurns place long))
           ∙ ap (λ (f : Frame). record { verdict = accepted; frame = f })
-          (frame-twice (runTurns place long) before (turn-bits m t M L info red e .0) (turn-bits m t M L info red e .1))
+          (frame-twice (runTurns place long) before (turn-bits m t M col L info red e .0) (turn-bits m t M col L info red e .1))
       go (refused n p) e = ap (λ (z : Verdict). runBy z before after) e
 
 -- ---- limits that turn nothing, or everything
@@ -241,21 +241,21 @@ errors-kept : (v : Verdict) (old new : Frame) (s : ℕ) → new ≡ old → erro
 errors-kept accepted old new s e = e
 errors-kept (refused n p) old new s e = refl
 
-module _ (m t M L seed : ℕ) (info red : List ℕ) where
-  pub errors-none : errorsCall m t M L seed 0 info red .frame ≡ frameOf info red
+module _ (m t M col L seed : ℕ) (info red : List ℕ) where
+  pub errors-none : errorsCall m t M col L seed 0 info red .frame ≡ frameOf info red
   unfolding errorsCall
   errors-none =
-      errors-kept (turnVerdict m t M L info red) (frameOf info red) (turnedFrame (randomTurns seed 0) (frameOf info red)) _
+      errors-kept (turnVerdict m t M col L info red) (frameOf info red) (turnedFrame (randomTurns seed 0) (frameOf info red)) _
       (frame-none (randomTurns seed 0) (frameOf info red) (λ k. le-ltb (drawn (stateAfter seed (16 * k))) 0 (omega arith)))
 
-  pub errors-all : (limit : ℕ) → 65536 ≤ limit → errorsCall m t M L seed limit info red .verdict ≡ accepted
-      → errorsCall m t M L seed limit info red .frame ≡ turnedFrame (λ k. true) (frameOf info red)
+  pub errors-all : (limit : ℕ) → 65536 ≤ limit → errorsCall m t M col L seed limit info red .verdict ≡ accepted
+      → errorsCall m t M col L seed limit info red .frame ≡ turnedFrame (λ k. true) (frameOf info red)
   unfolding errorsCall
   errors-all limit h e =
       let below : (k : ℕ) → randomTurns seed limit k ≡ true =
       λ k. lt-ltb (drawn (stateAfter seed (16 * k))) limit (omega (arith, draw-below (stateAfter seed (16 * k)) 16)) in
       ap (λ (v : Verdict). errorsBy v (frameOf info red) (turnedFrame (randomTurns seed limit) (frameOf info red)) (stateAfter seed (16 * (length info + length red))) .frame)
-      (sym (errorsBy-verdict (turnVerdict m t M L info red) (frameOf info red) (turnedFrame (randomTurns seed limit) (frameOf info red)) _) ∙ e)
+      (sym (errorsBy-verdict (turnVerdict m t M col L info red) (frameOf info red) (turnedFrame (randomTurns seed limit) (frameOf info red)) _) ∙ e)
       ∙ ap₂ frameOf (turned-same (randomTurns seed limit) info (λ k. true) (λ k i. below k))
       (turned-same (λ j. randomTurns seed limit (length info + j)) red (λ k. true) (λ k i. below (length info + k)))
 
@@ -331,39 +331,39 @@ passing-run (suc n) zero (suc long) =
 
 -- ---- a run bit by bit, the bits of the frame counted through both buffers, and how many bits it turns
 
-module _ (m t M L place long : ℕ) (info red : List ℕ) (e : runCall m t M L place long info red .verdict ≡ accepted) where
+module _ (m t M col L place long : ℕ) (info red : List ℕ) (e : runCall m t M col L place long info red .verdict ≡ accepted) where
   abbrev bits : List ℕ
   bits = info ++ red
 
-  left : runCall m t M L place long info red .frame .info ++ runCall m t M L place long info red .frame .red ≡ turnedWhere (runTurns place long) bits
+  left : runCall m t M col L place long info red .frame .info ++ runCall m t M col L place long info red .frame .red ≡ turnedWhere (runTurns place long) bits
   unfolding runCall
   left =
       ap (λ (v : Verdict). runBy v (frameOf info red) (turnedFrame (runTurns place long) (frameOf info red)) .frame .info
       ++ runBy v (frameOf info red) (turnedFrame (runTurns place long) (frameOf info red)) .frame .red)
-      (sym (runBy-verdict (turnVerdict m t M L info red) (frameOf info red) (turnedFrame (runTurns place long) (frameOf info red))) ∙ e)
+      (sym (runBy-verdict (turnVerdict m t M col L info red) (frameOf info red) (turnedFrame (runTurns place long) (frameOf info red))) ∙ e)
       ∙ turned-joined (runTurns place long) (frameOf info red)
 
   bit-of : (k : ℕ) → k < length (info ++ red) → (z : Bool) → runTurns place long k ≡ z
-      → getD (runCall m t M L place long info red .frame .info ++ runCall m t M L place long info red .frame .red) k 0 ≡ turn z (getD (info ++ red) k 0)
+      → getD (runCall m t M col L place long info red .frame .info ++ runCall m t M col L place long info red .frame .red) k 0 ≡ turn z (getD (info ++ red) k 0)
   bit-of k h z r = ap (λ (l : List ℕ). getD l k 0) left ∙ turned-at (runTurns place long) bits k h ∙ ap (λ (y : Bool). turn y (getD bits k 0)) r
 
   pub run-inside : (k : ℕ) → k < length (info ++ red) → place ≤ k → k < place + long
-      → getD (runCall m t M L place long info red .frame .info ++ runCall m t M L place long info red .frame .red) k 0 ≡ 1 - getD (info ++ red) k 0
+      → getD (runCall m t M col L place long info red .frame .info ++ runCall m t M col L place long info red .frame .red) k 0 ≡ 1 - getD (info ++ red) k 0
   run-inside k h i j = bit-of k h true (run-test-in place long k i j)
 
   pub run-before : (k : ℕ) → k < length (info ++ red) → k < place
-      → getD (runCall m t M L place long info red .frame .info ++ runCall m t M L place long info red .frame .red) k 0 ≡ getD (info ++ red) k 0
+      → getD (runCall m t M col L place long info red .frame .info ++ runCall m t M col L place long info red .frame .red) k 0 ≡ getD (info ++ red) k 0
   run-before k h i = bit-of k h false (run-test-before place long k i)
 
   pub run-behind : (k : ℕ) → k < length (info ++ red) → place + long ≤ k
-      → getD (runCall m t M L place long info red .frame .info ++ runCall m t M L place long info red .frame .red) k 0 ≡ getD (info ++ red) k 0
+      → getD (runCall m t M col L place long info red .frame .info ++ runCall m t M col L place long info red .frame .red) k 0 ≡ getD (info ++ red) k 0
   run-behind k h i = bit-of k h false (run-test-behind place long k i)
 
   pub run-count :
       (place + long ≤ length (info ++ red)
-      → distance (info ++ red) (runCall m t M L place long info red .frame .info ++ runCall m t M L place long info red .frame .red) ≡ long)
+      → distance (info ++ red) (runCall m t M col L place long info red .frame .info ++ runCall m t M col L place long info red .frame .red) ≡ long)
       × (length (info ++ red) ≤ place + long
-      → distance (info ++ red) (runCall m t M L place long info red .frame .info ++ runCall m t M L place long info red .frame .red) ≡ length (info ++ red) - place)
+      → distance (info ++ red) (runCall m t M col L place long info red .frame .info ++ runCall m t M col L place long info red .frame .red) ≡ length (info ++ red) - place)
   run-count =
       let d = ap (distance bits) left ∙ turned-distance (runTurns place long) bits in
       let n = passing-run (length bits) place long in
@@ -373,10 +373,10 @@ runs-kept : (v : Verdict) (old new : Frame) → new ≡ old → runBy v old new 
 runs-kept accepted old new e = e
 runs-kept (refused n p) old new e = refl
 
-pub run-past : (m t M L place long : ℕ) (info red : List ℕ) → length info + length red ≤ place → runCall m t M L place long info red .frame ≡ frameOf info red
+pub run-past : (m t M col L place long : ℕ) (info red : List ℕ) → length info + length red ≤ place → runCall m t M col L place long info red .frame ≡ frameOf info red
 unfolding runCall
-run-past m t M L place long info red h =
-    runs-kept (turnVerdict m t M L info red) (frameOf info red) (turnedFrame (runTurns place long) (frameOf info red))
+run-past m t M col L place long info red h =
+    runs-kept (turnVerdict m t M col L info red) (frameOf info red) (turnedFrame (runTurns place long) (frameOf info red))
     (ap₂ frameOf (turned-none (runTurns place long) info (λ k i. run-test-before place long k (omega arith)))
     (turned-none (λ j. runTurns place long (length info + j)) red (λ k i. run-test-before place long (length info + k) (omega arith))))
 
@@ -388,22 +388,22 @@ fillNumbers = 1 ∷ 2 ∷ 3 ∷ 4 ∷ 6 ∷ []
 abbrev turnNumbers : List ℕ
 turnNumbers = 1 ∷ 2 ∷ 3 ∷ 4 ∷ 6 ∷ 10 ∷ []
 
-fill-byTable : (m t M L : ℕ) (info : List ℕ) → ByTable fillNumbers (fillVerdict m t M L info)
+fill-byTable : (m t M col L : ℕ) (info : List ℕ) → ByTable fillNumbers (fillVerdict m t M col L info)
 unfolding fillVerdict
-fill-byTable m t M L info =
-    let v6 : Verdict = lengthRule 4 (length info) (infoLength (params m t M) L) in
-    byTable-then fillNumbers (designRules m t M) (countRule L then v6) (design-byTable fillNumbers refl refl refl m t M)
+fill-byTable m t M col L info =
+    let v6 : Verdict = lengthRule 4 (length info) (infoLength (params m t M col) L) in
+    byTable-then fillNumbers (designRules m t M col) (countRule L then v6) (design-byTable fillNumbers refl refl refl m t M col)
     (λ d. byTable-then fillNumbers (countRule L) v6 (count-byTable fillNumbers refl L)
-    (λ c. length-byTable fillNumbers refl 4 (length info) (infoLength (params m t M) L) (omega arith) (omega arith)))
+    (λ c. length-byTable fillNumbers refl 4 (length info) (infoLength (params m t M col) L) (omega arith) (omega arith)))
 
-turn-byTable : (m t M L : ℕ) (info red : List ℕ) → ByTable turnNumbers (turnVerdict m t M L info red)
+turn-byTable : (m t M col L : ℕ) (info red : List ℕ) → ByTable turnNumbers (turnVerdict m t M col L info red)
 unfolding turnVerdict
-turn-byTable m t M L info red =
-    let v6 : Verdict = frameLengths (params m t M) L info red in
+turn-byTable m t M col L info red =
+    let v6 : Verdict = frameLengths (params m t M col) L info red in
     let v10 : Verdict = frameBits info red in
-    byTable-then turnNumbers (designRules m t M) (countRule L then v6 then v10) (design-byTable turnNumbers refl refl refl m t M)
+    byTable-then turnNumbers (designRules m t M col) (countRule L then v6 then v10) (design-byTable turnNumbers refl refl refl m t M col)
     (λ d. byTable-then turnNumbers (countRule L) (v6 then v10) (count-byTable turnNumbers refl L)
-    (λ c. byTable-then turnNumbers v6 v10 (frame-fits-byTable turnNumbers refl (params m t M) L info red)
+    (λ c. byTable-then turnNumbers v6 v10 (frame-fits-byTable turnNumbers refl (params m t M col) L info red)
     (λ f. frame-bits-byTable turnNumbers refl info red)))
 
 filledBy-untouched : (v : Verdict) (old new : List ℕ) (s : ℕ) → filledBy v old new s .verdict ≢ accepted → filledBy v old new s .info ∷ [] ≡ old ∷ []
@@ -420,35 +420,35 @@ runBy-untouched : (v : Verdict) (old new : Frame) → runBy v old new .verdict �
 runBy-untouched accepted old new h = absurd (h refl)
 runBy-untouched (refused n p) old new h = refl
 
-pub fill-demand1 : (m t M L seed : ℕ) (info : List ℕ)
-    → Demand1 (1 ∷ 2 ∷ 3 ∷ 4 ∷ 6 ∷ []) (fillCall m t M L seed info .verdict) (info ∷ []) (fillCall m t M L seed info .info ∷ [])
+pub fill-demand1 : (m t M col L seed : ℕ) (info : List ℕ)
+    → Demand1 (1 ∷ 2 ∷ 3 ∷ 4 ∷ 6 ∷ []) (fillCall m t M col L seed info .verdict) (info ∷ []) (fillCall m t M col L seed info .info ∷ [])
 unfolding fillCall
-fill-demand1 m t M L seed info =
-    let v : Verdict = fillVerdict m t M L info in
+fill-demand1 m t M col L seed info =
+    let v : Verdict = fillVerdict m t M col L info in
     record {
-      byTable = subst⁻¹ (ByTable fillNumbers) (filledBy-verdict v _ _ _) (fill-byTable m t M L info);
+      byTable = subst⁻¹ (ByTable fillNumbers) (filledBy-verdict v _ _ _) (fill-byTable m t M col L info);
       untouched = filledBy-untouched v _ _ _;
     }
 
-pub errors-demand1 : (m t M L seed limit : ℕ) (info red : List ℕ)
-    → Demand1 (1 ∷ 2 ∷ 3 ∷ 4 ∷ 6 ∷ 10 ∷ []) (errorsCall m t M L seed limit info red .verdict) (info ∷ red ∷ [])
-    (errorsCall m t M L seed limit info red .frame .info ∷ errorsCall m t M L seed limit info red .frame .red ∷ [])
+pub errors-demand1 : (m t M col L seed limit : ℕ) (info red : List ℕ)
+    → Demand1 (1 ∷ 2 ∷ 3 ∷ 4 ∷ 6 ∷ 10 ∷ []) (errorsCall m t M col L seed limit info red .verdict) (info ∷ red ∷ [])
+    (errorsCall m t M col L seed limit info red .frame .info ∷ errorsCall m t M col L seed limit info red .frame .red ∷ [])
 unfolding errorsCall
-errors-demand1 m t M L seed limit info red =
-    let v : Verdict = turnVerdict m t M L info red in
+errors-demand1 m t M col L seed limit info red =
+    let v : Verdict = turnVerdict m t M col L info red in
     record {
-      byTable = subst⁻¹ (ByTable turnNumbers) (errorsBy-verdict v _ _ _) (turn-byTable m t M L info red);
+      byTable = subst⁻¹ (ByTable turnNumbers) (errorsBy-verdict v _ _ _) (turn-byTable m t M col L info red);
       untouched = errorsBy-untouched v _ _ _;
     }
 
-pub run-demand1 : (m t M L place long : ℕ) (info red : List ℕ)
-    → Demand1 (1 ∷ 2 ∷ 3 ∷ 4 ∷ 6 ∷ 10 ∷ []) (runCall m t M L place long info red .verdict) (info ∷ red ∷ [])
-    (runCall m t M L place long info red .frame .info ∷ runCall m t M L place long info red .frame .red ∷ [])
+pub run-demand1 : (m t M col L place long : ℕ) (info red : List ℕ)
+    → Demand1 (1 ∷ 2 ∷ 3 ∷ 4 ∷ 6 ∷ 10 ∷ []) (runCall m t M col L place long info red .verdict) (info ∷ red ∷ [])
+    (runCall m t M col L place long info red .frame .info ∷ runCall m t M col L place long info red .frame .red ∷ [])
 unfolding runCall
-run-demand1 m t M L place long info red =
-    let v : Verdict = turnVerdict m t M L info red in
+run-demand1 m t M col L place long info red =
+    let v : Verdict = turnVerdict m t M col L info red in
     record {
-      byTable = subst⁻¹ (ByTable turnNumbers) (runBy-verdict v _ _) (turn-byTable m t M L info red);
+      byTable = subst⁻¹ (ByTable turnNumbers) (runBy-verdict v _ _) (turn-byTable m t M col L info red);
       untouched = runBy-untouched v _ _;
     }
 

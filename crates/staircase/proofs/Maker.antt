@@ -64,12 +64,12 @@ module _ (s : Params) (l : Interleavers) (ha : BitMatrix (systemEntry s l)) wher
 
 -- ---- the call
 
-module _ (m t M : ℕ) (self parity old : List ℕ) (work : ℕ) where
+module _ (m t M col : ℕ) (self parity old : List ℕ) (work : ℕ) where
   abbrev s : Params
-  s = params m t M
+  s = params m t M col
 
   abbrev l : Interleavers
-  l = interleavers (params m t M) self parity
+  l = interleavers (params m t M col) self parity
 
   abbrev new : List ℕ
   new = packedMatrix (order s) (inverseMatrix (order s) (systemEntry s l))
@@ -77,21 +77,21 @@ module _ (m t M : ℕ) (self parity old : List ℕ) (work : ℕ) where
   abbrev v6 : Verdict
   v6 = lengthRule 6 work (makeWork s)
 
-  module _ (e : makeVerdict m t M self parity old work ≡ accepted) where
-    design-ok : designRules m t M ≡ accepted
+  module _ (e : makeVerdict m t M col self parity old work ≡ accepted) where
+    design-ok : designRules m t M col ≡ accepted
     unfolding makeVerdict
-    design-ok = then-first (designRules m t M) (kitLengths s self parity old then v6 then listRule s l then singularRule s l) e
+    design-ok = then-first (designRules m t M col) (kitLengths s self parity old then v6 then listRule s l then singularRule s l) e
 
     rest : (kitLengths s self parity old then v6 then listRule s l then singularRule s l) ≡ accepted
     unfolding makeVerdict
-    rest = then-rest (designRules m t M) (kitLengths s self parity old then v6 then listRule s l then singularRule s l) e
+    rest = then-rest (designRules m t M col) (kitLengths s self parity old then v6 then listRule s l then singularRule s l) e
 
     contents : (listRule s l then singularRule s l) ≡ accepted
     contents = then-rest v6 (listRule s l then singularRule s l) (then-rest (kitLengths s self parity old) (v6 then listRule s l then singularRule s l) rest)
 
     passes : KitPasses s l new
     passes =
-        let ok : Proper s = proper-of (design-limits m t M design-ok) in
+        let ok : Proper s = proper-of (design-limits m t M col design-ok) in
         let lists = lists-permute s l (then-first (listRule s l) (singularRule s l) contents) in
         let ha : BitMatrix (systemEntry s l) = systemEntry-lt s l ok in
         let n : ℕ = order s in
@@ -118,18 +118,18 @@ module _ (m t M : ℕ) (self parity old : List ℕ) (work : ℕ) where
         }
 
     -- "A made kit passes the checker"
-    pub made-passes : kitVerdict m t M self parity (makeCall m t M self parity old work .inverse) (kitWork (params m t M)) ≡ accepted
+    pub made-passes : kitVerdict m t M col self parity (makeCall m t M col self parity old work .inverse) (kitWork (params m t M col)) ≡ accepted
     unfolding makeCall
     made-passes =
-        ap (λ (z : Verdict). kitVerdict m t M self parity (madeBy z old new .inverse) (kitWork s)) e
-        ∙ demand2 m t M self parity new design-ok fits .1 passes
+        ap (λ (z : Verdict). kitVerdict m t M col self parity (madeBy z old new .inverse) (kitWork s)) e
+        ∙ demand2 m t M col self parity new design-ok fits .1 passes
 
   -- the inverse of a kit that passes is the one that is made
-  pub made-only : (w : List ℕ) → ((k : ℕ) → getD w k 0 < 256) → designRules m t M ≡ accepted → FitsOrder (order (params m t M)) self parity w
-      → KitPasses (params m t M) (interleavers (params m t M) self parity) w
-      → w ≡ packedMatrix (order (params m t M)) (inverseMatrix (order (params m t M)) (systemEntry (params m t M) (interleavers (params m t M) self parity)))
+  pub made-only : (w : List ℕ) → ((k : ℕ) → getD w k 0 < 256) → designRules m t M col ≡ accepted → FitsOrder (order (params m t M col)) self parity w
+      → KitPasses (params m t M col) (interleavers (params m t M col) self parity) w
+      → w ≡ packedMatrix (order (params m t M col)) (inverseMatrix (order (params m t M col)) (systemEntry (params m t M col) (interleavers (params m t M col) self parity)))
   made-only w bytes d f k =
-      let ok : Proper s = proper-of (design-limits m t M d) in
+      let ok : Proper s = proper-of (design-limits m t M col d) in
       let n : ℕ = order s in
       let a : ℕ → ℕ → ℕ = systemEntry s l in
       let ha : BitMatrix a = systemEntry-lt s l ok in

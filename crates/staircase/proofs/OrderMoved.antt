@@ -56,16 +56,16 @@ first-apart : (a n : ℕ) (f : ℕ → Bool) (b k : ℕ) (g : ℕ → Bool) → 
 unfolding refuseFirst
 first-apart a n f b k g e = refuse-apart (ltb (firstWhere n f) n) (ltb (firstWhere k g) k) (a + firstWhere n f) (b + firstWhere k g) e
 
-module _ (m t M L : ℕ) (self parity w info red : List ℕ) (work : ℕ) where
+module _ (m t M col L : ℕ) (self parity w info red : List ℕ) (work : ℕ) where
   abbrev s : Params
-  s = params m t M
+  s = params m t M col
 
   abbrev l : Interleavers
-  l = interleavers (params m t M) self parity
+  l = interleavers (params m t M col) self parity
 
   -- rules 1 to 8, and then x
-  front-then : (x : Verdict) → (frontRules m t M L self parity w info red work then x)
-      ≡ (designRules m t M then countRule L then kitLengths s self parity w then frameLengths s L info red then lengthRule 6 work (kitWork s)
+  front-then : (x : Verdict) → (frontRules m t M col L self parity w info red work then x)
+      ≡ (designRules m t M col then countRule L then kitLengths s self parity w then frameLengths s L info red then lengthRule 6 work (kitWork s)
       then listRule s l then spareRule s w then x)
   unfolding frontRules
   front-then x =
@@ -75,8 +75,8 @@ module _ (m t M L : ℕ) (self parity w info red : List ℕ) (work : ℕ) where
       let frame : Verdict = frameLengths s L info red then v6 in
       let kit : Verdict = kitLengths s self parity w then frame in
       let count : Verdict = countRule L then kit in
-      sym (then-assoc (designRules m t M) count x)
-      ∙ ap (λ (z : Verdict). designRules m t M then z) (sym (then-assoc (countRule L) kit x)
+      sym (then-assoc (designRules m t M col) count x)
+      ∙ ap (λ (z : Verdict). designRules m t M col then z) (sym (then-assoc (countRule L) kit x)
       ∙ ap (λ (z : Verdict). countRule L then z) (sym (then-assoc (kitLengths s self parity w) frame x)
       ∙ ap (λ (z : Verdict). kitLengths s self parity w then z) (sym (then-assoc (frameLengths s L info red) v6 x)
       ∙ ap (λ (z : Verdict). frameLengths s L info red then z) (sym (then-assoc (lengthRule 6 work (kitWork s)) v7 x)
@@ -88,14 +88,14 @@ module _ (m t M L : ℕ) (self parity w info red : List ℕ) (work : ℕ) where
       let n : ℕ = order s in
       first-apart 0 (length info) (λ k. ltb 1 (getD info k 0)) 0 (n * n) (wrongEntry n (systemEntry s l) (inverseEntry w n)) e
 
-  pub order-moved : OrderMoved m t M L self parity w info red work
+  pub order-moved : OrderMoved m t M col L self parity w info red work
   unfolding encodeVerdict contentRules formerVerdict Swapped
   order-moved =
-      let u : Verdict = frontRules m t M L self parity w info red work in
+      let u : Verdict = frontRules m t M col L self parity w info red work in
       let b : Verdict = bitRule 0 info in
       let i : Verdict = inverseRule s l w in
       let x : Swapped u b i = swapped u b i apart in
-      let same : encodeVerdict m t M L self parity w info red work ≡ (u then b then i) = sym (front-then (b then i)) in
+      let same : encodeVerdict m t M col L self parity w info red work ≡ (u then b then i) = sym (front-then (b then i)) in
       record {
         where-changed = ((λ n. x .0 .0 (λ e. n (same ∙ e))), (λ y e. x .0 .1 y (sym same ∙ e)));
         changed = λ n. let z = x .1 (λ e. n (same ∙ e)) in (z .0, same ∙ z .1);

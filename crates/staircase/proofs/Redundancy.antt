@@ -19,7 +19,7 @@ use lib.Seq.{getD-append-add, ext-getD}
 use Rattle.bch.specs.Polynomial.{Bits}
 use Rattle.bch.specs.Code.{isCodeword}
 use Rattle.staircase.specs.Lists.{tabulate}
-use Rattle.staircase.specs.Design.{Params, Interleavers, order}
+use Rattle.staircase.specs.Design.{Params, Interleavers, columnGenerator, columnCode, order}
 use Rattle.staircase.specs.Word.{rowInfo, rowWord, columnInfo, columnWord}
 use Rattle.staircase.specs.System.{Contents, columnParity, systemEntry, inverseEntry, product, identity, selfEntry, groupBits, groupRedundancy, redundancy}
 use Rattle.staircase.specs.Solvable.{Completes}
@@ -164,9 +164,9 @@ module _ (s : Params) (l : Interleavers) (L : ℕ) (ok : Proper s)
         (read-row s l L ok ps pp info made i a ha (Y info i hi) (P info i hi) (redundancy-self info i hi) (redundancy-parity info i hi))
         ∙ completes i hi .rows a ha
 
-    pub columns-in-code : (i a : ℕ) → i < groups L → a < s .M → inCode s (record { info = info; red = made }) (columnSites s L i a) ≡ true
+    pub columns-in-code : (i a : ℕ) → i < groups L → a < s .M → inCode (columnCode s) (record { info = info; red = made }) (columnSites s L i a) ≡ true
     columns-in-code i a hi ha =
-        ap (isCodeword (s .g) (s .r))
+        ap (isCodeword (columnGenerator s) (s .r))
         (read-column s l L ok ps pp info made i a ha (Y info i hi) (P info i hi) (redundancy-self info i hi) (redundancy-parity info i hi))
         ∙ completes i hi .columns a ha
 
@@ -184,7 +184,7 @@ module _ (s : Params) (l : Interleavers) (L : ℕ) (ok : Proper s)
 
     pub redundancy-only : (other : List ℕ) → length other ≡ length made → Bits other
         → ((i a : ℕ) → i < groups L → a < s .M → inCode s (record { info = info; red = other }) (rowSites s l L i a) ≡ true)
-        → ((i a : ℕ) → i < groups L → a < s .M → inCode s (record { info = info; red = other }) (columnSites s L i a) ≡ true)
+        → ((i a : ℕ) → i < groups L → a < s .M → inCode (columnCode s) (record { info = info; red = other }) (columnSites s L i a) ≡ true)
         → other ≡ made
     redundancy-only other len ho rows columns =
         agree other len
@@ -205,7 +205,7 @@ module _ (s : Params) (l : Interleavers) (L : ℕ) (ok : Proper s)
                   ap (isCodeword (s .g) (s .r)) (sym (read-row s l L ok ps pp info other i a ha (y i) (p i) (λ q m. refl) (λ q m. refl)))
                   ∙ rows i a hi ha;
               columns = λ a ha.
-                  ap (isCodeword (s .g) (s .r)) (sym (read-column s l L ok ps pp info other i a ha (y i) (p i) (λ q m. refl) (λ q m. refl)))
+                  ap (isCodeword (columnGenerator s) (s .r)) (sym (read-column s l L ok ps pp info other i a ha (y i) (p i) (λ q m. refl) (λ q m. refl)))
                   ∙ columns i a hi ha;
             }
 

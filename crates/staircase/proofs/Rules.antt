@@ -27,7 +27,7 @@ use lib.ListN.{length, getD, List·getD-eq-default}
 use borrow.Author.Tests.{lt-ltb, le-ltb, ltb-false, leb-false, lt-leb, eqb-true, eqb-false, eq-eqb, ne-eqb, not-false}
 use Rattle.bch.specs.Polynomial.{Bits}
 use Rattle.staircase.specs.Lists.{firstWhere}
-use Rattle.staircase.specs.Design.{Params, Interleavers, params, wordLength, order, Limits, least-m, most-m, most-t, most-M, most-order, most-blocks}
+use Rattle.staircase.specs.Design.{Params, Interleavers, params, wordLength, order, Limits, least-m, most-m, most-t, most-M, most-col, most-order, most-blocks}
 use Rattle.staircase.specs.System.{inverseEntry, rowBytes, product, identity}
 use Rattle.staircase.specs.Rules.{Verdict, _then_, refuse, refuseFirst, outOfRange, sizeRule, longRule, largeRule, designRules, countRule, lengthRule, listLengths, kitLengths, infoLength, redLength, frameLengths, badEntry, listRule, spareRow, wrongEntry, bitRule, frameBits, contentRules, kitRules, inverseRule, spareRule}
 use Rattle.staircase.specs.Rules.Verdict.{accepted, refused}
@@ -101,27 +101,30 @@ inRange low high x a b = or-both (le-ltb x low a) (le-ltb high x b)
 
 -- ---- rules 1 to 3
 
-pub size-limits : (m t M : ℕ) → sizeRule m t M ≡ accepted → (least-m ≤ m) × (m ≤ most-m) × (1 ≤ t) × (t ≤ most-t) × (1 ≤ M) × (M ≤ most-M)
+pub size-limits : (m t M col : ℕ) → sizeRule m t M col ≡ accepted → (least-m ≤ m) × (m ≤ most-m) × (1 ≤ t) × (t ≤ most-t) × (1 ≤ M) × (M ≤ most-M)
+    × (col ≤ most-col)
 unfolding sizeRule
-size-limits m t M e =
+size-limits m t M col e =
     let rm : Verdict = refuse (outOfRange least-m most-m m) 1 1 in
     let rt : Verdict = refuse (outOfRange 1 most-t t) 1 2 in
     let rM : Verdict = refuse (outOfRange 1 most-M M) 1 3 in
-    let tM : (rt then rM) ≡ accepted = then-rest rm (rt then rM) e in
-    let a = outOfRange-false least-m most-m m (refuse-false (outOfRange least-m most-m m) 1 1 (then-first rm (rt then rM) e)) in
-    let b = outOfRange-false 1 most-t t (refuse-false (outOfRange 1 most-t t) 1 2 (then-first rt rM tM)) in
-    let c = outOfRange-false 1 most-M M (refuse-false (outOfRange 1 most-M M) 1 3 (then-rest rt rM tM)) in
-    (a .0, a .1, b .0, b .1, c .0, c .1)
+    let rc : Verdict = refuse (ltb most-col col) 1 4 in
+    let tM : (rt then rM then rc) ≡ accepted = then-rest rm (rt then rM then rc) e in
+    let Mc : (rM then rc) ≡ accepted = then-rest rt (rM then rc) tM in
+    let a = outOfRange-false least-m most-m m (refuse-false (outOfRange least-m most-m m) 1 1 (then-first rm (rt then rM then rc) e)) in
+    let b = outOfRange-false 1 most-t t (refuse-false (outOfRange 1 most-t t) 1 2 (then-first rt (rM then rc) tM)) in
+    let c = outOfRange-false 1 most-M M (refuse-false (outOfRange 1 most-M M) 1 3 (then-first rM rc Mc)) in
+    (a .0, a .1, b .0, b .1, c .0, c .1, ltb-false most-col col (refuse-false (ltb most-col col) 1 4 (then-rest rM rc Mc)))
 
-pub design-limits : (m t M : ℕ) → designRules m t M ≡ accepted → Limits m t M
+pub design-limits : (m t M col : ℕ) → designRules m t M col ≡ accepted → Limits m t M col
 unfolding designRules longRule largeRule
-design-limits m t M e =
-    let n : ℕ = wordLength (params m t M) in
-    let k : ℕ = order (params m t M) in
+design-limits m t M col e =
+    let n : ℕ = wordLength (params m t M col) in
+    let k : ℕ = order (params m t M col) in
     let rn : Verdict = refuse (ltb (2 ^ m - 1) n) 2 n in
     let rk : Verdict = refuse (ltb most-order k) 3 k in
-    let (a, b, c, d, f, g) = size-limits m t M (then-first (sizeRule m t M) (rn then rk) e) in
-    let rest : (rn then rk) ≡ accepted = then-rest (sizeRule m t M) (rn then rk) e in
+    let (a, b, c, d, f, g, h) = size-limits m t M col (then-first (sizeRule m t M col) (rn then rk) e) in
+    let rest : (rn then rk) ≡ accepted = then-rest (sizeRule m t M col) (rn then rk) e in
     record {
       m-low = a;
       m-high = b;
@@ -129,6 +132,7 @@ design-limits m t M e =
       t-high = d;
       M-low = f;
       M-high = g;
+      col-high = h;
       n-high = ltb-false (2 ^ m - 1) n (refuse-false (ltb (2 ^ m - 1) n) 2 n (then-first rn rk rest));
       order-high = ltb-false most-order k (refuse-false (ltb most-order k) 3 k (then-rest rn rk rest));
     }

@@ -45,9 +45,9 @@ module _ (ws : List Word) where
 
 -- ---- the decoder's call
 
-module _ (m t M L : ℕ) (self parity info red : List ℕ) (work : ℕ) where
+module _ (m t M col L : ℕ) (self parity info red : List ℕ) (work : ℕ) where
   abbrev s : Params
-  s = params m t M
+  s = params m t M col
 
   abbrev l : Interleavers
   l = interleavers s self parity
@@ -56,24 +56,24 @@ module _ (m t M L : ℕ) (self parity info red : List ℕ) (work : ℕ) where
   abbrev left : ℕ → Frame
   left k = decoded s l L k (frameOf info red) .frame
 
-  accepted-left : (k : ℕ) → decodeCall m t M L k self parity info red work .verdict ≡ accepted
-      → (decodeCall m t M L k self parity info red work .frame ≡ left k)
-      × (decodeCall m t M L k self parity info red work .counts .outside ≡ outside s l L (left k))
+  accepted-left : (k : ℕ) → decodeCall m t M col L k self parity info red work .verdict ≡ accepted
+      → (decodeCall m t M col L k self parity info red work .frame ≡ left k)
+      × (decodeCall m t M col L k self parity info red work .counts .outside ≡ outside s l L (left k))
   unfolding decodeCall countsOf
   accepted-left k e =
       let f : Frame = frameOf info red in
       let c : Counts = countsOf s l L k f in
-      let v : Verdict = decodeVerdict m t M L k self parity info red work in
+      let v : Verdict = decodeVerdict m t M col L k self parity info red work in
       let same = ap (λ (v : Verdict). correctedBy v f (left k) c) (sym (correctedBy-verdict v f (left k) c) ∙ e) in
       (ap (λ (x : Corrected). x .frame) same, ap (λ (x : Corrected). x .counts .outside) same)
 
-  pub decode-settled : (j k : ℕ) → decodeCall m t M L j self parity info red work .verdict ≡ accepted
-      → decodeCall m t M L k self parity info red work .verdict ≡ accepted
-      → decodeCall m t M L j self parity info red work .counts .outside ≡ 0 → roundsAllowed j ≤ roundsAllowed k
-      → decodeCall m t M L k self parity info red work .frame ≡ decodeCall m t M L j self parity info red work .frame
-  unfolding decoded runRounds outside outsideAmong
+  pub decode-settled : (j k : ℕ) → decodeCall m t M col L j self parity info red work .verdict ≡ accepted
+      → decodeCall m t M col L k self parity info red work .verdict ≡ accepted
+      → decodeCall m t M col L j self parity info red work .counts .outside ≡ 0 → roundsAllowed j ≤ roundsAllowed k
+      → decodeCall m t M col L k self parity info red work .frame ≡ decodeCall m t M col L j self parity info red work .frame
+  unfolding decoded outside
   decode-settled j k aj ak none more =
-      let ws : List Word = plain s (words s l L) in
+      let ws : List Word = words s l L in
       accepted-left k ak .0
       ∙ runEach-enough ws (roundsAllowed j) (roundsAllowed k) (frameOf info red) more (sym (accepted-left j aj .1) ∙ none)
       ∙ sym (accepted-left j aj .0)

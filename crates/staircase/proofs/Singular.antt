@@ -15,7 +15,7 @@ use lib.Dec.{eqb}
 use lib.ListN.{getD}
 use Rattle.bch.specs.Code.{parity}
 use Rattle.staircase.specs.Lists.{bitSum}
-use Rattle.staircase.specs.Design.{Params, Interleavers, order}
+use Rattle.staircase.specs.Design.{Params, Interleavers, columnGenerator, order}
 use Rattle.staircase.specs.Word.{rowInfo, columnInfo}
 use Rattle.staircase.specs.System.{Contents, zeros, unstack, preimage, columnParity, rowParity, residual, systemEntry, constantEntry, apply}
 use Rattle.staircase.specs.Square.{BitMatrix}
@@ -32,7 +32,7 @@ use Rattle.staircase.proofs.BchCode.{proper-of}
 use Rattle.staircase.proofs.Spread.{turned-div, self-entry, parity-entry, spread-permutes}
 
 module _ (s : Params) (l : Interleavers) (ok : Proper s) (ps : Permutes (order s) (λ p. getD (l .self) p 0)) (pp : Permutes (order s) (λ p. getD (l .parity) p 0))
-    (selfKept : ColumnsKept s (l .self)) (parityKept : ColumnsKept s (l .parity)) where
+    (one : columnGenerator s ≡ s .g) (selfKept : ColumnsKept s (l .self)) (parityKept : ColumnsKept s (l .parity)) where
   -- the Y whose first row is 1
   first : Contents
   first q = cond (eqb (q / s .M) 0) 1 0
@@ -60,7 +60,8 @@ module _ (s : Params) (l : Interleavers) (ok : Proper s) (ps : Permutes (order s
       let p : ℕ = preimage (l .parity) (order s) q in
       ap (bitSum (columnParity s zeros zeros first q))
       (ap₂ (λ (u : List ℕ) (v : ℕ). getD (parity (s .g) (s .r) u) v 0) (same-info (p % s .M) (q % s .M) (column-of s ok p) (column-of s ok q))
-      (sym (parityKept p (t .0)) ∙ ap (λ (z : ℕ). z / s .M) (t .1)))
+      (sym (parityKept p (t .0)) ∙ ap (λ (z : ℕ). z / s .M) (t .1))
+      ∙ ap (λ (g : ℕ). getD (parity g (s .r) (columnInfo s zeros zeros first (q % s .M))) (q / s .M) 0) (sym one))
       ∙ bitSum-self (columnParity s zeros zeros first q)
 
   -- y stacked
@@ -98,12 +99,14 @@ module _ (s : Params) (l : Interleavers) (ok : Proper s) (ps : Permutes (order s
       omega (arith, z, y-one)
 
 pub kept-singular : KeptSingular
+unfolding columnGenerator
 kept-singular m t M l d e self parity =
-    let p = lists-permute _ l e in lists-singular _ l (proper-of d) (p .0) (p .1) self parity
+    let p = lists-permute _ l e in lists-singular _ l (proper-of d) (p .0) (p .1) refl self parity
 
 pub spread-singular : SpreadSingular
+unfolding columnGenerator
 spread-singular m t M d =
     let ok = proper-of d in
     let p = spread-permutes _ ok in
-    lists-singular _ (spread _) ok (p .0) (p .1) (λ q h. ap (λ (z : ℕ). z / M) (self-entry _ ok q h) ∙ turned-div _ ok 0 q)
+    lists-singular _ (spread _) ok (p .0) (p .1) refl (λ q h. ap (λ (z : ℕ). z / M) (self-entry _ ok q h) ∙ turned-div _ ok 0 q)
     (λ q h. ap (λ (z : ℕ). z / M) (parity-entry _ ok q h) ∙ turned-div _ ok (m * t) q)

@@ -22,7 +22,7 @@ use borrow.Author.Tests.{lt-ltb, ltb-true}
 use Rattle.staircase.specs.Lists.{tabulate}
 use Rattle.staircase.specs.Design.{Params, Interleavers, wordLength, order}
 use Rattle.staircase.specs.Word.{rowInfo, rowWord, columnInfo, columnWord}
-use Rattle.staircase.specs.Frame.{Site, groups, blockAt, yAt, pAt, rowSites, columnSites, words}
+use Rattle.staircase.specs.Frame.{Site, Word, groups, blockAt, yAt, pAt, rowSites, columnSites, rowAt, columnAt, words}
 use Rattle.staircase.specs.Frame.Site.{unsent, inInfo, inRed}
 use Rattle.staircase.specs.Demand2.{Permutes}
 use Rattle.staircase.proofs.Search.{cond-ind}
@@ -177,29 +177,29 @@ module _ (s : Params) (L : ℕ) where
 
     -- ---- the words, one by one
 
-    pub row-among-words : (i a : ℕ) → i < groups L → a < s .M → In (rowSites s l L i a) (words s l L)
+    pub row-among-words : (i a : ℕ) → i < groups L → a < s .M → In (rowAt s l L i a) (words s l L)
     unfolding words
     row-among-words i a hi ha =
-        in-concat (rowSites s l L i a) (groups L) (λ k. tabulate (s .M) (rowSites s l L k) ++ tabulate (s .M) (columnSites s L k)) i hi
-        (in-left (rowSites s l L i a) (tabulate (s .M) (rowSites s l L i)) (tabulate (s .M) (columnSites s L i)) (in-tabulate (s .M) (rowSites s l L i) a ha))
+        in-concat (rowAt s l L i a) (groups L) (λ k. tabulate (s .M) (rowAt s l L k) ++ tabulate (s .M) (columnAt s L k)) i hi
+        (in-left (rowAt s l L i a) (tabulate (s .M) (rowAt s l L i)) (tabulate (s .M) (columnAt s L i)) (in-tabulate (s .M) (rowAt s l L i) a ha))
 
-    pub column-among-words : (i a : ℕ) → i < groups L → a < s .M → In (columnSites s L i a) (words s l L)
+    pub column-among-words : (i a : ℕ) → i < groups L → a < s .M → In (columnAt s L i a) (words s l L)
     unfolding words
     column-among-words i a hi ha =
-        in-concat (columnSites s L i a) (groups L) (λ k. tabulate (s .M) (rowSites s l L k) ++ tabulate (s .M) (columnSites s L k)) i hi
-        (in-right (columnSites s L i a) (tabulate (s .M) (rowSites s l L i)) (tabulate (s .M) (columnSites s L i)) (in-tabulate (s .M) (columnSites s L i) a ha))
+        in-concat (columnAt s L i a) (groups L) (λ k. tabulate (s .M) (rowAt s l L k) ++ tabulate (s .M) (columnAt s L k)) i hi
+        (in-right (columnAt s L i a) (tabulate (s .M) (rowAt s l L i)) (tabulate (s .M) (columnAt s L i)) (in-tabulate (s .M) (columnAt s L i) a ha))
 
     -- a fact of all row words and all column words is one of all words
-    pub each-word : (F : List Site → Type 0) → ((i a : ℕ) → i < groups L → a < s .M → F (rowSites s l L i a))
-        → ((i a : ℕ) → i < groups L → a < s .M → F (columnSites s L i a)) → (w : List Site) → In w (words s l L) → F w
+    pub each-word : (F : Word → Type 0) → ((i a : ℕ) → i < groups L → a < s .M → F (rowAt s l L i a))
+        → ((i a : ℕ) → i < groups L → a < s .M → F (columnAt s L i a)) → (w : Word) → In w (words s l L) → F w
     unfolding words
     each-word F rows cols w h =
-        let t = concat-in (groups L) (λ k. tabulate (s .M) (rowSites s l L k) ++ tabulate (s .M) (columnSites s L k)) w h in
-        go (t .0) (t .1) (in-cases w (tabulate (s .M) (rowSites s l L (t .0))) (tabulate (s .M) (columnSites s L (t .0))) (t .2))
+        let t = concat-in (groups L) (λ k. tabulate (s .M) (rowAt s l L k) ++ tabulate (s .M) (columnAt s L k)) w h in
+        go (t .0) (t .1) (in-cases w (tabulate (s .M) (rowAt s l L (t .0))) (tabulate (s .M) (columnAt s L (t .0))) (t .2))
       where
-        go : (i : ℕ) → i < groups L → In w (tabulate (s .M) (rowSites s l L i)) ⊎ In w (tabulate (s .M) (columnSites s L i)) → F w
-        go i hi (inl p) = let u = tabulate-in (s .M) (rowSites s l L i) w p in subst F (sym (u .2)) (rows i (u .0) hi (u .1))
-        go i hi (inr p) = let u = tabulate-in (s .M) (columnSites s L i) w p in subst F (sym (u .2)) (cols i (u .0) hi (u .1))
+        go : (i : ℕ) → i < groups L → In w (tabulate (s .M) (rowAt s l L i)) ⊎ In w (tabulate (s .M) (columnAt s L i)) → F w
+        go i hi (inl p) = let u = tabulate-in (s .M) (rowAt s l L i) w p in subst F (sym (u .2)) (rows i (u .0) hi (u .1))
+        go i hi (inr p) = let u = tabulate-in (s .M) (columnAt s L i) w p in subst F (sym (u .2)) (cols i (u .0) hi (u .1))
 
     -- ---- every byte is in a word
 
@@ -227,7 +227,7 @@ module _ (s : Params) (L : ℕ) where
         in-fourth (s .M) (s .r) (λ j. blockAt s L (2 * i + 1) (j * s .M + a)) (λ j. blockAt s L (2 * i + 2) (j * s .M + a))
         (λ b. yAt s i (b * s .M + a)) (λ b. pAt s i (b * s .M + a))
 
-    pub info-covered : (k : ℕ) → k < L * (s .M * s .M) → (w : List Site) × In w (words s l L) × In (inInfo k) w
+    pub info-covered : (k : ℕ) → k < L * (s .M * s .M) → (w : Word) × In w (words s l L) × In (inInfo k) (w .sites)
     info-covered k h = go (b % 2) refl
       where
         area-positive : 0 < area
@@ -254,19 +254,19 @@ module _ (s : Params) (L : ℕ) where
         whole : b * area + (a * s .M + j) ≡ k
         whole = ap (λ (z : ℕ). b * area + z) (div-add-mod' (k % area) (s .M)) ∙ div-add-mod' k area
 
-        go : (z : ℕ) → b % 2 ≡ z → (w : List Site) × In w (words s l L) × In (inInfo k) w
+        go : (z : ℕ) → b % 2 ≡ z → (w : Word) × In w (words s l L) × In (inInfo k) (w .sites)
         go zero e =
             let i : ℕ = b / 2 in
             let d : 2 * i ≡ b = omega (arith, e) in
             let site : blockAt s L (2 * i + 1) (a * s .M + j) ≡ inInfo k =
             ap (λ (z : ℕ). blockAt s L (z + 1) (a * s .M + j)) d ∙ block-at b (a * s .M + j) hb ∙ ap inInfo whole in
-            (rowSites s l L i a, row-among-words i a (omega (arith, d, hb)) ha, subst (λ (z : Site). In z (rowSites s l L i a)) site (odd-in i a j hj))
+            (rowAt s l L i a, row-among-words i a (omega (arith, d, hb)) ha, subst (λ (z : Site). In z (rowSites s l L i a)) site (odd-in i a j hj))
         go (suc z) e =
             let i : ℕ = b / 2 in
             let d : 2 * i + 2 ≡ b + 1 = omega (arith, e) in
             let site : blockAt s L (2 * i + 2) (a * s .M + j) ≡ inInfo k =
             ap (λ (z : ℕ). blockAt s L z (a * s .M + j)) d ∙ block-at b (a * s .M + j) hb ∙ ap inInfo whole in
-            (columnSites s L i j, column-among-words i j (omega (arith, d, hb)) hj, subst (λ (z : Site). In z (columnSites s L i j)) site (even-in i j a ha))
+            (columnAt s L i j, column-among-words i j (omega (arith, d, hb)) hj, subst (λ (z : Site). In z (columnSites s L i j)) site (even-in i j a ha))
 
     -- a fact of every place of the redundancy, from the places of Y and of P in each group
     pub red-ind : (F : ℕ → Type 0) → ((i q : ℕ) → i < groups L → q < order s → F (i * (2 * order s) + q))
@@ -289,11 +289,11 @@ module _ (s : Params) (L : ℕ) where
             let e : k / (2 * order s) * (2 * order s) + order s + q ≡ k = omega (arith, whole) in
             subst F e (parity (k / (2 * order s)) q hi (omega (arith, mod-lt k positive)))
 
-    pub red-covered : (k : ℕ) → k < groups L * (2 * order s) → (w : List Site) × In w (words s l L) × In (inRed k) w
+    pub red-covered : (k : ℕ) → k < groups L * (2 * order s) → (w : Word) × In w (words s l L) × In (inRed k) (w .sites)
     red-covered =
-        red-ind (λ (k : ℕ). (w : List Site) × In w (words s l L) × In (inRed k) w)
+        red-ind (λ (k : ℕ). (w : Word) × In w (words s l L) × In (inRed k) (w .sites))
         (λ i q hi hq. column i q hi (subst (λ (z : ℕ). In (yAt s i z) (columnSites s L i (q % s .M))) (div-add-mod' q (s .M)) (self-in i (q % s .M) (q / s .M) (row-of s ok q hq))))
         (λ i q hi hq. column i q hi (subst (λ (z : ℕ). In (pAt s i z) (columnSites s L i (q % s .M))) (div-add-mod' q (s .M)) (parity-in i (q % s .M) (q / s .M) (row-of s ok q hq))))
       where
-        column : {x : Site} (i q : ℕ) → i < groups L → In x (columnSites s L i (q % s .M)) → (w : List Site) × In w (words s l L) × In x w
-        column i q hi m = (columnSites s L i (q % s .M), column-among-words i (q % s .M) hi (column-of s ok q), m)
+        column : {x : Site} (i q : ℕ) → i < groups L → In x (columnSites s L i (q % s .M)) → (w : Word) × In w (words s l L) × In x (w .sites)
+        column i q hi m = (columnAt s L i (q % s .M), column-among-words i (q % s .M) hi (column-of s ok q), m)

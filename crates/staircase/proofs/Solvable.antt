@@ -17,7 +17,7 @@ use lib.ListN.{getD}
 use Rattle.bch.specs.Polynomial.{Bits}
 use Rattle.bch.specs.Code.{parity}
 use Rattle.staircase.specs.Lists.{bitSum}
-use Rattle.staircase.specs.Design.{Params, Interleavers, order}
+use Rattle.staircase.specs.Design.{Params, Interleavers, columnGenerator, order}
 use Rattle.staircase.specs.Word.{rowInfo, rowWord, columnInfo, columnWord}
 use Rattle.staircase.specs.System.{Contents, stack, unstack, preimage, columnParity, rowParity, residual, systemEntry, constantEntry, apply}
 use Rattle.staircase.specs.Solvable.{Completes, Solves}
@@ -53,7 +53,7 @@ module _ (s : Params) (l : Interleavers) (ok : Proper s)
     completes-column q h =
         let a : ℕ = q % s .M in
         ap p (sym (div-add-mod' q (s .M)))
-        ∙ codeword-table (s .g) (s .r) (ok .rpos) (ok .degree) (columnInfo s o e y a) (λ b. p (b * s .M + a))
+        ∙ codeword-table (columnGenerator s) (s .r) (ok .rpos) (ok .column-degree) (columnInfo s o e y a) (λ b. p (b * s .M + a))
         (columnInfo-bits a) (λ b. c .bits (b * s .M + a)) (c .columns a (column-of s ok q)) (q / s .M) (row-of s ok q h)
 
     completes-row : (q : ℕ) → q < order s → p (getD (l .parity) q 0) ≡ rowParity s l f o y q
@@ -104,9 +104,9 @@ module _ (s : Params) (l : Interleavers) (ok : Proper s)
               (λ b m. residual-agree (b * s .M + a) (place-lt s ok b a m ha)
               ∙ ap₂ (λ (u v : ℕ). getD (parity (s .g) (s .r) (rowInfo s l f o y u)) v 0) (digits-mod b ha) (digits-div b ha));
           columns = λ a ha.
-              table-codeword (s .g) (s .r) (ok .rpos) (ok .degree) (columnInfo s o e y a) (λ b. P (b * s .M + a))
+              table-codeword (columnGenerator s) (s .r) (ok .rpos) (ok .column-degree) (columnInfo s o e y a) (λ b. P (b * s .M + a))
               (columnInfo-bits a) (λ b. columnParity-lt s l ok o e y (b * s .M + a))
-              (λ b m. ap₂ (λ (u v : ℕ). getD (parity (s .g) (s .r) (columnInfo s o e y u)) v 0) (digits-mod b ha) (digits-div b ha));
+              (λ b m. ap₂ (λ (u v : ℕ). getD (parity (columnGenerator s) (s .r) (columnInfo s o e y u)) v 0) (digits-mod b ha) (digits-div b ha));
         }
 
   -- ---- A y = c

@@ -182,8 +182,8 @@ module _ (s : Params) (ok : Proper s) where
 
 -- "Such lists pass the list check"
 pub spread-lists : PassesLists
-spread-lists m t M d = lists-pass _ (proper-of d)
+spread-lists m t M col d = lists-pass _ (proper-of d)
 
 -- "two redundancy bits of one row word never meet in one column word"
 pub spread-apart : SpreadApart
-spread-apart m t M d wide = lists-apart _ (proper-of d) wide
+spread-apart m t M col d wide = lists-apart _ (proper-of d) wide

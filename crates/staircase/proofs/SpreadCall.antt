@@ -19,7 +19,7 @@ use Rattle.staircase.specs.Square.{dependent}
 use Rattle.staircase.specs.Rules.{Verdict, _then_, refuse, refuseFirst, designRules, lengthRule, listLengths, kitLengths, entries, interleavers, listRule}
 use Rattle.staircase.specs.Rules.Verdict.{accepted, refused}
 use Rattle.staircase.specs.Maker.{makeWork, singularRule, makeVerdict, madeBy, makeCall}
-use Rattle.staircase.specs.Spread.{turnedTo, spread, listBytes, narrowRule, spreadVerdict, spreadBy, spreadCall, Apart, SpreadLeft}
+use Rattle.staircase.specs.Spread.{turnedTo, spread, listBytes, narrowRule, spreadVerdict, spreadBy, spreadCall, Apart, Singular, SpreadLeft}
 use Rattle.staircase.proofs.Tabulate.{tabulate-same, concat-length, concat-at}
 use Rattle.staircase.proofs.System.{systemEntry-lt}
 use Rattle.staircase.proofs.BchCode.{proper-of}
@@ -62,9 +62,9 @@ refused-at false n p h = absurd (h refl)
 madeBy-refused : (v : Verdict) (old new : List ℕ) (n p : ℕ) → v ≡ refused n p → madeBy v old new .verdict ≡ refused n p
 madeBy-refused v old new n p e = ap (λ (z : Verdict). madeBy z old new .verdict) e
 
-module _ (m t M : ℕ) (self parity : List ℕ) (e : spreadCall m t M self parity .verdict ≡ accepted) where
+module _ (m t M col : ℕ) (self parity : List ℕ) (e : spreadCall m t M col self parity .verdict ≡ accepted) where
   abbrev s : Params
-  s = params m t M
+  s = params m t M col
 
   abbrev own : List ℕ
   own = listBytes (order s) (turnedTo s 0)
@@ -72,59 +72,62 @@ module _ (m t M : ℕ) (self parity : List ℕ) (e : spreadCall m t M self parit
   abbrev par : List ℕ
   par = listBytes (order s) (turnedTo s (s .r))
 
-  passed : spreadVerdict m t M self parity ≡ accepted
+  passed : spreadVerdict m t M col self parity ≡ accepted
   unfolding spreadCall
-  passed = sym (spreadBy-verdict (spreadVerdict m t M self parity) s self parity) ∙ e
+  passed = sym (spreadBy-verdict (spreadVerdict m t M col self parity) s self parity) ∙ e
 
-  design-ok : designRules m t M ≡ accepted
+  design-ok : designRules m t M col ≡ accepted
   unfolding spreadVerdict
-  design-ok = then-first (designRules m t M) (narrowRule s then listLengths s self parity) passed
+  design-ok = then-first (designRules m t M col) (narrowRule s then listLengths s self parity) passed
 
-  limits : Limits m t M
-  limits = design-limits m t M design-ok
+  limits : Limits m t M col
+  limits = design-limits m t M col design-ok
 
   wide : 2 * (m * t) ≤ M
   unfolding spreadVerdict narrowRule
   wide =
       ltb-false M (2 * (m * t))
       (refuse-false (ltb M (2 * (m * t))) 15 M
-      (then-first (narrowRule s) (listLengths s self parity) (then-rest (designRules m t M) (narrowRule s then listLengths s self parity) passed)))
+      (then-first (narrowRule s) (listLengths s self parity) (then-rest (designRules m t M col) (narrowRule s then listLengths s self parity) passed)))
 
-  left-self : spreadCall m t M self parity .self ≡ own
+  left-self : spreadCall m t M col self parity .self ≡ own
   unfolding spreadCall
   left-self = ap (λ (z : Verdict). spreadBy z s self parity .self) passed
 
-  left-parity : spreadCall m t M self parity .parity ≡ par
+  left-parity : spreadCall m t M col self parity .parity ≡ par
   unfolding spreadCall
   left-parity = ap (λ (z : Verdict). spreadBy z s self parity .parity) passed
 
   turned-small : (by p : ℕ) → p < order s → turnedTo s by p < 65536
   turned-small by p h = omega (arith, turned-lt s (proper-of limits) by p h, limits .order-high)
 
-  left-lists : interleavers s (spreadCall m t M self parity .self) (spreadCall m t M self parity .parity) ≡ spread s
+  left-lists : interleavers s (spreadCall m t M col self parity .self) (spreadCall m t M col self parity .parity) ≡ spread s
   unfolding spread
   left-lists =
       ap₂ (λ (x y : List ℕ). interleavers s x y) left-self left-parity
       ∙ ap₂ (λ (x y : List ℕ). record { self = x; parity = y })
       (bytes-entries (order s) (turnedTo s 0) (turned-small 0)) (bytes-entries (order s) (turnedTo s (s .r)) (turned-small (s .r)))
 
+  one-code : col ≡ 0 → Singular s (spread s)
+  one-code same = subst (λ (c : ℕ). Limits m t M c → Singular (params m t M c) (spread (params m t M c))) (sym same) (spread-singular m t M) limits
+
   -- rule 14 refuses at some place
-  rule14 : (p : ℕ) × (singularRule s (spread s) ≡ refused 14 p)
+  rule14 : col ≡ 0 → (p : ℕ) × (singularRule s (spread s) ≡ refused 14 p)
   unfolding singularRule refuseFirst
-  rule14 =
+  rule14 same =
       let n : ℕ = order s in
       let x : ℕ = firstWhere n (dependent n (systemEntry s (spread s))) in (
         0 + x,
         refused-at (ltb x n) 14 (0 + x)
-            (λ h. let k = singular-none s (spread s) (systemEntry-lt s (spread s) (proper-of limits)) .0 h in spread-singular m t M limits (k .0) (k .1) (k .2)),
+            (λ h. let k = singular-none s (spread s) (systemEntry-lt s (spread s) (proper-of limits)) .0 h in one-code same (k .0) (k .1) (k .2)),
       )
 
-  maker-refuses : (old : List ℕ) → length old ≡ order s * rowBytes (order s)
-      → (p : ℕ) × (makeCall m t M (spreadCall m t M self parity .self) (spreadCall m t M self parity .parity) old (makeWork s) .verdict ≡ refused 14 p)
+  maker-refuses : col ≡ 0 → (old : List ℕ) → length old ≡ order s * rowBytes (order s)
+      → (p : ℕ) × (makeCall m t M col (spreadCall m t M col self parity .self) (spreadCall m t M col self parity .parity) old (makeWork s) .verdict ≡ refused 14 p)
   unfolding makeCall makeVerdict
-  maker-refuses old long =
-      let x : List ℕ = spreadCall m t M self parity .self in
-      let y : List ℕ = spreadCall m t M self parity .parity in
+  maker-refuses same old long =
+      let x : List ℕ = spreadCall m t M col self parity .self in
+      let y : List ℕ = spreadCall m t M col self parity .parity in
       let l : Interleavers = interleavers s x y in
       let fits : kitLengths s x y old ≡ accepted =
       lengths-accepted s x y old record {
@@ -132,21 +135,21 @@ module _ (m t M : ℕ) (self parity : List ℕ) (e : spreadCall m t M self parit
         parityLength = ap length left-parity ∙ bytes-length (order s) (turnedTo s (s .r));
         inverseLength = long;
       } in
-      let lists : listRule s l ≡ accepted = ap (listRule s) left-lists ∙ spread-lists m t M limits in
-      let singular : singularRule s l ≡ refused 14 (rule14 .0) = ap (singularRule s) left-lists ∙ rule14 .1 in
+      let lists : listRule s l ≡ accepted = ap (listRule s) left-lists ∙ spread-lists m t M col limits in
+      let singular : singularRule s l ≡ refused 14 (rule14 same .0) = ap (singularRule s) left-lists ∙ rule14 same .1 in
       let v6 : Verdict = lengthRule 6 (makeWork s) (makeWork s) in (
-        rule14 .0,
-        madeBy-refused (makeVerdict m t M x y old (makeWork s)) old _ 14 (rule14 .0)
+        rule14 same .0,
+        madeBy-refused (makeVerdict m t M col x y old (makeWork s)) old _ 14 (rule14 same .0)
             (ap (λ (z : Verdict). z then kitLengths s x y old then v6 then listRule s l then singularRule s l) design-ok
             ∙ ap (λ (z : Verdict). z then v6 then listRule s l then singularRule s l) fits
             ∙ ap (λ (z : Verdict). z then listRule s l then singularRule s l) (length-accepted 6 (makeWork s) (makeWork s) refl)
             ∙ ap (λ (z : Verdict). z then singularRule s l) lists ∙ singular),
       )
 
-  pub spread-left : SpreadLeft m t M self parity
+  pub spread-left : SpreadLeft m t M col self parity
   spread-left = record {
     lists = left-lists;
-    apart = subst (Apart s) (sym left-lists) (spread-apart m t M limits wide);
-    pass = ap (listRule s) left-lists ∙ spread-lists m t M limits;
+    apart = subst (Apart s) (sym left-lists) (spread-apart m t M col limits wide);
+    pass = ap (listRule s) left-lists ∙ spread-lists m t M col limits;
     singular = maker-refuses;
   }

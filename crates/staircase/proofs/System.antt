@@ -1,5 +1,5 @@
 -- The system of a group: A y + c is linear in the blocks and in Y.
---   Proper s                              sizes that are not 0, and a generator of degree r
+--   Proper s                              sizes that are not 0, and generators of degree r
 --   order-positive .. column-of           places of Y and of P, their rows and their columns
 --   unstack-lt .. unstack-stack           the order of the stack
 --   columnParity-lt .. constantEntry-lt   P, Q, A y + c, A and c have bits
@@ -16,7 +16,7 @@ use lib.ListN.{getD}
 use Rattle.bch.specs.Code.{parity}
 use Rattle.bch.proofs.Systematic.{parity-bits}
 use Rattle.staircase.specs.Lists.{bitSum, sumBits}
-use Rattle.staircase.specs.Design.{Params, Interleavers, order}
+use Rattle.staircase.specs.Design.{Params, Interleavers, columnGenerator, order}
 use Rattle.staircase.specs.Word.{rowInfo, columnInfo}
 use Rattle.staircase.specs.System.{Contents, zeros, unit, stack, unstack, preimage, columnParity, rowParity, residual, systemEntry, constantEntry, apply}
 use Rattle.staircase.specs.Demand2.{Permutes}
@@ -26,11 +26,12 @@ use Rattle.staircase.proofs.Stretches.{three-same}
 use Rattle.staircase.proofs.Parity.{add, parity-sum-at}
 use Rattle.staircase.proofs.Tabulate.{Binary}
 
--- what is asked of a design: sizes that are not 0, and a generator of degree r
+-- what is asked of a design: sizes that are not 0, and generators of degree r
 pub record Proper (s : Params) : Type 0 where
   pub mpos : 0 < s .M
   pub rpos : 0 < s .r
   pub degree : s .g / 2 ^ s .r ≡ 1
+  pub column-degree : columnGenerator s / 2 ^ s .r ≡ 1
 
 -- the same entries at the places below n
 abbrev pub Same : ℕ → Contents → Contents → Type 0
@@ -71,7 +72,7 @@ module _ (s : Params) (ok : Proper s) where
 module _ (s : Params) (l : Interleavers) (ok : Proper s) where
   pub columnParity-lt : (o e y : Contents) → Binary (columnParity s o e y)
   unfolding columnParity
-  columnParity-lt o e y q = parity-bits (s .g) (s .r) (columnInfo s o e y (q % s .M)) (q / s .M)
+  columnParity-lt o e y q = parity-bits (columnGenerator s) (s .r) (columnInfo s o e y (q % s .M)) (q / s .M)
 
   pub rowParity-lt : (f o y : Contents) → Binary (rowParity s l f o y)
   unfolding rowParity
@@ -83,7 +84,7 @@ module _ (s : Params) (l : Interleavers) (ok : Proper s) where
   columnParity-sum o e y o₂ e₂ y₂ h1 h2 h3 h4 h5 h6 q =
       let at : ℕ → ℕ = λ j. j * s .M + q % s .M in
       parity-sum-at (s .M) (s .r) (λ j. o (at j)) (λ j. e (at j)) (λ b. y (at b)) (λ j. o₂ (at j)) (λ j. e₂ (at j)) (λ b. y₂ (at b))
-      (λ j. h1 (at j)) (λ j. h2 (at j)) (λ b. h3 (at b)) (λ j. h4 (at j)) (λ j. h5 (at j)) (λ b. h6 (at b)) (s .g) (q / s .M)
+      (λ j. h1 (at j)) (λ j. h2 (at j)) (λ b. h3 (at b)) (λ j. h4 (at j)) (λ j. h5 (at j)) (λ b. h6 (at b)) (columnGenerator s) (q / s .M)
 
   rowParity-sum : (f o y f₂ o₂ y₂ : Contents) → Binary f → Binary o → Binary y → Binary f₂ → Binary o₂ → Binary y₂ → (p : ℕ)
       → rowParity s l (add f f₂) (add o o₂) (add y y₂) p ≡ bitSum (rowParity s l f o y p) (rowParity s l f₂ o₂ y₂ p)
@@ -152,7 +153,7 @@ module _ (s : Params) (l : Interleavers) (ok : Proper s) where
     columnParity-same o e y o₂ e₂ y₂ ho he hy q =
         let at : ℕ → ℕ = λ j. j * s .M + q % s .M in
         let below : (j : ℕ) → j < s .M → at j < s .M * s .M = λ j m. digits-lt m (column-of s ok q) in
-        ap (λ (u : List ℕ). getD (parity (s .g) (s .r) u) (q / s .M) 0)
+        ap (λ (u : List ℕ). getD (parity (columnGenerator s) (s .r) u) (q / s .M) 0)
         (three-same (s .M) (s .r) (λ j. o (at j)) (λ j. e (at j)) (λ b. y (at b)) (λ j. o₂ (at j)) (λ j. e₂ (at j)) (λ b. y₂ (at b))
         (λ j m. ho (at j) (below j m)) (λ j m. he (at j) (below j m)) (λ b m. hy (at b) (place-lt s ok b (q % s .M) m (column-of s ok q))))
 

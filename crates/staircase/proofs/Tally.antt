@@ -35,10 +35,10 @@ use Rattle.staircase.proofs.Bounds.{small-product}
 use Rattle.staircase.proofs.Tabulate.{tabulate-length}
 use Rattle.staircase.proofs.Rules.{then-first, then-rest, refuse-false, design-limits, count-limits, frame-lengths}
 use Rattle.staircase.proofs.Rounds.{runEach-idle, runEach-more}
-use Rattle.staircase.proofs.Outside.{outside-bound}
+use Rattle.staircase.proofs.Outside.{outsideEach-bound}
 use Rattle.staircase.proofs.LineErrors.{lineErrors-bound}
 use Rattle.staircase.proofs.Outcomes.{lastStuck-bound}
-use Rattle.staircase.proofs.Lines.{words-numbered}
+use Rattle.staircase.proofs.Lines.{words-length}
 use Rattle.staircase.proofs.Decoded.{correctedBy-verdict, Decodes, decode-accepted}
 use Rattle.staircase.proofs.Demand1.{byTable-then, byTable-refuse, byTable-more, decode-byTable, correctedBy-untouched}
 
@@ -111,7 +111,7 @@ again (refused n p) f g c = refl
 pub further-none : (x : Decode) → furtherCall accepted x ≡ callOf x
 unfolding furtherCall decodeCall
 further-none x =
-    let s : Params = params (x .m) (x .t) (x .M) in
+    let s : Params = params (x .m) (x .t) (x .M) (x .col) in
     let l : Interleavers = interleavers s (x .self) (x .parity) in
     let f : Frame = frameOf (x .info) (x .red) in
     again (verdictFor x) f (decoded s l (x .L) (x .rounds) f .frame) (countsOf s l (x .L) (x .rounds) f)
@@ -170,7 +170,7 @@ allowed-most (suc k) h = h
 
 module _ (x : Decode) (ok : verdictFor x ≡ accepted) where
   abbrev s : Params
-  s = params (x .m) (x .t) (x .M)
+  s = params (x .m) (x .t) (x .M) (x .col)
 
   abbrev l : Interleavers
   l = interleavers s (x .self) (x .parity)
@@ -178,8 +178,8 @@ module _ (x : Decode) (ok : verdictFor x ≡ accepted) where
   abbrev f : Frame
   f = frameOf (x .info) (x .red)
 
-  D : Decodes (x .m) (x .t) (x .M) (x .L) (x .rounds) (x .self) (x .parity) (x .info) (x .red)
-  D = decode-accepted (x .m) (x .t) (x .M) (x .L) (x .rounds) (x .self) (x .parity) (x .info) (x .red) (x .work) ok
+  D : Decodes (x .m) (x .t) (x .M) (x .col) (x .L) (x .rounds) (x .self) (x .parity) (x .info) (x .red)
+  D = decode-accepted (x .m) (x .t) (x .M) (x .col) (x .L) (x .rounds) (x .self) (x .parity) (x .info) (x .red) (x .work) ok
 
   few-groups : groups (x .L) ≤ 2048
   few-groups = omega (arith, count-limits (x .L) (D .count) .1)
@@ -187,33 +187,33 @@ module _ (x : Decode) (ok : verdictFor x ≡ accepted) where
   few-words : length (words s l (x .L)) ≤ 4096 * most-M
   few-words =
       let e : length (words s l (x .L)) ≡ wordCount s (x .L) =
-      ap length (words-numbered s l (x .L)) ∙ tabulate-length (wordCount s (x .L)) (λ w. frameWord s l (x .L) w .sites) in
+      words-length s l (x .L) in
       subst⁻¹ (λ (n : ℕ). n ≤ 4096 * most-M) e
-      (small-product (2 * groups (x .L)) (x .M) 4096 most-M (omega (arith, few-groups)) (design-limits (x .m) (x .t) (x .M) (D .design) .M-high))
+      (small-product (2 * groups (x .L)) (x .M) 4096 most-M (omega (arith, few-groups)) (design-limits (x .m) (x .t) (x .M) (x .col) (D .design) .M-high))
 
   few-bits : length (x .info) + length (x .red) ≤ most-added
   few-bits =
       let fits = frame-lengths s (x .L) (x .info) (x .red) (D .frame-fits) in
-      let lim = design-limits (x .m) (x .t) (x .M) (D .design) in
+      let lim = design-limits (x .m) (x .t) (x .M) (x .col) (D .design) in
       let area = small-product (x .M) (x .M) most-M most-M (lim .M-high) (lim .M-high) in
       let a = small-product (x .L) (x .M * x .M) most-blocks (most-M * most-M) (count-limits (x .L) (D .count) .1) area in
       let b = small-product (groups (x .L)) (2 * order s) 2048 (2 * most-order) few-groups (omega (arith, lim .order-high)) in
       omega (arith, fits .0, fits .1, a, b)
 
   few-rounds : decoded s l (x .L) (x .rounds) f .rounds ≤ most-rounds
-  unfolding decoded runRounds
+  unfolding decoded
   few-rounds =
       let a = allowed-most (x .rounds) (rounds-limit (x .rounds) (D .rounds)) in
-      omega (arith, runEach-rounds (plain s (words s l (x .L))) (roundsAllowed (x .rounds)) f, a)
+      omega (arith, runEach-rounds (words s l (x .L)) (roundsAllowed (x .rounds)) f, a)
 
   few-outside : (g : Frame) → outside s l (x .L) g ≤ 4096 * most-M
   unfolding outside
-  few-outside g = omega (arith, outside-bound s g (words s l (x .L)), few-words)
+  few-outside g = omega (arith, outsideEach-bound g (words s l (x .L)), few-words)
 
-  few-stuck : lastStuck (plain s (words s l (x .L))) (roundsAllowed (x .rounds)) f ≤ 4096 * most-M
+  few-stuck : lastStuck (words s l (x .L)) (roundsAllowed (x .rounds)) f ≤ 4096 * most-M
   few-stuck =
-      let ws : List Word = plain s (words s l (x .L)) in
-      omega (arith, lastStuck-bound ws (roundsAllowed (x .rounds)) f, length-map (words s l (x .L)) (word s), few-words)
+      let ws : List Word = words s l (x .L) in
+      omega (arith, lastStuck-bound ws (roundsAllowed (x .rounds)) f, few-words)
 
   counts-few : Few (countsOf s l (x .L) (x .rounds) f) (length (x .info) + length (x .red))
   unfolding countsOf
@@ -283,7 +283,7 @@ unfolding tallyVerdict
 tally-byTable y x =
     byTable-then tallyNumbers (verdictFor x) (fullRule y)
     (byTable-more (1 ∷ 2 ∷ 3 ∷ 4 ∷ 5 ∷ 6 ∷ 7 ∷ 10 ∷ []) (16 ∷ []) (verdictFor x)
-    (decode-byTable (x .m) (x .t) (x .M) (x .L) (x .rounds) (x .self) (x .parity) (x .info) (x .red) (x .work)))
+    (decode-byTable (x .m) (x .t) (x .M) (x .col) (x .L) (x .rounds) (x .self) (x .parity) (x .info) (x .red) (x .work)))
     (λ e. full-byTable tallyNumbers refl y)
 
 pub tally-demand1 : (y : Tally) (x : Decode)

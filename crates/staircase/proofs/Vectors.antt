@@ -16,7 +16,7 @@ use Rattle.bch.specs.Polynomial.{_⊕_, _⊗_, timesX, iterate, polyAtDigits, p
 use Rattle.bch.specs.Field.{fieldPoly, valueAt}
 use Rattle.bch.specs.Code.{leastFrom, minimalPoly, generator, isCodeword, parity, unlike, distance}
 use Rattle.staircase.specs.Lists.{sumBits, tabulate, concat, firstWhere}
-use Rattle.staircase.specs.Design.{Interleavers, Limits}
+use Rattle.staircase.specs.Design.{Interleavers, columnGenerator, Limits}
 use Rattle.staircase.specs.Word.{rowInfo, rowWord, columnInfo, columnWord}
 use Rattle.staircase.specs.Frame.{Site, rowSites, columnSites, words, read, outsideEach, outsideAmong, outside}
 use Rattle.staircase.specs.Frame.Site.{unsent}
@@ -41,7 +41,7 @@ use Rattle.staircase.proofs.Correction.{nearest-errors}
 use Rattle.staircase.proofs.BchCode.{apart-of}
 
 pub rowsK : RowsK
-unfolding _⊕_ _⊗_ timesX iterate polyAtDigits polyAt horner remainder bitsOf fieldPoly valueAt leastFrom minimalPoly generator isCodeword parity sumBits tabulate concat firstWhere rowInfo rowWord columnInfo columnWord preimage columnParity rowParity residual systemEntry constantEntry inverseEntry product selfEntry groupBits rowSites columnSites words outsideEach outsideAmong outside groupRedundancy redundancy choices flipBits firstCorrecting errorPositions occurrences everyOccurrence once permitted correction flipAll correctWord correctEach correctWords roundOf round runEach runRounds decoded outcome stuckEach beforeLast lastStuck refuseFirst sizeRule longRule largeRule designRules countRule roundsRule listLengths kitLengths frameLengths kitWork wordWork keptWork decoderWork entries badEntry listRule spareRow spareRule wrongEntry inverseRule kitRules contentRules bitRule frameBits kitVerdict encodeVerdict encodeCall wordsVerdict wordsCall decodeVerdict unlike distance lineErrors countsOf decodeCall showVerdict showCall batchRule batchLengths batchVerdict batchRedundancy batchCall
+unfolding _⊕_ _⊗_ timesX iterate polyAtDigits polyAt horner remainder bitsOf fieldPoly valueAt leastFrom minimalPoly generator isCodeword parity sumBits tabulate concat firstWhere rowInfo rowWord columnInfo columnWord preimage columnParity columnGenerator rowParity residual systemEntry constantEntry inverseEntry product selfEntry groupBits rowSites columnSites words outsideEach outsideAmong outside groupRedundancy redundancy choices flipBits firstCorrecting errorPositions occurrences everyOccurrence once permitted correction flipAll correctWord correctEach correctWords roundOf round runEach runRounds decoded outcome stuckEach beforeLast lastStuck refuseFirst sizeRule longRule largeRule designRules countRule roundsRule listLengths kitLengths frameLengths kitWork wordWork keptWork decoderWork entries badEntry listRule spareRow spareRule wrongEntry inverseRule kitRules contentRules bitRule frameBits kitVerdict encodeVerdict encodeCall wordsVerdict wordsCall decodeVerdict unlike distance lineErrors countsOf decodeCall showVerdict showCall batchRule batchLengths batchVerdict batchRedundancy batchCall
 rowsK =
     record {
       x9 = refl;
@@ -70,6 +70,10 @@ rowsK =
       needsB0 = refl;
       fits3 = refl;
       long4 = refl;
+      mirrored3 = refl;
+      column3 = refl;
+      sizesFirst = refl;
+      columnFirst = refl;
       fits204 = refl;
       large205 = refl;
       noBlocks = refl;
@@ -110,7 +114,7 @@ abbrev rowsOfA : ℕ → ℕ → ℕ
 rowsOfA i j = getD (getD systemS i []) j 0
 
 system-rows : tabulate 8 (λ i. tabulate 8 (A i)) ≡ systemS
-unfolding _⊕_ _⊗_ timesX iterate polyAtDigits polyAt horner remainder bitsOf fieldPoly valueAt leastFrom minimalPoly generator parity tabulate firstWhere rowInfo columnInfo preimage columnParity rowParity residual systemEntry entries
+unfolding _⊕_ _⊗_ timesX iterate polyAtDigits polyAt horner remainder bitsOf fieldPoly valueAt leastFrom minimalPoly generator parity tabulate firstWhere rowInfo columnInfo preimage columnParity columnGenerator rowParity residual systemEntry entries
 system-rows = refl
 
 system-at : (i j : ℕ) → i < 8 → j < 8 → A i j ≡ rowsOfA i j
@@ -140,16 +144,16 @@ inverse-accepted =
     ∙ firstWhere-before 64 (wrongEntry 8 rowsOfA W) e (omega (arith, h, none-wrong)))
 
 -- rule 9 apart
-encoded-but : encodeCall 4 1 2 3 selfS parityS inverseS infoS (replicate (redLength paramsS 3) 255) (kitWork paramsS)
+encoded-but : encodeCall 4 1 2 0 3 selfS parityS inverseS infoS (replicate (redLength paramsS 3) 255) (kitWork paramsS)
     ≡ encodedBy (inverseRule paramsS listsS inverseS) (replicate (redLength paramsS 3) 255) redS
-unfolding _⊕_ _⊗_ timesX iterate polyAtDigits polyAt horner remainder bitsOf fieldPoly valueAt leastFrom minimalPoly generator isCodeword parity sumBits tabulate concat firstWhere rowInfo rowWord columnInfo columnWord preimage columnParity rowParity residual systemEntry constantEntry inverseEntry product selfEntry groupBits rowSites columnSites words outsideEach outsideAmong outside groupRedundancy redundancy choices flipBits firstCorrecting errorPositions occurrences everyOccurrence once permitted correction flipAll correctWord correctEach correctWords roundOf round runEach runRounds decoded refuseFirst sizeRule longRule largeRule designRules countRule roundsRule listLengths kitLengths frameLengths kitWork wordWork keptWork decoderWork entries badEntry listRule spareRow spareRule wrongEntry kitRules contentRules bitRule frameBits kitVerdict encodeVerdict encodeCall decodeVerdict decodeCall
+unfolding _⊕_ _⊗_ timesX iterate polyAtDigits polyAt horner remainder bitsOf fieldPoly valueAt leastFrom minimalPoly generator isCodeword parity sumBits tabulate concat firstWhere rowInfo rowWord columnInfo columnWord preimage columnParity columnGenerator rowParity residual systemEntry constantEntry inverseEntry product selfEntry groupBits rowSites columnSites words outsideEach outsideAmong outside groupRedundancy redundancy choices flipBits firstCorrecting errorPositions occurrences everyOccurrence once permitted correction flipAll correctWord correctEach correctWords roundOf round runEach runRounds decoded refuseFirst sizeRule longRule largeRule designRules countRule roundsRule listLengths kitLengths frameLengths kitWork wordWork keptWork decoderWork entries badEntry listRule spareRow spareRule wrongEntry kitRules contentRules bitRule frameBits kitVerdict encodeVerdict encodeCall decodeVerdict decodeCall
 encoded-but = refl
 
 -- ---- two errors
 
-limitsT : Limits 5 2 2
+limitsT : Limits 5 2 2 0
 unfolding designRules sizeRule longRule largeRule
-limitsT = design-limits 5 2 2 refl
+limitsT = design-limits 5 2 2 0 refl
 
 abbrev wordT : ℕ → List ℕ
 wordT a = read receivedT (rowSites paramsT listsT 1 0 a)
@@ -186,7 +190,7 @@ unfolding occurrences everyOccurrence once permitted correction rowSites rowWord
 needs-B0 = ap (sentAt (rowSites paramsT listsT 1 0 1)) positions1T
 
 pub secondKit : SecondKit
-unfolding _⊕_ _⊗_ timesX iterate polyAtDigits polyAt horner remainder bitsOf fieldPoly valueAt leastFrom minimalPoly generator isCodeword parity sumBits tabulate concat firstWhere rowInfo rowWord columnInfo columnWord preimage columnParity rowParity residual systemEntry constantEntry inverseEntry product selfEntry groupBits rowSites columnSites words outsideEach outsideAmong outside groupRedundancy redundancy choices flipBits firstCorrecting errorPositions occurrences everyOccurrence once permitted correction flipAll correctWord correctEach correctWords roundOf round runEach runRounds decoded outcome stuckEach beforeLast lastStuck refuseFirst sizeRule longRule largeRule designRules countRule roundsRule listLengths kitLengths frameLengths kitWork wordWork keptWork decoderWork entries badEntry listRule spareRow spareRule wrongEntry inverseRule kitRules contentRules bitRule frameBits kitVerdict encodeVerdict encodeCall decodeVerdict unlike distance lineErrors countsOf decodeCall
+unfolding _⊕_ _⊗_ timesX iterate polyAtDigits polyAt horner remainder bitsOf fieldPoly valueAt leastFrom minimalPoly generator isCodeword parity sumBits tabulate concat firstWhere rowInfo rowWord columnInfo columnWord preimage columnParity columnGenerator rowParity residual systemEntry constantEntry inverseEntry product selfEntry groupBits rowSites columnSites words outsideEach outsideAmong outside groupRedundancy redundancy choices flipBits firstCorrecting errorPositions occurrences everyOccurrence once permitted correction flipAll correctWord correctEach correctWords roundOf round runEach runRounds decoded outcome stuckEach beforeLast lastStuck refuseFirst sizeRule longRule largeRule designRules countRule roundsRule listLengths kitLengths frameLengths kitWork wordWork keptWork decoderWork entries badEntry listRule spareRow spareRule wrongEntry inverseRule kitRules contentRules bitRule frameBits kitVerdict encodeVerdict encodeCall decodeVerdict unlike distance lineErrors countsOf decodeCall
 secondKit =
     record {
       system = system-rows;

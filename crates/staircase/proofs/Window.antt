@@ -21,11 +21,11 @@ use lib.Dec.{eqb}
 use Rattle.bch.specs.Code.{distance}
 use Rattle.staircase.specs.Lists.{tabulate}
 use Rattle.staircase.specs.Design.{Params, Interleavers, params, most-rounds}
-use Rattle.staircase.specs.Frame.{Frame, Site, Word, word, plain, frameOf, groups, words, read, inCode, outsideEach, outsideAmong, outside}
+use Rattle.staircase.specs.Frame.{Frame, Word, frameOf, groups, words, read, inCode, outsideEach, outside}
 use Rattle.staircase.specs.System.{redundancy}
 use Rattle.staircase.specs.LineErrors.{lineErrors}
-use Rattle.staircase.specs.Lines.{lineSites, wordsFrom}
-use Rattle.staircase.specs.Decoder.{Progress, roundOf, Decoded, runEach, runRounds, roundsAllowed, decoded}
+use Rattle.staircase.specs.Lines.{lineWord, wordsFrom}
+use Rattle.staircase.specs.Decoder.{Progress, roundOf, Decoded, runEach, roundsAllowed, decoded}
 use Rattle.staircase.specs.Outcomes.{lastStuck}
 use Rattle.staircase.specs.Rules.{Verdict, _then_, outOfRange, designRules, countRule, roundsRule, lengthRule, listLengths, frameLengths, decoderWork, interleavers, listRule, frameBits}
 use Rattle.staircase.specs.Rules.Verdict.{accepted, refused}
@@ -34,10 +34,10 @@ use Rattle.staircase.specs.Demand3.{Kit, sizes, lists, encode, Given, Ea
 use Rattle.staircase.specs.Window.{most-window, windowRule, positions, windowGroups, windowWords, slide, slideStuck, windowed, windowStuck, windowCounts, windowVerdict, windowCall, decodeWindow}
 use Rattle.staircase.proofs.Search.{cond-ind}
 use Rattle.staircase.proofs.Tabulate.{concat-same}
-use Rattle.staircase.proofs.Member.{In, in-concat, concat-in, in-map, map-in}
+use Rattle.staircase.proofs.Member.{In, in-concat, concat-in}
 use Rattle.staircase.proofs.Flip.{Received, bitAt-bits}
 use Rattle.staircase.proofs.Lines.{words-lines}
-use Rattle.staircase.proofs.Rounds.{plain-each, runEach-idle, runEach-more}
+use Rattle.staircase.proofs.Rounds.{runEach-idle, runEach-more}
 use Rattle.staircase.proofs.Correction.{Sound, FewWrong, Nearer, nearer-trans, nearer-distance, nearer-same, covers-same, correctEach-restore}
 use Rattle.staircase.proofs.BchCode.{proper-of}
 use Rattle.staircase.proofs.Sites.{each-word}
@@ -53,58 +53,50 @@ use Rattle.staircase.proofs.Demand3.{encode-made, decode-admits, made-l
 -- ---- the words of a window
 
 module _ (s : Params) (l : Interleavers) (L : ℕ) where
-  pub wordsFrom-among : (k n : ℕ) → k + n ≤ 2 * groups L → (x : List Site) → In x (wordsFrom s l L k n) → In x (words s l L)
+  pub wordsFrom-among : (k n : ℕ) → k + n ≤ 2 * groups L → (x : Word) → In x (wordsFrom s l L k n) → In x (words s l L)
   wordsFrom-among k n h x i =
-      let q = concat-in n (λ i. tabulate (s .M) (lineSites s l L (k + i))) x i in
-      subst⁻¹ (λ (ws : List (List Site)). In x ws) (words-lines s l L)
-      (in-concat x (2 * groups L) (λ k. tabulate (s .M) (lineSites s l L k)) (k + q .0) (omega (arith, q .1)) (q .2))
+      let q = concat-in n (λ i. tabulate (s .M) (lineWord s l L (k + i))) x i in
+      subst⁻¹ (λ (ws : List Word). In x ws) (words-lines s l L)
+      (in-concat x (2 * groups L) (λ k. tabulate (s .M) (lineWord s l L k)) (k + q .0) (omega (arith, q .1)) (q .2))
 
   -- line k + i of the frame is line i of those from k on
-  pub among-wordsFrom : (x : List Site) → In x (words s l L) → (j : ℕ) × (j < 2 * groups L) × ((k n : ℕ) → k ≤ j → j < k + n → In x (wordsFrom s l L k n))
+  pub among-wordsFrom : (x : Word) → In x (words s l L) → (j : ℕ) × (j < 2 * groups L) × ((k n : ℕ) → k ≤ j → j < k + n → In x (wordsFrom s l L k n))
   among-wordsFrom x i =
-      let q = concat-in (2 * groups L) (λ k. tabulate (s .M) (lineSites s l L k)) x (subst (λ (ws : List (List Site)). In x ws) (words-lines s l L) i) in (
+      let q = concat-in (2 * groups L) (λ k. tabulate (s .M) (lineWord s l L k)) x (subst (λ (ws : List Word). In x ws) (words-lines s l L) i) in (
         q .0,
         q .1,
         λ k n low high.
             let e : k + (q .0 - k) ≡ q .0 = omega (arith, low) in
-            in-concat x n (λ i. tabulate (s .M) (lineSites s l L (k + i))) (q .0 - k) (omega (arith, low, high))
-            (subst⁻¹ (λ (j : ℕ). In x (tabulate (s .M) (lineSites s l L j))) e (q .2)),
+            in-concat x n (λ i. tabulate (s .M) (lineWord s l L (k + i))) (q .0 - k) (omega (arith, low, high))
+            (subst⁻¹ (λ (j : ℕ). In x (tabulate (s .M) (lineWord s l L j))) e (q .2)),
       )
 
   module _ (v : ℕ) where
-    pub windowWords-whole : groups L ≤ v → windowWords s l L v 0 ≡ plain s (words s l L)
+    pub windowWords-whole : groups L ≤ v → windowWords s l L v 0 ≡ words s l L
     windowWords-whole h =
         let all : 2 * windowGroups (groups L) v ≡ 2 * groups L = omega (arith, h) in
-        ap (plain s)
-        (ap (wordsFrom s l L (2 * 0)) all
-        ∙ concat-same (2 * groups L) (λ i. tabulate (s .M) (lineSites s l L (2 * 0 + i))) (λ i. tabulate (s .M) (lineSites s l L i))
-        (λ i m. ap (λ (j : ℕ). tabulate (s .M) (lineSites s l L j)) (zero-add i)) ∙ sym (words-lines s l L))
+        ap (wordsFrom s l L (2 * 0)) all
+        ∙ concat-same (2 * groups L) (λ i. tabulate (s .M) (lineWord s l L (2 * 0 + i))) (λ i. tabulate (s .M) (lineWord s l L i))
+        (λ i m. ap (λ (j : ℕ). tabulate (s .M) (lineWord s l L j)) (zero-add i)) ∙ sym (words-lines s l L)
 
-    window-word : (p : ℕ) → p < positions (groups L) v → (w : Word) → In w (windowWords s l L v p) → In w (plain s (words s l L))
+    window-word : (p : ℕ) → p < positions (groups L) v → (w : Word) → In w (windowWords s l L v p) → In w (words s l L)
     window-word p h w i =
-        let n : ℕ = 2 * windowGroups (groups L) v in
-        let q = map-in (word s) (wordsFrom s l L (2 * p) n) w i in
-        subst⁻¹ (λ (z : Word). In z (plain s (words s l L))) (q .2)
-        (in-map (word s) (words s l L) (q .0) (wordsFrom-among (2 * p) n (omega (arith, h)) (q .0) (q .1)))
+        wordsFrom-among (2 * p) (2 * windowGroups (groups L) v) (omega (arith, h)) w i
 
-    word-window : 1 ≤ v → (w : Word) → In w (plain s (words s l L)) → (p : ℕ) × (p < positions (groups L) v) × In w (windowWords s l L v p)
+    word-window : 1 ≤ v → (w : Word) → In w (words s l L) → (p : ℕ) × (p < positions (groups L) v) × In w (windowWords s l L v p)
     word-window low w i =
-        let q = map-in (word s) (words s l L) w i in
-        let t = among-wordsFrom (q .0) (q .1) in
-        go (q .0) (q .2) (t .0) (t .1) (t .2) (decLt (t .0 / 2) (positions (groups L) v))
+        let t = among-wordsFrom w i in
+        go (t .0) (t .1) (t .2) (decLt (t .0 / 2) (positions (groups L) v))
       where
         n : ℕ
         n = 2 * windowGroups (groups L) v
 
-        at : (x : List Site) → w ≡ word s x → (p : ℕ) → In x (wordsFrom s l L (2 * p) n) → In w (windowWords s l L v p)
-        at x e p i = subst⁻¹ (λ (z : Word). In z (windowWords s l L v p)) e (in-map (word s) (wordsFrom s l L (2 * p) n) x i)
-
-        go : (x : List Site) → w ≡ word s x → (j : ℕ) → j < 2 * groups L → ((k n : ℕ) → k ≤ j → j < k + n → In x (wordsFrom s l L k n))
+        go : (j : ℕ) → j < 2 * groups L → ((k n : ℕ) → k ≤ j → j < k + n → In w (wordsFrom s l L k n))
             → Dec (j / 2 < positions (groups L) v) → (p : ℕ) × (p < positions (groups L) v) × In w (windowWords s l L v p)
-        go x e j h lines (yes d) = (j / 2, d, at x e (j / 2) (lines (2 * (j / 2)) n (omega arith) (omega (arith, h, low))))
-        go x e j h lines (no d) =
+        go j h lines (yes d) = (j / 2, d, lines (2 * (j / 2)) n (omega arith) (omega (arith, h, low)))
+        go j h lines (no d) =
             let p : ℕ = groups L - v in
-            (p, omega arith, at x e p (lines (2 * p) n (omega (arith, d)) (omega (arith, h, d))))
+            (p, omega arith, lines (2 * p) n (omega (arith, d)) (omega (arith, h, d)))
 
 -- ---- how many rounds
 
@@ -145,12 +137,12 @@ slide-stays window (suc n) k f h =
     next : Decoded → Decoded → Decoded
     next before here = record { frame = here .frame; rounds = before .rounds + here .rounds; flips = before .flips + here .flips }
 
-module _ (s : Params) (l : Interleavers) (L v k : ℕ) (f : Frame) (h : (w : List Site) → In w (words s l L) → inCode s f w ≡ true) where
+module _ (s : Params) (l : Interleavers) (L v k : ℕ) (f : Frame) (h : (w : Word) → In w (words s l L) → inCode (w .code) f (w .sites) ≡ true) where
   abbrev W : ℕ → List Word
   W = windowWords s l L v
 
   each : (p : ℕ) → p < positions (groups L) v → (w : Word) → In w (W p) → inCode (w .code) f (w .sites) ≡ true
-  each p m w i = plain-each s (λ (w : Word). inCode (w .code) f (w .sites) ≡ true) (words s l L) h w (window-word s l L v p m w i)
+  each p m w i = h w (window-word s l L v p m w i)
 
   -- one idle round at each position
   pub windowed-stays : windowed s l L v k f ≡ record { frame = f; rounds = positions (groups L) v; flips = 0 }
@@ -171,11 +163,11 @@ module _ (s : Params) (l : Interleavers) (L v k : ℕ) (f : Frame) (h : (w : Lis
       ∙ lastStuck-idle (W last) j f idle ∙ stuckEach-idle (W last) f idle .0 ∙ outsideEach-inside f (W last) here
 
   pub windowCounts-stays : windowCounts s l L v k f ≡ record { rounds = positions (groups L) v; turned = 0; outside = 0; stuck = 0 }
-  unfolding windowCounts outside outsideAmong
+  unfolding windowCounts outside
   windowCounts-stays =
-      let none : outsideEach f (plain s (words s l L)) ≡ 0 =
-      outsideEach-inside f (plain s (words s l L)) (plain-each s (λ (w : Word). inCode (w .code) f (w .sites) ≡ true) (words s l L) h) in
-      ap₂ (λ (d : Decoded) (n : ℕ). record { rounds = d .rounds; turned = lineErrors f (d .frame); outside = outsideEach (d .frame) (plain s (words s l L)); stuck = n })
+      let none : outsideEach f (words s l L) ≡ 0 =
+      outsideEach-inside f (words s l L) h in
+      ap₂ (λ (d : Decoded) (n : ℕ). record { rounds = d .rounds; turned = lineErrors f (d .frame); outside = outsideEach (d .frame) (words s l L); stuck = n })
       windowed-stays windowStuck-stays
       ∙ ap₂ (λ (a b : ℕ). record { rounds = positions (groups L) v; turned = a; outside = b; stuck = 0 }) (lineErrors-same f) none
 
@@ -263,19 +255,19 @@ windowed-least s l L v k f =
     let G : ℕ = groups L in
     let least : windowGroups G (windowGroups G v) ≡ windowGroups G v = omega arith in
     let last : G - windowGroups G v ≡ G - v = omega arith in (
-      ap₂ (λ (n m : ℕ). slide (λ p. plain s (wordsFrom s l L (2 * p) (2 * n))) (suc m) (roundsAllowed k) f) least last,
-      ap₂ (λ (n m : ℕ). slideStuck (λ p. plain s (wordsFrom s l L (2 * p) (2 * n))) m (roundsAllowed k) f) least last,
+      ap₂ (λ (n m : ℕ). slide (λ p. wordsFrom s l L (2 * p) (2 * n)) (suc m) (roundsAllowed k) f) least last,
+      ap₂ (λ (n m : ℕ). slideStuck (λ p. wordsFrom s l L (2 * p) (2 * n)) m (roundsAllowed k) f) least last,
     )
 
 -- a window that rule 18 admits
-pub window-verdict : (m t M L k v : ℕ) (self parity info red : List ℕ) (work : ℕ) → windowRule v ≡ accepted
-    → windowVerdict m t M L k v self parity info red work ≡ decodeVerdict m t M L k self parity info red work
+pub window-verdict : (m t M col L k v : ℕ) (self parity info red : List ℕ) (work : ℕ) → windowRule v ≡ accepted
+    → windowVerdict m t M col L k v self parity info red work ≡ decodeVerdict m t M col L k self parity info red work
 unfolding windowVerdict decodeVerdict
-window-verdict m t M L k v self parity info red work e =
-    let s : Params = params m t M in
+window-verdict m t M col L k v self parity info red work e =
+    let s : Params = params m t M col in
     let rest : Verdict = listLengths s self parity then frameLengths s L info red then lengthRule 6 work (decoderWork s L)
     then listRule s (interleavers s self parity) then frameBits info red in
-    ap (λ (x : Verdict). designRules m t M then countRule L then roundsRule k then x then rest) e
+    ap (λ (x : Verdict). designRules m t M col then countRule L then roundsRule k then x then rest) e
 
 pub window-admitted : (v : ℕ) → 1 ≤ v → v ≤ most-window → windowRule v ≡ accepted
 unfolding windowRule
@@ -290,13 +282,13 @@ module _ (s : Params) (l : Interleavers) (L v k : ℕ) (f : Frame) (h : groups L
   K = roundsAllowed k
 
   pub whole-rounds : windowed s l L v k f ≡ decoded s l L k f
-  unfolding windowed decoded runRounds
+  unfolding windowed decoded
   whole-rounds =
       let one : positions (groups L) v ≡ 1 = omega (arith, h) in
       ap (λ (n : ℕ). slide (windowWords s l L v) n K f) one ∙ slide-one (windowWords s l L v) K f
       ∙ ap (λ (ws : List Word). runEach ws K f) (windowWords-whole s l L v h)
 
-  whole-stuck : windowStuck s l L v k f ≡ lastStuck (plain s (words s l L)) (roundsAllowed k) f
+  whole-stuck : windowStuck s l L v k f ≡ lastStuck (words s l L) (roundsAllowed k) f
   unfolding windowStuck slideStuck slide
   whole-stuck =
       let none : groups L - v ≡ 0 = omega (arith, h) in
@@ -313,25 +305,25 @@ module _ (s : Params) (l : Interleavers) (L v k : ℕ) (f : Frame) (h : groups L
   }
 
 -- "If V is at least G, bits and counts are those of the whole-frame decoder": so is the verdict, for all arguments
-pub windowed-whole : (m t M L k v : ℕ) (self parity info red : List ℕ) (work : ℕ) → 1 ≤ v → v ≤ most-window → groups L ≤ v
-    → windowCall m t M L k v self parity info red work ≡ decodeCall m t M L k self parity info red work
+pub windowed-whole : (m t M col L k v : ℕ) (self parity info red : List ℕ) (work : ℕ) → 1 ≤ v → v ≤ most-window → groups L ≤ v
+    → windowCall m t M col L k v self parity info red work ≡ decodeCall m t M col L k self parity info red work
 unfolding windowCall decodeCall
-windowed-whole m t M L k v self parity info red work low high h =
-    let s : Params = params m t M in
+windowed-whole m t M col L k v self parity info red work low high h =
+    let s : Params = params m t M col in
     let l : Interleavers = interleavers s self parity in
     let f : Frame = frameOf info red in
-    let verdict = window-verdict m t M L k v self parity info red work (window-admitted v low high) in
+    let verdict = window-verdict m t M col L k v self parity info red work (window-admitted v low high) in
     λ i. correctedBy (verdict i) f (whole-rounds s l L v k f h i .frame) (whole-counts s l L v k f h i)
 
 -- "Rounds .. never exceed positions times the allowed number"
-pub windowed-limit : (m t M L k v : ℕ) (self parity info red : List ℕ) (work : ℕ)
-    → windowCall m t M L k v self parity info red work .counts .rounds ≤ positions (groups L) v * roundsAllowed k
+pub windowed-limit : (m t M col L k v : ℕ) (self parity info red : List ℕ) (work : ℕ)
+    → windowCall m t M col L k v self parity info red work .counts .rounds ≤ positions (groups L) v * roundsAllowed k
 unfolding windowCall windowCounts windowed
-windowed-limit m t M L k v self parity info red work =
-    let s : Params = params m t M in
+windowed-limit m t M col L k v self parity info red work =
+    let s : Params = params m t M col in
     let l : Interleavers = interleavers s self parity in
     let f : Frame = frameOf info red in
-    counted (windowVerdict m t M L k v self parity info red work) f (windowed s l L v k f .frame) (windowCounts s l L v k f)
+    counted (windowVerdict m t M col L k v self parity info red work) f (windowed s l L v k f .frame) (windowCounts s l L v k f)
     (slide-limit (windowWords s l L v) (positions (groups L) v) (roundsAllowed k) f)
   where
     counted : (x : Verdict) (old new : Frame) (c : Counts) {n : ℕ} → c .rounds ≤ n → correctedBy x old new c .counts .rounds ≤ n
@@ -354,7 +346,7 @@ module _ (K : Kit) (L : ℕ) (info old : List ℕ) (G : Given K L info old) wher
   frame = frameOf info made
 
   abbrev all : List Word
-  all = plain s (words s l L)
+  all = words s l L
 
   module _ (received : Frame) (like : Received frame received) (few : (w : Word) → In w all → FewWrong frame received w) (v : ℕ) (low : 1 ≤ v) where
     slid : (n k : ℕ) → n ≤ positions (groups L) v → Slid frame (frame-itself K L info old G) received (slide (windowWords s l L v) n (suc k) received .frame) (windowWords s l L v) n
@@ -388,21 +380,20 @@ module _ (K : Kit) (L : ℕ) (info old : List ℕ) (G : Given K L info old) wher
   abbrev Restores : List ℕ → Type 0
   Restores red =
       (received : Frame) → Like info (received .info) → Like red (received .red)
-      → EachWord s l L (λ x. distance (read (frameOf info red) x) (read received x) ≤ K .t)
+      → EachWord s l L (λ x. distance (read (frameOf info red) (x .sites)) (read received (x .sites)) ≤ K .t)
       → (k v : ℕ) → k ≤ most-rounds → 1 ≤ v → v ≤ most-window → Restored received (frameOf info red) (decodeWindow K L k v received)
 
   made-window : Restores made
   unfolding windowCall windowCounts outside
   made-window received li lr few k v hk low high =
       let like : Received frame received = record { infoLength = li .0; redLength = lr .0; binary = bitAt-bits received (li .1) (lr .1) } in
-      let each = plain-each s (FewWrong frame received) (words s l L)
-      (each-word s L l (proper-of (design-limits (K .m) (K .t) (K .M) (G .design))) (G .passes .self) (G .passes .parity)
-      (λ x. distance (read frame x) (read received x) ≤ K .t) (few .rows) (few .columns)) in
+      let each = each-word s L l (proper-of (design-limits (K .m) (K .t) (K .M) (K .col) (G .design))) (G .passes .self) (G .passes .parity)
+      (FewWrong frame received) (few .rows) (few .columns) in
       let d : Decoded = windowed s l L v k received in
-      let verdict = window-verdict (K .m) (K .t) (K .M) L k v (K .self) (K .parity) (received .info) (received .red) (decoderWork s L) (window-admitted v low high)
+      let verdict = window-verdict (K .m) (K .t) (K .M) (K .col) L k v (K .self) (K .parity) (received .info) (received .red) (decoderWork s L) (window-admitted v low high)
       ∙ decode-admits K L info old G k hk (received .info) (received .red) (li .0 ∙ (G .info-fits)) (lr .0 ∙ made-length K L info old G) (li .1) (lr .1) in
       let same : d .frame ≡ frame = window-frame received like each v low k in
-      let none : outsideAmong s (d .frame) (words s l L) ≡ 0 = ap (λ (x : Frame). outsideAmong s x (words s l L)) same ∙ none-outside K L info old G in
+      let none : outsideEach (d .frame) (words s l L) ≡ 0 = ap (λ (x : Frame). outsideEach x (words s l L)) same ∙ none-outside K L info old G in
       let free = window-free received like each v low k in (
         d .rounds,
         ap (λ (x : Verdict). correctedBy x received (d .frame) (windowCounts s l L v k received)) verdict
@@ -411,6 +402,6 @@ module _ (K : Kit) (L : ℕ) (info old : List ℕ) (G : Given K L info old) wher
 
   -- "A copy with at most t wrong bits in each word comes back as sent for every V"
   pub windowed-restore : (received : Frame) → Like info (received .info) → Like (encode K L info old .red) (received .red)
-      → EachWord (sizes K) (lists K) L (λ x. distance (read (frameOf info (encode K L info old .red)) x) (read received x) ≤ K .t)
+      → EachWord (sizes K) (lists K) L (λ x. distance (read (frameOf info (encode K L info old .red)) (x .sites)) (read received (x .sites)) ≤ K .t)
       → (k v : ℕ) → k ≤ most-rounds → 1 ≤ v → v ≤ most-window → Restored received (frameOf info (encode K L info old .red)) (decodeWindow K L k v received)
   windowed-restore = subst⁻¹ Restores (ap (λ (e : Encoded). e .red) (encode-made K L info old G info old (G .bits) (G .info-fits) (G .old-fits))) made-window

@@ -29,10 +29,10 @@ unfoldable pub batchLengths : Params → ℕ → ℕ → List ℕ → List ℕ �
 batchLengths s L n info red = lengthRule 4 (length info) (n * infoLength s L) then lengthRule 5 (length red) (n * redLength s L)
 
 -- "check the kit a single time for all"; "rule 10's place is counted over the joined information"
-unfoldable pub batchVerdict : ℕ → ℕ → ℕ → ℕ → ℕ → List ℕ → List ℕ → List ℕ → List ℕ → List ℕ → ℕ → Verdict
-batchVerdict m t M L n self parity w info red work =
-    let s : Params = params m t M in
-    designRules m t M then countRule L then batchRule n
+unfoldable pub batchVerdict : ℕ → ℕ → ℕ → ℕ → ℕ → ℕ → List ℕ → List ℕ → List ℕ → List ℕ → List ℕ → ℕ → Verdict
+batchVerdict m t M col L n self parity w info red work =
+    let s : Params = params m t M col in
+    designRules m t M col then countRule L then batchRule n
     then kitLengths s self parity w then batchLengths s L n info red then lengthRule 6 work (kitWork s)
     then contentRules s (interleavers s self parity) w info
 
@@ -45,7 +45,7 @@ unfoldable pub batchRedundancy : Params → Interleavers → List ℕ → ℕ �
 batchRedundancy s l w L n info = concat n (λ f. redundancy s l w L (frameAt (infoLength s L) info f))
 
 -- "or none is touched"
-unfoldable pub batchCall : ℕ → ℕ → ℕ → ℕ → ℕ → List ℕ → List ℕ → List ℕ → List ℕ → List ℕ → ℕ → Encoded
-batchCall m t M L n self parity w info red work =
-    let s : Params = params m t M in
-    encodedBy (batchVerdict m t M L n self parity w info red work) red (batchRedundancy s (interleavers s self parity) w L n info)
+unfoldable pub batchCall : ℕ → ℕ → ℕ → ℕ → ℕ → ℕ → List ℕ → List ℕ → List ℕ → List ℕ → List ℕ → ℕ → Encoded
+batchCall m t M col L n self parity w info red work =
+    let s : Params = params m t M col in
+    encodedBy (batchVerdict m t M col L n self parity w info red work) red (batchRedundancy s (interleavers s self parity) w L n info)

@@ -19,7 +19,7 @@ use Rattle.staircase.specs.Demand3.{Kit, sizes, encode, SameBut, SameBut
 
 -- n frames of L blocks, over what the joined redundancy buffer held
 abbrev pub encodeBatch : Kit → ℕ → ℕ → List ℕ → List ℕ → ℕ → Encoded
-encodeBatch K L n info red work = batchCall (K .m) (K .t) (K .M) L n (K .self) (K .parity) (K .inverse) info red work
+encodeBatch K L n info red work = batchCall (K .m) (K .t) (K .M) (K .col) L n (K .self) (K .parity) (K .inverse) info red work
 
 abbrev pub infoAt : Kit → ℕ → List ℕ → ℕ → List ℕ
 infoAt K L info f = frameAt (infoLength (sizes K) L) info f

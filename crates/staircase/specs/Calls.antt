@@ -11,7 +11,7 @@ use mathlib.Core.List.{List, []}
 use Prim.Native.Nat.{ℕ, _-_, _*_}
 use lib.ListN.{take, drop}
 use Rattle.staircase.specs.Design.{Params, Interleavers, params, order}
-use Rattle.staircase.specs.Frame.{Frame, plain, words, outside}
+use Rattle.staircase.specs.Frame.{Frame, words, outside}
 use Rattle.staircase.specs.System.{redundancy}
 use Rattle.staircase.specs.LineErrors.{lineErrors}
 use Rattle.staircase.specs.Decoder.{Decoded, roundsAllowed, decoded}
@@ -21,18 +21,18 @@ use Rattle.staircase.specs.Rules.Verdict.{accepted, refused}
 use Rattle.staircase.specs.Rules.Part.{block, group}
 
 -- "The kit checker has 1 to 3 and 6 to 9"
-unfoldable pub kitVerdict : ℕ → ℕ → ℕ → List ℕ → List ℕ → List ℕ → ℕ → Verdict
-kitVerdict m t M self parity w work =
-    let s : Params = params m t M in
-    designRules m t M then kitLengths s self parity w then lengthRule 6 work (kitWork s) then kitRules s (interleavers s self parity) w
+unfoldable pub kitVerdict : ℕ → ℕ → ℕ → ℕ → List ℕ → List ℕ → List ℕ → ℕ → Verdict
+kitVerdict m t M col self parity w work =
+    let s : Params = params m t M col in
+    designRules m t M col then kitLengths s self parity w then lengthRule 6 work (kitWork s) then kitRules s (interleavers s self parity) w
 
 -- ---- the encoder
 
 -- "the encoder 1 to 4 and 6 to 10", with 10 before 9; "the encoder doesn't judge old redundancy"
-unfoldable pub encodeVerdict : ℕ → ℕ → ℕ → ℕ → List ℕ → List ℕ → List ℕ → List ℕ → List ℕ → ℕ → Verdict
-encodeVerdict m t M L self parity w info red work =
-    let s : Params = params m t M in
-    designRules m t M then countRule L
+unfoldable pub encodeVerdict : ℕ → ℕ → ℕ → ℕ → ℕ → List ℕ → List ℕ → List ℕ → List ℕ → List ℕ → ℕ → Verdict
+encodeVerdict m t M col L self parity w info red work =
+    let s : Params = params m t M col in
+    designRules m t M col then countRule L
     then kitLengths s self parity w then frameLengths s L info red then lengthRule 6 work (kitWork s)
     then contentRules s (interleavers s self parity) w info
 
@@ -45,18 +45,18 @@ abbrev pub encodedBy : Verdict → List ℕ → List ℕ → Encoded
 encodedBy accepted old new = record { verdict = accepted; red = new }
 encodedBy (refused n p) old new = record { verdict = refused n p; red = old }
 
-unfoldable pub encodeCall : ℕ → ℕ → ℕ → ℕ → List ℕ → List ℕ → List ℕ → List ℕ → List ℕ → ℕ → Encoded
-encodeCall m t M L self parity w info red work =
-    let s : Params = params m t M in
-    encodedBy (encodeVerdict m t M L self parity w info red work) red (redundancy s (interleavers s self parity) w L info)
+unfoldable pub encodeCall : ℕ → ℕ → ℕ → ℕ → ℕ → List ℕ → List ℕ → List ℕ → List ℕ → List ℕ → ℕ → Encoded
+encodeCall m t M col L self parity w info red work =
+    let s : Params = params m t M col in
+    encodedBy (encodeVerdict m t M col L self parity w info red work) red (redundancy s (interleavers s self parity) w L info)
 
 -- ---- the word checker
 
 -- "the word checker 1 to 4, 6, 7 and 10"
-unfoldable pub wordsVerdict : ℕ → ℕ → ℕ → ℕ → List ℕ → List ℕ → List ℕ → List ℕ → ℕ → Verdict
-wordsVerdict m t M L self parity info red work =
-    let s : Params = params m t M in
-    designRules m t M then countRule L
+unfoldable pub wordsVerdict : ℕ → ℕ → ℕ → ℕ → ℕ → List ℕ → List ℕ → List ℕ → List ℕ → ℕ → Verdict
+wordsVerdict m t M col L self parity info red work =
+    let s : Params = params m t M col in
+    designRules m t M col then countRule L
     then listLengths s self parity then frameLengths s L info red then lengthRule 6 work (wordWork s)
     then listRule s (interleavers s self parity) then frameBits info red
 
@@ -68,18 +68,18 @@ abbrev pub countedBy : Verdict → ℕ → Counted
 countedBy accepted n = record { verdict = accepted; outside = n }
 countedBy (refused n p) o = record { verdict = refused n p; outside = 0 }
 
-unfoldable pub wordsCall : ℕ → ℕ → ℕ → ℕ → List ℕ → List ℕ → List ℕ → List ℕ → ℕ → Counted
-wordsCall m t M L self parity info red work =
-    let s : Params = params m t M in
-    countedBy (wordsVerdict m t M L self parity info red work) (outside s (interleavers s self parity) L (record { info = info; red = red }))
+unfoldable pub wordsCall : ℕ → ℕ → ℕ → ℕ → ℕ → List ℕ → List ℕ → List ℕ → List ℕ → ℕ → Counted
+wordsCall m t M col L self parity info red work =
+    let s : Params = params m t M col in
+    countedBy (wordsVerdict m t M col L self parity info red work) (outside s (interleavers s self parity) L (record { info = info; red = red }))
 
 -- ---- the decoder
 
 -- "the decoder 1 to 7 and 10"
-unfoldable pub decodeVerdict : ℕ → ℕ → ℕ → ℕ → ℕ → List ℕ → List ℕ → List ℕ → List ℕ → ℕ → Verdict
-decodeVerdict m t M L k self parity info red work =
-    let s : Params = params m t M in
-    designRules m t M then countRule L then roundsRule k
+unfoldable pub decodeVerdict : ℕ → ℕ → ℕ → ℕ → ℕ → ℕ → List ℕ → List ℕ → List ℕ → List ℕ → ℕ → Verdict
+decodeVerdict m t M col L k self parity info red work =
+    let s : Params = params m t M col in
+    designRules m t M col then countRule L then roundsRule k
     then listLengths s self parity then frameLengths s L info red then lengthRule 6 work (decoderWork s L)
     then listRule s (interleavers s self parity) then frameBits info red
 
@@ -98,7 +98,7 @@ countsOf s l L k f =
       rounds = d .rounds;
       turned = lineErrors f (d .frame);
       outside = outside s l L (d .frame);
-      stuck = lastStuck (plain s (words s l L)) (roundsAllowed k) f;
+      stuck = lastStuck (words s l L) (roundsAllowed k) f;
     }
 
 abbrev pub no-counts : Counts
@@ -114,18 +114,18 @@ abbrev pub correctedBy : Verdict → Frame → Frame → Counts → Corrected
 correctedBy accepted old new c = record { verdict = accepted; frame = new; counts = c }
 correctedBy (refused n p) old new c = record { verdict = refused n p; frame = old; counts = no-counts }
 
-unfoldable pub decodeCall : ℕ → ℕ → ℕ → ℕ → ℕ → List ℕ → List ℕ → List ℕ → List ℕ → ℕ → Corrected
-decodeCall m t M L k self parity info red work =
-    let s : Params = params m t M in
+unfoldable pub decodeCall : ℕ → ℕ → ℕ → ℕ → ℕ → ℕ → List ℕ → List ℕ → List ℕ → List ℕ → ℕ → Corrected
+decodeCall m t M col L k self parity info red work =
+    let s : Params = params m t M col in
     let l : Interleavers = interleavers s self parity in
     let f : Frame = record { info = info; red = red } in
-    correctedBy (decodeVerdict m t M L k self parity info red work) f (decoded s l L k f .frame) (countsOf s l L k f)
+    correctedBy (decodeVerdict m t M col L k self parity info red work) f (decoded s l L k f .frame) (countsOf s l L k f)
 
 -- ---- showing
 
 -- "showing 1 to 4 and 6"
-unfoldable pub showVerdict : ℕ → ℕ → ℕ → ℕ → Part → List ℕ → List ℕ → Verdict
-showVerdict m t M L part info red = designRules m t M then countRule L then partRule L part then frameLengths (params m t M) L info red
+unfoldable pub showVerdict : ℕ → ℕ → ℕ → ℕ → ℕ → Part → List ℕ → List ℕ → Verdict
+showVerdict m t M col L part info red = designRules m t M col then countRule L then partRule L part then frameLengths (params m t M col) L info red
 
 -- "A block or a group is shown as the stretch of whichever buffer holds it"
 abbrev pub stretch : Params → Part → List ℕ → List ℕ → List ℕ
@@ -141,5 +141,5 @@ abbrev pub shownBy : Verdict → List ℕ → Shown
 shownBy accepted l = record { verdict = accepted; bits = l }
 shownBy (refused n p) l = record { verdict = refused n p; bits = [] }
 
-unfoldable pub showCall : ℕ → ℕ → ℕ → ℕ → Part → List ℕ → List ℕ → Shown
-showCall m t M L part info red = shownBy (showVerdict m t M L part info red) (stretch (params m t M) part info red)
+unfoldable pub showCall : ℕ → ℕ → ℕ → ℕ → ℕ → Part → List ℕ → List ℕ → Shown
+showCall m t M col L part info red = shownBy (showVerdict m t M col L part info red) (stretch (params m t M col) part info red)

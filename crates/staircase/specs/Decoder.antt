@@ -142,4 +142,4 @@ roundsAllowed zero = default-rounds
 roundsAllowed (suc k) = suc k
 
 unfoldable pub decoded : Params → Interleavers → ℕ → ℕ → Frame → Decoded
-decoded s l L k f = runRounds s (words s l L) (roundsAllowed k) f
+decoded s l L k f = runEach (words s l L) (roundsAllowed k) f

@@ -21,8 +21,8 @@ use Rattle.staircase.specs.Window.{most-window}
 
 -- "Returned", "Place". A place that is a number of blocks, of a byte or of a length may be any number.
 pub data Table (n p : ℕ) : Type 0 where
-  -- "1, 2, 3 for m, t, M"
-  size : n ≡ 1 → 1 ≤ p → p ≤ 3 → Table n p
+  -- "1, 2, 3 for m, t, M"; document 02: "rule 1 gains place 4"
+  size : n ≡ 1 → 1 ≤ p → p ≤ 4 → Table n p
   -- "n above 2^m - 1", and m is at least 4
   long : n ≡ 2 → 15 < p → Table n p
   -- "M × r .. above 4,096"

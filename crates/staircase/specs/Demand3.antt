@@ -18,7 +18,7 @@ use lib.ListN.{getD, length}
 use Rattle.bch.specs.Polynomial.{Bits}
 use Rattle.bch.specs.Code.{distance}
 use Rattle.staircase.specs.Design.{Params, Interleavers, params, order, most-blocks, most-rounds}
-use Rattle.staircase.specs.Frame.{Frame, Site, frameOf, groups, rowSites, columnSites, read, inCode, outside}
+use Rattle.staircase.specs.Frame.{Frame, Word, frameOf, groups, rowAt, columnAt, read, inCode, outside}
 use Rattle.staircase.specs.LineErrors.{lineErrors}
 use Rattle.staircase.specs.Rules.{designRules, infoLength, redLength, interleavers, kitWork, decoderWork}
 use Rattle.staircase.specs.Rules.Verdict.{accepted}
@@ -30,28 +30,29 @@ pub record Kit : Type 0 where
   pub m : ℕ
   pub t : ℕ
   pub M : ℕ
+  pub col : ℕ
   pub self : List ℕ
   pub parity : List ℕ
   pub inverse : List ℕ
 
 abbrev pub sizes : Kit → Params
-sizes K = params (K .m) (K .t) (K .M)
+sizes K = params (K .m) (K .t) (K .M) (K .col)
 
 abbrev pub lists : Kit → Interleavers
 lists K = interleavers (sizes K) (K .self) (K .parity)
 
 -- the encoder's call on L blocks of information, over what the redundancy buffer held
 abbrev pub encode : Kit → ℕ → List ℕ → List ℕ → Encoded
-encode K L info old = encodeCall (K .m) (K .t) (K .M) L (K .self) (K .parity) (K .inverse) info old (kitWork (sizes K))
+encode K L info old = encodeCall (K .m) (K .t) (K .M) (K .col) L (K .self) (K .parity) (K .inverse) info old (kitWork (sizes K))
 
 -- the decoder's call on a received frame of L blocks, with k rounds
 abbrev pub decode : Kit → ℕ → ℕ → Frame → Corrected
-decode K L k f = decodeCall (K .m) (K .t) (K .M) L k (K .self) (K .parity) (f .info) (f .red) (decoderWork (sizes K) L)
+decode K L k f = decodeCall (K .m) (K .t) (K .M) (K .col) L k (K .self) (K .parity) (f .info) (f .red) (decoderWork (sizes K) L)
 
 -- "Take any kit that passes by 2's rule, any allowed number of blocks and any information, and let the encoder make the frame, whatever its
 -- redundancy buffer held."
 pub record Given (K : Kit) (L : ℕ) (info old : List ℕ) : Type 0 where
-  pub design : designRules (K .m) (K .t) (K .M) ≡ accepted
+  pub design : designRules (K .m) (K .t) (K .M) (K .col) ≡ accepted
   pub fits : FitsOrder (order (sizes K)) (K .self) (K .parity) (K .inverse)
   pub passes : KitPasses (sizes K) (lists K) (K .inverse)
   pub some : 1 ≤ L
@@ -60,9 +61,9 @@ pub record Given (K : Kit) (L : ℕ) (info old : List ℕ) : Type 0 where
   pub info-fits : length info ≡ infoLength (sizes K) L
   pub old-fits : length old ≡ redLength (sizes K) L
 
-pub record EachWord (s : Params) (l : Interleavers) (L : ℕ) (F : List Site → Type 0) : Type 0 where
-  pub rows : (i a : ℕ) → i < groups L → a < s .M → F (rowSites s l L i a)
-  pub columns : (i a : ℕ) → i < groups L → a < s .M → F (columnSites s L i a)
+pub record EachWord (s : Params) (l : Interleavers) (L : ℕ) (F : Word → Type 0) : Type 0 where
+  pub rows : (i a : ℕ) → i < groups L → a < s .M → F (rowAt s l L i a)
+  pub columns : (i a : ℕ) → i < groups L → a < s .M → F (columnAt s L i a)
 
 -- outside stretch i of stretches of one size; outside stretches i and j
 abbrev pub SameBut : ℕ → ℕ → List ℕ → List ℕ → Type 0
@@ -83,8 +84,8 @@ pub record Demand3 (K : Kit) (L : ℕ) (info old : List ℕ) : Type 0 where
   -- the encoder's call is accepted, and leaves `made`
   pub made : List ℕ
   pub encodes : encode K L info old ≡ record { verdict = accepted; red = made }
-  -- "Then all row and column words are in the BCH code."
-  pub allInCode : EachWord (sizes K) (lists K) L (λ x. inCode (sizes K) (frameOf info made) x ≡ true)
+  -- "Then all row and column words are in the BCH code", each in its own
+  pub allInCode : EachWord (sizes K) (lists K) L (λ x. inCode (x .code) (frameOf info made) (x .sites) ≡ true)
   -- "Every other choice of redundancy beside the same information leaves some word outside it."
   pub onlyChoice : (other : List ℕ) → Like made other → other ≢ made → 0 < outside (sizes K) (lists K) L (frameOf info other)
   -- "Where two such frames under one kit, equally long, differ in information only in block 2i-1, their redundancy differs at most in group i",
@@ -97,5 +98,5 @@ pub record Demand3 (K : Kit) (L : ℕ) (info old : List ℕ) : Type 0 where
   -- "Whatever bits of such a frame the link turns, if no word then has more than t wrong bits, the decoder, at every allowed number of rounds, 0
   -- included, leaves exactly that frame in the buffers and counts no word outside at the end."
   pub restores : (received : Frame) → Like info (received .info) → Like made (received .red)
-      → EachWord (sizes K) (lists K) L (λ x. distance (read (frameOf info made) x) (read received x) ≤ K .t)
+      → EachWord (sizes K) (lists K) L (λ x. distance (read (frameOf info made) (x .sites)) (read received (x .sites)) ≤ K .t)
       → (k : ℕ) → k ≤ most-rounds → Restored received (frameOf info made) (decode K L k received)

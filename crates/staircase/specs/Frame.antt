@@ -6,8 +6,10 @@
 --   blockAt, yAt, pAt the sites of a block, of Y and of P
 --   block                     the bits of a block
 --   rowSites, columnSites     the sites of a row word and of a column word
+--   Word, word                a word with its code
+--   rowAt, columnAt           row words and column words in their codes
 --   words                     all words in the order of a round
---   Word, word, plain         a word with its code; words of one code
+--   plain                     words of one code
 --   read, inCode              the bits of a word, and the test whether it is a codeword
 --   outsideEach, outsideAmong, outside   how many words are outside their codes, of one code, of a frame
 -- Assumes nothing.
@@ -18,7 +20,7 @@ use lib.Dec.{ltb}
 use lib.ListN.{getD, set}
 use Rattle.bch.specs.Code.{isCodeword}
 use Rattle.staircase.specs.Lists.{tabulate, concat}
-use Rattle.staircase.specs.Design.{Params, Interleavers, order}
+use Rattle.staircase.specs.Design.{Params, Interleavers, columnCode, order}
 use Rattle.staircase.specs.Word.{rowWord, columnWord}
 
 -- "Buffers are one bit a byte": information and redundancy
@@ -73,10 +75,6 @@ rowSites s l L i a = rowWord s l (blockAt s L (2 * i)) (blockAt s L (2 * i + 1))
 unfoldable pub columnSites : Params → ℕ → ℕ → ℕ → List Site
 columnSites s L i a = columnWord s (blockAt s L (2 * i + 1)) (blockAt s L (2 * i + 2)) (yAt s i) (pAt s i) a
 
--- "groups 1 to G, in each the row words 0 to M-1, then the column words"
-unfoldable pub words : Params → Interleavers → ℕ → List (List Site)
-words s l L = concat (groups L) (λ i. tabulate (s .M) (rowSites s l L i) ++ tabulate (s .M) (columnSites s L i))
-
 -- Of the parameters of a word's code r, t and g count.
 pub record Word : Type 0 where
   pub code : Params
@@ -84,6 +82,17 @@ pub record Word : Type 0 where
 
 abbrev pub word : Params → List Site → Word
 word s w = record { code = s; sites = w }
+
+abbrev pub rowAt : Params → Interleavers → ℕ → ℕ → ℕ → Word
+rowAt s l L i a = word s (rowSites s l L i a)
+
+-- document 02: "its column words are checked and mended in that code"
+abbrev pub columnAt : Params → ℕ → ℕ → ℕ → Word
+columnAt s L i a = word (columnCode s) (columnSites s L i a)
+
+-- "groups 1 to G, in each the row words 0 to M-1, then the column words"
+unfoldable pub words : Params → Interleavers → ℕ → List Word
+words s l L = concat (groups L) (λ i. tabulate (s .M) (rowAt s l L i) ++ tabulate (s .M) (columnAt s L i))
 
 abbrev pub plain : Params → List (List Site) → List Word
 plain s ws = map (word s) ws
@@ -104,4 +113,4 @@ unfoldable pub outsideAmong : Params → Frame → List (List Site) → ℕ
 outsideAmong s f ws = outsideEach f (plain s ws)
 
 unfoldable pub outside : Params → Interleavers → ℕ → Frame → ℕ
-outside s l L f = outsideAmong s f (words s l L)
+outside s l L f = outsideEach f (words s l L)

@@ -18,7 +18,7 @@ use Rattle.bch.specs.Polynomial.{_⊕_, Bits}
 use Rattle.bch.specs.Powers.{powerMod}
 use Rattle.staircase.specs.Design.{Params, Interleavers, wordLength, order}
 use Rattle.staircase.specs.Frame.{Site, Word, word, groups}
-use Rattle.staircase.specs.Lines.{Incidence, lineSites, crossing}
+use Rattle.staircase.specs.Lines.{Incidence, readSites, readCrossing}
 
 pub record Place : Type 0 where
   pub word : ℕ
@@ -62,14 +62,14 @@ pub record Fits (G : Layout) (info red : List ℕ) : Type 0 where
 abbrev pub placeOf : Params → ℕ → Incidence → Place
 placeOf s n c = record { word = c .line * s .M + c .word; exponent = n - 1 - c .position }
 
--- feed-forward frames
+-- feed-forward frames: column words of the mirrored code are read backwards
 abbrev pub feedForward : Params → Interleavers → ℕ → Layout
 feedForward s l L = record {
   code = s;
   lines = 2 * groups L;
   bits = λ k. wordLength s;
-  sites = lineSites s l L;
-  others = λ k a p. placeOf s (wordLength s) (crossing s l k a p) ∷ [];
+  sites = readSites s l L;
+  others = λ k a p. placeOf s (wordLength s) (readCrossing s l k a p) ∷ [];
   info = L * (s .M * s .M);
   red = groups L * (2 * order s);
 }

@@ -9,15 +9,16 @@
 --   along, partner     from the place of a redundancy bit in its row word to that in its column word, and back
 --   crossing           the other word that has the bit at a position of a word, and the position
 -- Assumes nothing.
-use mathlib.Core.Bool.{Bool, cond}
+use mathlib.Core.Bool.{Bool, false, not, cond}
 use mathlib.Core.List.{List}
 use Prim.Native.Nat.{ℕ, _+_, _-_, _*_, _/_, _%_}
 use lib.Dec.{eqb, ltb}
 use lib.ListN.{getD}
+use Rattle.bch.specs.Mirror.{backwards}
 use Rattle.staircase.specs.Lists.{tabulate, concat}
-use Rattle.staircase.specs.Design.{Params, Interleavers, order}
+use Rattle.staircase.specs.Design.{Params, Interleavers, wordLength, order}
 use Rattle.staircase.specs.System.{preimage}
-use Rattle.staircase.specs.Frame.{Site, Word, word, groups, rowSites, columnSites}
+use Rattle.staircase.specs.Frame.{Site, Word, word, rowAt, columnAt, groups, rowSites, columnSites}
 
 abbrev pub even : ℕ → Bool
 even k = eqb (k % 2) 0
@@ -25,15 +26,35 @@ even k = eqb (k % 2) 0
 unfoldable pub lineSites : Params → Interleavers → ℕ → ℕ → ℕ → List Site
 lineSites s l L k a = cond (even k) (rowSites s l L (k / 2) a) (columnSites s L (k / 2) a)
 
+-- word a of line k, in its code
+unfoldable pub lineWord : Params → Interleavers → ℕ → ℕ → ℕ → Word
+lineWord s l L k a = cond (even k) (rowAt s l L (k / 2) a) (columnAt s L (k / 2) a)
+
 -- of n lines from line k on
-abbrev pub wordsFrom : Params → Interleavers → ℕ → ℕ → ℕ → List (List Site)
-wordsFrom s l L k n = concat n (λ i. tabulate (s .M) (lineSites s l L (k + i)))
+abbrev pub wordsFrom : Params → Interleavers → ℕ → ℕ → ℕ → List Word
+wordsFrom s l L k n = concat n (λ i. tabulate (s .M) (lineWord s l L (k + i)))
+
+-- ---- As code reads them, in one code: a word of the mirrored code backwards, which is one of the row code (`line-alike` in proofs/Turned.antt)
+
+-- the words of line k are in the mirrored code
+unfoldable pub turned : Params → ℕ → Bool
+turned s k = cond (even k) false (not (eqb (s .col) 0))
+
+unfoldable pub readSites : Params → Interleavers → ℕ → ℕ → ℕ → List Site
+readSites s l L k a = cond (turned s k) (backwards (lineSites s l L k a)) (lineSites s l L k a)
+
+-- from a position of a word as it is read to that of the word, and back
+unfoldable pub turn : Params → ℕ → ℕ → ℕ
+turn s k p = cond (turned s k) (wordLength s - 1 - p) p
+
+abbrev pub readFrom : Params → Interleavers → ℕ → ℕ → ℕ → List (List Site)
+readFrom s l L k n = concat n (λ i. tabulate (s .M) (readSites s l L (k + i)))
 
 abbrev pub wordCount : Params → ℕ → ℕ
 wordCount s L = 2 * groups L * s .M
 
 abbrev pub frameWord : Params → Interleavers → ℕ → ℕ → Word
-frameWord s l L w = word s (lineSites s l L (w / s .M) (w % s .M))
+frameWord s l L w = word s (readSites s l L (w / s .M) (w % s .M))
 
 pub record Incidence : Type 0 where
   pub line : ℕ
@@ -62,3 +83,9 @@ crossing s l k a p =
     cond (ltb p (s .M)) (incidence (k - 1) p (s .M + a))
     (cond (ltb p (2 * s .M)) (incidence (k + 1) (p - s .M) a)
     (incidence (cond (even k) (k + 1) (k - 1)) (q % s .M) (2 * s .M + q / s .M)))
+
+-- the same with positions of words as they are read
+unfoldable pub readCrossing : Params → Interleavers → ℕ → ℕ → ℕ → Incidence
+readCrossing s l k a p =
+    let c : Incidence = crossing s l k a (turn s k p) in
+    incidence (c .line) (c .word) (turn s (c .line) (c .position))

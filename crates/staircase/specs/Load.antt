@@ -72,12 +72,12 @@ turnedFrame test f = frameOf (turnedWhere test (f .info)) (turnedWhere (λ j. te
 -- ---- the calls
 
 -- "Rules 1 to 4, 6 and 10 apply, 10 in the two modes that turn bits"; filling is lent the information alone, place 4 of rule 6
-unfoldable pub fillVerdict : ℕ → ℕ → ℕ → ℕ → List ℕ → Verdict
-fillVerdict m t M L info = designRules m t M then countRule L then lengthRule 4 (length info) (infoLength (params m t M) L)
+unfoldable pub fillVerdict : ℕ → ℕ → ℕ → ℕ → ℕ → List ℕ → Verdict
+fillVerdict m t M col L info = designRules m t M col then countRule L then lengthRule 4 (length info) (infoLength (params m t M col) L)
 
 -- "over the whole frame"
-unfoldable pub turnVerdict : ℕ → ℕ → ℕ → ℕ → List ℕ → List ℕ → Verdict
-turnVerdict m t M L info red = designRules m t M then countRule L then frameLengths (params m t M) L info red then frameBits info red
+unfoldable pub turnVerdict : ℕ → ℕ → ℕ → ℕ → ℕ → List ℕ → List ℕ → Verdict
+turnVerdict m t M col L info red = designRules m t M col then countRule L then frameLengths (params m t M col) L info red then frameBits info red
 
 pub record Filled : Type 0 where
   pub verdict : Verdict
@@ -90,8 +90,8 @@ filledBy accepted old new s = record { verdict = accepted; info = new; state = s
 filledBy (refused n p) old new s = record { verdict = refused n p; info = old; state = 0 }
 
 -- "The first two modes each start from a given state, the seed, and return the last one."
-unfoldable pub fillCall : ℕ → ℕ → ℕ → ℕ → ℕ → List ℕ → Filled
-fillCall m t M L seed info = filledBy (fillVerdict m t M L info) info (tabulate (length info) (loadBit seed)) (stateAfter seed (length info))
+unfoldable pub fillCall : ℕ → ℕ → ℕ → ℕ → ℕ → ℕ → List ℕ → Filled
+fillCall m t M col L seed info = filledBy (fillVerdict m t M col L info) info (tabulate (length info) (loadBit seed)) (stateAfter seed (length info))
 
 pub record WithErrors : Type 0 where
   pub verdict : Verdict
@@ -103,9 +103,9 @@ errorsBy accepted old new s = record { verdict = accepted; frame = new; state = 
 errorsBy (refused n p) old new s = record { verdict = refused n p; frame = old; state = 0 }
 
 -- every bit takes its 16 steps, whether it turns or not
-unfoldable pub errorsCall : ℕ → ℕ → ℕ → ℕ → ℕ → ℕ → List ℕ → List ℕ → WithErrors
-errorsCall m t M L seed limit info red =
-    errorsBy (turnVerdict m t M L info red) (frameOf info red) (turnedFrame (randomTurns seed limit) (frameOf info red))
+unfoldable pub errorsCall : ℕ → ℕ → ℕ → ℕ → ℕ → ℕ → ℕ → List ℕ → List ℕ → WithErrors
+errorsCall m t M col L seed limit info red =
+    errorsBy (turnVerdict m t M col L info red) (frameOf info red) (turnedFrame (randomTurns seed limit) (frameOf info red))
     (stateAfter seed (16 * (length info + length red)))
 
 pub record WithRun : Type 0 where
@@ -117,6 +117,6 @@ runBy accepted old new = record { verdict = accepted; frame = new }
 runBy (refused n p) old new = record { verdict = refused n p; frame = old }
 
 -- "A third mode turns a run of given length from a given place"
-unfoldable pub runCall : ℕ → ℕ → ℕ → ℕ → ℕ → ℕ → List ℕ → List ℕ → WithRun
-runCall m t M L place long info red =
-    runBy (turnVerdict m t M L info red) (frameOf info red) (turnedFrame (runTurns place long) (frameOf info red))
+unfoldable pub runCall : ℕ → ℕ → ℕ → ℕ → ℕ → ℕ → ℕ → List ℕ → List ℕ → WithRun
+runCall m t M col L place long info red =
+    runBy (turnVerdict m t M col L info red) (frameOf info red) (turnedFrame (runTurns place long) (frameOf info red))

@@ -21,11 +21,11 @@ unfoldable pub singularRule : Params → Interleavers → Verdict
 singularRule s l = refuseFirst 14 0 (order s) (dependent (order s) (systemEntry s l))
 
 -- the lists are read, the inverse's buffer is written: places 1, 2, 3 and 6 of rule 6
-unfoldable pub makeVerdict : ℕ → ℕ → ℕ → List ℕ → List ℕ → List ℕ → ℕ → Verdict
-makeVerdict m t M self parity old work =
-    let s : Params = params m t M in
+unfoldable pub makeVerdict : ℕ → ℕ → ℕ → ℕ → List ℕ → List ℕ → List ℕ → ℕ → Verdict
+makeVerdict m t M col self parity old work =
+    let s : Params = params m t M col in
     let l : Interleavers = interleavers s self parity in
-    designRules m t M then kitLengths s self parity old then lengthRule 6 work (makeWork s) then listRule s l then singularRule s l
+    designRules m t M col then kitLengths s self parity old then lengthRule 6 work (makeWork s) then listRule s l then singularRule s l
 
 pub record Made : Type 0 where
   pub verdict : Verdict
@@ -36,7 +36,7 @@ abbrev pub madeBy : Verdict → List ℕ → List ℕ → Made
 madeBy accepted old new = record { verdict = accepted; inverse = new }
 madeBy (refused n p) old new = record { verdict = refused n p; inverse = old }
 
-unfoldable pub makeCall : ℕ → ℕ → ℕ → List ℕ → List ℕ → List ℕ → ℕ → Made
-makeCall m t M self parity old work =
-    let s : Params = params m t M in
-    madeBy (makeVerdict m t M self parity old work) old (packedMatrix (order s) (inverseMatrix (order s) (systemEntry s (interleavers s self parity))))
+unfoldable pub makeCall : ℕ → ℕ → ℕ → ℕ → List ℕ → List ℕ → List ℕ → ℕ → Made
+makeCall m t M col self parity old work =
+    let s : Params = params m t M col in
+    madeBy (makeVerdict m t M col self parity old work) old (packedMatrix (order s) (inverseMatrix (order s) (systemEntry s (interleavers s self parity))))

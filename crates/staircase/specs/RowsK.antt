@@ -27,7 +27,7 @@ use Rattle.staircase.specs.Calls.{kitVerdict, Encoded, encodeCall, Count
 use Rattle.staircase.specs.Batch.{batchRule, batchCall}
 
 abbrev pub paramsK : Params
-paramsK = params 4 1 1
+paramsK = params 4 1 1 0
 
 -- "place self parity", two bytes an entry
 abbrev pub selfK : List ℕ
@@ -47,19 +47,19 @@ abbrev pub matrix : ℕ → (ℕ → ℕ → ℕ) → List (List ℕ)
 matrix n a = tabulate n (λ i. tabulate n (a i))
 
 abbrev pub kitK : List ℕ → List ℕ → List ℕ → Verdict
-kitK self parity w = kitVerdict 4 1 1 self parity w (kitWork paramsK)
+kitK self parity w = kitVerdict 4 1 1 0 self parity w (kitWork paramsK)
 
 -- L blocks; the redundancy buffer holds bytes 255 before the call
 abbrev pub encodedK : ℕ → List ℕ → Encoded
-encodedK L info = encodeCall 4 1 1 L selfK parityK inverseK info (replicate (redLength paramsK L) 255) (kitWork paramsK)
+encodedK L info = encodeCall 4 1 1 0 L selfK parityK inverseK info (replicate (redLength paramsK L) 255) (kitWork paramsK)
 
 -- n frames of L blocks; the redundancy buffer holds bytes 255 before the call
 abbrev pub batchK : ℕ → ℕ → List ℕ → Encoded
-batchK L n info = batchCall 4 1 1 L n selfK parityK inverseK info (replicate (n * redLength paramsK L) 255) (kitWork paramsK)
+batchK L n info = batchCall 4 1 1 0 L n selfK parityK inverseK info (replicate (n * redLength paramsK L) 255) (kitWork paramsK)
 
 -- L blocks and a number of rounds
 abbrev pub decodedK : ℕ → ℕ → List ℕ → List ℕ → Corrected
-decodedK L rounds info red = decodeCall 4 1 1 L rounds selfK parityK info red (decoderWork paramsK L)
+decodedK L rounds info red = decodeCall 4 1 1 0 L rounds selfK parityK info red (decoderWork paramsK L)
 
 -- a refused call of the decoder: both buffers as they were, and nothing counted
 abbrev pub refusedK : ℕ → ℕ → List ℕ → List ℕ → Corrected
@@ -67,11 +67,11 @@ refusedK n p info red =
     record { verdict = refused n p; frame = record { info = info; red = red }; counts = no-counts }
 
 abbrev pub countedK : ℕ → List ℕ → List ℕ → Counted
-countedK L info red = wordsCall 4 1 1 L selfK parityK info red (wordWork paramsK)
+countedK L info red = wordsCall 4 1 1 0 L selfK parityK info red (wordWork paramsK)
 
 -- of the frame of blocks 0, 1
 abbrev pub shownK : Part → Shown
-shownK part = showCall 4 1 1 2 part (0 ∷ 1 ∷ []) (0 ∷ 0 ∷ 0 ∷ 1 ∷ 0 ∷ 1 ∷ 1 ∷ 0 ∷ [])
+shownK part = showCall 4 1 1 0 2 part (0 ∷ 1 ∷ []) (0 ∷ 0 ∷ 0 ∷ 1 ∷ 0 ∷ 1 ∷ 1 ∷ 0 ∷ [])
 
 pub record RowsK : Type 0 where
   -- "remainders: x^9 is 1010, x^8 is 0101", of information × x^4
@@ -110,7 +110,7 @@ pub record RowsK : Type 0 where
   -- "last row of W 0101: refused 9 at 7"
   pub inverseRefused : kitK selfK parityK (5 ∷ 10 ∷ 11 ∷ 10 ∷ []) ≡ refused 9 7
   -- document 02, "Rule 10 now comes before rule 9": blocks 0, 2 under the same W
-  pub bitsFirst : encodeCall 4 1 1 2 selfK parityK (5 ∷ 10 ∷ 11 ∷ 10 ∷ []) (0 ∷ 2 ∷ []) (replicate (redLength paramsK 2) 255) (kitWork paramsK)
+  pub bitsFirst : encodeCall 4 1 1 0 2 selfK parityK (5 ∷ 10 ∷ 11 ∷ 10 ∷ []) (0 ∷ 2 ∷ []) (replicate (redLength paramsK 2) 255) (kitWork paramsK)
       ≡ record { verdict = refused 10 1; red = replicate (redLength paramsK 2) 255 }
   -- "blocks 0, 1 with group 0001 0111: mended, result 2, 1, 0"
   pub corrected : decodedK 2 0 (0 ∷ 1 ∷ []) (0 ∷ 0 ∷ 0 ∷ 1 ∷ 0 ∷ 1 ∷ 1 ∷ 1 ∷ [])
@@ -134,10 +134,14 @@ pub record RowsK : Type 0 where
         counts = record { rounds = 2; turned = 1; outside = 1; stuck = 1 };
       }
   -- "m 4, t 1, M 3 fits; M 4 is refused 2 at 16. m 10, t 2, M 204 fits; M 205 is refused 3 at 4,100."
-  pub fits3 : designRules 4 1 3 ≡ accepted
-  pub long4 : designRules 4 1 4 ≡ refused 2 16
-  pub fits204 : designRules 10 2 204 ≡ accepted
-  pub large205 : designRules 10 2 205 ≡ refused 3 4100
+  pub fits3 : designRules 4 1 3 0 ≡ accepted
+  pub long4 : designRules 4 1 4 0 ≡ refused 2 16
+  pub mirrored3 : designRules 4 1 3 1 ≡ accepted
+  pub column3 : designRules 4 1 3 2 ≡ refused 1 4
+  pub sizesFirst : designRules 4 1 0 2 ≡ refused 1 3
+  pub columnFirst : designRules 4 1 4 2 ≡ refused 1 4
+  pub fits204 : designRules 10 2 204 0 ≡ accepted
+  pub large205 : designRules 10 2 205 0 ≡ refused 3 4100
   -- "4 count: the number; L .. out of range"
   pub noBlocks : encodedK 0 [] ≡ record { verdict = refused 4 0; red = [] }
   pub manyBlocks : encodedK 4097 [] ≡ record { verdict = refused 4 4097; red = replicate (redLength paramsK 4097) 255 }
@@ -150,7 +154,7 @@ pub record RowsK : Type 0 where
   pub shortInverse : kitK selfK parityK (5 ∷ 10 ∷ 11 ∷ []) ≡ refused 6 3
   pub shortInfo : encodedK 2 (0 ∷ []) ≡ record { verdict = refused 6 4; red = replicate 8 255 }
   pub shortRed : decodedK 2 0 (0 ∷ 1 ∷ []) (0 ∷ 0 ∷ 0 ∷ 1 ∷ 0 ∷ 1 ∷ 1 ∷ []) ≡ refusedK 6 5 (0 ∷ 1 ∷ []) (0 ∷ 0 ∷ 0 ∷ 1 ∷ 0 ∷ 1 ∷ 1 ∷ [])
-  pub noWork : kitVerdict 4 1 1 selfK parityK inverseK 0 ≡ refused 6 6
+  pub noWork : kitVerdict 4 1 1 0 selfK parityK inverseK 0 ≡ refused 6 6
   -- "7 list: the entry's position in its list; for parity plus M × r; first entry too large or seen earlier in its list": the self list 1 0 2 2,
   -- the parity list 3 0 4 2
   pub selfRefused : kitK (1 ∷ 0 ∷ 0 ∷ 0 ∷ 2 ∷ 0 ∷ 2 ∷ 0 ∷ []) parityK inverseK ≡ refused 7 3

@@ -20,7 +20,7 @@ share a b = record { top = a; bottom = b }
 
 abbrev pub decodeK : ℕ → Decode
 decodeK rounds =
-    decodeWith 4 1 1 2 rounds selfK parityK (0 ∷ 1 ∷ []) (0 ∷ 0 ∷ 0 ∷ 1 ∷ 0 ∷ 1 ∷ 1 ∷ 1 ∷ []) (decoderWork paramsK 2)
+    decodeWith 4 1 1 0 2 rounds selfK parityK (0 ∷ 1 ∷ []) (0 ∷ 0 ∷ 0 ∷ 1 ∷ 0 ∷ 1 ∷ 1 ∷ 1 ∷ []) (decoderWork paramsK 2)
 
 pub record RowsTally : Type 0 where
   -- "above 2^62"

@@ -16,7 +16,7 @@ use Prim.Native.Nat.{ℕ, _+_, _-_, _*_, _/_, _%_, _^_}
 use lib.Dec.{ltb, leb, eqb}
 use lib.ListN.{getD, length}
 use Rattle.staircase.specs.Lists.{tabulate, firstWhere}
-use Rattle.staircase.specs.Design.{Params, Interleavers, params, wordLength, order, least-m, most-m, most-t, most-M, most-order, most-blocks, most-rounds}
+use Rattle.staircase.specs.Design.{Params, Interleavers, params, wordLength, order, least-m, most-m, most-t, most-M, most-col, most-order, most-blocks, most-rounds}
 use Rattle.staircase.specs.System.{systemEntry, inverseEntry, rowBytes, product, identity}
 use Rattle.staircase.specs.Frame.{groups}
 
@@ -43,9 +43,10 @@ refuseFirst rule base n f = refuse (ltb (firstWhere n f) n) rule (base + firstWh
 abbrev pub outOfRange : ℕ → ℕ → ℕ → Bool
 outOfRange low high x = ltb x low || ltb high x
 
--- "1 size: 1, 2, 3 for m, t, M; the first that is out of range"
-unfoldable pub sizeRule : ℕ → ℕ → ℕ → Verdict
-sizeRule m t M = refuse (outOfRange least-m most-m m) 1 1 then refuse (outOfRange 1 most-t t) 1 2 then refuse (outOfRange 1 most-M M) 1 3
+-- "1 size: 1, 2, 3 for m, t, M; the first that is out of range"; document 02: "rule 1 gains place 4 for any other" column code
+unfoldable pub sizeRule : ℕ → ℕ → ℕ → ℕ → Verdict
+sizeRule m t M col = refuse (outOfRange least-m most-m m) 1 1 then refuse (outOfRange 1 most-t t) 1 2 then refuse (outOfRange 1 most-M M) 1 3
+    then refuse (ltb most-col col) 1 4
 
 -- "2 long: n above 2^m - 1"
 unfoldable pub longRule : ℕ → Params → Verdict
@@ -56,8 +57,8 @@ unfoldable pub largeRule : Params → Verdict
 largeRule s = refuse (ltb most-order (order s)) 3 (order s)
 
 -- rules 1 to 3
-unfoldable pub designRules : ℕ → ℕ → ℕ → Verdict
-designRules m t M = sizeRule m t M then longRule m (params m t M) then largeRule (params m t M)
+unfoldable pub designRules : ℕ → ℕ → ℕ → ℕ → Verdict
+designRules m t M col = sizeRule m t M col then longRule m (params m t M col) then largeRule (params m t M col)
 
 -- "4 count: the number; L .. out of range"
 unfoldable pub countRule : ℕ → Verdict

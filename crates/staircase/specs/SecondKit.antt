@@ -33,7 +33,7 @@ use Rattle.staircase.specs.Calls.{kitVerdict, encodeCall, Counts, Correc
 -- ---- the second kit
 
 abbrev pub paramsS : Params
-paramsS = params 4 1 2
+paramsS = params 4 1 2 0
 
 abbrev pub selfS : List ℕ
 selfS = 5 ∷ 0 ∷ 3 ∷ 0 ∷ 4 ∷ 0 ∷ 1 ∷ 0 ∷ 7 ∷ 0 ∷ 2 ∷ 0 ∷ 6 ∷ 0 ∷ 0 ∷ 0 ∷ []
@@ -77,16 +77,16 @@ abbrev pub unsettledCountsS : Counts
 unsettledCountsS = record { rounds = 12; turned = 3; outside = 1; stuck = 0 }
 
 abbrev pub kitS : List ℕ → Verdict
-kitS w = kitVerdict 4 1 2 selfS parityS w (kitWork paramsS)
+kitS w = kitVerdict 4 1 2 0 selfS parityS w (kitWork paramsS)
 
 -- L blocks, and rounds 0
 abbrev pub decodedS : ℕ → Frame → Corrected
-decodedS L f = decodeCall 4 1 2 L 0 selfS parityS (f .info) (f .red) (decoderWork paramsS L)
+decodedS L f = decodeCall 4 1 2 0 L 0 selfS parityS (f .info) (f .red) (decoderWork paramsS L)
 
 -- ---- two words with t 2
 
 abbrev pub paramsT : Params
-paramsT = params 5 2 2
+paramsT = params 5 2 2 0
 
 abbrev pub listsT : Interleavers
 listsT = record { self = 13 ∷ 7 ∷ 16 ∷ 2 ∷ 11 ∷ 0 ∷ 18 ∷ 5 ∷ 9 ∷ 14 ∷ 1 ∷ 19 ∷ 4 ∷ 10 ∷ 15 ∷ 6 ∷ 3 ∷ 17 ∷ 12 ∷ 8 ∷ []; parity = 6 ∷ 12 ∷ 1 ∷ 17 ∷ 3 ∷ 8 ∷ 14 ∷ 0 ∷ 19 ∷ 10 ∷ 5 ∷ 15 ∷ 2 ∷ 11 ∷ 7 ∷ 18 ∷ 9 ∷ 4 ∷ 16 ∷ 13 ∷ [] }
@@ -110,7 +110,7 @@ pub record SecondKit : Type 0 where
   -- row 2, column 3 is the first wrong entry
   pub wrongBit : kitS wrongS ≡ refused 9 wrongPlaceS
   -- the kit passes, and the blocks have this redundancy; the buffer holds bytes 255 before the call
-  pub encoded : encodeCall 4 1 2 3 selfS parityS inverseS infoS (replicate (redLength paramsS 3) 255) (kitWork paramsS)
+  pub encoded : encodeCall 4 1 2 0 3 selfS parityS inverseS infoS (replicate (redLength paramsS 3) 255) (kitWork paramsS)
       ≡ record { verdict = accepted; red = redS }
   -- row word 0 would need a bit of B0 and stays, so that column word 0 flips a right bit, which is flipped back in round 2 and does not count; round 3
   -- is idle

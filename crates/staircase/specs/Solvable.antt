@@ -7,7 +7,7 @@ use mathlib.Core.Path.{_≡_}
 use mathlib.Core.Bool.{true}
 use Prim.Native.Nat.{ℕ, _<_}
 use Rattle.bch.specs.Code.{isCodeword}
-use Rattle.staircase.specs.Design.{Params, Interleavers, order}
+use Rattle.staircase.specs.Design.{Params, Interleavers, columnGenerator, order}
 use Rattle.staircase.specs.Word.{rowWord, columnWord}
 use Rattle.staircase.specs.System.{Contents, unstack, systemEntry, constantEntry, apply}
 
@@ -15,7 +15,7 @@ use Rattle.staircase.specs.System.{Contents, unstack, systemEntry, const
 pub record Completes (s : Params) (l : Interleavers) (f o e y p : Contents) : Type 0 where
   pub bits : (q : ℕ) → p q < 2
   pub rows : (a : ℕ) → a < s .M → isCodeword (s .g) (s .r) (rowWord s l f o y p a) ≡ true
-  pub columns : (a : ℕ) → a < s .M → isCodeword (s .g) (s .r) (columnWord s o e y p a) ≡ true
+  pub columns : (a : ℕ) → a < s .M → isCodeword (columnGenerator s) (s .r) (columnWord s o e y p a) ≡ true
 
 -- "A y = c", entry by entry; "Stack Y column by column to y"
 abbrev pub Solves : Params → Interleavers → Contents → Contents → Contents → Contents → Type 0

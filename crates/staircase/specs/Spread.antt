@@ -45,8 +45,8 @@ unfoldable pub narrowRule : Params → Verdict
 narrowRule s = refuse (ltb (s .M) (2 * s .r)) 15 (s .M)
 
 -- both lists are written: places 1 and 2 of rule 6
-unfoldable pub spreadVerdict : ℕ → ℕ → ℕ → List ℕ → List ℕ → Verdict
-spreadVerdict m t M self parity = designRules m t M then narrowRule (params m t M) then listLengths (params m t M) self parity
+unfoldable pub spreadVerdict : ℕ → ℕ → ℕ → ℕ → List ℕ → List ℕ → Verdict
+spreadVerdict m t M col self parity = designRules m t M col then narrowRule (params m t M col) then listLengths (params m t M col) self parity
 
 pub record SpreadLists : Type 0 where
   pub verdict : Verdict
@@ -58,8 +58,8 @@ abbrev pub spreadBy : Verdict → Params → List ℕ → List ℕ → SpreadLis
 spreadBy accepted s self parity = record { verdict = accepted; self = listBytes (order s) (turnedTo s 0); parity = listBytes (order s) (turnedTo s (s .r)) }
 spreadBy (refused n p) s self parity = record { verdict = refused n p; self = self; parity = parity }
 
-unfoldable pub spreadCall : ℕ → ℕ → ℕ → List ℕ → List ℕ → SpreadLists
-spreadCall m t M self parity = spreadBy (spreadVerdict m t M self parity) (params m t M) self parity
+unfoldable pub spreadCall : ℕ → ℕ → ℕ → ℕ → List ℕ → List ℕ → SpreadLists
+spreadCall m t M col self parity = spreadBy (spreadVerdict m t M col self parity) (params m t M col) self parity
 
 -- ---- what is claimed of the lists
 
@@ -75,11 +75,11 @@ Apart s l = (L i a j b p q : ℕ) → a < s .M → b < s .M → 2 * s .M ≤ p �
 
 -- "Show for all designs with 2r at most M"
 abbrev pub SpreadApart : Type 0
-SpreadApart = (m t M : ℕ) → Limits m t M → 2 * (m * t) ≤ M → Apart (params m t M) (spread (params m t M))
+SpreadApart = (m t M col : ℕ) → Limits m t M col → 2 * (m * t) ≤ M → Apart (params m t M col) (spread (params m t M col))
 
 -- "Such lists pass the list check", with any r
 abbrev pub PassesLists : Type 0
-PassesLists = (m t M : ℕ) → Limits m t M → listRule (params m t M) (spread (params m t M)) ≡ accepted
+PassesLists = (m t M col : ℕ) → Limits m t M col → listRule (params m t M col) (spread (params m t M col)) ≡ accepted
 
 -- column b of X is column b of the list's target: place b × M + a goes to a place between b × M and b × M + M - 1
 abbrev pub ColumnsKept : Params → List ℕ → Type 0
@@ -90,19 +90,19 @@ Singular s l = (w : ℕ → ℕ → ℕ) → BitMatrix w → Inverts (order s) (
 
 -- "an inverse may still not exist": while rows and columns use one code, no permutations that keep each column of X and of Q to itself have one
 abbrev pub KeptSingular : Type 0
-KeptSingular = (m t M : ℕ) (l : Interleavers) → Limits m t M → listRule (params m t M) l ≡ accepted
-    → ColumnsKept (params m t M) (l .self) → ColumnsKept (params m t M) (l .parity) → Singular (params m t M) l
+KeptSingular = (m t M : ℕ) (l : Interleavers) → Limits m t M 0 → listRule (params m t M 0) l ≡ accepted
+    → ColumnsKept (params m t M 0) (l .self) → ColumnsKept (params m t M 0) (l .parity) → Singular (params m t M 0) l
 
 -- and so no spread lists
 abbrev pub SpreadSingular : Type 0
-SpreadSingular = (m t M : ℕ) → Limits m t M → Singular (params m t M) (spread (params m t M))
+SpreadSingular = (m t M : ℕ) → Limits m t M 0 → Singular (params m t M 0) (spread (params m t M 0))
 
 -- ---- and of what the call leaves, where it is accepted
 
-pub record SpreadLeft (m t M : ℕ) (self parity : List ℕ) : Type 0 where
-  pub lists : interleavers (params m t M) (spreadCall m t M self parity .self) (spreadCall m t M self parity .parity) ≡ spread (params m t M)
-  pub apart : Apart (params m t M) (interleavers (params m t M) (spreadCall m t M self parity .self) (spreadCall m t M self parity .parity))
-  pub pass : listRule (params m t M) (interleavers (params m t M) (spreadCall m t M self parity .self) (spreadCall m t M self parity .parity)) ≡ accepted
-  -- "and U1 tells": the maker, lent what it asks for, refuses them by rule 14
-  pub singular : (old : List ℕ) → length old ≡ order (params m t M) * rowBytes (order (params m t M))
-      → (p : ℕ) × (makeCall m t M (spreadCall m t M self parity .self) (spreadCall m t M self parity .parity) old (makeWork (params m t M)) .verdict ≡ refused 14 p)
+pub record SpreadLeft (m t M col : ℕ) (self parity : List ℕ) : Type 0 where
+  pub lists : interleavers (params m t M col) (spreadCall m t M col self parity .self) (spreadCall m t M col self parity .parity) ≡ spread (params m t M col)
+  pub apart : Apart (params m t M col) (interleavers (params m t M col) (spreadCall m t M col self parity .self) (spreadCall m t M col self parity .parity))
+  pub pass : listRule (params m t M col) (interleavers (params m t M col) (spreadCall m t M col self parity .self) (spreadCall m t M col self parity .parity)) ≡ accepted
+  -- "and U1 tells": the maker, lent what it asks for, refuses them by rule 14 where columns have the same code
+  pub singular : col ≡ 0 → (old : List ℕ) → length old ≡ order (params m t M col) * rowBytes (order (params m t M col))
+      → (p : ℕ) × (makeCall m t M col (spreadCall m t M col self parity .self) (spreadCall m t M col self parity .parity) old (makeWork (params m t M col)) .verdict ≡ refused 14 p)

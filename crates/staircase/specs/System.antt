@@ -17,7 +17,7 @@ use lib.Dec.{eqb}
 use lib.ListN.{getD}
 use Rattle.bch.specs.Code.{parity}
 use Rattle.staircase.specs.Lists.{bitSum, sumBits, tabulate, concat, firstWhere}
-use Rattle.staircase.specs.Design.{Params, Interleavers, order}
+use Rattle.staircase.specs.Design.{Params, Interleavers, columnGenerator, order}
 use Rattle.staircase.specs.Word.{rowInfo, columnInfo}
 use Rattle.staircase.specs.Frame.{groups, blockContents}
 
@@ -44,7 +44,7 @@ preimage l n q = firstWhere n (λ p. eqb (getD l p 0) q)
 
 -- "the bit at row a, column b of P that the column words give", by its place in P
 unfoldable pub columnParity : Params → Contents → Contents → Contents → Contents
-columnParity s odd even y q = getD (parity (s .g) (s .r) (columnInfo s odd even y (q % s .M))) (q / s .M) 0
+columnParity s odd even y q = getD (parity (columnGenerator s) (s .r) (columnInfo s odd even y (q % s .M))) (q / s .M) 0
 
 -- "the Q that the row words give", by the place in Q
 unfoldable pub rowParity : Params → Interleavers → Contents → Contents → Contents → Contents

@@ -51,6 +51,7 @@ pub record Decode : Type 0 where
   pub m : ℕ
   pub t : ℕ
   pub M : ℕ
+  pub col : ℕ
   pub L : ℕ
   pub rounds : ℕ
   pub self : List ℕ
@@ -59,12 +60,12 @@ pub record Decode : Type 0 where
   pub red : List ℕ
   pub work : ℕ
 
-abbrev pub decodeWith : ℕ → ℕ → ℕ → ℕ → ℕ → List ℕ → List ℕ → List ℕ → List ℕ → ℕ → Decode
-decodeWith m t M L k self parity info red work =
-    record { m = m; t = t; M = M; L = L; rounds = k; self = self; parity = parity; info = info; red = red; work = work }
+abbrev pub decodeWith : ℕ → ℕ → ℕ → ℕ → ℕ → ℕ → List ℕ → List ℕ → List ℕ → List ℕ → ℕ → Decode
+decodeWith m t M col L k self parity info red work =
+    record { m = m; t = t; M = M; col = col; L = L; rounds = k; self = self; parity = parity; info = info; red = red; work = work }
 
 abbrev pub callOf : Decode → Corrected
-callOf x = decodeCall (x .m) (x .t) (x .M) (x .L) (x .rounds) (x .self) (x .parity) (x .info) (x .red) (x .work)
+callOf x = decodeCall (x .m) (x .t) (x .M) (x .col) (x .L) (x .rounds) (x .self) (x .parity) (x .info) (x .red) (x .work)
 
 -- one frame of n sent bits, and the counts that its decode answers
 abbrev pub counted : ℕ → Counts → Tally
@@ -89,7 +90,7 @@ fullRule y =
 
 -- the decoder's own rules
 abbrev pub verdictFor : Decode → Verdict
-verdictFor x = decodeVerdict (x .m) (x .t) (x .M) (x .L) (x .rounds) (x .self) (x .parity) (x .info) (x .red) (x .work)
+verdictFor x = decodeVerdict (x .m) (x .t) (x .M) (x .col) (x .L) (x .rounds) (x .self) (x .parity) (x .info) (x .red) (x .work)
 
 -- the decoder with one more rule behind its own
 unfoldable pub furtherCall : Verdict → Decode → Corrected

@@ -17,7 +17,7 @@
 use mathlib.Core.List.{List}
 use Prim.Native.Nat.{ℕ, zero, suc, _+_, _-_, _*_}
 use Rattle.staircase.specs.Design.{Params, Interleavers, params}
-use Rattle.staircase.specs.Frame.{Frame, Word, plain, groups, outside}
+use Rattle.staircase.specs.Frame.{Frame, Word, groups, outside}
 use Rattle.staircase.specs.LineErrors.{lineErrors}
 use Rattle.staircase.specs.Lines.{wordsFrom}
 use Rattle.staircase.specs.Decoder.{Decoded, runEach, roundsAllowed}
@@ -43,7 +43,7 @@ windowGroups G v = G - (G - v)
 
 -- a group has two lines
 abbrev pub windowWords : Params → Interleavers → ℕ → ℕ → ℕ → List Word
-windowWords s l L v p = plain s (wordsFrom s l L (2 * p) (2 * windowGroups (groups L) v))
+windowWords s l L v p = wordsFrom s l L (2 * p) (2 * windowGroups (groups L) v)
 
 -- "Each position makes rounds over its groups, up to the number allowed, ending early after one with no turn", "Rounds are summed over positions": k
 -- rounds at each of n positions
@@ -71,19 +71,19 @@ windowCounts s l L v k f =
     let d : Decoded = windowed s l L v k f in
     record { rounds = d .rounds; turned = lineErrors f (d .frame); outside = outside s l L (d .frame); stuck = windowStuck s l L v k f }
 
-unfoldable pub windowVerdict : ℕ → ℕ → ℕ → ℕ → ℕ → ℕ → List ℕ → List ℕ → List ℕ → List ℕ → ℕ → Verdict
-windowVerdict m t M L k v self parity info red work =
-    let s : Params = params m t M in
-    designRules m t M then countRule L then roundsRule k then windowRule v
+unfoldable pub windowVerdict : ℕ → ℕ → ℕ → ℕ → ℕ → ℕ → ℕ → List ℕ → List ℕ → List ℕ → List ℕ → ℕ → Verdict
+windowVerdict m t M col L k v self parity info red work =
+    let s : Params = params m t M col in
+    designRules m t M col then countRule L then roundsRule k then windowRule v
     then listLengths s self parity then frameLengths s L info red then lengthRule 6 work (decoderWork s L)
     then listRule s (interleavers s self parity) then frameBits info red
 
-unfoldable pub windowCall : ℕ → ℕ → ℕ → ℕ → ℕ → ℕ → List ℕ → List ℕ → List ℕ → List ℕ → ℕ → Corrected
-windowCall m t M L k v self parity info red work =
-    let s : Params = params m t M in
+unfoldable pub windowCall : ℕ → ℕ → ℕ → ℕ → ℕ → ℕ → ℕ → List ℕ → List ℕ → List ℕ → List ℕ → ℕ → Corrected
+windowCall m t M col L k v self parity info red work =
+    let s : Params = params m t M col in
     let l : Interleavers = interleavers s self parity in
     let f : Frame = record { info = info; red = red } in
-    correctedBy (windowVerdict m t M L k v self parity info red work) f (windowed s l L v k f .frame) (windowCounts s l L v k f)
+    correctedBy (windowVerdict m t M col L k v self parity info red work) f (windowed s l L v k f .frame) (windowCounts s l L v k f)
 
 abbrev pub decodeWindow : Kit → ℕ → ℕ → ℕ → Frame → Corrected
-decodeWindow K L k v f = windowCall (K .m) (K .t) (K .M) L k v (K .self) (K .parity) (f .info) (f .red) (decoderWork (sizes K) L)
+decodeWindow K L k v f = windowCall (K .m) (K .t) (K .M) (K .col) L k v (K .self) (K .parity) (f .info) (f .red) (decoderWork (sizes K) L)

@@ -12,7 +12,7 @@ use Rattle.staircase.specs.Window.{windowRule, windowCall}
 use Rattle.staircase.specs.RowsK.{paramsK, selfK, parityK, refusedK}
 
 abbrev pub windowK : ℕ → ℕ → ℕ → List ℕ → List ℕ → Corrected
-windowK L rounds v info red = windowCall 4 1 1 L rounds v selfK parityK info red (decoderWork paramsK L)
+windowK L rounds v info red = windowCall 4 1 1 0 L rounds v selfK parityK info red (decoderWork paramsK L)
 
 pub record WindowRows : Type 0 where
   -- the last bit of the second group is wrong: a window of one group makes an idle round at the first position and two rounds at the second

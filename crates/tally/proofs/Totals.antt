@@ -14,14 +14,13 @@ use Rattle.staircase.specs.Calls.{Counts, Corrected}
 use Rattle.staircase.specs.Tally.{Tally, plus, counted, Decode, callOf, contribution, fullRule, verdictFor, furtherCall, tallyVerdict, tallyCall, Within, Few}
 use Rattle.staircase.proofs.Rules.{then-first, then-rest}
 use Rattle.staircase.proofs.Tally.{further-verdict, further-counts, full-within, decode-few, tally-refused, tally-accepted}
-use Rattle.design.specs.declared.Refusal.{Refusal}
-use Rattle.design.specs.declared.Check.the-variants as check
-use Rattle.design.specs.Answers.{refusalVerdict, verdictOf}
-use Rattle.design.proofs.Answers.{check-refused}
-use Rattle.decoder.specs.declared.Counts as declared
-use Rattle.decoder.specs.declared.Decoding.{Decoding}
-use Rattle.decoder.specs.declared.Decoding.the-variants as decoding
-use Rattle.decoder.specs.Answers.{countsTold, correctedOf, refusedFrame}
+use Rattle.answers.specs.declared.Refusal.{Refusal}
+use Rattle.answers.specs.declared.Check.the-variants as check
+use Rattle.answers.specs.Answers.{refusalVerdict, verdictOf, countsTold, correctedOf, refusedFrame}
+use Rattle.answers.proofs.Checks.{check-refused}
+use Rattle.answers.specs.declared.Counts as declared
+use Rattle.answers.specs.declared.Decoding.{Decoding}
+use Rattle.answers.specs.declared.Decoding.the-variants as decoding
 use Rattle.tally.specs.Answers.{broughtUp, SumsFit}
 
 refusal-refuses : (r : Refusal) → refusalVerdict r ≢ accepted

@@ -6,9 +6,9 @@
 use Prim.Native.Nat.{ℕ}
 use Rattle.staircase.specs.Tally as totals
 use Rattle.staircase.specs.Report as report
-use Rattle.decoder.specs.Answers.{countsTold}
-use Rattle.decoder.specs.declared.Decoding.{Decoding}
-use Rattle.decoder.specs.declared.Decoding.the-variants as decoding
+use Rattle.answers.specs.Answers.{countsTold}
+use Rattle.answers.specs.declared.Decoding.{Decoding}
+use Rattle.answers.specs.declared.Decoding.the-variants as decoding
 use Rattle.tally.specs.declared.Tally.{Tally}
 use Rattle.tally.specs.declared.TallyReport.{TallyReport}
 

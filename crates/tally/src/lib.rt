@@ -15,12 +15,11 @@ ghost use lib.ListN.{length};
 ghost use Rattle.staircase.specs.Frame.{frameOf};
 ghost use Rattle.staircase.specs.Tally.{decodeWith, totalRule, fullRule, tallyCall};
 ghost use Rattle.staircase.specs.Report.{reportCall};
-ghost use Rattle.design.specs.Answers.{verdictOf};
-ghost use Rattle.decoder.specs.Answers.{correctedOf};
+ghost use Rattle.answers.specs.Answers.{verdictOf, correctedOf};
 ghost use Rattle.tally.specs.Answers.{totalsOf, reportOf, broughtUp, SumsFit};
-use decoder::Decoding;
-use design::Check;
-use design::Refusal;
+use answers::Check;
+use answers::Decoding;
+use answers::Refusal;
 use rules::first;
 
 // "frames, sent bits, bits turned, rounds, words outside, stuck words"
@@ -95,6 +94,48 @@ fn brought_up(tally: Tally, info: usize, red: usize, decoding: Decoding) -> Tall
 
 // Decodes as `decoder::decode` does, with rule 16 behind rule 10, and returns the tally with what an accepted decode counts; a refused one leaves the
 // frame and the tally as they were.
+pub fn decode_counted_col(
+    tally: Tally,
+    m: u64,
+    t: u64,
+    size: u64,
+    col: u64,
+    blocks: u64,
+    rounds: u64,
+    own: &[u8],
+    parity: &[u8],
+    info: &mut [u8],
+    red: &mut [u8],
+    work: &mut [u8],
+) -> Tallied
+    ensures { λ a. ⌜ record { corrected = correctedOf (a .decoding) (frameOf (now (info .exit)) (now (red .exit))); tally = totalsOf (a .tally) }
+        ≡ tallyCall (totalsOf tally) (decodeWith m t size col blocks rounds (now (own .entry)) (now (parity .entry)) (now (info .entry)) (now (red .entry))
+        (length (now (work .entry)))) ⌝ }
+{
+    let sent = info.len();
+    let more = red.len();
+    let full = check_totals(tally);
+    let decoding = decoder::decode_with_col(
+        full,
+        m,
+        t,
+        size,
+        col,
+        blocks,
+        rounds,
+        own,
+        parity,
+        info,
+        red,
+        work,
+    );
+    Tallied {
+        tally: brought_up(tally, sent, more, decoding),
+        decoding: decoding,
+    }
+}
+
+// The same where rows and columns have one code.
 pub fn decode_counted(
     tally: Tally,
     m: u64,
@@ -109,17 +150,15 @@ pub fn decode_counted(
     work: &mut [u8],
 ) -> Tallied
     ensures { λ a. ⌜ record { corrected = correctedOf (a .decoding) (frameOf (now (info .exit)) (now (red .exit))); tally = totalsOf (a .tally) }
-        ≡ tallyCall (totalsOf tally) (decodeWith m t size blocks rounds (now (own .entry)) (now (parity .entry)) (now (info .entry)) (now (red .entry))
+        ≡ tallyCall (totalsOf tally) (decodeWith m t size 0 blocks rounds (now (own .entry)) (now (parity .entry)) (now (info .entry)) (now (red .entry))
         (length (now (work .entry)))) ⌝ }
 {
-    let sent = info.len();
-    let more = red.len();
-    let full = check_totals(tally);
-    let decoding = decoder::decode_with(
-        full,
+    decode_counted_col(
+        tally,
         m,
         t,
         size,
+        0,
         blocks,
         rounds,
         own,
@@ -127,11 +166,7 @@ pub fn decode_counted(
         info,
         red,
         work,
-    );
-    Tallied {
-        tally: brought_up(tally, sent, more, decoding),
-        decoding: decoding,
-    }
+    )
 }
 
 // Decodes as `decode_counted` does, and brings the lent tally up to date.
@@ -149,7 +184,7 @@ pub fn decode_tallied(
     work: &mut [u8],
 ) -> Decoding
     ensures { λ a. ⌜ record { corrected = correctedOf a (frameOf (now (info .exit)) (now (red .exit))); tally = totalsOf (now (tally .exit)) }
-        ≡ tallyCall (totalsOf (now (tally .entry))) (decodeWith m t size blocks rounds (now (own .entry)) (now (parity .entry)) (now (info .entry))
+        ≡ tallyCall (totalsOf (now (tally .entry))) (decodeWith m t size 0 blocks rounds (now (own .entry)) (now (parity .entry)) (now (info .entry))
         (now (red .entry)) (length (now (work .entry)))) ⌝ }
 {
     let x = decode_counted(

@@ -58,9 +58,9 @@ module _ (rules : List ℕ) (has : among 11 rules ≡ true) (s : List ℕ) where
   kitText-byTable : among 1 rules ≡ true → among 2 rules ≡ true → among 3 rules ≡ true → ByTable rules (scanKit s)
   unfolding scanKit
   kitText-byTable h1 h2 h3 =
-      let design : Verdict = designRules (headNumber s 0) (headNumber s 1) (headNumber s 2) in
+      let design : Verdict = designRules (headNumber s 0) (headNumber s 1) (headNumber s 2) 0 in
       byTable-then rules (headRule s) (design then bodyRule s) head-byTable
-      (λ e. byTable-then rules design (bodyRule s) (design-byTable rules h1 h2 h3 (headNumber s 0) (headNumber s 1) (headNumber s 2)) (λ d. body-byTable))
+      (λ e. byTable-then rules design (bodyRule s) (design-byTable rules h1 h2 h3 (headNumber s 0) (headNumber s 1) (headNumber s 2) 0) (λ d. body-byTable))
 
 module _ (rules : List ℕ) (has : among 12 rules ≡ true) where
   blocks-byTable : (M : ℕ) (s : List ℕ) → ByTable rules (blockRule M s)
@@ -96,11 +96,11 @@ readKit-demand1 s self parity w =
     let t : ℕ = headNumber s 1 in
     let M : ℕ = headNumber s 2 in
     let lengths : Verdict = kitLengths (kitParams s) self parity w in
-    let v : Verdict = headRule s then designRules m t M then lengths then bodyRule s in
+    let v : Verdict = headRule s then designRules m t M 0 then lengths then bodyRule s in
     record {
       byTable =
-          byTable-then readerNumbers (headRule s) (designRules m t M then lengths then bodyRule s) (head-byTable readerNumbers refl s)
-          (λ e. byTable-then readerNumbers (designRules m t M) (lengths then bodyRule s) (design-byTable readerNumbers refl refl refl m t M)
+          byTable-then readerNumbers (headRule s) (designRules m t M 0 then lengths then bodyRule s) (head-byTable readerNumbers refl s)
+          (λ e. byTable-then readerNumbers (designRules m t M 0) (lengths then bodyRule s) (design-byTable readerNumbers refl refl refl m t M 0)
           (λ d. byTable-then readerNumbers lengths (bodyRule s) (kit-fits-byTable readerNumbers refl (kitParams s) self parity w)
           (λ f. body-byTable readerNumbers refl s)));
       untouched = λ h i. kept-old v (selfOf s) self h i ∷ kept-old v (parityOf s) parity h i ∷ kept-old v (inverseOf s) w h i ∷ [];
@@ -115,18 +115,18 @@ pub writeKit-demand1 : (m t M : ℕ) (self parity w text : List ℕ)
     → Demand1 (1 ∷ 2 ∷ 3 ∷ 6 ∷ 7 ∷ 8 ∷ []) (writeCall m t M self parity w text .verdict) (text ∷ []) (writeCall m t M self parity w text .text ∷ [])
 unfolding writeCall writeVerdict
 writeKit-demand1 m t M self parity w text =
-    let s : Params = params m t M in
+    let s : Params = params m t M 0 in
     let l : Interleavers = interleavers s self parity in
     let v7 : Verdict = lengthRule 7 (length text) (length (kitBytes m t M self parity w)) in
-    let v : Verdict = designRules m t M then kitLengths s self parity w then v7 then listRule s l then spareRule s w in
+    let v : Verdict = designRules m t M 0 then kitLengths s self parity w then v7 then listRule s l then spareRule s w in
     record {
       byTable =
-          byTable-then writerNumbers (designRules m t M) (kitLengths s self parity w then v7 then listRule s l then spareRule s w) (design-byTable writerNumbers refl refl refl m t M)
+          byTable-then writerNumbers (designRules m t M 0) (kitLengths s self parity w then v7 then listRule s l then spareRule s w) (design-byTable writerNumbers refl refl refl m t M 0)
           (λ d. byTable-then writerNumbers (kitLengths s self parity w) (v7 then listRule s l then spareRule s w) (kit-fits-byTable writerNumbers refl s self parity w)
           (λ e. byTable-then writerNumbers v7 (listRule s l then spareRule s w)
           (length-byTable writerNumbers refl 7 (length text) (length (kitBytes m t M self parity w)) (omega arith) (omega arith))
-          (λ f. byTable-then writerNumbers (listRule s l) (spareRule s w) (lists-byTable writerNumbers s (design-limits m t M d .order-high) refl l)
-          (λ g. spare-byTable writerNumbers s (design-limits m t M d .order-high) refl w))));
+          (λ f. byTable-then writerNumbers (listRule s l) (spareRule s w) (lists-byTable writerNumbers s (design-limits m t M 0 d .order-high) refl l)
+          (λ g. spare-byTable writerNumbers s (design-limits m t M 0 d .order-high) refl w))));
       untouched = λ h i. kept-old v (kitBytes m t M self parity w) text h i ∷ [];
     }
 
@@ -137,12 +137,12 @@ measuredBy-verdict (refused k p) n = refl
 pub textLength-demand1 : (m t M : ℕ) (self parity : List ℕ) → Demand1 (1 ∷ 2 ∷ 3 ∷ 6 ∷ []) (measureCall m t M self parity .verdict) [] []
 unfolding measureCall measureVerdict
 textLength-demand1 m t M self parity =
-    let s : Params = params m t M in
+    let s : Params = params m t M 0 in
     let rules : List ℕ = 1 ∷ 2 ∷ 3 ∷ 6 ∷ [] in
     record {
       byTable =
-          subst⁻¹ (ByTable rules) (measuredBy-verdict (designRules m t M then listLengths s self parity) (textLength m t M self parity))
-          (byTable-then rules (designRules m t M) (listLengths s self parity) (design-byTable rules refl refl refl m t M) (λ d. lists-fit-byTable rules refl s self parity));
+          subst⁻¹ (ByTable rules) (measuredBy-verdict (designRules m t M 0 then listLengths s self parity) (textLength m t M self parity))
+          (byTable-then rules (designRules m t M 0) (listLengths s self parity) (design-byTable rules refl refl refl m t M 0) (λ d. lists-fit-byTable rules refl s self parity));
       untouched = λ h. refl;
     }
 
@@ -198,7 +198,7 @@ frame-output-demand1 kit text =
           (λ e. byTable-then frameNumbers (scanKit kit) (blockRule (kitM kit) text then call) (kitText-byTable frameNumbers refl kit refl refl refl)
           (λ f. byTable-then frameNumbers (blockRule (kitM kit) text) call (blocks-byTable frameNumbers refl (kitM kit) text)
           (λ g. byTable-more (1 ∷ 2 ∷ 3 ∷ 4 ∷ 6 ∷ 7 ∷ 8 ∷ 9 ∷ 10 ∷ []) (11 ∷ 12 ∷ 13 ∷ []) call
-          (encode-demand1 (headNumber kit 0) (headNumber kit 1) (headNumber kit 2) (blockCount (headNumber kit 2) text) (selfOf kit) (parityOf kit)
+          (encode-demand1 (headNumber kit 0) (headNumber kit 1) (headNumber kit 2) 0 (blockCount (headNumber kit 2) text) (selfOf kit) (parityOf kit)
           (inverseOf kit) (blockInfo (headNumber kit 2) text) _ _ .byTable))));
       untouched = λ h. refl;
     }
@@ -218,7 +218,7 @@ mend-output-demand1 kit copy =
           (λ e. byTable-then mendNumbers (scanKit kit) (frameRule M r copy then call) (kitText-byTable mendNumbers refl kit refl refl refl)
           (λ f. byTable-then mendNumbers (frameRule M r copy) call (frame-byTable mendNumbers refl M r copy)
           (λ g. byTable-more (1 ∷ 2 ∷ 3 ∷ 4 ∷ 5 ∷ 6 ∷ 7 ∷ 10 ∷ []) (11 ∷ 12 ∷ 13 ∷ []) call
-          (decode-demand1 (headNumber kit 0) (headNumber kit 1) M (frameCount M r copy) 0 (selfOf kit) (parityOf kit) (frameInfo M r copy) (frameRed M r copy) _
+          (decode-demand1 (headNumber kit 0) (headNumber kit 1) M 0 (frameCount M r copy) 0 (selfOf kit) (parityOf kit) (frameInfo M r copy) (frameRed M r copy) _
           .byTable))));
       untouched = λ h. refl;
     }

@@ -89,7 +89,7 @@ module _ (kit text : List ℕ) (ok : frameVerdict kit text ≡ accepted) where
   unfolding frameCall encodeCall
   G =
       let s : Params = kitParams kit in
-      let v : Verdict = encodeVerdict m t M L (selfOf kit) (parityOf kit) (inverseOf kit) info old (kitWork s) in
+      let v : Verdict = encodeVerdict m t M 0 L (selfOf kit) (parityOf kit) (inverseOf kit) info old (kitWork s) in
       let new : List ℕ = redundancy s (interleavers s (selfOf kit) (parityOf kit)) (inverseOf kit) L info in
       encode-accepted (kitOf kit) L info old (kitWork s)
       (sym (encodedBy-verdict v old new) ∙ A .call-ok)
@@ -149,7 +149,7 @@ module _ (kit text : List ℕ) (ok : frameVerdict kit text ≡ accepted) where
 
   -- what `mend` prints of any frame text whose decoding leaves the frame
   mend-sends : (copy : List ℕ) → length copy ≤ most-input → frameRule M (m * t) copy ≡ accepted → frameCount M (m * t) copy ≡ L → (rounds turned : ℕ)
-      → decodeCall m t M L 0 (selfOf kit) (parityOf kit) (frameInfo M (m * t) copy) (frameRed M (m * t) copy) (decoderWork (kitParams kit) L)
+      → decodeCall m t M 0 L 0 (selfOf kit) (parityOf kit) (frameInfo M (m * t) copy) (frameRed M (m * t) copy) (decoderWork (kitParams kit) L)
       ≡ record { verdict = accepted; frame = frameOf info red; counts = record { rounds = rounds; turned = turned; outside = 0; stuck = 0 } }
       → mendOutput kit copy ≡ sent kit text ++ countsText rounds turned 0
   unfolding mendOutput judged printed mendCall mendText
@@ -157,7 +157,7 @@ module _ (kit text : List ℕ) (ok : frameVerdict kit text ≡ accepted) where
       let n : ℕ = M * (m * t) in
       let c : Corrected = record { verdict = accepted; frame = frameOf info red; counts = record { rounds = rounds; turned = turned; outside = 0; stuck = 0 } } in
       let call : mendCall kit copy ≡ c =
-      ap (λ (k : ℕ). decodeCall m t M k 0 (selfOf kit) (parityOf kit) (frameInfo M (m * t) copy) (frameRed M (m * t) copy)
+      ap (λ (k : ℕ). decodeCall m t M 0 k 0 (selfOf kit) (parityOf kit) (frameInfo M (m * t) copy) (frameRed M (m * t) copy)
       (decoderWork (kitParams kit) k)) count ∙ e in
       let v : (inputRule kit copy then scanKit kit then frameRule M (m * t) copy then mendCall kit copy .verdict) ≡ accepted =
       then-accepted (short-inputs kit copy (A .kit-short) short)
@@ -183,7 +183,7 @@ module _ (kit text : List ℕ) (ok : frameVerdict kit text ≡ accepted) where
       mends : length (sent kit text) ≤ most-input → mendOutput kit (sent kit text) ≡ sent kit text ++ countsText 1 0 0
       mends h =
           mend-sends (sent kit text) h (read-back .0) (sym (read-back .1)) 1 0
-          (ap₂ (λ (i o : List ℕ). decodeCall m t M L 0 (selfOf kit) (parityOf kit) i o (decoderWork (kitParams kit) L)) (sym (parts .0)) (sym (parts .1))
+          (ap₂ (λ (i o : List ℕ). decodeCall m t M 0 L 0 (selfOf kit) (parityOf kit) i o (decoderWork (kitParams kit) L)) (sym (parts .0)) (sym (parts .1))
           ∙ made-idle (kitOf kit) L info old G 0 (omega arith))
 
       refuses : most-input < length (sent kit text) → mendOutput kit (sent kit text) ≡ refusalText 13 2
@@ -191,7 +191,7 @@ module _ (kit text : List ℕ) (ok : frameVerdict kit text ≡ accepted) where
 
       restores : (copy : List ℕ) → length copy ≡ length (sent kit text) → length copy ≤ most-input → frameRule M (m * t) copy ≡ accepted
           → EachWord (sizes (kitOf kit)) (lists (kitOf kit)) L
-          (λ x. distance (read (madeFrame kit text) x) (read (copyFrame kit copy) x) ≤ t)
+          (λ x. distance (read (madeFrame kit text) (x .sites)) (read (copyFrame kit copy) (x .sites)) ≤ t)
           → (rounds : ℕ) × (mendOutput kit copy ≡ sent kit text ++ countsText rounds (lineErrors (copyFrame kit copy) (madeFrame kit text)) 0)
       restores copy long short accepts near =
           let F = frame-accepted M (m * t) copy .0 accepts in
@@ -200,7 +200,7 @@ module _ (kit text : List ℕ) (ok : frameVerdict kit text ≡ accepted) where
           same-count (M * M) (M * (m * t)) most-blocks (frameCount M (m * t) copy) L (frameInfo M (m * t) copy ++ frameRed M (m * t) copy)
           (info ++ red) copy (sent kit text) F whole long in
           let near′ = subst (λ (z : List ℕ). EachWord (sizes (kitOf kit)) (lists (kitOf kit)) L
-          (λ x. distance (read (frameOf info z) x) (read (copyFrame kit copy) x) ≤ t)) red-is near in
+          (λ x. distance (read (frameOf info z) (x .sites)) (read (copyFrame kit copy) (x .sites)) ≤ t)) red-is near in
           let r = made-restored (kitOf kit) L info old G (copyFrame kit copy)
           (h .info-length ∙ ap (λ (k : ℕ). k * (M * M)) count ∙ sym (holds .info-length))
           (h .red-length ∙ ap (λ (k : ℕ). groups k * (2 * (M * (m * t)))) count ∙ sym red-fits) (h .info-bits) (h .red-bits) near′ 0 (omega arith) in

@@ -27,7 +27,7 @@ use Rattle.text.proofs.TwoLines.{Shown, head-read, head-stuck}
 
 pub small : (m t M : ℕ) → Passing m t M → Small m t M
 small m t M e =
-    let l = design-limits m t M e in
+    let l = design-limits m t M 0 e in
     record { hm = omega (arith, l .m-high); ht = omega (arith, l .t-high); hM = omega (arith, l .M-high); hn = omega (arith, l .order-high) }
 
 -- ---- the two lines of a text, and what the scan makes of the rest
@@ -51,7 +51,7 @@ two-lines s = go (walk headItems s 0) refl
 pub scan-stuck : (s : List ℕ) (q : ℕ) → walk headItems s 0 ≡ stuck q → scanKit s ≡ refused 11 q
 unfolding scanKit
 scan-stuck s q e =
-    ap (λ (v : Verdict). v then designRules (headNumber s 0) (headNumber s 1) (headNumber s 2) then bodyRule s) (head-stuck s q e)
+    ap (λ (v : Verdict). v then designRules (headNumber s 0) (headNumber s 1) (headNumber s 2) 0 then bodyRule s) (head-stuck s q e)
 
 module _ (s : List ℕ) (F : Found s) where
   pub shown : Shown s (F .m) (F .t) (F .M) (F .q)
@@ -64,11 +64,11 @@ module _ (s : List ℕ) (F : Found s) where
   unfolding bodyScan
   body-found = rw (shown .after, order-found)
 
-  pub scan-found : scanKit s ≡ (designRules (F .m) (F .t) (F .M) then scanRule 11 (scan (kitFormat (F .m) (F .t) (F .M)) s))
+  pub scan-found : scanKit s ≡ (designRules (F .m) (F .t) (F .M) 0 then scanRule 11 (scan (kitFormat (F .m) (F .t) (F .M)) s))
   unfolding scanKit bodyRule
   scan-found =
-      ap (λ (v : Verdict). v then designRules (headNumber s 0) (headNumber s 1) (headNumber s 2) then scanRule 11 (bodyScan s)) (shown .rule)
-      ∙ ap (λ (x : Scan). designRules (headNumber s 0) (headNumber s 1) (headNumber s 2) then scanRule 11 x)
+      ap (λ (v : Verdict). v then designRules (headNumber s 0) (headNumber s 1) (headNumber s 2) 0 then scanRule 11 (bodyScan s)) (shown .rule)
+      ∙ ap (λ (x : Scan). designRules (headNumber s 0) (headNumber s 1) (headNumber s 2) 0 then scanRule 11 x)
       (body-found ∙ sym (kit-rest s (F .m) (F .t) (F .M) (F .q) (F .lines)))
       ∙ rw (shown .first, shown .second, shown .third)
 
@@ -92,7 +92,7 @@ accepted-is s e = go (two-lines s)
     go : ((q : ℕ) × (walk headItems s 0 ≡ stuck q)) ⊎ Found s → Accepted s
     go (inl (q, f)) = let g = scan-stuck s q f in let z : _≡_ {A = ℕ} 0 1 = cc in absurd (omega arith)
     go (inr F) =
-        let d : Verdict = designRules (F .m) (F .t) (F .M) in
+        let d : Verdict = designRules (F .m) (F .t) (F .M) 0 in
         let x : Scan = scan (kitFormat (F .m) (F .t) (F .M)) s in
         let g : (d then scanRule 11 x) ≡ accepted = sym (scan-found s F) ∙ e in
         let (L, vs, h) = rule-read x (then-rest d (scanRule 11 x) g) in

@@ -138,7 +138,7 @@ kit-place-rest s m t M h p k = go (scan (kitFormat m t M) s) refl
 -- A refusal by another rule is that of rules 1 to 3 for the numbers of the two lines with which the text starts.
 pub kit-ruled : (s : List ℕ) (n k : ℕ) → scanKit s ≡ refused n k → (n ≡ 11 → ⊥)
     → (r : List ℕ) × (s ≡ headBytes (headNumber s 0) (headNumber s 1) (headNumber s 2) ++ r)
-    × (designRules (headNumber s 0) (headNumber s 1) (headNumber s 2) ≡ refused n k)
+    × (designRules (headNumber s 0) (headNumber s 1) (headNumber s 2) 0 ≡ refused n k)
 unfolding scanRule
 kit-ruled s n k e h = go (two-lines s)
   where
@@ -152,17 +152,17 @@ kit-ruled s n k e h = go (two-lines s)
 
     go : ((q : ℕ) × (walk headItems s 0 ≡ stuck q)) ⊎ Found s
         → (r : List ℕ) × (s ≡ headBytes (headNumber s 0) (headNumber s 1) (headNumber s 2) ++ r)
-        × (designRules (headNumber s 0) (headNumber s 1) (headNumber s 2) ≡ refused n k)
+        × (designRules (headNumber s 0) (headNumber s 1) (headNumber s 2) 0 ≡ refused n k)
     go (inl (q, f)) = let g = scan-stuck s q f in let z : n ≡ 11 = cc in absurd (h z)
     go (inr F) =
         let S = shown s F in (
           drop (F .q) s,
           rw (S .first, S .second, S .third) (head-passed s (F .m) (F .t) (F .M) (F .q) (F .lines) .spelt),
-          rw (S .first, S .second, S .third) (rule (designRules (F .m) (F .t) (F .M)) (scan (kitFormat (F .m) (F .t) (F .M)) s) (sym (scan-found s F) ∙ e)),
+          rw (S .first, S .second, S .third) (rule (designRules (F .m) (F .t) (F .M) 0) (scan (kitFormat (F .m) (F .t) (F .M)) s) (sym (scan-found s F) ∙ e)),
         )
 
 -- And a text that starts with two lines whose numbers rules 1 to 3 refuse is refused so, whatever follows.
-pub kit-rules : (s : List ℕ) (m t M n k : ℕ) → StartsKit m t M s → designRules m t M ≡ refused n k → scanKit s ≡ refused n k
+pub kit-rules : (s : List ℕ) (m t M n k : ℕ) → StartsKit m t M s → designRules m t M 0 ≡ refused n k → scanKit s ≡ refused n k
 unfolding starts-found
 kit-rules s m t M n k h p =
     scan-found s (starts-found s m t M h) ∙ ap (λ (v : Verdict). v then scanRule 11 (scan (kitFormat m t M) s)) p
@@ -201,7 +201,7 @@ kit-read-scan s own parity w a b c =
     then-accepted (then-accepted (length-accepted 1 (length own) (2 * n) a) (length-accepted 2 (length parity) (2 * n) b))
     (length-accepted 3 (length w) (n * rowBytes n) c)
     in
-    ap (λ (v : Verdict). headRule s then designRules (headNumber s 0) (headNumber s 1) (headNumber s 2) then v then bodyRule s) e
+    ap (λ (v : Verdict). headRule s then designRules (headNumber s 0) (headNumber s 1) (headNumber s 2) 0 then v then bodyRule s) e
 
 -- An accepted text fills them with its lists and its inverse.
 pub kit-read : (s own parity w : List ℕ) → length own ≡ 2 * order (kitParams s) → length parity ≡ 2 * order (kitParams s)

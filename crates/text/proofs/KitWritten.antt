@@ -200,10 +200,10 @@ readKit-same : (r : KitRead) {self parity w : List ℕ} → r .verdict ≡ accep
     → r ≡ record { verdict = accepted; self = self; parity = parity; inverse = w }
 readKit-same r a b c e = λ i. record { verdict = a i; self = b i; parity = c i; inverse = e i }
 
-module _ (m t M : ℕ) (self parity w : List ℕ) (d : designRules m t M ≡ accepted)
-    (fits : FitsOrder (order (params m t M)) self parity w)
+module _ (m t M : ℕ) (self parity w : List ℕ) (d : designRules m t M 0 ≡ accepted)
+    (fits : FitsOrder (order (params m t M 0)) self parity w)
     (selfBytes : (k : ℕ) → getD self k 0 < 256) (parityBytes : (k : ℕ) → getD parity k 0 < 256) (inverseBytes : (k : ℕ) → getD w k 0 < 256)
-    (lists : listRule (params m t M) (interleavers (params m t M) self parity) ≡ accepted) (spare : spareRule (params m t M) w ≡ accepted) where
+    (lists : listRule (params m t M 0) (interleavers (params m t M 0) self parity) ≡ accepted) (spare : spareRule (params m t M 0) w ≡ accepted) where
   abbrev n : ℕ
   n = M * (m * t)
 
@@ -220,7 +220,7 @@ module _ (m t M : ℕ) (self parity w : List ℕ) (d : designRules m t M ≡ acc
   text = kitBytes m t M self parity w
 
   n-small : n ≤ 4096
-  n-small = design-limits m t M d .order-high
+  n-small = design-limits m t M 0 d .order-high
 
   entry-small : (l : List ℕ) → Permutes n (λ p. getD (entries n l) p 0) → (p : ℕ) → getD (entries n l) p 0 < 10000
   unfolding entries
@@ -233,10 +233,10 @@ module _ (m t M : ℕ) (self parity w : List ℕ) (d : designRules m t M ≡ acc
           omega (arith, z)
 
   small-self : (p : ℕ) → f p < 10000
-  small-self = entry-small self (lists-permute (params m t M) (interleavers (params m t M) self parity) lists .0)
+  small-self = entry-small self (lists-permute (params m t M 0) (interleavers (params m t M 0) self parity) lists .0)
 
   small-parity : (p : ℕ) → g p < 10000
-  small-parity = entry-small parity (lists-permute (params m t M) (interleavers (params m t M) self parity) lists .1)
+  small-parity = entry-small parity (lists-permute (params m t M 0) (interleavers (params m t M 0) self parity) lists .1)
 
   spelled : Fit (kitBody n) vs × (text ≡ headBytes m t M ++ spell (kitBody n) vs)
   unfolding kitBytes kitValues
@@ -298,14 +298,14 @@ module _ (m t M : ℕ) (self parity w : List ℕ) (d : designRules m t M ≡ acc
   unfolding spareRule found
   written-inverse =
       inverse-shown text n (pairValues n f g) (concat n (λ i. tabulate n (inverseEntry w n i))) (order-found text found) values-are count
-      ∙ rows-back n (concat n (λ i. tabulate n (inverseEntry w n i))) w (order-positive (params m t M) (proper-of (design-limits m t M d)))
+      ∙ rows-back n (concat n (λ i. tabulate n (inverseEntry w n i))) w (order-positive (params m t M 0) (proper-of (design-limits m t M 0 d)))
       (rows-bits n n 0 (concat n (λ i. tabulate n (inverseEntry w n i))) (rows-fit n n 0 (inverseEntry w n) (entry-bit w n)))
       inverseBytes (fits .inverseLength) (value-at n f g (inverseEntry w n) small-self small-parity (entry-bit w n))
       (λ i j hi. spare-zero w n i (refuseFirst-false 8 0 n (spareRow w n) spare i hi) j)
 
   -- "what is written reads back to the same kit"
-  pub written-reads : (own₂ parity₂ w₂ : List ℕ) → length own₂ ≡ 2 * order (params m t M) → length parity₂ ≡ 2 * order (params m t M)
-      → length w₂ ≡ order (params m t M) * rowBytes (order (params m t M))
+  pub written-reads : (own₂ parity₂ w₂ : List ℕ) → length own₂ ≡ 2 * order (params m t M 0) → length parity₂ ≡ 2 * order (params m t M 0)
+      → length w₂ ≡ order (params m t M 0) * rowBytes (order (params m t M 0))
       → readKitCall (kitBytes m t M self parity w) own₂ parity₂ w₂ ≡ record { verdict = accepted; self = self; parity = parity; inverse = w }
   unfolding found
   written-reads own₂ parity₂ w₂ a b c =
@@ -317,11 +317,11 @@ module _ (m t M : ℕ) (self parity w : List ℕ) (d : designRules m t M ≡ acc
 
 -- ---- a text that is read and written again
 
-design-accepted : (s : List ℕ) → scanKit s ≡ accepted → designRules (headNumber s 0) (headNumber s 1) (headNumber s 2) ≡ accepted
+design-accepted : (s : List ℕ) → scanKit s ≡ accepted → designRules (headNumber s 0) (headNumber s 1) (headNumber s 2) 0 ≡ accepted
 unfolding scanKit
 design-accepted s e =
-    then-first (designRules (headNumber s 0) (headNumber s 1) (headNumber s 2)) (bodyRule s)
-    (then-rest (headRule s) (designRules (headNumber s 0) (headNumber s 1) (headNumber s 2) then bodyRule s) e)
+    then-first (designRules (headNumber s 0) (headNumber s 1) (headNumber s 2) 0) (bodyRule s)
+    (then-rest (headRule s) (designRules (headNumber s 0) (headNumber s 1) (headNumber s 2) 0 then bodyRule s) e)
 
 -- "a kit text whose lists are permutations, read and written again, is the same bytes"
 pub read-writes : (s buffer : List ℕ) → scanKit s ≡ accepted → length buffer ≡ length s
@@ -342,7 +342,7 @@ read-writes s buffer e long lists =
     n : ℕ
     n = order (kitParams s)
 
-    design : designRules (headNumber s 0) (headNumber s 1) (headNumber s 2) ≡ accepted
+    design : designRules (headNumber s 0) (headNumber s 1) (headNumber s 2) 0 ≡ accepted
     design = design-accepted s e
 
     pairs : length (T .ps) ≡ 2 * n

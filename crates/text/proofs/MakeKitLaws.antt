@@ -34,7 +34,7 @@ module _ (s : List ℕ) where
   input = refuse (ltb most-input (length s)) 13 2
 
   abbrev design : Verdict
-  design = designRules (headNumber s 0) (headNumber s 1) (headNumber s 2)
+  design = designRules (headNumber s 0) (headNumber s 1) (headNumber s 2) 0
 
   abbrev call : Verdict
   call = textRule s then makeKitCall s .verdict

@@ -29,7 +29,7 @@ use Rattle.staircase.proofs.Decoded.{correctedBy-verdict, decode-left, decode-r
 
 mendCall-by : (kit text : List ℕ) (L : ℕ) (i o : List ℕ) → frameCount (headNumber kit 2) (headNumber kit 0 * headNumber kit 1) text ≡ L
     → frameInfo (headNumber kit 2) (headNumber kit 0 * headNumber kit 1) text ≡ i → frameRed (headNumber kit 2) (headNumber kit 0 * headNumber kit 1) text ≡ o
-    → mendCall kit text ≡ decodeCall (headNumber kit 0) (headNumber kit 1) (headNumber kit 2) L 0 (selfOf kit) (parityOf kit) i o (decoderWork (kitParams kit) L)
+    → mendCall kit text ≡ decodeCall (headNumber kit 0) (headNumber kit 1) (headNumber kit 2) 0 L 0 (selfOf kit) (parityOf kit) i o (decoderWork (kitParams kit) L)
 unfolding mendCall
 mendCall-by kit text L i o a b c = rw (a, b, c) refl
 
@@ -53,13 +53,13 @@ module _ (kit copy : List ℕ) (ok : mendVerdict kit copy ≡ accepted) where
   unfolding mendVerdict
   A = judged-accepted kit copy (frameRule M r copy) (mendCall kit copy .verdict) ok
 
-  decodes : decodeVerdict m t M L 0 (selfOf kit) (parityOf kit) (frameInfo M r copy) (frameRed M r copy) (decoderWork (kitParams kit) L) ≡ accepted
+  decodes : decodeVerdict m t M 0 L 0 (selfOf kit) (parityOf kit) (frameInfo M r copy) (frameRed M r copy) (decoderWork (kitParams kit) L) ≡ accepted
   unfolding mendCall decodeCall
   decodes =
       let s : Params = kitParams kit in
       let l : Interleavers = interleavers s (selfOf kit) (parityOf kit) in
       let f : Frame = frameOf (frameInfo M r copy) (frameRed M r copy) in
-      let v : Verdict = decodeVerdict m t M L 0 (selfOf kit) (parityOf kit) (frameInfo M r copy) (frameRed M r copy) (decoderWork s L) in
+      let v : Verdict = decodeVerdict m t M 0 L 0 (selfOf kit) (parityOf kit) (frameInfo M r copy) (frameRed M r copy) (decoderWork s L) in
       sym (correctedBy-verdict v f (decoded s l L 0 f .frame) (countsOf s l L 0 f)) ∙ A .call-ok
 
   abbrev made : Decoded
@@ -83,13 +83,13 @@ module _ (kit copy : List ℕ) (ok : mendVerdict kit copy ≡ accepted) where
         counts = countsOf (kitParams kit) (interleavers (kitParams kit) (selfOf kit) (parityOf kit)) L 0 (frameOf (frameInfo M r copy) (frameRed M r copy));
       }
   unfolding mendCall
-  left = decode-left m t M L 0 (selfOf kit) (parityOf kit) (frameInfo M r copy) (frameRed M r copy) decodes
+  left = decode-left m t M 0 L 0 (selfOf kit) (parityOf kit) (frameInfo M r copy) (frameRed M r copy) decodes
 
   mended-is : mended kit copy ≡ blockText (M * M) L info ++ groupText (M * r) (groups L) red
   mended-is = ap (λ (c : Corrected). blockText (M * M) L (c .frame .info) ++ groupText (M * r) (groups L) (c .frame .red)) left
 
   like-copy : Received (frameOf (frameInfo M r copy) (frameRed M r copy)) (made .frame)
-  like-copy = decode-received m t M L 0 (selfOf kit) (parityOf kit) (frameInfo M r copy) (frameRed M r copy) decodes
+  like-copy = decode-received m t M 0 L 0 (selfOf kit) (parityOf kit) (frameInfo M r copy) (frameRed M r copy) decodes
 
   holds : FrameHolds M r L (frameInfo M r copy) (frameRed M r copy) copy
   holds = frame-holds M r copy (A .text-ok)
@@ -164,4 +164,4 @@ module _ (kit copy : List ℕ) (ok : mendVerdict kit copy ≡ accepted) where
               → mendCall kit (mended kit copy) ≡ record { verdict = accepted; frame = made .frame; counts = record { rounds = 1; turned = 0; outside = 0; stuck = 0 } }
           second none =
               mendCall-by kit (mended kit copy) L info red (sym (read-back .1)) (sym (back .0)) (sym (back .1))
-              ∙ decode-again m t M L 0 (selfOf kit) (parityOf kit) (frameInfo M r copy) (frameRed M r copy) decodes none
+              ∙ decode-again m t M 0 L 0 (selfOf kit) (parityOf kit) (frameInfo M r copy) (frameRed M r copy) decodes none

@@ -27,16 +27,16 @@ use Rattle.text.proofs.FrameExamples.{blocks-shown, groups-written}
 use Rattle.text.specs.TextsK.{textK, fourBlocks, fourBits, twoGroups, twoBits}
 use Rattle.text.proofs.FrameThenMend.{frame-then-mend}
 
-encodeK : encodeCall 4 1 1 4 selfK parityK inverseK fourBits (replicate (redLength paramsK 4) 0) (kitWork paramsK)
+encodeK : encodeCall 4 1 1 0 4 selfK parityK inverseK fourBits (replicate (redLength paramsK 4) 0) (kitWork paramsK)
     ≡ record { verdict = accepted; red = twoBits }
 encodeK =
-    encode-old 4 1 1 4 selfK parityK inverseK fourBits (replicate (redLength paramsK 4) 255) (replicate (redLength paramsK 4) 0) twoBits (kitWork paramsK) refl
+    encode-old 4 1 1 0 4 selfK parityK inverseK fourBits (replicate (redLength paramsK 4) 255) (replicate (redLength paramsK 4) 0) twoBits (kitWork paramsK) refl
     (rowsK .blocks0100)
 
 frameCall-by : (kit text : List ℕ) {m t M L : ℕ} {self parity w info : List ℕ} → headNumber kit 0 ≡ m → headNumber kit 1 ≡ t → headNumber kit 2 ≡ M
     → selfOf kit ≡ self → parityOf kit ≡ parity → inverseOf kit ≡ w
     → blockCount M text ≡ L → blockInfo M text ≡ info
-    → frameCall kit text ≡ encodeCall m t M L self parity w info (replicate (redLength (params m t M) L) 0) (kitWork (params m t M))
+    → frameCall kit text ≡ encodeCall m t M 0 L self parity w info (replicate (redLength (params m t M 0) L) 0) (kitWork (params m t M 0))
 unfolding frameCall
 frameCall-by kit text a b c d e f g h = rw (a, b, c, d, e, f, g, h) refl
 

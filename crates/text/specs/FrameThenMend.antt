@@ -34,6 +34,7 @@ kitOf kit =
       m = headNumber kit 0;
       t = headNumber kit 1;
       M = headNumber kit 2;
+      col = 0;
       self = selfOf kit;
       parity = parityOf kit;
       inverse = inverseOf kit;
@@ -70,5 +71,5 @@ pub record FrameThenMend (kit text : List ℕ) : Type 0 where
   -- counts the wrong bits and no word outside
   pub restores : (copy : List ℕ) → length copy ≡ length (sent kit text) → length copy ≤ most-input → frameRule (kitM kit) (kitR kit) copy ≡ accepted
       → EachWord (sizes (kitOf kit)) (lists (kitOf kit)) (blockCount (kitM kit) text)
-      (λ x. distance (read (madeFrame kit text) x) (read (copyFrame kit copy) x) ≤ kitOf kit .t)
+      (λ x. distance (read (madeFrame kit text) (x .sites)) (read (copyFrame kit copy) (x .sites)) ≤ kitOf kit .t)
       → (rounds : ℕ) × (mendOutput kit copy ≡ sent kit text ++ countsText rounds (lineErrors (copyFrame kit copy) (madeFrame kit text)) 0)

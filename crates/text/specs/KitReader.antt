@@ -32,11 +32,11 @@ unfoldable pub headRule : List ℕ → Verdict
 headRule s = walkRule 11 (walk headItems s 0)
 
 abbrev pub kitParams : List ℕ → Params
-kitParams s = params (headNumber s 0) (headNumber s 1) (headNumber s 2)
+kitParams s = params (headNumber s 0) (headNumber s 1) (headNumber s 2) 0
 
 -- the designs that rules 1 to 3 let through
 abbrev pub Passing : ℕ → ℕ → ℕ → Type 0
-Passing m t M = designRules m t M ≡ accepted
+Passing m t M = designRules m t M 0 ≡ accepted
 
 -- the rest, read from the position after the two lines on
 unfoldable pub bodyScan : List ℕ → Scan
@@ -47,7 +47,7 @@ unfoldable pub bodyRule : List ℕ → Verdict
 bodyRule s = scanRule 11 (bodyScan s)
 
 unfoldable pub scanKit : List ℕ → Verdict
-scanKit s = headRule s then designRules (headNumber s 0) (headNumber s 1) (headNumber s 2) then bodyRule s
+scanKit s = headRule s then designRules (headNumber s 0) (headNumber s 1) (headNumber s 2) 0 then bodyRule s
 
 -- ---- the bytes of a list and of an inverse
 
@@ -96,7 +96,7 @@ inverseOf s = packRows (order (kitParams s)) (order (kitParams s)) (drop (2 * or
 
 unfoldable pub readVerdict : List ℕ → List ℕ → List ℕ → List ℕ → Verdict
 readVerdict s self parity w =
-    headRule s then designRules (headNumber s 0) (headNumber s 1) (headNumber s 2) then kitLengths (kitParams s) self parity w then bodyRule s
+    headRule s then designRules (headNumber s 0) (headNumber s 1) (headNumber s 2) 0 then kitLengths (kitParams s) self parity w then bodyRule s
 
 pub record KitRead : Type 0 where
   pub verdict : Verdict

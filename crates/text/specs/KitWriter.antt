@@ -18,8 +18,8 @@ use Rattle.text.specs.KitText.{kitBytes}
 -- all its digits, even five)"
 unfoldable pub writeVerdict : ℕ → ℕ → ℕ → List ℕ → List ℕ → List ℕ → List ℕ → Verdict
 writeVerdict m t M self parity w text =
-    let s : Params = params m t M in
-    designRules m t M then kitLengths s self parity w then lengthRule 7 (length text) (length (kitBytes m t M self parity w))
+    let s : Params = params m t M 0 in
+    designRules m t M 0 then kitLengths s self parity w then lengthRule 7 (length text) (length (kitBytes m t M self parity w))
     then listRule s (interleavers s self parity) then spareRule s w
 
 pub record KitWritten : Type 0 where
@@ -39,7 +39,7 @@ textLength m t M self parity = length (kitBytes m t M self parity [])
 
 -- The design and the lists' lengths are judged: the entries themselves may be any.
 unfoldable pub measureVerdict : ℕ → ℕ → ℕ → List ℕ → List ℕ → Verdict
-measureVerdict m t M self parity = designRules m t M then listLengths (params m t M) self parity
+measureVerdict m t M self parity = designRules m t M 0 then listLengths (params m t M 0) self parity
 
 pub record Measured : Type 0 where
   pub verdict : Verdict

@@ -53,11 +53,11 @@ textRule s = refuse (ltb most-input (textLength (headNumber s 0) (headNumber s 1
 unfoldable pub makeKitCall : List ℕ → Made
 makeKitCall s =
     let p : Params = kitParams s in
-    makeCall (headNumber s 0) (headNumber s 1) (headNumber s 2) (selfShown s) (parityShown s) (replicate (order p * rowBytes (order p)) 0) (makeWork p)
+    makeCall (headNumber s 0) (headNumber s 1) (headNumber s 2) 0 (selfShown s) (parityShown s) (replicate (order p * rowBytes (order p)) 0) (makeWork p)
 
 unfoldable pub makeKitOutput : List ℕ → List ℕ
 makeKitOutput s =
     printed
-    (refuse (ltb most-input (length s)) 13 2 then headRule s then designRules (headNumber s 0) (headNumber s 1) (headNumber s 2) then listsRule s
+    (refuse (ltb most-input (length s)) 13 2 then headRule s then designRules (headNumber s 0) (headNumber s 1) (headNumber s 2) 0 then listsRule s
     then textRule s then makeKitCall s .verdict)
     (kitBytes (headNumber s 0) (headNumber s 1) (headNumber s 2) (selfShown s) (parityShown s) (makeKitCall s .inverse))

@@ -65,7 +65,7 @@ unfoldable pub frameCall : List ℕ → List ℕ → Encoded
 frameCall kit text =
     let s : Params = kitParams kit in
     let L : ℕ = blockCount (headNumber kit 2) text in
-    encodeCall (headNumber kit 0) (headNumber kit 1) (headNumber kit 2) L (selfOf kit) (parityOf kit) (inverseOf kit)
+    encodeCall (headNumber kit 0) (headNumber kit 1) (headNumber kit 2) 0 L (selfOf kit) (parityOf kit) (inverseOf kit)
     (blockInfo (headNumber kit 2) text) (replicate (redLength s L) 0) (kitWork s)
 
 -- "It prints `group self parity`, then number, Y, P."
@@ -82,7 +82,7 @@ unfoldable pub mendCall : List ℕ → List ℕ → Corrected
 mendCall kit text =
     let M : ℕ = headNumber kit 2 in
     let r : ℕ = headNumber kit 0 * headNumber kit 1 in
-    decodeCall (headNumber kit 0) (headNumber kit 1) M (frameCount M r text) 0 (selfOf kit) (parityOf kit) (frameInfo M r text) (frameRed M r text)
+    decodeCall (headNumber kit 0) (headNumber kit 1) M 0 (frameCount M r text) 0 (selfOf kit) (parityOf kit) (frameInfo M r text) (frameRed M r text)
     (decoderWork (kitParams kit) (frameCount M r text))
 
 -- "it prints both mended, then `rounds turned outside` and the three numbers."

@@ -16,11 +16,11 @@ use Rattle.staircase.specs.Design.{params, most-blocks}
 use Rattle.staircase.specs.Frame.{groups}
 use Rattle.staircase.specs.Rules.{Verdict, _then_, lengthRule, frameLengths}
 use Rattle.staircase.specs.Rules.Verdict.{accepted, refused}
-use Rattle.design.specs.declared.Check.{Check}
-use Rattle.design.specs.declared.Check.the-variants as check
-use Rattle.design.specs.declared.Refusal.{Refusal}
-use Rattle.design.specs.Answers.{refusalVerdict, verdictOf}
-use Rattle.design.proofs.Answers.{check-refused, check-passed}
+use Rattle.answers.specs.declared.Check.{Check}
+use Rattle.answers.specs.declared.Check.the-variants as check
+use Rattle.answers.specs.declared.Refusal.{Refusal}
+use Rattle.answers.specs.Answers.{refusalVerdict, verdictOf}
+use Rattle.answers.proofs.Checks.{check-refused, check-passed}
 use Rattle.staircase.proofs.Rules.{length-equal, frame-lengths}
 use Rattle.text.specs.Rules.{scanRule, mark, valuesOf, kept}
 use Rattle.text.proofs.Kept.{kept-old}
@@ -183,10 +183,10 @@ module _ (m t M area order : ℕ) (s : List ℕ) (f : Found) (ea : area ≡ M * 
       pub groups-pass : (G : ℕ) → G ≡ groups n → Passes (walk (groupLines order 1 G) s (q + 18))
       groups-pass G e = subst Passes (sym (ap (λ (k : ℕ). walk (groupLines order 1 k) s (q + 18)) e ∙ groups-walk)) tt
 
-    module _ (info red : List ℕ) (c : Check) (h : verdictOf c ≡ frameLengths (params m t M) n info red) where
+    module _ (col : ℕ) (info red : List ℕ) (c : Check) (h : verdictOf c ≡ frameLengths (params m t M col) n info red) where
       pub frame-room : c ≡ check.Passed → (length info ≡ n * area) × (length red ≡ groups n * (2 * order))
       frame-room k =
-          let (a, b) = frame-lengths (params m t M) n info red (sym h ∙ check-passed k) in
+          let (a, b) = frame-lengths (params m t M col) n info red (sym h ∙ check-passed k) in
           (a ∙ ap (λ (z : ℕ). n * z) (sym ea), b ∙ ap (λ (z : ℕ). groups n * (2 * z)) (sym eo))
 
       due-lengths : verdictOf c ≡ due-both info red (mark y)

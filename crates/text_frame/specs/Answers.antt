@@ -6,7 +6,7 @@ use mathlib.Core.Path.{_≡_}
 use Prim.Native.Nat.{ℕ}
 use Rattle.staircase.specs.Rules.{Verdict}
 use Rattle.staircase.specs.Rules.Verdict.{accepted, refused}
-use Rattle.design.specs.Answers.{refusalVerdict}
+use Rattle.answers.specs.Answers.{refusalVerdict}
 use Rattle.text_frame.specs.declared.Blocks.{Blocks}
 use Rattle.text_frame.specs.declared.Blocks.the-variants.{Read, Refused, Broken}
 

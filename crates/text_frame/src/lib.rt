@@ -18,9 +18,9 @@ ghost use Rattle.text.specs.Rules.{scanRule, mark};
 ghost use Rattle.text_frame_scan.specs.Judged.{foundScan};
 ghost use Rattle.text_frame.specs.Answers.{blocksVerdict, CountIs};
 ghost use Rattle.text.specs.FrameReader.{blockRule, blockCount, readBlocksCall, frameRule, frameCount, readFrameCall};
-use design::Check;
+use answers::Check;
+use answers::Refusal;
 use design::Design;
-use design::Refusal;
 use text_frame_scan::Found;
 
 // The number of blocks of a text; or the refusal by rule 6; or the place of rule 12.

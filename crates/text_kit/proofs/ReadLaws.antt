@@ -18,12 +18,12 @@ use Rattle.staircase.specs.Design.{Params, order}
 use Rattle.staircase.specs.System.{rowBytes}
 use Rattle.staircase.specs.Demand2.{FitsOrder}
 use Rattle.design.specs.declared.Design.{Design}
-use Rattle.design.specs.declared.Refusal.{Refusal}
-use Rattle.design.specs.declared.Check.{Check}
-use Rattle.design.specs.declared.Check.the-variants as check
-use Rattle.design.specs.Answers.{refusalVerdict, verdictOf}
+use Rattle.answers.specs.declared.Refusal.{Refusal}
+use Rattle.answers.specs.declared.Check.{Check}
+use Rattle.answers.specs.declared.Check.the-variants as check
+use Rattle.answers.specs.Answers.{refusalVerdict, verdictOf}
 use Rattle.design.specs.Sizes.{paramsOf}
-use Rattle.design.proofs.Answers.{refused-then, passed-then, check-refused}
+use Rattle.answers.proofs.Checks.{refused-then, passed-then, check-refused}
 use Rattle.staircase.proofs.Rules.{lengths-fit}
 use Rattle.text.specs.KitText.{pairLines}
 use Rattle.text.specs.KitReader.{firsts, seconds, packs, packRows, kitParams, bodyScan, bodyRule, selfOf, parityOf, inverseOf, readVerdict, readKitCall}
@@ -94,7 +94,7 @@ module _ (s own parity w : List ℕ) where
       open-is = opens s f ef d at g
 
       sizes-are : paramsOf d ≡ kitParams s
-      sizes-are = rw (open-is .m-is, open-is .t-is, open-is .M-is)
+      sizes-are = rw (open-is .m-is, open-is .t-is, open-is .M-is, open-is .col-is)
 
       lengths-are : verdictOf x ≡ kitLengths (kitParams s) own parity w
       lengths-are = ex ∙ ap (λ (k : Params). kitLengths k own parity w) sizes-are

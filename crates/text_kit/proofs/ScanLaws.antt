@@ -13,10 +13,10 @@ use Rattle.staircase.specs.Rules.{Verdict, _then_, designRules}
 use Rattle.staircase.specs.Rules.Verdict.{accepted, refused}
 use Rattle.staircase.specs.Design.{order}
 use Rattle.design.specs.declared.Design.{Design}
-use Rattle.design.specs.declared.Refusal.{Refusal}
-use Rattle.design.specs.declared.Check.the-variants as check
-use Rattle.design.specs.Answers.{refusalVerdict, verdictOf, Allowed}
-use Rattle.design.proofs.Answers.{refused-then}
+use Rattle.answers.specs.declared.Refusal.{Refusal}
+use Rattle.answers.specs.declared.Check.the-variants as check
+use Rattle.design.specs.Answers.{Allowed}
+use Rattle.answers.specs.Answers.{refusalVerdict, verdictOf}
 use Rattle.text.specs.KitText.{headItems, restFormat}
 use Rattle.text_kit.specs.Answers.{kitScanVerdict, KitDesign}
 use Rattle.text.specs.KitReader.{headNumber, kitParams, headRule, bodyScan, bodyRule, scanKit}
@@ -26,15 +26,16 @@ use Rattle.text_kit_scan.specs.declared.Front.{Front}
 use Rattle.text_kit_scan.specs.declared.Front.the-variants.{Starts, Ruled, NoStart}
 use Rattle.text_kit_scan.specs.declared.Rest.{Rest}
 use Rattle.text_kit_scan.specs.declared.Rest.the-variants.{Whole, NotWhole}
+use Rattle.answers.proofs.Checks.{refused-then}
 
 then-three : (u v w : Verdict) → ((u then v) then w) ≡ (u then (v then w))
 then-three accepted v w = refl
 then-three (refused n p) v w = refl
 
 -- the two lines and the design, and then any rule
-pub front-then : (s : List ℕ) (u v : Verdict) → frontRule s ≡ v → (headRule s then designRules (headNumber s 0) (headNumber s 1) (headNumber s 2) then u) ≡ (v then u)
+pub front-then : (s : List ℕ) (u v : Verdict) → frontRule s ≡ v → (headRule s then designRules (headNumber s 0) (headNumber s 1) (headNumber s 2) 0 then u) ≡ (v then u)
 unfolding frontRule
-front-then s u v e = sym (then-three (headRule s) (designRules (headNumber s 0) (headNumber s 1) (headNumber s 2)) u) ∙ ap (λ (w : Verdict). w then u) e
+front-then s u v e = sym (then-three (headRule s) (designRules (headNumber s 0) (headNumber s 1) (headNumber s 2) 0) u) ∙ ap (λ (w : Verdict). w then u) e
 
 pub refusal-first : (r : Refusal) (v : Verdict) → (refusalVerdict r then v) ≡ refusalVerdict r
 unfolding verdictOf
@@ -47,6 +48,7 @@ pub record Opens (s : List ℕ) (d : Design) (at : ℕ) : Type 0 where
   pub m-is : d .m ≡ headNumber s 0
   pub t-is : d .t ≡ headNumber s 1
   pub M-is : d .size ≡ headNumber s 2
+  pub col-is : d .col ≡ 0
   pub allowed : Allowed d
   pub at-is : at ≡ passed (walk headItems s 0)
 
@@ -63,7 +65,7 @@ module _ (s : List ℕ) (f : Front) (ef : (frontVerdict f ≡ frontRule s) × Fr
   unfolding frontVerdict FrontIs
   opens d at g =
       let i : FrontIs (Starts d at) s = rw g at (ef .1) in
-      record { rule = sym (ef .0) ∙ ap frontVerdict g; m-is = i .0; t-is = i .1; M-is = i .2; allowed = i .3; at-is = i .4 }
+      record { rule = sym (ef .0) ∙ ap frontVerdict g; m-is = i .0; t-is = i .1; M-is = i .2; col-is = i .3; allowed = i .4; at-is = i .5 }
 
 module _ (s : List ℕ) (d : Design) (at : ℕ) (o : Opens s d at) (n : ℕ) (en : n ≡ d .size * (d .m * d .t)) where
   pub small-order : n ≤ 4096
@@ -82,7 +84,7 @@ module _ (s : List ℕ) (d : Design) (at : ℕ) (o : Opens s d at) (n : ℕ) (en
 
   pub kit-design : KitDesign (Kit d) s
   unfolding KitDesign
-  kit-design = (o .m-is, o .t-is, o .M-is, o .allowed)
+  kit-design = (o .m-is, o .t-is, o .M-is, o .col-is, o .allowed)
 
 -- ---- the scan
 

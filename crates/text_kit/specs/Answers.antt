@@ -7,10 +7,11 @@ use mathlib.Core.List.{List}
 use Prim.Native.Nat.{ℕ}
 use Rattle.staircase.specs.Rules.{Verdict}
 use Rattle.staircase.specs.Rules.Verdict.{accepted, refused}
-use Rattle.design.specs.Answers.{refusalVerdict, Allowed}
+use Rattle.design.specs.Answers.{Allowed}
 use Rattle.text.specs.KitReader.{headNumber}
 use Rattle.text_kit.specs.declared.KitScan.{KitScan}
 use Rattle.text_kit.specs.declared.KitScan.the-variants.{Kit, Refused, Broken}
+use Rattle.answers.specs.Answers.{refusalVerdict}
 
 unfoldable pub kitScanVerdict : KitScan → Verdict
 kitScanVerdict (Kit d) = accepted
@@ -19,6 +20,6 @@ kitScanVerdict (Broken p) = refused 11 p
 
 -- the design of an accepted text is that of its second line, and allowed
 unfoldable pub KitDesign : KitScan → List ℕ → Type 0
-KitDesign (Kit d) s = (d .m ≡ headNumber s 0) × (d .t ≡ headNumber s 1) × (d .size ≡ headNumber s 2) × Allowed d
+KitDesign (Kit d) s = (d .m ≡ headNumber s 0) × (d .t ≡ headNumber s 1) × (d .size ≡ headNumber s 2) × (d .col ≡ 0) × Allowed d
 KitDesign (Refused r) s = Unit
 KitDesign (Broken p) s = Unit

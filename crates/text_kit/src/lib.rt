@@ -12,9 +12,9 @@
 ghost use mathlib.Core.Path.{_≡_};
 ghost use Rattle.text_kit.specs.Answers.{kitScanVerdict, KitDesign};
 ghost use Rattle.text.specs.KitReader.{scanKit, readKitCall};
-use design::Check;
+use answers::Check;
+use answers::Refusal;
 use design::Design;
-use design::Refusal;
 use text_kit_scan::Front;
 use text_kit_scan::Rest;
 

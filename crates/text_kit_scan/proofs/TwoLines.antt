@@ -20,7 +20,7 @@ use Rattle.staircase.specs.Rules.Verdict.{refused}
 use Rattle.design.specs.declared.Design.{Design}
 use Rattle.design.specs.declared.Designed.{Designed}
 use Rattle.design.specs.declared.Designed.the-variants as designed
-use Rattle.design.specs.declared.Refusal.{Refusal}
+use Rattle.answers.specs.declared.Refusal.{Refusal}
 use Rattle.design.specs.Answers.{designVerdict, DesignIs, DesignAllowed}
 use Rattle.text.proofs.TwoLines.{Shown, head-read, head-stuck}
 use Rattle.text.specs.KitText.{names, twoNumbers, headItems}
@@ -60,16 +60,16 @@ module _ (s : List ℕ) (h : Head) (eh : headWalk h ≡ walk headItems s 0) wher
   unfolding frontVerdict frontRule FrontIs
   front-none q f =
       let w : headRule s ≡ refused 11 q = head-stuck s q (sym eh ∙ ap headWalk f) in
-      (sym (ap (λ (v : Verdict). v then designRules (headNumber s 0) (headNumber s 1) (headNumber s 2)) w), tt)
+      (sym (ap (λ (v : Verdict). v then designRules (headNumber s 0) (headNumber s 1) (headNumber s 2) 0) w), tt)
 
-  module _ (m t M q : ℕ) (f : h ≡ Lines m t M q) (x : Designed) (ex : (designVerdict x ≡ designRules m t M) × DesignIs x m t M × DesignAllowed x) where
+  module _ (m t M q : ℕ) (f : h ≡ Lines m t M q) (x : Designed) (ex : (designVerdict x ≡ designRules m t M 0) × DesignIs x m t M 0 × DesignAllowed x) where
     shown : Shown s m t M q
     shown = head-read s m t M q (sym eh ∙ ap headWalk f)
 
     front-design : frontRule s ≡ designVerdict x
     unfolding frontRule
     front-design =
-        ap (λ (v : Verdict). v then designRules (headNumber s 0) (headNumber s 1) (headNumber s 2)) (shown .rule)
+        ap (λ (v : Verdict). v then designRules (headNumber s 0) (headNumber s 1) (headNumber s 2) 0) (shown .rule)
         ∙ rw (shown .first, shown .second, shown .third) (sym (ex .0))
 
     pub front-ruled : (r : Refusal) → x ≡ designed.Refused r → (frontVerdict (Ruled r) ≡ frontRule s) × FrontIs (Ruled r) s
@@ -79,6 +79,6 @@ module _ (s : List ℕ) (h : Head) (eh : headWalk h ≡ walk headItems s 0) wher
     pub front-starts : (d : Design) → x ≡ designed.Made d → (frontVerdict (Starts d q) ≡ frontRule s) × FrontIs (Starts d q) s
     unfolding frontVerdict FrontIs designVerdict DesignIs DesignAllowed
     front-starts d g =
-        let i : DesignIs (designed.Made d) m t M = rw g at (ex .1) in
+        let i : DesignIs (designed.Made d) m t M 0 = rw g at (ex .1) in
         let a : DesignAllowed (designed.Made d) = rw g at (ex .2) in
-        (sym (front-design ∙ ap designVerdict g), (i .0 ∙ sym (shown .first), i .1 ∙ sym (shown .second), i .2 ∙ sym (shown .third), a, sym (shown .after)))
+        (sym (front-design ∙ ap designVerdict g), (i .0 ∙ sym (shown .first), i .1 ∙ sym (shown .second), i .2 ∙ sym (shown .third), i .3, a, sym (shown .after)))

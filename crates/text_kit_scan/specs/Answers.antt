@@ -19,7 +19,7 @@ use Rattle.text_items.specs.declared.Step.the-variants.{Next, Refused}
 use Rattle.text.specs.Rules.{scanRule, passed, valuesOf}
 use Rattle.staircase.specs.Rules.{Verdict, _then_, designRules}
 use Rattle.staircase.specs.Rules.Verdict.{accepted, refused}
-use Rattle.design.specs.Answers.{refusalVerdict, Allowed}
+use Rattle.design.specs.Answers.{Allowed}
 use Rattle.text.specs.KitText.{tailItems, headItems, pairLines, restFormat}
 use Rattle.text.specs.KitReader.{headNumber, headRule}
 use Rattle.text.specs.MakeKit.{listsFormat}
@@ -31,6 +31,7 @@ use Rattle.text_kit_scan.specs.declared.Front.{Front}
 use Rattle.text_kit_scan.specs.declared.Front.the-variants.{Starts, Ruled, NoStart}
 use Rattle.text_kit_scan.specs.declared.Rest.{Rest}
 use Rattle.text_kit_scan.specs.declared.Rest.the-variants.{Whole, NotWhole}
+use Rattle.answers.specs.Answers.{refusalVerdict}
 
 abbrev pub headWalk : Head → Walk
 headWalk (Lines m t M q) = past (m ∷ t ∷ M ∷ []) q
@@ -44,7 +45,7 @@ lineWalk (NoPair q) = stuck q
 
 -- "two lines (11 ..), then 1 to 3"
 unfoldable pub frontRule : List ℕ → Verdict
-frontRule s = headRule s then designRules (headNumber s 0) (headNumber s 1) (headNumber s 2)
+frontRule s = headRule s then designRules (headNumber s 0) (headNumber s 1) (headNumber s 2) 0
 
 unfoldable pub frontVerdict : Front → Verdict
 frontVerdict (Starts d q) = accepted
@@ -54,7 +55,7 @@ frontVerdict (NoStart p) = refused 11 p
 -- the design is that of the second line, and allowed; the position is the one after the two lines
 unfoldable pub FrontIs : Front → List ℕ → Type 0
 FrontIs (Starts d q) s =
-    (d .m ≡ headNumber s 0) × (d .t ≡ headNumber s 1) × (d .size ≡ headNumber s 2) × Allowed d × (q ≡ passed (walk headItems s 0))
+    (d .m ≡ headNumber s 0) × (d .t ≡ headNumber s 1) × (d .size ≡ headNumber s 2) × (d .col ≡ 0) × Allowed d × (q ≡ passed (walk headItems s 0))
 FrontIs (Ruled r) s = Unit
 FrontIs (NoStart p) s = Unit
 

@@ -13,9 +13,9 @@ ghost use Rattle.text_formats.specs.Items.{walk, bitsLines};
 ghost use Rattle.text_items.specs.Answers.{stepOf};
 ghost use Rattle.text.specs.KitText.{twoNumbers, headItems, pairLine, pairLines};
 ghost use Rattle.text_kit_scan.specs.Answers.{headWalk, lineWalk, frontRule, frontVerdict, FrontIs, restRule, restVerdict, RestParts, TailIs, ListsAre};
+use answers::Refusal;
 use design::Design;
 use design::Designed;
-use design::Refusal;
 use text_items::Field;
 use text_items::Step;
 

@@ -8,16 +8,16 @@ use lib.ListN.{length}
 use Rattle.staircase.specs.Design.{Params, params}
 use Rattle.staircase.specs.Rules.{Verdict, _then_, lengthRule, kitLengths, interleavers}
 use Rattle.staircase.specs.Rules.Verdict.{accepted}
-use Rattle.design.specs.Answers.{refusalVerdict}
+use Rattle.answers.specs.Answers.{refusalVerdict}
 use Rattle.rules.specs.Bytes.{byteRules}
 use Rattle.text.specs.KitText.{kitBytes}
 use Rattle.text.specs.KitWriter.{Measured}
 use Rattle.text_kit_write.specs.declared.TextLength.{TextLength}
 use Rattle.text_kit_write.specs.declared.TextLength.the-variants as answer
 
-unfoldable pub textRules : ℕ → ℕ → ℕ → List ℕ → List ℕ → List ℕ → ℕ → Verdict
-textRules m t M self parity w bytes =
-    let s : Params = params m t M in
+unfoldable pub textRules : ℕ → ℕ → ℕ → ℕ → List ℕ → List ℕ → List ℕ → ℕ → Verdict
+textRules m t M col self parity w bytes =
+    let s : Params = params m t M col in
     kitLengths s self parity w then lengthRule 7 bytes (length (kitBytes m t M self parity w)) then byteRules s (interleavers s self parity) w [] []
 
 -- "a definition gives this paper's number and values for each of its cases"; a refused call measures nothing

@@ -12,13 +12,14 @@ mod lines;
 
 ghost use mathlib.Core.Path.{_≡_};
 ghost use lib.ListN.{length};
-ghost use Rattle.design.specs.Answers.{verdictOf, Allowed};
+ghost use Rattle.design.specs.Answers.{Allowed};
 ghost use Rattle.text.specs.KitWriter.{measuredBy, measureCall, writeCall};
 ghost use Rattle.text_kit_write.specs.Checks.{textRules, measuredOf};
-use design::Check;
+ghost use Rattle.answers.specs.Answers.{verdictOf};
+use answers::Check;
+use answers::Refusal;
 use design::Design;
 use design::Designed;
-use design::Refusal;
 pub use lengths::kit_length;
 pub use lines::put_kit;
 
@@ -31,7 +32,7 @@ pub enum TextLength {
 // Rules 6 to 8 for a kit of an allowed design and a text buffer of `length` bytes.
 fn check_text(d: Design, own: &[u8], parity: &[u8], inverse: &[u8], length: usize) -> Check
     requires { ⌜ Allowed d ⌝ }
-    ensures { λ a. ⌜ verdictOf a ≡ textRules (d .m) (d .t) (d .size) (now (own .entry)) (now (parity .entry)) (now (inverse .entry)) length ⌝ }
+    ensures { λ a. ⌜ verdictOf a ≡ textRules (d .m) (d .t) (d .size) (d .col) (now (own .entry)) (now (parity .entry)) (now (inverse .entry)) length ⌝ }
 {
     let fit = rules::check_kit_lengths(d, own, parity, inverse);
     let Check::Passed = fit else {

@@ -1,3 +1,5 @@
+pub mod Weights
+pub mod LineTables
 pub mod Remainders
 pub mod Columns
 pub mod Lines

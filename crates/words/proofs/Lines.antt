@@ -21,7 +21,7 @@ use lib.ListN.{length, getD, take, drop}
 use lib.Seq.{ext-getD}
 use Rattle.bch.specs.Polynomial.{Bits, _⊕_}
 use Rattle.staircase.specs.Lists.{tabulate}
-use Rattle.staircase.specs.Design.{Params}
+use Rattle.staircase.specs.Design.{Params, wordLength}
 use Rattle.staircase.specs.System.{Contents}
 use Rattle.staircase.specs.Frame.{groups, blockAt, frameOf}
 use Rattle.staircase.specs.Frame.Site.{unsent, inInfo}
@@ -43,7 +43,7 @@ use Rattle.words_blocks.proofs.Sums.{read-few}
 use Rattle.words_lines.specs.declared.Line.{Line}
 use Rattle.words_lines.specs.Lines.{LineFits, lineRemainder}
 use Rattle.words_sums.specs.Listed.{Sends}
-use Rattle.words.specs.Words.{lineBlocks, stretchSum, EndsLent, EndsAdded, WordTable, BlocksLent}
+use Rattle.words.specs.Words.{lineBlocks, stretchSum, EndsLent, EndsAdded, LineTable, WordTable, BlocksLent}
 use Rattle.words.proofs.Remainders.{line-is}
 use Rattle.words.proofs.Columns.{stretch-same}
 
@@ -75,11 +75,11 @@ module _ (L size : ℕ) (info positions : List ℕ) where
 -- ---- the tables of the parts of its words
 
 -- they are made, in a slice of n entries
-pub parts-asked : (d : Design) {positions : List ℕ} {size r due n : ℕ} → Allowed d → WordTable d positions → size ≡ d .size → r ≡ d .m * d .t
+pub parts-asked : (d : Design) (positions : List ℕ) {size r due n : ℕ} → Allowed d → length positions ≡ wordLength (paramsOf d) → size ≡ d .size → r ≡ d .m * d .t
     → due ≡ 2 * tableLength (d .size) + 2 * tableLength (d .m * d .t) → n ≡ due
     → (size ≤ 500) × (r ≤ 32) × (length positions ≡ 2 * size + 2 * r) × (n ≡ 2 * tableLength size + 2 * tableLength r)
-parts-asked d A T es er ed long =
-    (omega (arith, A .M-high), omega (arith, r-small d A), omega (arith, T .long), omega (arith, ap tableLength es, ap tableLength er))
+parts-asked d positions A T es er ed long =
+    (omega (arith, A .M-high), omega (arith, r-small d A), omega (arith, T), omega (arith, ap tableLength es, ap tableLength er))
 
 -- ---- a line of a frame that was received, as it is lent
 
@@ -96,7 +96,7 @@ block-reads line (suc b) = go (ltb b (line .blocks))
 -- what `line_remainders` asks, with w sums
 abbrev LineLent : Line → List ℕ → List ℕ → List ℕ → List ℕ → List ℕ → List ℕ → ℕ → Type 0
 LineLent line own parity info red positions tables w =
-    Received (line .d) (line .blocks) own parity info red × LineFits line × WordTable (line .d) positions × (w ≡ line .d .size)
+    Received (line .d) (line .blocks) own parity info red × LineFits line × LineTable (paramsOf (line .d)) (line .k) positions × (w ≡ line .d .size)
     × MayParts positions (line .d .size) (line .d .m * line .d .t) tables
 
 -- the redundancy of its group, n bits for each stretch, and the part of the table that goes with it, r entries for each
@@ -215,8 +215,8 @@ module _ {line : Line} {own parity info red positions tables : List ℕ} {w : �
           (λ j l. bit-at en 0 (k / 2 * (2 * o)) j (omega arith) (omega arith)) (λ j l. power-at 0 (2 * M) j (omega arith) (omega arith))))
           (stretch-same (even k) parity bits part red positions o o q q M a (k / 2 * (2 * o) + o) (2 * M + q) (parity-sends refl) (mul-comm M q) h
           (λ j l. bit-at en o (k / 2 * (2 * o) + o) j refl (omega arith)) (λ j l. power-at q (2 * M + q) j refl (omega arith)))
-          ∙ line-is s positions (A .2) (listsOf (line .d) own parity) (line .blocks) (proper-of (line .d) (A .0 .allowed)) (A .0 .lists .ownPermutes)
-          (A .0 .lists .parityPermutes) info red (A .0 .frame .infoBits) (A .0 .frame .redBits) a h k before after
+          ∙ line-is s positions (listsOf (line .d) own parity) (line .blocks) (proper-of (line .d) (A .0 .allowed)) (A .0 .lists .ownPermutes)
+          (A .0 .lists .parityPermutes) info red (A .0 .frame .infoBits) (A .0 .frame .redBits) a h k (A .2) before after
           (λ q b. block-is s (line .blocks) info (A .0 .frame .infoLength) q b k) (λ q b. block-is s (line .blocks) info (A .0 .frame .infoLength) q b (k + 1))
           ∙ sym (tabulate-at M g 0 a h))
 

@@ -1,7 +1,6 @@
--- The rules on a received frame after the design's, and what the word checker's answer says.
+-- The rules on a received frame after the design's.
 --   receivedRules   rules 4 to 7 and 10, with k rounds; the word checker, which has no rule 5, has 0, which passes it
 --   ListsAsked      the lists of a kit are due, no inverse, and a working byte for each entry of a list
---   countedOf       the verdict and the number that an answer stands for
 -- Assumes nothing.
 use mathlib.Core.Path.{_≡_}
 use mathlib.Core.List.{List, []}
@@ -11,14 +10,14 @@ use Rattle.staircase.specs.Rules.{Verdict, _then_, interleavers}
 use Rattle.staircase.specs.Rules.Verdict.{accepted}
 use Rattle.staircase.specs.Calls.{Counted}
 use Rattle.design.specs.declared.Design.{Design}
-use Rattle.design.specs.Answers.{refusalVerdict}
+use Rattle.answers.specs.Answers.{refusalVerdict}
 use Rattle.design.specs.Sizes.{orderOf}
 use Rattle.rules.specs.declared.lengths.Lengths.{Lengths}
 use Rattle.rules.specs.Lengths.{lengthsOf, frameRules}
 use Rattle.rules.specs.Bytes.{byteRules}
 use Rattle.words.specs.declared.Asked.{Asked}
-use Rattle.words.specs.declared.WordCount.{WordCount}
-use Rattle.words.specs.declared.WordCount.the-variants as count
+use Rattle.answers.specs.declared.WordCount.{WordCount}
+use Rattle.answers.specs.declared.WordCount.the-variants as count
 
 unfoldable pub receivedRules : Params → ℕ → ℕ → Lengths → List ℕ → List ℕ → List ℕ → List ℕ → ℕ → Verdict
 receivedRules s L k due self parity info red work =
@@ -29,8 +28,3 @@ abbrev pub ListsAsked : Design → Asked → Type 0
 ListsAsked d a =
     a .blocks ≤ most-blocks
     → (a .due .own ≡ 2 * orderOf d) × (a .due .parity ≡ 2 * orderOf d) × (a .due .inverse ≡ 0) × (orderOf d ≤ a .due .work)
-
--- "a definition gives this paper's number and values for each of its cases"; a refused call counts nothing
-unfoldable pub countedOf : WordCount → Counted
-countedOf (count.Counted n) = record { verdict = accepted; outside = n }
-countedOf (count.Refused r) = record { verdict = refusalVerdict r; outside = 0 }

@@ -6,24 +6,27 @@
 --   stretchSum    what X or Q, or Y or P, gives to the remainder of a word
 --   EndsLent      what is asked of a group's redundancy, and of the powers of x that go with it
 --   EndsAdded     what both stretches of it give is added for each word
---   WordTable     the table has the powers of x that the positions of a word carry
+--   LineTable     a table has the powers of x that the positions of a line's words, as they are read, carry
+--   WordTable     that of row lines, and behind it that of column lines
+--   MayBoth       tables of the sums of both, or none
 --   BlocksLent    what is asked of the information and of the table for the blocks
 -- Assumes nothing.
 use mathlib.Core.Path.{_≡_}
 use mathlib.Core.Bool.{Bool, not, cond}
 use mathlib.Core.List.{List, [], _∷_}
-use Prim.Native.Nat.{ℕ, _+_, _*_, _/_, _≤_, _<_}
+use Prim.Native.Nat.{ℕ, _+_, _-_, _*_, _/_, _≤_, _<_}
 use lib.Dec.{eqb}
 use lib.ListN.{length, getD}
 use Rattle.bch.specs.Polynomial.{_⊕_, Bits}
 use Rattle.staircase.specs.Lists.{tabulate}
-use Rattle.staircase.specs.Design.{most-blocks}
-use Rattle.staircase.specs.Lines.{even}
+use Rattle.bch.specs.Powers.{powerMod}
+use Rattle.staircase.specs.Design.{Params, wordLength, most-blocks}
+use Rattle.staircase.specs.Lines.{even, turn}
 use Rattle.staircase.specs.Rules.{entries}
 use Rattle.design.specs.declared.Design.{Design}
 use Rattle.design.specs.Sizes.{paramsOf}
-use Rattle.words_tables.specs.Tables.{MayHalves}
-use Rattle.words_blocks.specs.Blocks.{sent, blockBytes, sentBit, partSum, blockSum, Powers}
+use Rattle.words_tables.specs.Tables.{partOf, MayHalves, MayParts}
+use Rattle.words_blocks.specs.Blocks.{sent, blockBytes, sentBit, partSum, blockSum}
 use Rattle.words_sums.specs.Listed.{Sends}
 
 -- "A codeword is a word that the generator divides": a word is outside the code where its remainder is not 0
@@ -63,8 +66,18 @@ EndsAdded rows own parity bits part old new =
     × ((a : ℕ) → a < length old → getD new a 0 ≡ getD old a 0 ⊕ stretchSum rows own bits part 0 (length bits / 2) 0 (length part / 2) (length old) a
     ⊕ stretchSum rows parity bits part (length bits / 2) (length bits / 2) (length part / 2) (length part / 2) (length old) a)
 
-abbrev pub WordTable : Design → List ℕ → Type 0
-WordTable d positions = Powers (paramsOf d) positions
+pub record LineTable (s : Params) (k : ℕ) (positions : List ℕ) : Type 0 where
+  pub long : length positions ≡ wordLength s
+  pub powers : (j : ℕ) → j < wordLength s → getD positions j 0 ≡ powerMod (s .g) (s .r) (wordLength s - 1 - turn s k j)
+
+pub record WordTable (d : Design) (positions : List ℕ) : Type 0 where
+  pub long : length positions ≡ 2 * wordLength (paramsOf d)
+  pub rows : LineTable (paramsOf d) 0 (partOf positions 0 (wordLength (paramsOf d)))
+  pub columns : LineTable (paramsOf d) 1 (partOf positions (wordLength (paramsOf d)) (wordLength (paramsOf d)))
+
+pub record MayBoth (positions : List ℕ) (size r : ℕ) (tables : List ℕ) : Type 0 where
+  pub rows : MayParts (partOf positions 0 (2 * size + 2 * r)) size r (partOf tables 0 (length tables / 2))
+  pub columns : MayParts (partOf positions (2 * size + 2 * r) (2 * size + 2 * r)) size r (partOf tables (length tables / 2) (length tables / 2))
 
 pub record BlocksLent (L size : ℕ) (info positions : List ℕ) : Type 0 where
   pub few-blocks : L ≤ most-blocks

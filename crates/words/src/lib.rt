@@ -1,9 +1,9 @@
 // The words of a frame as it is received: their remainders, and how many are outside the code.
 //   line_remainders   the remainders of all words of a line, and how many bits of each word were read
+//   fill_lines, fill_both, both_entries   the tables of both kinds of lines, and working entries for those of sums
 //   count_nonzero     how many of some remainders are not 0
 //   sum_entries       working entries for the remainders of a line
 //   check_received    rules 4 to 7 and 10 for a frame and its lists
-//   refused_count     a refusal as the word checker's answer
 //   check_words       the word checker: rules 1 to 4, 6, 7 and 10, then the count
 //
 // The remainder of a word is a sum of entries of a table of powers of x, one for each of its ones (crate `bch_remainders`), and a word is in the code
@@ -25,32 +25,28 @@ ghost use lib.ListN.{length, getD};
 ghost use Rattle.bch.specs.Polynomial.{_⊕_, Bits};
 ghost use Rattle.bch.specs.Powers.{xorSum};
 ghost use Rattle.staircase.specs.Lists.{tabulate};
-ghost use Rattle.staircase.specs.Frame.{groups, outside, frameOf};
-ghost use Rattle.staircase.specs.Lines.{lineSites};
+ghost use Rattle.staircase.specs.Frame.{groups, outside, outsideAmong, frameOf};
+ghost use Rattle.staircase.specs.Design.{wordLength};
+ghost use Rattle.staircase.specs.Lines.{lineSites, readFrom};
 ghost use Rattle.staircase.specs.Readings.{sentAmong, readsOf};
 ghost use Rattle.staircase.specs.Rules.{entries};
 ghost use Rattle.staircase.specs.Calls.{countedBy, wordsCall};
-ghost use Rattle.design.specs.Answers.{verdictOf, Allowed};
+ghost use Rattle.design.specs.Answers.{Allowed};
 ghost use Rattle.design.specs.Sizes.{paramsOf, listsOf};
 ghost use Rattle.rules.specs.Received.{Received};
 ghost use Rattle.words_tables.specs.Tables.{MaySum, MayHalves, MayParts, tableLength};
 ghost use Rattle.words_blocks.specs.Blocks.{sent, blockReads};
 ghost use Rattle.words_lines.specs.Lines.{LineFits, lineRemainder};
 ghost use Rattle.words_sums.specs.Listed.{Sends, listedBit};
-ghost use Rattle.words.specs.Words.{nonzeros, lineBlocks, entryAt, redPlace, EndsLent, EndsAdded, WordTable, BlocksLent};
-ghost use Rattle.words.specs.Checks.{receivedRules, ListsAsked, countedOf};
-use design::Check;
+ghost use Rattle.words.specs.Words.{nonzeros, lineBlocks, entryAt, redPlace, EndsLent, EndsAdded, LineTable, WordTable, MayBoth, BlocksLent};
+ghost use Rattle.words.specs.Checks.{receivedRules, ListsAsked};
+ghost use Rattle.answers.specs.Answers.{verdictOf, countedOf};
+use answers::Check;
+use answers::WordCount;
 use design::Design;
 use design::Designed;
-use design::Refusal;
 use rules::Lengths;
 use words_lines::Line;
-
-// The answer of the word checker: the number of words outside the code, or a refusal.
-pub enum WordCount {
-    Counted(u64),
-    Refused(Refusal),
-}
 
 // What a call is asked for: a frame of so many blocks, so many rounds, and lists and working bytes of the lengths that are due.
 pub struct Asked {
@@ -193,9 +189,9 @@ fn add_ends(
     first + second
 }
 
-// Makes `sums` the remainders of the words of a line. The tables are those of the powers that the four parts of a word carry, or none. Answers how many bits
+// Makes `sums` the remainders of the words of a line, by the table of its kind. The tables are those of the powers that the four parts of a word carry, or none. Answers how many bits
 // of each word it has read, which is how many of them are sent. One step for each of these bits, or for each eight by the tables.
-pub fn line_remainders(
+fn line_sums(
     line: Line,
     own: &[u8],
     parity: &[u8],
@@ -205,7 +201,7 @@ pub fn line_remainders(
     tables: &[u32],
     sums: &mut [u32],
 ) -> usize
-    requires { ⌜ Received (line .d) (line .blocks) (now own) (now parity) (now info) (now red) × LineFits line × WordTable (line .d) (now positions)
+    requires { ⌜ Received (line .d) (line .blocks) (now own) (now parity) (now info) (now red) × LineFits line × LineTable (paramsOf (line .d)) (line .k) (now positions)
         × (length (now sums) ≡ line .d .size) × MayParts (now positions) (line .d .size) (line .d .m * line .d .t) (now tables) ⌝ }
     ensures { λ n. ⌜ (now (sums .exit) ≡ tabulate (line .d .size)
         (lineRemainder line (now (own .entry)) (now (parity .entry)) (frameOf (now (info .entry)) (now (red .entry)))))
@@ -234,6 +230,52 @@ pub fn line_remainders(
         sums,
     );
     blocks + redundancy
+}
+
+// Makes `sums` the remainders of the words of a line, as they are read. The table is that of row lines and behind it that of column lines, and so are the tables
+// of sums, if there are any. Answers how many bits of each word it has read, which is how many of them are sent.
+pub fn line_remainders(
+    line: Line,
+    own: &[u8],
+    parity: &[u8],
+    info: &[u8],
+    red: &[u8],
+    positions: &[u32],
+    tables: &[u32],
+    sums: &mut [u32],
+) -> usize
+    requires { ⌜ Received (line .d) (line .blocks) (now own) (now parity) (now info) (now red) × LineFits line × WordTable (line .d) (now positions)
+        × (length (now sums) ≡ line .d .size) × MayBoth (now positions) (line .d .size) (line .d .m * line .d .t) (now tables) ⌝ }
+    ensures { λ n. ⌜ (now (sums .exit) ≡ tabulate (line .d .size)
+        (lineRemainder line (now (own .entry)) (now (parity .entry)) (frameOf (now (info .entry)) (now (red .entry)))))
+        × ((a : ℕ) → a < line .d .size
+        → n ≡ sentAmong (lineSites (paramsOf (line .d)) (listsOf (line .d) (now (own .entry)) (now (parity .entry))) (line .blocks) (line .k) a))
+        × (n ≡ readsOf (paramsOf (line .d)) (line .blocks) (line .k)) ⌝ }
+{
+    let n = line.d.n();
+    let h = tables.len() / 2;
+    if line.k % 2 == 0 {
+        return line_sums(
+            line,
+            own,
+            parity,
+            info,
+            red,
+            &positions[0..n],
+            &tables[0..h],
+            sums,
+        );
+    }
+    line_sums(
+        line,
+        own,
+        parity,
+        info,
+        red,
+        &positions[n..2 * n],
+        &tables[h..2 * h],
+        sums,
+    )
 }
 
 // 1 where x is not 0.
@@ -269,9 +311,9 @@ fn count_lines(
     sums: &mut [u32],
 ) -> u64
     requires { ⌜ Received (line .d) (line .blocks) (now own) (now parity) (now info) (now red) × WordTable (line .d) (now positions)
-        × (length (now sums) ≡ line .d .size) × MayParts (now positions) (line .d .size) (line .d .m * line .d .t) (now tables) ⌝ }
-    ensures { λ a. ⌜ a ≡ outside (paramsOf (line .d)) (listsOf (line .d) (now (own .entry)) (now (parity .entry))) (line .blocks)
-        (frameOf (now (info .entry)) (now (red .entry))) ⌝ }
+        × (length (now sums) ≡ line .d .size) × MayBoth (now positions) (line .d .size) (line .d .m * line .d .t) (now tables) ⌝ }
+    ensures { λ a. ⌜ a ≡ outsideAmong (paramsOf (line .d)) (frameOf (now (info .entry)) (now (red .entry)))
+        (readFrom (paramsOf (line .d)) (listsOf (line .d) (now (own .entry)) (now (parity .entry))) (line .blocks) 0 (2 * groups (line .blocks))) ⌝ }
 {
     let lines = words_lines::line_count(line.blocks);
     let mut total: u64 = 0;
@@ -302,9 +344,9 @@ fn count_outside(
     tables: &[u32],
 ) -> u64
     requires { ⌜ Received (line .d) (line .blocks) (now own) (now parity) (now info) (now red) × WordTable (line .d) (now positions)
-        × MayParts (now positions) (line .d .size) (line .d .m * line .d .t) (now tables) ⌝ }
-    ensures { λ a. ⌜ a ≡ outside (paramsOf (line .d)) (listsOf (line .d) (now (own .entry)) (now (parity .entry))) (line .blocks)
-        (frameOf (now (info .entry)) (now (red .entry))) ⌝ }
+        × MayBoth (now positions) (line .d .size) (line .d .m * line .d .t) (now tables) ⌝ }
+    ensures { λ a. ⌜ a ≡ outsideAmong (paramsOf (line .d)) (frameOf (now (info .entry)) (now (red .entry)))
+        (readFrom (paramsOf (line .d)) (listsOf (line .d) (now (own .entry)) (now (parity .entry))) (line .blocks) 0 (2 * groups (line .blocks))) ⌝ }
 {
     let size = line.d.size();
     let mut sums = sum_entries();
@@ -320,7 +362,49 @@ fn count_outside(
     )
 }
 
-// `count_filled` by tables of sums, which are to have `due` entries.
+// Working entries for the tables of both kinds of lines; only their number is told: the most that any design has.
+pub fn both_entries() -> [u32; 73728]
+    ensures { λ a. ⌜ 73728 ≡ length a ⌝ }
+{
+    [0; 73728]
+}
+
+// Makes the tables of the sums of row lines, `due` entries, and behind them those of column lines. n is the length of a word.
+pub fn fill_both(positions: &[u32], n: usize, size: usize, r: usize, due: usize, tables: &mut [u32])
+    requires { ⌜ (size ≤ 500) × (r ≤ 32) × (n ≡ 2 * size + 2 * r) × (length (now positions) ≡ 2 * n) × (due ≡ 2 * tableLength size + 2 * tableLength r)
+        × (length (now tables) ≡ 2 * due) ⌝ }
+    ensures { λ u. ⌜ MayBoth (now (positions .entry)) size r (now (tables .exit)) × (length (now (tables .exit)) ≡ length (now (tables .entry))) ⌝ }
+{
+    words_tables::fill_parts(&positions[0..n], size, r, &mut tables[0..due]);
+    words_tables::fill_parts(&positions[n..2 * n], size, r, &mut tables[due..2 * due]);
+}
+
+// Makes the table of column lines: that of row lines, and from its end where the design is a mirrored one.
+fn fill_columns(d: Design, out: &mut [u32])
+    requires { ⌜ Allowed d × (length (now out) ≡ wordLength (paramsOf d)) ⌝ }
+    ensures { λ u. ⌜ LineTable (paramsOf d) 1 (now (out .exit)) ⌝ }
+{
+    if d.mirrored() {
+        let n = d.n();
+        let mut rows = [0u32; 1024];
+        words_positions::fill_table(d, &mut rows[0..n]);
+        bch_remainders::fill_backwards(&rows[0..n], out);
+        return;
+    }
+    words_positions::fill_table(d, out);
+}
+
+// Makes the table of the powers of x that the positions of the words of row lines carry, as they are read, and behind it that of column lines.
+pub fn fill_lines(d: Design, positions: &mut [u32])
+    requires { ⌜ Allowed d × (length (now positions) ≡ 2 * wordLength (paramsOf d)) ⌝ }
+    ensures { λ u. ⌜ WordTable d (now (positions .exit)) ⌝ }
+{
+    let n = d.n();
+    words_positions::fill_table(d, &mut positions[0..n]);
+    fill_columns(d, &mut positions[n..2 * n]);
+}
+
+// `count_filled` by tables of sums, which are to have `due` entries for each kind of lines.
 fn count_by_tables(
     line: Line,
     own: &[u8],
@@ -332,14 +416,15 @@ fn count_by_tables(
 ) -> u64
     requires { ⌜ Received (line .d) (line .blocks) (now own) (now parity) (now info) (now red) × WordTable (line .d) (now positions)
         × (due ≤ 36864) × (due ≡ 2 * tableLength (line .d .size) + 2 * tableLength (line .d .m * line .d .t)) ⌝ }
-    ensures { λ a. ⌜ a ≡ outside (paramsOf (line .d)) (listsOf (line .d) (now (own .entry)) (now (parity .entry))) (line .blocks)
-        (frameOf (now (info .entry)) (now (red .entry))) ⌝ }
+    ensures { λ a. ⌜ a ≡ outsideAmong (paramsOf (line .d)) (frameOf (now (info .entry)) (now (red .entry)))
+        (readFrom (paramsOf (line .d)) (listsOf (line .d) (now (own .entry)) (now (parity .entry))) (line .blocks) 0 (2 * groups (line .blocks))) ⌝ }
 {
     let size = line.d.size();
     let r = line.d.r();
-    let mut tables = words_tables::entries();
-    words_tables::fill_parts(positions, size, r, &mut tables[0..due]);
-    count_outside(line, own, parity, info, red, positions, &tables[0..due])
+    let n = line.d.n();
+    let mut tables = both_entries();
+    fill_both(positions, n, size, r, due, &mut tables[0..2 * due]);
+    count_outside(line, own, parity, info, red, positions, &tables[0..2 * due])
 }
 
 // How many words of a frame are outside the code, by tables of sums where they pay for themselves. The line is any of the frame.
@@ -352,8 +437,8 @@ fn count_filled(
     positions: &[u32],
 ) -> u64
     requires { ⌜ Received (line .d) (line .blocks) (now own) (now parity) (now info) (now red) × WordTable (line .d) (now positions) ⌝ }
-    ensures { λ a. ⌜ a ≡ outside (paramsOf (line .d)) (listsOf (line .d) (now (own .entry)) (now (parity .entry))) (line .blocks)
-        (frameOf (now (info .entry)) (now (red .entry))) ⌝ }
+    ensures { λ a. ⌜ a ≡ outsideAmong (paramsOf (line .d)) (frameOf (now (info .entry)) (now (red .entry)))
+        (readFrom (paramsOf (line .d)) (listsOf (line .d) (now (own .entry)) (now (parity .entry))) (line .blocks) 0 (2 * groups (line .blocks))) ⌝ }
 {
     let due = words_tables::parts_due(line.blocks, line.d.size(), line.d.r());
     if due == 0 {
@@ -408,24 +493,46 @@ fn count_received(
 {
     let line = words_lines::first_line(d, blocks);
     let bits = d.n();
-    let mut positions = [0u32; 1024];
-    words_positions::fill_table(d, &mut positions[0..bits]);
-    count_filled(line, own, parity, info, red, &positions[0..bits])
-}
-
-// A refused check as the word checker's answer; for calls that end in a count.
-pub fn refused_count(a: Check) -> WordCount
-    ensures { λ c. ⌜ countedOf c ≡ countedBy (verdictOf a) 0 ⌝ }
-{
-    match a {
-        Check::Passed => WordCount::Counted(0),
-        Check::Refused(r) => WordCount::Refused(r),
-    }
+    let mut positions = [0u32; 2048];
+    fill_lines(d, &mut positions[0..2 * bits]);
+    count_filled(line, own, parity, info, red, &positions[0..2 * bits])
 }
 
 // The word checker: how many words of the lent frame of `blocks` blocks are outside the code, or the table's number and place of the first of rules
 // 1 to 4, 6, 7 and 10 that refuses. The lists and the frame are lent to read. The working bytes are one for each entry of a list, and free
 // afterwards. The work is one step for each bit of the words.
+pub fn check_words_col(
+    m: u64,
+    t: u64,
+    size: u64,
+    col: u64,
+    blocks: u64,
+    own: &[u8],
+    parity: &[u8],
+    info: &[u8],
+    red: &[u8],
+    work: &mut [u8],
+) -> WordCount
+    ensures { λ a. ⌜ countedOf a ≡ wordsCall m t size col blocks (now (own .entry)) (now (parity .entry)) (now (info .entry)) (now (red .entry))
+        (length (now (work .entry))) ⌝ }
+{
+    let designed = Design::new_col(m, t, size, col);
+    let Designed::Made(d) = designed else {
+        return answers::refused_count(design::design_check(designed));
+    };
+    let asked = Asked {
+        blocks: blocks,
+        rounds: 0,
+        due: rules::lists_due(d),
+    };
+    let received = check_received(d, asked, own, parity, info, red, work);
+    let Check::Passed = received else {
+        return answers::refused_count(received);
+    };
+    WordCount::Counted(count_received(d, blocks as usize, own, parity, info, red))
+}
+
+// The same where rows and columns have one code.
 pub fn check_words(
     m: u64,
     t: u64,
@@ -437,21 +544,8 @@ pub fn check_words(
     red: &[u8],
     work: &mut [u8],
 ) -> WordCount
-    ensures { λ a. ⌜ countedOf a ≡ wordsCall m t size blocks (now (own .entry)) (now (parity .entry)) (now (info .entry)) (now (red .entry))
+    ensures { λ a. ⌜ countedOf a ≡ wordsCall m t size 0 blocks (now (own .entry)) (now (parity .entry)) (now (info .entry)) (now (red .entry))
         (length (now (work .entry))) ⌝ }
 {
-    let designed = Design::new(m, t, size);
-    let Designed::Made(d) = designed else {
-        return refused_count(design::design_check(designed));
-    };
-    let asked = Asked {
-        blocks: blocks,
-        rounds: 0,
-        due: rules::lists_due(d),
-    };
-    let received = check_received(d, asked, own, parity, info, red, work);
-    let Check::Passed = received else {
-        return refused_count(received);
-    };
-    WordCount::Counted(count_received(d, blocks as usize, own, parity, info, red))
+    check_words_col(m, t, size, 0, blocks, own, parity, info, red, work)
 }

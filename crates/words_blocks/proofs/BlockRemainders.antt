@@ -12,7 +12,7 @@ use lib.ListN.{getD}
 use Rattle.bch.specs.Polynomial.{_⊕_}
 use Rattle.bch.specs.Powers.{powerMod, xorSum}
 use Rattle.bch.proofs.PowerSum.{xorSum-same}
-use Rattle.staircase.specs.Design.{Params, wordLength}
+use Rattle.staircase.specs.Design.{Params, columnCode, wordLength}
 use Rattle.staircase.specs.System.{Contents}
 use Rattle.staircase.proofs.Entries.{columnRemainder, rowRemainder}
 use Rattle.words_blocks.specs.Blocks.{partSum, columnSum, rowSum, Powers}
@@ -31,14 +31,6 @@ module _ (s : Params) (positions : List ℕ) (P : Powers s positions) where
       (λ j l. ap₂ _*_ (same j l)
       (P .powers (from + j) (omega (arith, P .long)) ∙ ap (powerMod (s .g) (s .r)) (ap (λ (n : ℕ). n - 1 - (from + j)) (P .long) ∙ exponents j l)))
 
-  pub columnSum-is : (o e odd even : Contents) → SameBlock s o odd → SameBlock s e even → (a : ℕ) → a < s .M
-      → columnSum positions (s .M) o e a ≡ columnRemainder s odd even a
-  unfolding columnSum columnRemainder
-  columnSum-is o e odd even so se a h =
-      ap₂ _⊕_
-      (part-powers 0 (s .M) (λ j. o (j * s .M + a)) (λ j. odd (j * s .M + a)) (λ j. wordLength s - 1 - j) (omega arith) (λ j l. so (j * s .M + a) (digits-lt l h)) (λ j l. omega arith))
-      (part-powers (s .M) (s .M) (λ j. e (j * s .M + a)) (λ j. even (j * s .M + a)) (λ j. wordLength s - 1 - (s .M + j)) (omega arith) (λ j l. se (j * s .M + a) (digits-lt l h)) (λ j l. omega arith))
-
   pub rowSum-is : (b o before odd : Contents) → SameBlock s b before → SameBlock s o odd → (a : ℕ) → a < s .M
       → rowSum positions (s .M) b o a ≡ rowRemainder s before odd a
   unfolding rowSum rowRemainder
@@ -46,3 +38,13 @@ module _ (s : Params) (positions : List ℕ) (P : Powers s positions) where
       ap₂ _⊕_
       (part-powers 0 (s .M) (λ j. b (a * s .M + j)) (λ j. before (a * s .M + j)) (λ j. wordLength s - 1 - j) (omega arith) (λ j l. sb (a * s .M + j) (digits-lt h l)) (λ j l. omega arith))
       (part-powers (s .M) (s .M) (λ j. o (a * s .M + j)) (λ j. odd (a * s .M + j)) (λ j. wordLength s - 1 - (s .M + j)) (omega arith) (λ j l. so (a * s .M + j) (digits-lt h l)) (λ j l. omega arith))
+
+-- the table is that of the column words
+module _ (s : Params) (positions : List ℕ) (P : Powers (columnCode s) positions) where
+  pub columnSum-is : (o e odd even : Contents) → SameBlock s o odd → SameBlock s e even → (a : ℕ) → a < s .M
+      → columnSum positions (s .M) o e a ≡ columnRemainder s odd even a
+  unfolding columnSum columnRemainder
+  columnSum-is o e odd even so se a h =
+      ap₂ _⊕_
+      (part-powers (columnCode s) positions P 0 (s .M) (λ j. o (j * s .M + a)) (λ j. odd (j * s .M + a)) (λ j. wordLength s - 1 - j) (omega arith) (λ j l. so (j * s .M + a) (digits-lt l h)) (λ j l. omega arith))
+      (part-powers (columnCode s) positions P (s .M) (s .M) (λ j. e (j * s .M + a)) (λ j. even (j * s .M + a)) (λ j. wordLength s - 1 - (s .M + j)) (omega arith) (λ j l. se (j * s .M + a) (digits-lt l h)) (λ j l. omega arith))

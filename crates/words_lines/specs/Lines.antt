@@ -1,13 +1,13 @@
 -- The lines of a frame, as code holds them: steps of the code, which no promise names.
 --   LineFits        a line of a frame under an allowed design
---   lineRemainder   the remainder of word a of a line
+--   lineRemainder   the remainder of word a of a line, as it is read
 -- Assumes nothing.
 use mathlib.Core.List.{List}
 use Prim.Native.Nat.{ℕ, _*_, _≤_, _<_}
 use Rattle.bch.specs.Polynomial.{remainder}
 use Rattle.staircase.specs.Design.{most-blocks}
 use Rattle.staircase.specs.Frame.{Frame, groups, read}
-use Rattle.staircase.specs.Lines.{lineSites}
+use Rattle.staircase.specs.Lines.{readSites}
 use Rattle.design.specs.Answers.{Allowed}
 use Rattle.design.specs.Sizes.{paramsOf, listsOf}
 use Rattle.words_lines.specs.declared.Line.{Line}
@@ -19,4 +19,4 @@ pub record LineFits (line : Line) : Type 0 where
 
 abbrev pub lineRemainder : Line → List ℕ → List ℕ → Frame → ℕ → ℕ
 lineRemainder line own parity f a =
-    remainder (paramsOf (line .d) .g) (paramsOf (line .d) .r) (read f (lineSites (paramsOf (line .d)) (listsOf (line .d) own parity) (line .blocks) (line .k) a))
+    remainder (paramsOf (line .d) .g) (paramsOf (line .d) .r) (read f (readSites (paramsOf (line .d)) (listsOf (line .d) own parity) (line .blocks) (line .k) a))

@@ -1,6 +1,7 @@
 // The table of the powers of x that the positions of a design's words carry.
 //   fill_code(m, t, positions)   fills it for the words of a code
 //   fill_table(d, positions)     for those of a design
+//   fill_columns(d, positions)   for the column words of a design
 //
 // The remainder of a word is the sum of the entries at its ones. Whoever needs remainders makes the table once, in an array of its own; the laws
 // of proofs/ speak of such an array, lent in part.
@@ -9,6 +10,8 @@ ghost use Prim.Native.Nat.{_+_, _*_, _^_, _≤_, _<_};
 ghost use lib.ListN.{length};
 ghost use Rattle.bch.specs.Code.{generator};
 ghost use Rattle.bch.specs.Powers.{PositionPowers};
+ghost use Rattle.staircase.specs.Design.{columnGenerator};
+ghost use Rattle.design.specs.Sizes.{paramsOf};
 ghost use Rattle.design.specs.Answers.{Allowed};
 use design::Design;
 
@@ -31,4 +34,27 @@ pub fn fill_table(d: Design, positions: &mut [u32])
     let m = d.m();
     let t = d.t();
     fill_code(m, t, positions);
+}
+
+// The generator of the column words of a design.
+fn column_generator(d: Design) -> u32
+    requires { ⌜ Allowed d ⌝ }
+    ensures { λ g. ⌜ g ≡ columnGenerator (paramsOf d) ⌝ }
+{
+    let g = bch_remainders::generator_of(d.m(), d.t());
+    if d.mirrored() {
+        return bch_remainders::mirror_of(g, d.r());
+    }
+    g
+}
+
+// `fill_table` for the code of the column words.
+pub fn fill_columns(d: Design, positions: &mut [u32])
+    requires { ⌜ Allowed d ⌝ }
+    ensures { λ u. ⌜ PositionPowers (columnGenerator (paramsOf d)) (d .m * d .t) (now (positions .exit))
+        × (length (now (positions .exit)) ≡ length (now (positions .entry))) ⌝ }
+{
+    let r = d.r();
+    let g = column_generator(d);
+    bch_remainders::fill_positions(g, r, 1 << r, positions);
 }

@@ -14,16 +14,16 @@ use Rattle.decoder.proofs.answer_call.Tie as tie
 returns : tie.Need-returns
 returns c =
     let a = c .before .before .before .before .before .before .before .before .before .before .args in
-    answer-design (a .call) (a .own .now) (a .parity .now) (a .info .now) (a .red .now) (length (a .work .now)) (c .before .before .before .before .new .result) (c .before .before .before .before .new .ensures .0)
+    answer-design (a .call) (a .own .now) (a .parity .now) (a .info .now) (a .red .now) (length (a .work .now)) (c .before .before .before .before .new-col .result) (c .before .before .before .before .new-col .ensures .0)
     (c .refused-frame .result) (c .before .design-check .result) _ (c .refused-frame .ensures) (c .before .before .enum-told .given .1) (c .before .design-check .ensures)
 
 check-copy-requires : tie.Need-check-copy-requires
-check-copy-requires c κs = made-allowed (c .before .before .before .before .designed .given .1) (c .before .before .before .before .before .before .new .ensures .2)
+check-copy-requires c κs = made-allowed (c .before .before .before .before .designed .given .1) (c .before .before .before .before .before .before .new-col .ensures .2)
 
 returns-2 : tie.Need-returns-2
 returns-2 c =
     let a = c .before .before .before .before .before .before .before .before .before .before .before .before .before .before .before .before .before .before .before .before .args in
-    answer-frame (a .call) (a .own .now) (a .parity .now) (a .info .now) (a .red .now) (length (a .work .now)) (c .before .before .before .before .before .before .before .before .before .before .before .before .before .before .new .result) (c .before .before .before .before .before .before .before .before .before .before .before .before .before .before .new .ensures .0) (c .before .before .before .before .before .before .before .before .before .before .before .before .before .before .new .ensures .1) _
+    answer-frame (a .call) (a .own .now) (a .parity .now) (a .info .now) (a .red .now) (length (a .work .now)) (c .before .before .before .before .before .before .before .before .before .before .before .before .before .before .new-col .result) (c .before .before .before .before .before .before .before .before .before .before .before .before .before .before .new-col .ensures .0) (c .before .before .before .before .before .before .before .before .before .before .before .before .before .before .new-col .ensures .1) _
     (c .before .before .before .before .before .before .before .before .before .before .before .before .designed .given .1) (c .before .before .before .first2 .result) (judged-call (a .call) _ (a .own .now) (a .parity .now) (a .info .now) (a .red .now) (length (a .work .now)) (c .before .before .before .before .before .before .before .check-copy .result) (c .before .before .before .before .first .result) (c .before .before .before .first2 .result) (c .before .before .before .first2 .ensures) (c .before .before .before .before .first .ensures) (c .before .before .before .before .before .before .before .check-copy .ensures))
     (c .refused-frame2 .result) _ (c .refused-frame2 .ensures) (c .before .enum-told3 .given .1)
 
@@ -32,7 +32,7 @@ unfolding copyRules receivedRules
 window-of-requires c κs =
     let a = c .before .before .before .before .before .before .before .before .before .before .before .before .before .before .before .before .before .before .before .args in
     let all = call-accepted (a .call) _ (a .own .now) (a .parity .now) (a .info .now) (a .red .now) (length (a .work .now)) (c .before .before .first2 .result) (judged-call (a .call) _ (a .own .now) (a .parity .now) (a .info .now) (a .red .now) (length (a .work .now)) (c .before .before .before .before .before .before .check-copy .result) (c .before .before .before .first .result) (c .before .before .first2 .result) (c .before .before .first2 .ensures) (c .before .before .before .first .ensures) (c .before .before .before .before .before .before .check-copy .ensures)) (c .enum-told2 .given .1) in
-    let allowed = made-allowed (c .before .before .before .before .before .before .before .before .before .before .before .designed .given .1) (c .before .before .before .before .before .before .before .before .before .before .before .before .before .new .ensures .2) in
+    let allowed = made-allowed (c .before .before .before .before .before .before .before .before .before .before .before .designed .given .1) (c .before .before .before .before .before .before .before .before .before .before .before .before .before .new-col .ensures .2) in
     let e = all .1 in
     (decoder-received _ (a .call .blocks) (a .call .rounds) (a .own .now) (a .parity .now) (a .info .now) (a .red .now) (length (a .work .now)) allowed e .few-blocks, decoder-rounds _ (a .call .blocks) (a .call .rounds) (a .own .now) (a .parity .now) (a .info .now) (a .red .now) (length (a .work .now)) allowed e)
 
@@ -41,7 +41,7 @@ unfolding copyRules receivedRules
 correct-frame-requires c κs =
     let a = c .before .before .before .before .before .before .before .before .before .before .before .before .before .before .before .before .before .before .before .before .before .before .before .args in
     let all = call-accepted (a .call) _ (a .own .now) (a .parity .now) (a .info .now) (a .red .now) (length (a .work .now)) (c .before .before .before .before .before .before .first2 .result) (judged-call (a .call) _ (a .own .now) (a .parity .now) (a .info .now) (a .red .now) (length (a .work .now)) (c .before .before .before .before .before .before .before .before .before .before .check-copy .result) (c .before .before .before .before .before .before .before .first .result) (c .before .before .before .before .before .before .first2 .result) (c .before .before .before .before .before .before .first2 .ensures) (c .before .before .before .before .before .before .before .first .ensures) (c .before .before .before .before .before .before .before .before .before .before .check-copy .ensures)) (c .before .before .before .before .enum-told2 .given .1) in
-    let allowed = made-allowed (c .before .before .before .before .before .before .before .before .before .before .before .before .before .before .before .designed .given .1) (c .before .before .before .before .before .before .before .before .before .before .before .before .before .before .before .before .before .new .ensures .2) in
+    let allowed = made-allowed (c .before .before .before .before .before .before .before .before .before .before .before .before .before .before .before .designed .given .1) (c .before .before .before .before .before .before .before .before .before .before .before .before .before .before .before .before .before .new-col .ensures .2) in
     let e = all .1 in
     let received = decoder-received _ (a .call .blocks) (a .call .rounds) (a .own .now) (a .parity .now) (a .info .now) (a .red .now) (length (a .work .now)) allowed e in
     let w = c .before .before .before .window-of in (
@@ -55,7 +55,7 @@ returns-3 : tie.Need-returns-3
 returns-3 c =
     let a = c .before .before .before .before .before .before .before .before .before .before .before .before .before .before .before .before .before .before .before .before .before .before .before .before .before .before .before .before .before .before .args in
     let w = c .before .before .before .before .before .before .before .before .before .before .window-of in
-    answer-done (a .call) (a .own .now) (a .parity .now) (a .info .now) (a .red .now) (length (a .work .now)) (c .before .before .before .before .before .before .before .before .before .before .before .before .before .before .before .before .before .before .before .before .before .before .before .before .new .result) (c .before .before .before .before .before .before .before .before .before .before .before .before .before .before .before .before .before .before .before .before .before .before .before .before .new .ensures .0) (c .before .before .before .before .before .before .before .before .before .before .before .before .before .before .before .before .before .before .before .before .before .before .before .before .new .ensures .1) _
+    answer-done (a .call) (a .own .now) (a .parity .now) (a .info .now) (a .red .now) (length (a .work .now)) (c .before .before .before .before .before .before .before .before .before .before .before .before .before .before .before .before .before .before .before .before .before .before .before .before .new-col .result) (c .before .before .before .before .before .before .before .before .before .before .before .before .before .before .before .before .before .before .before .before .before .before .before .before .new-col .ensures .0) (c .before .before .before .before .before .before .before .before .before .before .before .before .before .before .before .before .before .before .before .before .before .before .before .before .new-col .ensures .1) _
     (c .before .before .before .before .before .before .before .before .before .before .before .before .before .before .before .before .before .before .before .before .before .before .designed .given .1) (c .before .before .before .before .before .before .before .before .before .before .before .before .before .first2 .result) (judged-call (a .call) _ (a .own .now) (a .parity .now) (a .info .now) (a .red .now) (length (a .work .now)) (c .before .before .before .before .before .before .before .before .before .before .before .before .before .before .before .before .before .check-copy .result) (c .before .before .before .before .before .before .before .before .before .before .before .before .before .before .first .result) (c .before .before .before .before .before .before .before .before .before .before .before .before .before .first2 .result) (c .before .before .before .before .before .before .before .before .before .before .before .before .before .first2 .ensures) (c .before .before .before .before .before .before .before .before .before .before .before .before .before .before .first .ensures) (c .before .before .before .before .before .before .before .before .before .before .before .before .before .before .before .before .before .check-copy .ensures)) _ (w .result)
     (c .before .before .before .before .before .before .before .before .before .before .before .enum-told2 .given .1) (w .ensures .0) (c .before .before .before .before .before .before .correct-frame .ensures)
 

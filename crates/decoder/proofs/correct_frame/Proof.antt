@@ -11,12 +11,13 @@ use Rattle.rules.specs.Received.{Received}
 use Rattle.words_lines.specs.declared.Line.{Line}
 use Rattle.words_lines.specs.Lines.{LineFits}
 use Rattle.decoder_frame.specs.Stretch.{WindowFits}
-use Rattle.decoder.specs.declared.Decoding.the-variants as decoding
-use Rattle.decoder.specs.Answers.{correctedOf, correctedFrame}
+use Rattle.answers.specs.declared.Decoding.the-variants as decoding
+use Rattle.decoder.specs.Answers.{correctedFrame}
 use Rattle.decoder.proofs.Rounds.{first-fits, kept-length}
 use borrow.Author.Needs.{needs}
 use Rattle.decoder.proofs.correct_frame.Statement.{statement}
 use Rattle.decoder.proofs.correct_frame.Tie as tie
+use Rattle.answers.specs.Answers.{correctedOf}
 
 sub-correct-kept : tie.Need-sub-correct-kept
 sub-correct-kept c = omega (arith, c .before .before .order .ensures .0, c .before .before .before .before .before .before .before .before .before .pre .1)

@@ -6,12 +6,14 @@ use native.Mathlib.Omega.{arith}
 use lib.ListN.{length, take, drop}
 use Rattle.staircase.specs.Frame.{frameOf}
 use Rattle.staircase.specs.Lines.{wordCount}
+use Rattle.staircase.proofs.Lawful.{fits-received}
 use Rattle.design.specs.Sizes.{paramsOf}
 use Rattle.decoder_kept.specs.Numbers.{nonzeroNumbers}
 use Rattle.decoder_marks.specs.Marks.{setMarks}
 use Rattle.decoder_words.proofs.Marks.{numbers-within}
 use Rattle.decoder_lines.proofs.Layouts.{size-high}
-use Rattle.decoder_frame.proofs.Feed.{feed-total}
+use Rattle.decoder_lines.specs.Links.{listsIn}
+use Rattle.decoder_frame.proofs.Feed.{feed-total, feed-allowed}
 use Rattle.decoder_frame.proofs.Numbers.{kept-outside}
 use Rattle.decoder.proofs.Keeping.{cleared-marks, marks-few, marks-errors, corrected-made}
 use borrow.Author.Needs.{needs}
@@ -70,7 +72,9 @@ returns c =
     let set = c .before .before .count .ensures .0 ∙ ap (λ (z : ℕ). setMarks (take (z - n .result) (drop (n .result) kept))) long in
     let turned = marks-errors (a .line .d) (a .line .blocks) (p .0 .fits) (v .ensures .2) (n .result) (n .ensures .0) f set (v .ensures .3 f (first .1)) in
     let all : n .result / 4 ≡ wordCount (paramsOf (a .line .d)) (a .line .blocks) = omega (arith, n .ensures .0) in
-    corrected-made _ _ _ (a .window .groups) (a .window .limit) _ _ _ _ (p .1 .some-rounds) (v .ensures .0) turned
+    let A = feed-allowed (p .0 .fits) in
+    corrected-made (a .line .d) (a .line .blocks) (a .window .groups) (a .window .limit) (listsIn (a .line .d) (a .links .now)) (A .0) (A .1 .self) (A .1 .parity) f
+    (fits-received (p .2 .frame)) _ _ _ (fits-received (v .ensures .2 .frame)) (p .1 .some-rounds) (v .ensures .0) turned
     (c .count2 .ensures ∙ ap (nonzeroNumbers kept) all ∙ kept-outside (v .ensures .2)) (v .ensures .1)
 
 pub correct-lines-spec : {M : Type 1} → statement M

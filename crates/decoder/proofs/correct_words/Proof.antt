@@ -18,8 +18,8 @@ use Rattle.decoder_words.specs.Ready.{FramesReady, WordTables}
 use Rattle.decoder_frame.specs.Stretch.{feedFrames}
 use Rattle.decoder_frame.proofs.Feed.{feed-bits, feed-fits}
 use Rattle.decoder_frame.proofs.Tables.{word-sizes}
-use Rattle.decoder.specs.declared.Decoding.the-variants as decoding
-use Rattle.decoder.specs.Answers.{correctedOf}
+use Rattle.answers.specs.declared.Decoding.the-variants as decoding
+use Rattle.answers.specs.Answers.{correctedOf}
 use Rattle.decoder.proofs.Room.{tables-room, field-is, field-room, links-room}
 use Rattle.decoder.proofs.Rounds.{ready-lent, kept-lent, corrected-in}
 use borrow.Author.Needs.{needs}

@@ -24,13 +24,16 @@ number-bytes-requires c κs = (c .before .before .before .before .before .before
 part-positions-end : tie.Need-part-positions-end
 part-positions-end c = omega (arith, c .position-entries .ensures, positions-room (c .before .before .before .before .before .before .before .before .args .line .d) (c .before .before .before .before .before .before .before .before .pre .0 .allowed) (c .before .before .n .result) (c .before .before .n .ensures .0))
 
-fill-table-requires : tie.Need-fill-table-requires
-fill-table-requires c κs = c .before .before .before .before .before .before .before .before .before .pre .0 .allowed
+fill-lines-requires : tie.Need-fill-lines-requires
+fill-lines-requires c κs =
+    let l = length-take-le (2 * c .before .before .before .n .result - 0) (c .before .position-entries .result) (omega (arith, c .before .position-entries .ensures, positions-room (c .before .before .before .before .before .before .before .before .before .args .line .d) (c .before .before .before .before .before .before .before .before .before .pre .0 .allowed) (c .before .before .before .n .result) (c .before .before .before .n .ensures .0))) in
+    (c .before .before .before .before .before .before .before .before .before .pre .0 .allowed, omega (arith, l, c .before .before .before .n .ensures .0))
 
 part-fill-numbers-end : tie.Need-part-fill-numbers-end
 part-fill-numbers-end c =
-    let l = length-take-le (c .before .before .before .before .before .before .n .result - 0) (c .before .before .before .before .position-entries .result) (omega (arith, c .before .before .before .before .position-entries .ensures, positions-room (c .before .before .before .before .before .before .before .before .before .before .before .before .args .line .d) (c .before .before .before .before .before .before .before .before .before .before .before .before .pre .0 .allowed) (c .before .before .before .before .before .before .n .result) (c .before .before .before .before .before .before .n .ensures .0))) in
-    part-fits (c .before .before .fill-table .last .1 .0) _ _ (c .before .before .fill-table .ensures .1 ∙ l ∙ omega arith)
+    let T = c .before .before .fill-lines .last .1 .0 in
+    let all : length T ≡ 2 * c .before .before .before .before .before .before .n .result = omega (arith, c .before .before .fill-lines .ensures .long, c .before .before .before .before .before .before .n .ensures .0) in
+    part-fits T _ _ all
 
 part-fill-numbers-end-2 : tie.Need-part-fill-numbers-end-2
 part-fill-numbers-end-2 c = omega (arith, c .before .before .before .before .before .before .number-bytes .ensures .0, c .before .before .before .before .before .before .before .before .before .before .before .before .before .pre .2, kept-split (paramsOf (c .before .before .before .before .before .before .before .before .before .before .before .before .before .args .line .d)) (c .before .before .before .before .before .before .before .before .before .before .before .before .before .args .line .blocks))
@@ -41,12 +44,10 @@ fill-numbers-requires c κs =
     let a = c .before .before .before .before .before .before .before .before .before .before .before .before .before .before .args in
     let n = c .before .before .before .before .before .before .before .before .n in
     let b = c .before .before .before .before .before .before .before .number-bytes in
-    let l = length-take-le (n .result - 0) (c .before .before .before .before .before .before .position-entries .result) (omega (arith, c .before .before .before .before .before .before .position-entries .ensures, positions-room (a .line .d) (p .0 .allowed) (n .result) (n .ensures .0))) in
-    let T = c .before .before .before .before .fill-table .last .1 .0 in
-    let lT : length T ≡ n .result = c .before .before .before .before .fill-table .ensures .1 ∙ l ∙ omega arith in
-    let P : WordTable (a .line .d) T = record { long = lT ∙ n .ensures .0; powers = c .before .before .before .before .fill-table .ensures .0 } in
+    let T = c .before .before .before .before .fill-lines .last .1 .0 in
+    let lT : length T ≡ 2 * n .result = omega (arith, c .before .before .before .before .fill-lines .ensures .long, n .ensures .0) in
     let k = length-take-le (b .result - 0) (a .kept .now) (omega (arith, b .ensures .0, p .2, kept-split (paramsOf (a .line .d)) (a .line .blocks))) in
-    (p .0, subst⁻¹ (λ (x : List ℕ). WordTable (a .line .d) x) (part-is T (drop (n .result - 0) (c .before .before .before .before .before .before .position-entries .result)) (n .result) lT) P, omega (arith, k, b .ensures .0))
+    (p .0, subst⁻¹ (λ (x : List ℕ). WordTable (a .line .d) x) (part-is T (drop (2 * n .result - 0) (c .before .before .before .before .before .before .position-entries .result)) (2 * n .result) lT) (c .before .before .before .before .fill-lines .ensures), omega (arith, k, b .ensures .0))
 
 returns : tie.Need-returns
 returns c =
@@ -65,6 +66,6 @@ returns c =
 pub fill-kept-spec : {M : Type 1} → statement M
 fill-kept-spec =
     tie.close
-    (tie.spec (λ c κs. search needs) number-bytes-requires (λ c κs. search needs) (λ c. search needs) (λ c. search needs) part-positions-end
-    fill-table-requires (λ c. search needs) (λ c. search needs) part-fill-numbers-end (λ c. search needs) (λ c. search needs)
-    part-fill-numbers-end-2 fill-numbers-requires (λ c. search needs) returns)
+    (tie.spec (λ c κs. search needs) number-bytes-requires (λ c κs. search needs) (λ c. search needs) (λ c. search needs) (λ c. search needs)
+    part-positions-end fill-lines-requires (λ c. search needs) (λ c. search needs) (λ c. search needs) part-fill-numbers-end (λ c. search needs)
+    (λ c. search needs) part-fill-numbers-end-2 fill-numbers-requires (λ c. search needs) returns)

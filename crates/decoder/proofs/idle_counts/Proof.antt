@@ -2,7 +2,7 @@
 -- Assumes nothing.
 use mathlib.Core.Path.{ap}
 use Prim.Native.Nat.{ℕ}
-use Rattle.decoder.specs.declared.Counts.{Counts}
+use Rattle.answers.specs.declared.Counts.{Counts}
 use borrow.Author.Needs.{needs}
 use Rattle.decoder.proofs.idle_counts.Statement.{statement}
 use Rattle.decoder.proofs.idle_counts.Tie as tie

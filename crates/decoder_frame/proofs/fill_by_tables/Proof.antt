@@ -2,50 +2,62 @@
 -- Assumes nothing.
 use borrow.Author.Needs.{needs}
 use native.Mathlib.Omega.{arith}
-use mathlib.Core.Path.{_≡_}
-use Prim.Native.Nat.{_-_, _*_}
+use mathlib.Core.Path.{_≡_, ap₂, sym, _∙_, subst₂, subst⁻¹}
+use Prim.Native.Nat.{ℕ, _+_, _-_, _*_}
 use lib.ListN.{length, take}
 use lib.Seq.{length-take-le}
-use Rattle.words_positions.proofs.Parts.{part-fits}
-use Rattle.words_tables.proofs.Tables.{parts-lent}
-use Rattle.words.proofs.Lines.{parts-asked}
+use Rattle.design.proofs.Allowed.{r-small}
+use Rattle.words_positions.proofs.Parts.{part-fits, part-is}
+use Rattle.words_tables.specs.Tables.{tableLength}
+use Rattle.words.specs.Words.{MayBoth}
 use Rattle.decoder_frame.proofs.fill_by_tables.Statement.{statement}
 use Rattle.decoder_frame.proofs.fill_by_tables.Tie as tie
 
-fill-parts-requires : tie.Need-fill-parts-requires
-fill-parts-requires c κs =
-    let s = c .before .before .before .before .before .before .before .before .before .before in
+fill-both-requires : tie.Need-fill-both-requires
+fill-both-requires c κs =
+    let s = c .before .before .before .before .before .before .before .before .before .before .before in
     let a = s .args in
-    let room = c .before .entries in
-    let long : length (take (a .due - 0) (room .result)) ≡ a .due - 0 = length-take-le (a .due - 0) (room .result) (omega (arith, room .ensures)) in
-    let size = c .before .before .before .size in
-    let r = c .before .before .r in
-    parts-asked (a .line .d) (s .pre .0 .allowed) (s .pre .1) (size .ensures) (r .ensures .0) (s .pre .4) (omega (arith, long))
+    let p = s .pre in
+    let size = c .before .before .before .before .size in
+    let r = c .before .before .before .r in
+    let n = c .before .before .n in
+    let room = c .before .both-entries in
+    let long : length (take (2 * a .due - 0) (room .result)) ≡ 2 * a .due - 0 = length-take-le (2 * a .due - 0) (room .result) (omega (arith, room .ensures)) in (
+      omega (arith, p .0 .allowed .M-high, size .ensures),
+      omega (arith, r-small (a .line .d) (p .0 .allowed), r .ensures .0),
+      omega (arith, n .ensures .0, size .ensures, r .ensures .0),
+      omega (arith, p .1 .long, n .ensures .0),
+      p .4 ∙ ap₂ (λ (x y : ℕ). 2 * tableLength x + 2 * tableLength y) (sym (size .ensures)) (sym (r .ensures .0)),
+      omega (arith, long),
+    )
 
 part-fill-lines-end : tie.Need-part-fill-lines-end
 part-fill-lines-end c =
-    let made = c .before .before .fill-parts in
-    let a = c .before .before .before .before .before .before .before .before .before .before .before .before .before .args in
-    let long : length (made .last .1 .1 .1 .0) ≡ a .due = omega arith in
-    part-fits (made .last .1 .1 .1 .0) _ _ long
+    let made = c .before .before .fill-both in
+    let a = c .before .before .before .before .before .before .before .before .before .before .before .before .before .before .args in
+    let long : length (made .last .1 .1 .1 .1 .1 .0) ≡ 2 * a .due = omega arith in
+    part-fits (made .last .1 .1 .1 .1 .1 .0) _ _ long
 
 fill-lines-requires : tie.Need-fill-lines-requires
 fill-lines-requires c κs =
-    let s = c .before .before .before .before .before .before .before .before .before .before .before .before .before .before .before in
+    let s = c .before .before .before .before .before .before .before .before .before .before .before .before .before .before .before .before in
     let a = s .args in
-    let made = c .before .before .before .before .fill-parts in
-    let size = c .before .before .before .before .before .before .before .before .size in
-    let r = c .before .before .before .before .before .before .before .r in
-    let long : length (made .last .1 .1 .1 .0) ≡ a .due = omega arith in (
+    let made = c .before .before .before .before .fill-both in
+    let size = c .before .before .before .before .before .before .before .before .before .size in
+    let r = c .before .before .before .before .before .before .before .before .r in
+    let room = c .before .before .before .before .before .before .both-entries in
+    let few : length (take (2 * a .due - 0) (room .result)) ≡ 2 * a .due - 0 = length-take-le (2 * a .due - 0) (room .result) (omega (arith, room .ensures, s .pre .3)) in
+    let long : length (made .last .1 .1 .1 .1 .1 .0) ≡ 2 * a .due = omega (arith, made .ensures .1, few) in (
       s .pre .0,
       s .pre .1,
       s .pre .2,
-      parts-lent (a .positions .now) (made .last .1 .1 .1 .0) _ _ _ (a .line .d .size) (a .line .d .m * a .line .d .t) (a .due) (made .ensures .0)
-          (size .ensures) (r .ensures .0) long,
+      subst⁻¹ (MayBoth (a .positions .now) (a .line .d .size) (a .line .d .m * a .line .d .t)) (part-is (made .last .1 .1 .1 .1 .1 .0) _ _ long)
+          (subst₂ (λ (x y : ℕ). MayBoth (a .positions .now) x y (made .last .1 .1 .1 .1 .1 .0)) (size .ensures) (r .ensures .0) (made .ensures .0)),
     )
 
 pub fill-by-tables-spec : {M : Type 1} → statement M
 fill-by-tables-spec =
     tie.close
-    (tie.spec (λ c κs. search needs) (λ c κs. search needs) (λ c κs. search needs) (λ c. search needs) (λ c. search needs) (λ c. search needs)
-    fill-parts-requires (λ c. search needs) (λ c. search needs) part-fill-lines-end fill-lines-requires (λ c. search needs) (λ c. search needs))
+    (tie.spec (λ c κs. search needs) (λ c κs. search needs) (λ c κs. search needs) (λ c κs. search needs) (λ c. search needs) (λ c. search needs) (λ c. search needs)
+    (λ c. search needs) fill-both-requires (λ c. search needs) (λ c. search needs) (λ c. search needs) part-fill-lines-end fill-lines-requires (λ c. search needs)
+    (λ c. search needs))

@@ -10,8 +10,7 @@ use Rattle.staircase.specs.Frame.{frameOf, groups}
 use Rattle.staircase.specs.Lines.{wordCount}
 use Rattle.design.specs.Sizes.{paramsOf}
 use Rattle.rules.specs.Received.{Received}
-use Rattle.words_tables.specs.Tables.{MayParts}
-use Rattle.words.specs.Words.{WordTable}
+use Rattle.words.specs.Words.{WordTable, MayBoth}
 use Rattle.words_lines.specs.declared.Line.{Line}
 use Rattle.words_lines.specs.Lines.{LineFits}
 use Rattle.decoder_frame.specs.Filled.{Filled}
@@ -43,7 +42,7 @@ fill-line-requires c κs =
     subst (λ (z : Line). Received (z .d) (z .blocks) (a .own .now) (a .parity .now) (a .info .now) (a .red .now) × LineFits z × WordTable (z .d) (a .positions .now)
     × (length (l .numbers) ≡ 4 * wordCount (paramsOf (z .d)) (z .blocks))
     × Filled z (a .own .now) (a .parity .now) (frameOf (a .info .now) (a .red .now)) (l .numbers) (z .k * z .d .size)
-    × MayParts (a .positions .now) (z .d .size) (z .d .m * z .d .t) (a .tables .now)) (sym (c .before .line-at .ensures))
+    × MayBoth (a .positions .now) (z .d .size) (z .d .m * z .d .t) (a .tables .now)) (sym (c .before .line-at .ensures))
     (p .0, fits, p .1, l .inv .2 ∙ p .2, l .inv .3, p .3)
 
 add-k : tie.Need-add-k Inv-loop μ-loop

@@ -6,7 +6,7 @@ use mathlib.Core.Path.{refl, ap₂, _∙_}
 use Prim.Native.Nat.{ℕ, _+_, _*_}
 use Rattle.design.proofs.Allowed.{r-small}
 use Rattle.words_tables.specs.Tables.{tableLength}
-use Rattle.words_tables.proofs.Tables.{no-parts}
+use Rattle.words.proofs.LineTables.{no-both}
 use Rattle.decoder_frame.proofs.fill_numbers.Statement.{statement}
 use Rattle.decoder_frame.proofs.fill_numbers.Tie as tie
 
@@ -21,7 +21,7 @@ fill-lines-requires : tie.Need-fill-lines-requires
 fill-lines-requires c κs =
     let s = c .before .before .before .before .before .before .before .before .before .before .before .before in
     let a = s .args in
-    (s .pre .0, s .pre .1, s .pre .2, no-parts (a .positions .now) (a .line .d .size) (a .line .d .m * a .line .d .t) _ refl)
+    (s .pre .0, s .pre .1, s .pre .2, no-both (a .positions .now) (a .line .d .size) (a .line .d .m * a .line .d .t) _ refl)
 
 fill-by-tables-requires : tie.Need-fill-by-tables-requires
 fill-by-tables-requires c κs =

@@ -10,7 +10,7 @@ use Rattle.staircase.specs.Design.{most-rounds}
 use Rattle.staircase.specs.Frame.{Word, frameOf, groups}
 use Rattle.staircase.specs.Decoder.{Decoded, runEach}
 use Rattle.staircase.specs.Outcomes.{lastStuck}
-use Rattle.staircase.specs.Window.{windowWords, slide, slideStuck}
+use Rattle.staircase.specs.Window.{slide, slideStuck}
 use Rattle.design.specs.Sizes.{paramsOf}
 use Rattle.decoder_lines.specs.declared.Shape.the-variants.{FeedForward}
 use Rattle.decoder_lines.specs.declared.Frames.{Frames}
@@ -19,7 +19,7 @@ use Rattle.decoder_lines.specs.Layouts.{linesIn}
 use Rattle.decoder_frame.specs.declared.Stretch.{Stretch}
 use Rattle.decoder_lines.specs.Links.{listsIn}
 use Rattle.decoder_words.specs.Ready.{FramesReady, FrameKept, LineMarks}
-use Rattle.decoder_frame.specs.Stretch.{feedFrames, stretchWords}
+use Rattle.decoder_frame.specs.Stretch.{feedFrames, stretchWords, readWindow}
 use Rattle.decoder_frame.proofs.Positions.{window-at, slide-none, slide-next, stuck-next}
 use Rattle.decoder_frame.proofs.Feed.{feed-lines}
 use borrow.Author.Needs.{needs}
@@ -31,9 +31,9 @@ Inv-loop line window links tables field info₀ red₀ kept₀ count rounds₀ f
     (count ≡ groups (line .blocks) - window .groups + 1) × (count ≤ 2049) × (p ≤ count) × FrameKept (feedFrames (line .d) (line .blocks)) links info red kept
     × (rounds ≤ p * 64) × (flips ≤ p * 393408000)
     × (record { frame = frameOf info red; rounds = rounds; flips = flips }
-    ≡ slide (windowWords (paramsOf (line .d)) (listsIn (line .d) links) (line .blocks) (window .groups)) p (window .limit) (frameOf info₀ red₀))
+    ≡ slide (readWindow (paramsOf (line .d)) (listsIn (line .d) links) (line .blocks) (window .groups)) p (window .limit) (frameOf info₀ red₀))
     × ((q : ℕ) → p ≡ q + 1
-    → stuck ≡ slideStuck (windowWords (paramsOf (line .d)) (listsIn (line .d) links) (line .blocks) (window .groups)) q (window .limit) (frameOf info₀ red₀))
+    → stuck ≡ slideStuck (readWindow (paramsOf (line .d)) (listsIn (line .d) links) (line .blocks) (window .groups)) q (window .limit) (frameOf info₀ red₀))
     × LineMarks (feedFrames (line .d) (line .blocks)) info₀ red₀ kept₀ info red kept
 
 abbrev μ-loop : tie.MeasureT-loop
@@ -53,7 +53,7 @@ loop-holds c =
       p .2,
       omega arith,
       omega arith,
-      slide-none (windowWords (paramsOf (a .line .d)) (listsIn (a .line .d) (a .links .now)) (a .line .blocks) (a .window .groups)) (a .window .limit)
+      slide-none (readWindow (paramsOf (a .line .d)) (listsIn (a .line .d) (a .links .now)) (a .line .blocks) (a .window .groups)) (a .window .limit)
           (frameOf (a .info .now) (a .red .now)),
       λ q e. absurd (omega (arith, e)),
       λ y M. M,
@@ -102,7 +102,7 @@ loop-again c =
     let L = a .links .now in
     let g = a .window .groups in
     let K = a .window .limit in
-    let W : ℕ → List Word = windowWords (paramsOf (a .line .d)) (listsIn (a .line .d) L) (a .line .blocks) g in
+    let W : ℕ → List Word = readWindow (paramsOf (a .line .d)) (listsIn (a .line .d) L) (a .line .blocks) g in
     let f = frameOf (a .info .now) (a .red .now) in
     let r = c .before .before .before .before .before .before .before .before .run-rounds .result in
     let v = c .before .before .before .before .before .before .before .before .run-rounds .ensures in
@@ -141,7 +141,7 @@ returns : tie.Need-returns Inv-loop μ-loop
 returns c =
     let a = c .before .before .before .before .before .before .before .before .before .args in
     let l = c .before .loop in
-    let W : ℕ → List Word = windowWords (paramsOf (a .line .d)) (listsIn (a .line .d) (a .links .now)) (a .line .blocks) (a .window .groups) in
+    let W : ℕ → List Word = readWindow (paramsOf (a .line .d)) (listsIn (a .line .d) (a .links .now)) (a .line .blocks) (a .window .groups) in
     let f = frameOf (a .info .now) (a .red .now) in
     let last = groups (a .line .blocks) - a .window .groups in
     let e : l .p ≡ last + 1 = omega (arith, c .loop-test .left, l .inv .0, l .inv .2) in

@@ -6,16 +6,15 @@ use native.Mathlib.Omega.{arith}
 use Rattle.staircase.proofs.Bounds.{stretch-end}
 use Rattle.decoder_lines.specs.Layouts.{linesIn}
 use Rattle.decoder_lines.proofs.Layouts.{size-high, bits-high}
-use Rattle.decoder_lines.proofs.CrossingWord.{not-first, crossing-word, crossing-position, power-added, none-added}
+use Rattle.decoder_lines.proofs.CrossingWord.{crossing-word, crossing-position, power-added, none-added}
 use borrow.Author.Needs.{needs}
 use Rattle.decoder_lines.proofs.add_power.Statement.{statement}
 use Rattle.decoder_lines.proofs.add_power.Tie as tie
 
 crossing-word-requires : tie.Need-crossing-word-requires
 crossing-word-requires c κs =
-    let a = c .before .before .before .args in
     let p = c .before .before .before .pre in
-    (p .0, p .2, p .3, not-first (p .0) (a .a) (a .p) (p .2) (p .3) (p .5))
+    (p .0, p .2, p .3, p .5)
 
 line-count-requires : tie.Need-line-count-requires
 line-count-requires c κs = c .before .before .before .before .before .pre .0 .frames .few-blocks

@@ -4,7 +4,7 @@ use native.Mathlib.Omega.{arith}
 use borrow.Author.Tests.{lt-ltb, le-ltb}
 use Rattle.staircase.specs.Design.{most-rounds}
 use Rattle.staircase.specs.Rules.{roundsRule}
-use Rattle.design.specs.Answers.{refusalVerdict, verdictOf}
+use Rattle.answers.specs.Answers.{refusalVerdict, verdictOf}
 use Rattle.design.proofs.check_rounds.Statement.{statement}
 use Rattle.design.proofs.check_rounds.Tie as tie
 

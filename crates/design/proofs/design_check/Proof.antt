@@ -1,7 +1,7 @@
 -- Each case is a law of the answer.
 -- Assumes nothing.
 use mathlib.Core.Path.{sym}
-use Rattle.design.specs.Answers.{verdictOf}
+use Rattle.answers.specs.Answers.{verdictOf}
 use Rattle.design.proofs.Answers.{design-refused, design-made}
 use borrow.Author.Needs.{needs}
 use Rattle.design.proofs.design_check.Statement.{statement}

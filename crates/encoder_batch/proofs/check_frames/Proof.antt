@@ -3,7 +3,7 @@
 use mathlib.Core.Path.{refl, sym, ap, _∙_}
 use lib.ListN.{length}
 use Rattle.design.specs.Sizes.{paramsOf}
-use Rattle.design.proofs.Answers.{refused-then, passed-then, check-passed}
+use Rattle.answers.proofs.Checks.{refused-then, passed-then, check-passed}
 use Rattle.rules.specs.Lengths.{lengthsOf, batchRules}
 use Rattle.encoder_batch.specs.Checks.{framesRules}
 use Rattle.encoder_batch.proofs.BatchCall.{frames-sized}

@@ -4,7 +4,7 @@ use mathlib.Core.Path.{sym, _∙_}
 use Rattle.staircase.specs.Rules.{listRule}
 use Rattle.staircase.proofs.Rules.{then-first, lists-permute}
 use Rattle.design.specs.Sizes.{paramsOf, listsOf}
-use Rattle.design.proofs.Answers.{refused-then, passed-then, check-passed}
+use Rattle.answers.proofs.Checks.{refused-then, passed-then, check-passed}
 use Rattle.rules.specs.Bytes.{byteRules}
 use Rattle.rules.proofs.Chain.{content-rules}
 use borrow.Author.Needs.{needs}

@@ -5,7 +5,7 @@ use borrow.Author.Needs.{needs}
 use mathlib.Core.Path.{ap}
 use Prim.Native.Nat.{ℕ, _*_}
 use Rattle.design.specs.Sizes.{paramsOf, listsOf}
-use Rattle.design.specs.Answers.{refusalVerdict, verdictOf}
+use Rattle.answers.specs.Answers.{refusalVerdict, verdictOf}
 use Rattle.kit_inverse.proofs.RowSizes.{square-small}
 use Rattle.kit_inverse.proofs.Rule9.{inverse-refused, inverse-passed}
 use Rattle.kit_inverse.proofs.judge.Statement.{statement}
@@ -14,13 +14,13 @@ use Rattle.kit_inverse.proofs.judge.Tie as tie
 mul-all : tie.Need-mul-all
 mul-all c =
     let o = c .order in
-    let h = c .before .before .before .before .before .before .pre .0 .sized .allowed .order-high in
+    let h = c .before .before .before .before .before .before .before .pre .0 .sized .allowed .order-high in
     omega (arith, square-small (o .result) (omega (arith, o .ensures .0, h)))
 
 returns : tie.Need-returns
 unfolding verdictOf refusalVerdict
 returns c =
-    let a = c .before .before .before .before .before .before .before .before .before .before .before .args in
+    let a = c .before .before .before .before .before .before .before .before .before .before .before .before .args in
     let o = c .before .before .before .before .before .order in
     let x = c .before .before .before .first-wrong in
     inverse-refused (paramsOf (a .d)) (listsOf (a .d) (a .own .now) (a .parity .now)) (a .inverse .now) (o .result * o .result)
@@ -29,7 +29,7 @@ returns c =
 returns-2 : tie.Need-returns-2
 unfolding verdictOf
 returns-2 c =
-    let a = c .before .before .before .before .before .before .before .before .before .before .before .args in
+    let a = c .before .before .before .before .before .before .before .before .before .before .before .before .args in
     let o = c .before .before .before .before .before .order in
     let x = c .before .before .before .first-wrong in
     inverse-passed (paramsOf (a .d)) (listsOf (a .d) (a .own .now) (a .parity .now)) (a .inverse .now) (o .result * o .result)

@@ -20,8 +20,8 @@ permutes list n k e h = subst (λ (k : ℕ). Permutes k (λ p. getD (entries k l
 
 fill-preimages-requires : tie.Need-fill-preimages-requires
 fill-preimages-requires c κs =
-    let a = c .before .before .before .before .before .before .before .args in
-    let h = c .before .before .before .before .before .before .before .pre .0 in
+    let a = c .before .before .before .before .before .before .before .before .args in
+    let h = c .before .before .before .before .before .before .before .before .pre .0 in
     let e = c .before .before .order .ensures .0 in
     (omega (arith, e, h .parityLength), search needs, omega (arith, e, h .allowed .order-high), permutes (a .parity .now) _ _ e (h .parityPermutes))
 
@@ -32,20 +32,20 @@ part-fill-rows-end c =
 
 fill-rows-requires : tie.Need-fill-rows-requires
 fill-rows-requires c κs =
-    let a = c .before .before .before .before .before .before .before .before .before .before .before .before .args in
-    let h = c .before .before .before .before .before .before .before .before .before .before .before .before .pre in
+    let a = c .before .before .before .before .before .before .before .before .before .before .before .before .before .args in
+    let h = c .before .before .before .before .before .before .before .before .before .before .before .before .before .pre in
     let o = c .before .before .before .before .before .before .before .order in
     let f = c .before .before .before .before .fill-preimages in
     let p = permutes (a .parity .now) (o .result) _ (o .ensures .0) (h .0 .parityPermutes) in
     let same = part-is (f .last .1 .1 .0) _ _ (f .ensures .0) in
     rw (c .before .before .before .before .before .before .size .ensures)
-    (rows-fit (a .d) (a .own .now) (a .parity .now) (a .work .now) (h .0) (o .result) (o .ensures .0) (a .part .now) (h .1) _
+    (rows-fit (a .d) (a .own .now) (a .parity .now) (a .work .now) (h .0) (o .result) (o .ensures .0) (a .columns .now) (a .part .now) (h .1) (h .2) _
     (ap length same ∙ f .ensures .0) (sent-below (o .result) (entries (o .result) (a .parity .now)) p (f .last .1 .1 .0) _ (f .ensures .1) same))
 
 returns : tie.Need-returns
 returns c =
-    let a = c .before .before .before .before .before .before .before .before .before .before .before .before .before .before .before .args in
-    let h = c .before .before .before .before .before .before .before .before .before .before .before .before .before .before .before .pre in
+    let a = c .before .before .before .before .before .before .before .before .before .before .before .before .before .before .before .before .args in
+    let h = c .before .before .before .before .before .before .before .before .before .before .before .before .before .before .before .before .pre in
     let o = c .before .before .before .before .before .before .before .before .before .before .order in
     let f = c .before .before .before .before .before .before .before .fill-preimages in
     let r = c .before .before .fill-rows in
@@ -53,7 +53,7 @@ returns c =
     let same = part-is (f .last .1 .1 .0) _ _ (f .ensures .0) in
     let rows = rw (c .before .before .before .before .before .before .before .before .before .size .ensures) at (r .ensures .1) in (
       r .ensures .0,
-      rows-are (a .d) (a .own .now) (a .parity .now) (a .work .now) (h .0) (o .result) (o .ensures .0) (a .part .now) (h .1) _ (r .last .0)
+      rows-are (a .d) (a .own .now) (a .parity .now) (a .work .now) (h .0) (o .result) (o .ensures .0) (a .columns .now) (a .part .now) (h .1) (h .2) _ (r .last .0)
           (sent-at (o .result) (entries (o .result) (a .parity .now)) p (f .last .1 .1 .0) _ (f .ensures .1) same) rows,
     )
 

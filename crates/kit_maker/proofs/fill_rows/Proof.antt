@@ -15,24 +15,24 @@ use Rattle.kit_maker.proofs.fill_rows.Statement.{statement}
 use Rattle.kit_maker.proofs.fill_rows.Tie as tie
 
 abbrev Inv-loop : tie.InvT-loop
-Inv-loop m₀ own n part size preimages half e₀ m e = (e ≤ n) × (length m ≡ length m₀)
-    × ((i k : ℕ) → i < e → k < n → left n m i k ≡ sentRow part (entries n own) size preimages i k)
+Inv-loop m₀ own n columns part size preimages half e₀ m e = (e ≤ n) × (length m ≡ length m₀)
+    × ((i k : ℕ) → i < e → k < n → left n m i k ≡ sentRow columns part (entries n own) size preimages i k)
 
 abbrev μ-loop : tie.MeasureT-loop
-μ-loop m₀ own n part size preimages half e₀ m e = n - e
+μ-loop m₀ own n columns part size preimages half e₀ m e = n - e
 
 add-half : tie.Need-add-half Inv-loop μ-loop
-add-half c = omega (arith, c .before .before .before .before .pre .small)
+add-half c = omega (arith, c .before .before .before .before .before .pre .small)
 
 loop-holds : tie.Need-loop-holds Inv-loop μ-loop
 loop-holds c =
-    let a = c .before .before .before .before .args in
-    (omega arith, refl, rows-none (a .n) (sentRow (a .part .now) (entries (a .n) (a .own .now)) (a .size) (a .preimages .now)) (a .m .now))
+    let a = c .before .before .before .before .before .args in
+    (omega arith, refl, rows-none (a .n) (sentRow (a .columns .now) (a .part .now) (entries (a .n) (a .own .now)) (a .size) (a .preimages .now)) (a .m .now))
 
 preimage-of-requires : tie.Need-preimage-of-requires Inv-loop μ-loop
 preimage-of-requires c κs =
-    let a = c .before .before .before .before .before .before .args in
-    let h = c .before .before .before .before .before .before .pre in
+    let a = c .before .before .before .before .before .before .before .args in
+    let h = c .before .before .before .before .before .before .before .pre in
     let d = h .order in (
       h .placesLength ∙ d,
       omega (arith, d, h .small),
@@ -42,27 +42,27 @@ preimage-of-requires c κs =
 
 mul-a-2 : tie.Need-mul-a-2 Inv-loop μ-loop
 mul-a-2 c =
-    let h = c .before .before .before .before .before .before .before .pre in
-    let p = left-place (c .before .before .before .before .before .before .before .args .n) (c .before .before .loop .e) (h .small) (omega arith) in
+    let h = c .before .before .before .before .before .before .before .before .pre in
+    let p = left-place (c .before .before .before .before .before .before .before .before .args .n) (c .before .before .loop .e) (h .small) (omega arith) in
     omega (arith, p .within, p .small)
 
 add-b : tie.Need-add-b Inv-loop μ-loop
 add-b c =
-    let h = c .before .before .before .before .before .before .before .pre in
-    let p = left-place (c .before .before .before .before .before .before .before .args .n) (c .before .before .loop .e) (h .small) (omega arith) in
+    let h = c .before .before .before .before .before .before .before .before .pre in
+    let p = left-place (c .before .before .before .before .before .before .before .before .args .n) (c .before .before .loop .e) (h .small) (omega arith) in
     omega (arith, p .within, p .small)
 
 part-system-row-end : tie.Need-part-system-row-end Inv-loop μ-loop
 part-system-row-end c =
-    let h = c .before .before .before .before .before .before .before .pre in
+    let h = c .before .before .before .before .before .before .before .before .pre in
     let l = c .before .before .loop in
-    let p = left-place (c .before .before .before .before .before .before .before .args .n) (l .e) (h .small) (omega arith) in
+    let p = left-place (c .before .before .before .before .before .before .before .before .args .n) (l .e) (h .small) (omega arith) in
     omega (arith, p .within, l .inv .1, h .matrixLength)
 
 system-row-requires : tie.Need-system-row-requires Inv-loop μ-loop
 system-row-requires c κs =
-    let h = c .before .before .before .before .before .before .before .before .pre in
-    let a = c .before .before .before .before .before .before .before .before .args in
+    let h = c .before .before .before .before .before .before .before .before .before .pre in
+    let a = c .before .before .before .before .before .before .before .before .before .args in
     let l = c .before .before .before .loop in
     let p = left-place (a .n) (l .e) (h .small) (omega arith) in
     let d = h .order in
@@ -75,14 +75,15 @@ system-row-requires c κs =
       omega (arith, m),
       omega (arith, m, h .small),
       h .r-small,
+      h .both,
       h .ownBelow,
     )
 
 loop-again : tie.Need-loop-again Inv-loop μ-loop
 unfolding sentRow
 loop-again c =
-    let a = c .before .before .before .before .before .before .before .before .before .before .before .args in
-    let h = c .before .before .before .before .before .before .before .before .before .before .before .pre in
+    let a = c .before .before .before .before .before .before .before .before .before .before .before .before .args in
+    let h = c .before .before .before .before .before .before .before .before .before .before .before .before .pre in
     let l = c .before .before .before .before .before .before .loop in
     let s = c .before .before .before .before .preimage-of in
     let r = c .before .before .system-row in
@@ -94,9 +95,9 @@ loop-again c =
     let own = entries (a .n) (a .own .now) in (
       omega arith,
       same-len-mid from k (l .m) (r .last .0) (r .ensures .0) ∙ l .inv .1,
-      rows-more (a .n) (sentRow (a .part .now) own (a .size) (a .preimages .now)) (l .m) (r .last .0) (l .e) k (h .small) (omega arith)
+      rows-more (a .n) (sentRow (a .columns .now) (a .part .now) own (a .size) (a .preimages .now)) (l .m) (r .last .0) (l .e) k (h .small) (omega arith)
           (l .inv .1 ∙ h .matrixLength) (r .ensures .0 ∙ m ∙ e) e (l .inv .2)
-          (λ j. r .ensures .1 j ∙ ap (λ (q : ℕ). rowEntry (a .part .now) own (a .size) q (l .e) j) (s .ensures .0)),
+          (λ j. r .ensures .1 j ∙ ap (λ (q : ℕ). rowEntry (a .columns .now) (a .part .now) own (a .size) q (l .e) j) (s .ensures .0)),
     )
 
 returns : tie.Need-returns Inv-loop μ-loop

@@ -8,7 +8,7 @@ use Rattle.staircase.specs.System.{rowBytes}
 use Rattle.staircase.specs.Square.{dependent}
 use Rattle.staircase.proofs.Search.{firstWhere-le}
 use Rattle.design.specs.Sizes.{listsOf}
-use Rattle.design.specs.Answers.{refusalVerdict, verdictOf}
+use Rattle.answers.specs.Answers.{refusalVerdict, verdictOf}
 use Rattle.design.proofs.Allowed.{order-positive}
 use Rattle.matrix_elimination.specs.Steps.{left}
 use Rattle.kit_maker.proofs.SystemMade.{matrix-long, singular-at, singular-past, copied-is}

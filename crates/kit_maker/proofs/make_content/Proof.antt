@@ -4,9 +4,9 @@ use borrow.Author.Needs.{needs}
 use mathlib.Core.Path.{sym, _∙_}
 use Rattle.staircase.specs.Maker.{singularRule}
 use Rattle.staircase.proofs.Rules.{lists-permute}
-use Rattle.design.specs.Answers.{verdictOf}
+use Rattle.answers.specs.Answers.{verdictOf}
 use Rattle.design.specs.Sizes.{paramsOf, listsOf}
-use Rattle.design.proofs.Answers.{refused-then, passed-then, check-passed, check-refused}
+use Rattle.answers.proofs.Checks.{refused-then, passed-then, check-passed, check-refused}
 use Rattle.rules.proofs.OfDesign.{lists-rule}
 use Rattle.kit_maker.specs.Making.{SystemFits, newInverse}
 use Rattle.kit_maker.proofs.MakeCall.{made-refused}

@@ -5,7 +5,7 @@ use native.Mathlib.Omega.{arith}
 use Prim.Native.Nat.{_*_}
 use borrow.Author.Tests.{lt-ltb, le-ltb}
 use Rattle.staircase.specs.Spread.{narrowRule}
-use Rattle.design.specs.Answers.{refusalVerdict, verdictOf}
+use Rattle.answers.specs.Answers.{refusalVerdict, verdictOf}
 use Rattle.kit_spread.proofs.check_narrow.Statement.{statement}
 use Rattle.kit_spread.proofs.check_narrow.Tie as tie
 

@@ -14,12 +14,12 @@ use Rattle.kit_system.proofs.system_row.Statement.{statement}
 use Rattle.kit_system.proofs.system_row.Tie as tie
 
 abbrev Inv-loop : tie.InvT-loop
-Inv-loop out₀ own n part size p e r b₀ out b =
+Inv-loop out₀ own n columns part size p e r b₀ out b =
     Sized size (length part) e p × (b ≤ length part) × (length out ≡ length out₀)
-    × ((k : ℕ) → packedBit out k ≡ sumBits b (rowTerm (powerDigit part) (length part) (entries n own) size p e k))
+    × ((k : ℕ) → packedBit out k ≡ sumBits b (rowTerm (powerDigit columns) (powerDigit part) (length part) (entries n own) size p e k))
 
 abbrev μ-loop : tie.MeasureT-loop
-μ-loop out₀ own n part size p e r b₀ out b = length part - b
+μ-loop out₀ own n columns part size p e r b₀ out b = length part - b
 
 clear-requires : tie.Need-clear-requires Inv-loop μ-loop
 clear-requires c κs = tt
@@ -27,8 +27,8 @@ clear-requires c κs = tt
 loop-holds : tie.Need-loop-holds Inv-loop μ-loop
 unfolding sumBits
 loop-holds c =
-    let a = c .before .before .before .before .before .before .before .args in
-    let h = c .before .before .before .before .before .before .before .pre in (
+    let a = c .before .before .before .before .before .before .before .before .args in
+    let h = c .before .before .before .before .before .before .before .before .pre in (
       sized (a .size) (length (a .part .now)) (a .n) (a .e) (a .p) (h .0) (h .1) (h .2),
       omega arith,
       refl,
@@ -64,8 +64,8 @@ rem-sent c = omega arith
 
 sent-requires : tie.Need-sent-requires Inv-loop μ-loop
 sent-requires c κs =
-    let h = c .before .before .before .before .before .before .before .before .before .before .before .before .before .before .before .pre in
-    (h .0, omega arith, omega arith, h .3, omega arith, h .7)
+    let h = c .before .before .before .before .before .before .before .before .before .before .before .before .before .before .before .before .pre in
+    (h .0, omega arith, omega arith, h .3, omega arith, h .8)
 
 add-bit-requires-2 : tie.Need-add-bit-requires-2 Inv-loop μ-loop
 add-bit-requires-2 c κs = omega arith
@@ -79,7 +79,7 @@ loop-less c = omega arith
 loop-again : tie.Need-loop-again Inv-loop μ-loop
 loop-again c =
     let at = c .before .before .before .before .before .before .before .before .before .before .before .before in
-    let a = at .before .before .before .before .before .before .before .before .args in
+    let a = at .before .before .before .before .before .before .before .before .before .args in
     let l = at .loop in
     let v = c .before .before .before .before .before .before .before .before .before .before .digit-at .ensures .0 in
     let first = c .before .before .before .before .before .before .before .before .add-bit .ensures in
@@ -89,7 +89,7 @@ loop-again c =
       l .inv .0,
       omega arith,
       second .0 ∙ first .0 ∙ l .inv .2,
-      λ k. sum-more (rowTerm (powerDigit (a .part .now)) (length (a .part .now)) (entries (a .n) (a .own .now)) (a .size) (a .p) (a .e) k) (l .b) _ _ _ _ _
+      λ k. sum-more (rowTerm (powerDigit (a .columns .now)) (powerDigit (a .part .now)) (length (a .part .now)) (entries (a .n) (a .own .now)) (a .size) (a .p) (a .e) k) (l .b) _ _ _ _ _
           (l .inv .3 k) (first .1 k) (second .1 k) (sym (rw (v, w, place))),
     )
 
@@ -100,7 +100,7 @@ returns : tie.Need-returns Inv-loop μ-loop
 unfolding rowEntry
 returns c =
     let l = c .before .loop in
-    let e : l .b ≡ length (c .before .before .before .before .before .before .before .before .before .args .part .now) = omega arith in
+    let e : l .b ≡ length (c .before .before .before .before .before .before .before .before .before .before .args .part .now) = omega arith in
     (omega arith, λ k. rw e at (l .inv .3 k))
 
 pub system-row-spec : {M : Type 1} → statement M

@@ -12,18 +12,18 @@ use Rattle.load.proofs.check_fill.Tie as tie
 returns : tie.Need-returns
 returns c =
     let a = c .before .before .before .before .before .args in
-    let new = c .before .before .before .new in
-    refused-design (a .m) (a .t) (a .size) (λ (s : Params). fillRules s (a .blocks) (a .info .now)) (new .result) (new .ensures .0) _
+    let new = c .before .before .before .new-col in
+    refused-design (a .m) (a .t) (a .size) (a .col) (λ (s : Params). fillRules s (a .blocks) (a .info .now)) (new .result) (new .ensures .0) _
     (c .before .enum-told .given .1) (c .design-check .ensures) .1
-    ∙ fill-rules (a .m) (a .t) (a .size) (a .blocks) (a .info .now)
+    ∙ fill-rules (a .m) (a .t) (a .size) (a .col) (a .blocks) (a .info .now)
 
 returns-2 : tie.Need-returns-2
 returns-2 c =
     let a = c .before .before .before .before .before .before .args in
-    let new = c .before .before .before .before .new in
-    made-design (a .m) (a .t) (a .size) (λ (s : Params). fillRules s (a .blocks) (a .info .now)) (new .result) (new .ensures .0) _ (new .ensures .1)
+    let new = c .before .before .before .before .new-col in
+    made-design (a .m) (a .t) (a .size) (a .col) (λ (s : Params). fillRules s (a .blocks) (a .info .now)) (new .result) (new .ensures .0) _ (new .ensures .1)
     (c .before .before .designed .given .1) (c .check-info .ensures)
-    ∙ fill-rules (a .m) (a .t) (a .size) (a .blocks) (a .info .now)
+    ∙ fill-rules (a .m) (a .t) (a .size) (a .col) (a .blocks) (a .info .now)
 
 pub check-fill-spec : {M : Type 1} → statement M
 check-fill-spec =

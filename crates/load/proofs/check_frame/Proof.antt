@@ -6,7 +6,7 @@ use lib.ListN.{length}
 use Rattle.staircase.specs.Rules.{frameBits}
 use Rattle.staircase.proofs.Rules.{count-limits, frame-lengths}
 use Rattle.design.specs.Sizes.{paramsOf}
-use Rattle.design.proofs.Answers.{refused-then, passed-then, check-passed}
+use Rattle.answers.proofs.Checks.{refused-then, passed-then, check-passed}
 use Rattle.rules.proofs.Accepted.{frame-small}
 use Rattle.load.specs.Checks.{turnRules}
 use borrow.Author.Needs.{needs}

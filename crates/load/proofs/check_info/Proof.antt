@@ -5,7 +5,7 @@ use Prim.Native.Nat.{ℕ}
 use lib.ListN.{length}
 use Rattle.staircase.specs.Rules.{lengthRule}
 use Rattle.staircase.proofs.Rules.{count-limits}
-use Rattle.design.proofs.Answers.{refused-then, passed-then, check-passed}
+use Rattle.answers.proofs.Checks.{refused-then, passed-then, check-passed}
 use Rattle.rules.specs.declared.lengths.Lengths.{Lengths}
 use Rattle.rules.specs.Lengths.{frameDue}
 use Rattle.load.specs.Checks.{fillRules}

@@ -12,21 +12,21 @@ use Rattle.load.proofs.check_turn.Tie as tie
 returns : tie.Need-returns
 returns c =
     let a = c .before .before .before .before .before .before .args in
-    let new = c .before .before .before .new in
-    refused-design (a .m) (a .t) (a .size) (λ (s : Params). turnRules s (a .blocks) (a .info .now) (a .red .now)) (new .result) (new .ensures .0) _
+    let new = c .before .before .before .new-col in
+    refused-design (a .m) (a .t) (a .size) (a .col) (λ (s : Params). turnRules s (a .blocks) (a .info .now) (a .red .now)) (new .result) (new .ensures .0) _
     (c .before .enum-told .given .1) (c .design-check .ensures) .1
-    ∙ turn-rules (a .m) (a .t) (a .size) (a .blocks) (a .info .now) (a .red .now)
+    ∙ turn-rules (a .m) (a .t) (a .size) (a .col) (a .blocks) (a .info .now) (a .red .now)
 
 check-frame-requires : tie.Need-check-frame-requires
-check-frame-requires c κs = made-allowed (c .before .designed .given .1) (c .before .before .before .new .ensures .2)
+check-frame-requires c κs = made-allowed (c .before .designed .given .1) (c .before .before .before .new-col .ensures .2)
 
 returns-2 : tie.Need-returns-2
 returns-2 c =
     let a = c .before .before .before .before .before .before .before .args in
-    let new = c .before .before .before .before .new in
-    made-design (a .m) (a .t) (a .size) (λ (s : Params). turnRules s (a .blocks) (a .info .now) (a .red .now)) (new .result) (new .ensures .0) _ (new .ensures .1)
+    let new = c .before .before .before .before .new-col in
+    made-design (a .m) (a .t) (a .size) (a .col) (λ (s : Params). turnRules s (a .blocks) (a .info .now) (a .red .now)) (new .result) (new .ensures .0) _ (new .ensures .1)
     (c .before .before .designed .given .1) (c .check-frame .ensures)
-    ∙ turn-rules (a .m) (a .t) (a .size) (a .blocks) (a .info .now) (a .red .now)
+    ∙ turn-rules (a .m) (a .t) (a .size) (a .col) (a .blocks) (a .info .now) (a .red .now)
 
 pub check-turn-spec : {M : Type 1} → statement M
 check-turn-spec =

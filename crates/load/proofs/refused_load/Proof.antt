@@ -1,7 +1,7 @@
 -- Each case by the definitions of the answer.
 -- Assumes nothing.
 use mathlib.Core.Path.{refl, sym, ap}
-use Rattle.design.specs.Answers.{verdictOf}
+use Rattle.answers.specs.Answers.{verdictOf}
 use Rattle.load.specs.Answers.{loadVerdict, loadState}
 use borrow.Author.Needs.{needs}
 use Rattle.load.proofs.refused_load.Statement.{statement}

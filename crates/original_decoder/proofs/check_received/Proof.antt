@@ -2,7 +2,7 @@
 -- Assumes nothing.
 use mathlib.Core.Path.{_∙_}
 use borrow.Author.Needs.{needs}
-use Rattle.design.proofs.Answers.{refused-then, passed-then}
+use Rattle.answers.proofs.Checks.{refused-then, passed-then}
 use Rattle.original_decoder.specs.Answers.{decodeRules}
 use Rattle.original_decoder.proofs.check_received.Statement.{statement}
 use Rattle.original_decoder.proofs.check_received.Tie as tie

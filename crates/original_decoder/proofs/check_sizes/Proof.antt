@@ -3,8 +3,8 @@
 use mathlib.Core.Path.{sym, ap, _∙_}
 use borrow.Author.Needs.{needs}
 use Rattle.staircase.specs.Rules.{lengthRule}
-use Rattle.design.proofs.Answers.{refused-then, passed-then, check-passed}
-use Rattle.original_design.specs.Answers.{paramsOf}
+use Rattle.answers.proofs.Checks.{refused-then, passed-then, check-passed}
+use Rattle.design.specs.Sizes.{paramsOf}
 use Rattle.original_rows.proofs.Checked.{buffer-limits}
 use Rattle.original_decoder.specs.Answers.{decodeSizes}
 use Rattle.original_decoder.proofs.check_sizes.Statement.{statement}

@@ -8,7 +8,7 @@ use lib.ListN.{take}
 use borrow.Author.Needs.{needs}
 use Rattle.staircase.proofs.Bounds.{small-product}
 use Rattle.decoder_kept.specs.Numbers.{nonzeroNumbers}
-use Rattle.original_design.specs.Answers.{paramsOf}
+use Rattle.design.specs.Sizes.{paramsOf}
 use Rattle.original_decoder.proofs.Kept.{numbers-end, rows-outside}
 use Rattle.original_decoder.proofs.Counted.{decoded-idle}
 use Rattle.original_decoder.proofs.correct_buffer.Statement.{statement}

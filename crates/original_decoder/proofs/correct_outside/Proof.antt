@@ -12,7 +12,7 @@ use Rattle.decoder_tables.specs.Sizes.{WordSizes}
 use Rattle.decoder_lines.specs.declared.Frames.{Frames}
 use Rattle.decoder_lines.specs.Layouts.{bitsIn}
 use Rattle.decoder_words.specs.Ready.{WordTables}
-use Rattle.original_design.specs.Answers.{paramsOf}
+use Rattle.design.specs.Sizes.{paramsOf}
 use Rattle.original_decoder.specs.Kept.{rowFrames}
 use Rattle.original_decoder.proofs.Rounds.{word-sizes, tables-room, field-is, field-room, tables-lent, row-bits}
 use Rattle.original_decoder.proofs.correct_outside.Statement.{statement}
@@ -28,14 +28,14 @@ fill-tables-requires : tie.Need-fill-tables-requires
 fill-tables-requires c κs =
     let d = c .before .before .before .before .before .before .before .before .before .args .d in
     let h = c .before .before .before .before .before .before .before .before .before .pre .0 .frame .allowed in
-    let n = c .before .before .before .before .before .before .n in
+    let n = c .before .before .before .before .before .before .row-bits in
     let m = c .before .before .before .before .before .m in
     let lt = length-take-le (2 * n .result + 128 - 0) (c .before .before .before .before .table-entries .result) (omega (arith, c .before .before .before .before .table-entries .ensures, tables-room d h (n .result) (n .ensures .0))) in
     let lf = length-take-le (4 * ((1 * 2 ^ m .result) % 2 ^ 64) - 0) (c .before .before .before .field-entries .result) (omega (arith, c .before .before .before .field-entries .ensures, field-room d h (m .result) (m .ensures))) in
     let T = take (2 * n .result + 128 - 0) (c .before .before .before .before .table-entries .result) in
     let D = take (4 * ((1 * 2 ^ m .result) % 2 ^ 64) - 0) (c .before .before .before .field-entries .result) in
-    subst⁻¹ (λ (f : Frames). WordSizes (f .d .m) (f .d .t) (bitsIn (f .shape) (params (f .d .m) (f .d .t) (f .d .size)))
-    × (length T ≡ bitsIn (f .shape) (params (f .d .m) (f .d .t) (f .d .size)) + (bitsIn (f .shape) (params (f .d .m) (f .d .t) (f .d .size)) + 128))
+    subst⁻¹ (λ (f : Frames). WordSizes (f .d .m) (f .d .t) (bitsIn (f .shape) (params (f .d .m) (f .d .t) (f .d .size) (f .d .col)))
+    × (length T ≡ bitsIn (f .shape) (params (f .d .m) (f .d .t) (f .d .size) (f .d .col)) + (bitsIn (f .shape) (params (f .d .m) (f .d .t) (f .d .size) (f .d .col)) + 128))
     × (length D ≡ 4 * 2 ^ f .d .m)) (c .before .before .frames-of .ensures)
     (word-sizes d h, omega (arith, lt, n .ensures .0, row-bits (paramsOf d)), omega (arith, lf, field-is d h (m .result) (m .ensures)))
 
@@ -43,7 +43,7 @@ part-correct-rows-end : tie.Need-part-correct-rows-end
 part-correct-rows-end c =
     let T = c .before .before .before .fill-tables .last .1 .0 in
     let W = subst (λ (f : Frames). WordTables f T (c .before .before .before .fill-tables .last .1 .1 .0)) (c .before .before .before .before .before .before .frames-of .ensures) (c .before .before .before .fill-tables .ensures) in
-    part-fits T _ _ (W .long ∙ omega (arith, c .before .before .before .before .before .before .before .before .before .before .n .ensures .0, row-bits (paramsOf (c .before .before .before .before .before .before .before .before .before .before .before .before .before .args .d))))
+    part-fits T _ _ (W .long ∙ omega (arith, c .before .before .before .before .before .before .before .before .before .before .row-bits .ensures .0, row-bits (paramsOf (c .before .before .before .before .before .before .before .before .before .before .before .before .before .args .d))))
 
 mul-correct-rows : tie.Need-mul-correct-rows
 mul-correct-rows c = omega (arith, field-room (c .before .before .before .before .before .before .before .before .before .before .before .before .before .before .args .d) (c .before .before .before .before .before .before .before .before .before .before .before .before .before .before .pre .0 .frame .allowed) (c .before .before .before .before .before .before .before .before .before .before .m .result) (c .before .before .before .before .before .before .before .before .before .before .m .ensures))
@@ -61,7 +61,7 @@ correct-rows-requires c κs =
     let a = c .before .before .before .before .before .before .before .before .before .before .before .before .before .before .before .before .before .before .args in
     let p = c .before .before .before .before .before .before .before .before .before .before .before .before .before .before .before .before .before .before .pre in
     let h = p .0 .frame .allowed in
-    let n = c .before .before .before .before .before .before .before .before .before .before .before .before .before .before .before .n in
+    let n = c .before .before .before .before .before .before .before .before .before .before .before .before .before .before .before .row-bits in
     let m = c .before .before .before .before .before .before .before .before .before .before .before .before .before .before .m in
     let fill = c .before .before .before .before .before .before .before .before .fill-tables in
     let t = 2 * n .result + 128 in

@@ -6,7 +6,7 @@ use native.Mathlib.Omega.{arith}
 use lib.ListN.{length, take, drop, length-replicate}
 use borrow.Author.Needs.{needs}
 use Rattle.decoder_kept.specs.Numbers.{nonzeroNumbers}
-use Rattle.original_design.specs.Answers.{paramsOf}
+use Rattle.design.specs.Sizes.{paramsOf}
 use Rattle.original_decoder.proofs.Kept.{rows-outside, marks-keep, marks-count, numbers-end, part-short}
 use Rattle.original_decoder.proofs.Counted.{decoded-made}
 use Rattle.original_decoder.proofs.correct_rows.Statement.{statement}

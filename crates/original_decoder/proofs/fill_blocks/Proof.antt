@@ -4,7 +4,7 @@ use mathlib.Core.Path.{_≡_, refl, _∙_, subst}
 use Prim.Native.Nat.{ℕ, _-_, _≤_}
 use native.Mathlib.Omega.{arith}
 use lib.ListN.{length}
-use Rattle.original_design.specs.Answers.{paramsOf}
+use Rattle.design.specs.Sizes.{paramsOf}
 use Rattle.original_decoder.specs.Filled.{RowsFilled}
 use Rattle.original_decoder.proofs.Filled.{rows-none}
 use Rattle.original_decoder.proofs.fill_blocks.Statement.{statement}

@@ -36,7 +36,7 @@ fill-code-requires c κs =
 part-fill-numbers-end : tie.Need-part-fill-numbers-end
 part-fill-numbers-end c =
     let x = c .before .before .fill-code in
-    let e : length (x .last .1 .1 .0) ≡ c .before .before .before .before .before .before .n .result = omega arith in
+    let e : length (x .last .1 .1 .0) ≡ c .before .before .before .before .before .before .row-bits .result = omega arith in
     part-fits (x .last .1 .1 .0) _ _ e
 
 part-fill-numbers-end-2 : tie.Need-part-fill-numbers-end-2
@@ -51,7 +51,7 @@ fill-numbers-requires c κs =
     let a = s .args in
     let p = s .pre in
     let size = c .before .before .before .before .before .before .before .before .before .size in
-    let bits = c .before .before .before .before .before .before .before .before .n in
+    let bits = c .before .before .before .before .before .before .before .before .row-bits in
     let x = c .before .before .before .before .fill-code in
     let all : length (x .last .1 .1 .0) ≡ bits .result = omega arith in
     let n = 4 * (a .blocks * size .result) in

@@ -6,7 +6,7 @@ use native.Mathlib.Omega.{arith}
 use lib.ListN.{length}
 use borrow.Author.Needs.{needs}
 use Rattle.staircase.proofs.Bounds.{small-product, stretch-end}
-use Rattle.original_design.specs.Answers.{paramsOf}
+use Rattle.design.specs.Sizes.{paramsOf}
 use Rattle.original_decoder.proofs.Filled.{remainders-length, rows-filled}
 use Rattle.original_decoder.proofs.fill_rows.Statement.{statement}
 use Rattle.original_decoder.proofs.fill_rows.Tie as tie

@@ -7,12 +7,12 @@ use borrow.Author.Needs.{needs}
 use Rattle.staircase.specs.Design.{most-blocks}
 use Rattle.staircase.proofs.Bounds.{small-product}
 use Rattle.original.specs.Rules.{originalWork}
-use Rattle.original_design.specs.declared.OriginalDesign.{OriginalDesign}
-use Rattle.original_design.specs.Answers.{Allowed}
+use Rattle.design.specs.declared.Design.{Design}
+use Rattle.design.specs.Answers.{AllowedOriginal}
 use Rattle.original_decoder.proofs.work_due.Statement.{statement}
 use Rattle.original_decoder.proofs.work_due.Tie as tie
 
-small : (d : OriginalDesign) → Allowed d → (L size area : ℕ) → L ≤ most-blocks → size ≡ d .size → area ≡ d .size * d .size
+small : (d : Design) → AllowedOriginal d → (L size area : ℕ) → L ≤ most-blocks → size ≡ d .size → area ≡ d .size * d .size
     → (L * size ≤ 2048000) × (L * area ≤ 1024000000)
 small d h L size area few e f =
     let M : size ≤ 500 = omega (arith, e, h .M-high) in

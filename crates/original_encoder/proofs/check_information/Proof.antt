@@ -8,8 +8,8 @@ use lib.ListN.{length}
 use borrow.Author.Needs.{needs}
 use Rattle.staircase.proofs.Bounds.{small-product}
 use Rattle.original.specs.Rules.{infoBits}
-use Rattle.design.proofs.Answers.{refused-then, passed-then, check-passed}
-use Rattle.original_design.specs.Answers.{paramsOf}
+use Rattle.answers.proofs.Checks.{refused-then, passed-then, check-passed}
+use Rattle.design.specs.Sizes.{paramsOf}
 use Rattle.original_rows.proofs.Checked.{buffer-limits, buffer-small}
 use Rattle.original_encoder.specs.Written.{widthBits, encodeRules}
 use Rattle.original_encoder.proofs.check_information.Statement.{statement}

@@ -7,8 +7,8 @@ use lib.ListN.{getD}
 use borrow.Author.Needs.{needs}
 use Rattle.staircase.proofs.Bounds.{stretch-end}
 use Rattle.words_blocks.proofs.Sums.{part-length}
-use Rattle.design.specs.Answers.{verdictOf}
-use Rattle.design.proofs.Answers.{check-refused, check-passed}
+use Rattle.answers.specs.Answers.{verdictOf}
+use Rattle.answers.proofs.Checks.{check-refused, check-passed}
 use Rattle.original_encoder.proofs.Digits.{good-none, good-next, good-all, row-refused}
 use Rattle.original_encoder.proofs.check_rows.Statement.{statement}
 use Rattle.original_encoder.proofs.check_rows.Tie as tie

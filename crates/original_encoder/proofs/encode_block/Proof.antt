@@ -7,7 +7,7 @@ use native.Mathlib.Omega.{arith}
 use lib.ListN.{length, getD}
 use borrow.Author.Needs.{needs}
 use Rattle.staircase.proofs.Bounds.{small-product, stretch-end}
-use Rattle.original_design.specs.Answers.{paramsOf}
+use Rattle.design.specs.Sizes.{paramsOf}
 use Rattle.original_rows.proofs.Checked.{buffer-small}
 use Rattle.original_encoder.proofs.Blocks.{rows-named, remainders-long}
 use Rattle.original_encoder.proofs.encode_block.Statement.{statement}

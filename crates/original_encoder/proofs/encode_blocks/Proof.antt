@@ -5,7 +5,7 @@ use Prim.Native.Nat.{ℕ, _-_, _≤_}
 use native.Mathlib.Omega.{arith}
 use lib.ListN.{length}
 use Rattle.original.proofs.Rules.{degree-some, degree-of}
-use Rattle.original_design.specs.Answers.{paramsOf}
+use Rattle.design.specs.Sizes.{paramsOf}
 use Rattle.original_encoder.proofs.Blocks.{Done, done-none, done-next, done-all}
 use Rattle.original_encoder.proofs.encode_blocks.Statement.{statement}
 use Rattle.original_encoder.proofs.encode_blocks.Tie as tie

@@ -15,7 +15,7 @@ use Rattle.original.specs.Frame.{encoded}
 use Rattle.original.specs.Steps.{cleared}
 use Rattle.original.proofs.Buffer.{cleared-length, cleared-bits, encoded-cleared}
 use Rattle.original.proofs.Rules.{degree-some, degree-of}
-use Rattle.original_design.specs.Answers.{paramsOf}
+use Rattle.design.specs.Sizes.{paramsOf}
 use Rattle.original_rows.proofs.Checked.{buffer-small}
 use Rattle.original_encoder.specs.Written.{RowsAt}
 use Rattle.original_encoder.proofs.Blocks.{rows-cleared, cleared-zero}
@@ -49,7 +49,7 @@ clear-parity-requires c κs =
 part-encode-cleared-end : tie.Need-part-encode-cleared-end
 part-encode-cleared-end c =
     let x = c .before .before .before .before .before .before .fill-code in
-    let e : length (x .last .1 .1 .0) ≡ c .before .before .before .before .before .before .before .before .before .before .before .n .result = omega arith in
+    let e : length (x .last .1 .1 .0) ≡ c .before .before .before .before .before .before .before .before .before .before .before .row-bits .result = omega arith in
     part-fits (x .last .1 .1 .0) _ _ e
 
 encode-cleared-requires : tie.Need-encode-cleared-requires
@@ -59,7 +59,7 @@ encode-cleared-requires c κs =
     let F = p .0 in
     let s = paramsOf (a .d) in
     let x = c .before .before .before .before .before .before .before .before .fill-code in
-    let n = c .before .before .before .before .before .before .before .before .before .before .before .before .before .n in
+    let n = c .before .before .before .before .before .before .before .before .before .before .before .before .before .row-bits in
     let m = c .before .before .before .before .before .before .before .before .before .before .before .m in
     let t = c .before .before .before .before .before .before .before .before .before .before .t in
     let size = c .before .before .before .before .before .before .before .before .before .before .before .before .before .before .size in

@@ -7,7 +7,7 @@ use borrow.Author.Needs.{needs}
 use Rattle.staircase.specs.Design.{most-blocks}
 use Rattle.staircase.specs.Rules.{lengthRule}
 use Rattle.staircase.proofs.Rules.{count-limits}
-use Rattle.design.proofs.Answers.{refused-then, passed-then, check-passed}
+use Rattle.answers.proofs.Checks.{refused-then, passed-then, check-passed}
 use Rattle.original_rows.specs.Rows.{bufferRules}
 use Rattle.original_rows.proofs.Checked.{buffer-small}
 use Rattle.original_rows.proofs.check_buffer.Statement.{statement}

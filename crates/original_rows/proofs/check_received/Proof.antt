@@ -4,8 +4,8 @@ use mathlib.Core.Path.{sym, _∙_}
 use native.Mathlib.Omega.{arith}
 use lib.ListN.{length}
 use borrow.Author.Needs.{needs}
-use Rattle.design.proofs.Answers.{refused-then, passed-then, check-passed}
-use Rattle.original_design.specs.Answers.{paramsOf}
+use Rattle.answers.proofs.Checks.{refused-then, passed-then, check-passed}
+use Rattle.design.specs.Sizes.{paramsOf}
 use Rattle.original_rows.specs.Rows.{receivedRules}
 use Rattle.original_rows.proofs.Checked.{buffer-limits, buffer-small}
 use Rattle.original_rows.proofs.check_received.Statement.{statement}

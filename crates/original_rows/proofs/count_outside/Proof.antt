@@ -19,7 +19,7 @@ fill-code-requires c κs =
 part-count-buffer-end : tie.Need-part-count-buffer-end
 part-count-buffer-end c =
     let x = c .before .before .fill-code in
-    let e : length (x .last .1 .1 .0) ≡ c .before .before .before .before .before .before .n .result = omega arith in
+    let e : length (x .last .1 .1 .0) ≡ c .before .before .before .before .before .before .row-bits .result = omega arith in
     part-fits (x .last .1 .1 .0) _ _ e
 
 count-buffer-requires : tie.Need-count-buffer-requires
@@ -27,7 +27,7 @@ count-buffer-requires c κs =
     let s = c .before .before .before .before .before .before .before .before .before in
     let d = s .args .d in
     let x = c .before .before .before .fill-code in
-    let n = c .before .before .before .before .before .before .before .n in
+    let n = c .before .before .before .before .before .before .before .row-bits in
     let m = c .before .before .before .before .before .before .m in
     let t = c .before .before .before .before .before .t in
     let all : length (x .last .1 .1 .0) ≡ n .result = omega arith in

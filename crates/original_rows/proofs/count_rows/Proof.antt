@@ -8,7 +8,7 @@ use Rattle.staircase.specs.Lists.{concat}
 use Rattle.staircase.specs.Frame.{outsideAmong}
 use Rattle.original.specs.Frame.{bufferOf}
 use Rattle.original.proofs.Words.{blockRows}
-use Rattle.original_design.specs.Answers.{paramsOf}
+use Rattle.design.specs.Sizes.{paramsOf}
 use Rattle.original_rows.proofs.Count.{none-yet, next-block, all-blocks}
 use Rattle.original_rows.proofs.count_rows.Statement.{statement}
 use Rattle.original_rows.proofs.count_rows.Tie as tie

@@ -6,10 +6,10 @@ use Rattle.program_mend.proofs.put_decoded.Statement.{statement}
 use Rattle.program_mend.proofs.put_decoded.Tie as tie
 
 returns : tie.Need-returns
-returns c = refused-prints _ _ _ _ _ _ _ _ _ (c .before .before .before .before .before .before .made .given .1) (c .before .before .before .before .of-refusal .ensures) (c .before .before .put-refusal .ensures)
+returns c = refused-prints (c .before .before .before .before .before .before .before .before .before .before .before .args .d) _ _ _ _ _ _ _ _ (c .before .before .before .before .before .before .made .given .1) (c .before .before .before .before .of-refusal .ensures) (c .before .before .put-refusal .ensures)
 
 returns-2 : tie.Need-returns-2
-returns-2 c = decoded-prints _ _ _ _ _ _ _ _ (c .before .before .before .before .before .made2 .given .1) (c .before .before .put-corrected .ensures)
+returns-2 c = decoded-prints (c .before .before .before .before .before .before .before .before .before .before .args .d) _ _ _ _ _ _ _ (c .before .before .before .before .before .made2 .given .1) (c .before .before .put-corrected .ensures)
 
 pub put-decoded-spec : {M : Type 1} → statement M
 put-decoded-spec =

@@ -7,7 +7,7 @@ use lib.ListN.{length, getD}
 use borrow.Author.Tests.{le-ltb}
 use Rattle.staircase.specs.Rules.{bitRule}
 use Rattle.staircase.proofs.Rules.{refuseFirst-accepted}
-use Rattle.design.specs.Answers.{verdictOf}
+use Rattle.answers.specs.Answers.{verdictOf}
 use borrow.Author.Needs.{needs}
 use Rattle.rules.proofs.check_bits.Statement.{statement}
 use Rattle.rules.proofs.check_bits.Tie as tie

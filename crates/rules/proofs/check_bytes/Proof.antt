@@ -6,7 +6,7 @@ use Prim.Native.Nat.{ℕ, _*_}
 use Rattle.staircase.specs.System.{rowBytes}
 use Rattle.staircase.specs.Rules.{frameBits}
 use Rattle.design.specs.Sizes.{orderOf}
-use Rattle.design.proofs.Answers.{refused-then, passed-then}
+use Rattle.answers.proofs.Checks.{refused-then, passed-then}
 use Rattle.design.proofs.Allowed.{order-positive}
 use Rattle.rules.specs.Bytes.{byteRules}
 use Rattle.rules.proofs.OfDesign.{lists-rule, spare-rule}

@@ -10,7 +10,7 @@ use borrow.Author.Count.{below-more}
 use Rattle.staircase.specs.Rules.{entries, badEntry}
 use Rattle.staircase.proofs.Rules.{refuseFirst-accepted, refuseFirst-refused}
 use Rattle.rules.proofs.Entries.{entry-at, Marked, marked-none, marked-more, too-high, repeated, new-entry}
-use Rattle.design.specs.Answers.{refusalVerdict, verdictOf}
+use Rattle.answers.specs.Answers.{refusalVerdict, verdictOf}
 use Rattle.rules.proofs.check_list.Statement.{statement}
 use Rattle.rules.proofs.check_list.Tie as tie
 

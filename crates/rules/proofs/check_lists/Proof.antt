@@ -1,7 +1,7 @@
 -- A refusal of the first list is the answer; otherwise the second list's is.
 -- Assumes nothing.
 use mathlib.Core.Path.{_∙_}
-use Rattle.design.proofs.Answers.{refused-then, passed-then}
+use Rattle.answers.proofs.Checks.{refused-then, passed-then}
 use borrow.Author.Needs.{needs}
 use Rattle.rules.proofs.check_lists.Statement.{statement}
 use Rattle.rules.proofs.check_lists.Tie as tie

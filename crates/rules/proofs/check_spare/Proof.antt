@@ -1,7 +1,7 @@
 -- An empty inverse has no entry but 0.
 -- Assumes nothing.
 use Rattle.staircase.proofs.Rules.{refuseFirst-accepted}
-use Rattle.design.specs.Answers.{verdictOf}
+use Rattle.answers.specs.Answers.{verdictOf}
 use Rattle.rules.proofs.Spare.{empty-spare}
 use native.Mathlib.Omega.{arith}
 use mathlib.Core.Path.{sym}

@@ -10,7 +10,7 @@ use borrow.Author.Count.{below-more}
 use borrow.Author.Tests.{lt-ltb, le-ltb}
 use Rattle.staircase.specs.Rules.{bitRule}
 use Rattle.staircase.proofs.Rules.{refuseFirst-accepted, refuseFirst-refused}
-use Rattle.design.specs.Answers.{refusalVerdict, verdictOf}
+use Rattle.answers.specs.Answers.{refusalVerdict, verdictOf}
 use Rattle.rules.proofs.search_bits.Statement.{statement}
 use Rattle.rules.proofs.search_bits.Tie as tie
 

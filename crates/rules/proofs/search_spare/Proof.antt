@@ -12,7 +12,7 @@ use Rattle.staircase.specs.Rules.{spareRow}
 use Rattle.staircase.proofs.Rules.{refuseFirst-accepted, refuseFirst-refused}
 use Rattle.design.proofs.Sizes.{shl-one}
 use Rattle.rules.proofs.Spare.{usedBits, spare-none, spare-some}
-use Rattle.design.specs.Answers.{refusalVerdict, verdictOf}
+use Rattle.answers.specs.Answers.{refusalVerdict, verdictOf}
 use Rattle.rules.proofs.search_spare.Statement.{statement}
 use Rattle.rules.proofs.search_spare.Tie as tie
 

@@ -2,8 +2,8 @@
 -- Assumes nothing.
 use borrow.Author.Needs.{needs}
 use mathlib.Core.Path.{sym, ap, _∙_}
-use Rattle.design.specs.declared.Check.{Check}
-use Rattle.design.specs.Answers.{verdictOf}
+use Rattle.answers.specs.declared.Check.{Check}
+use Rattle.answers.specs.Answers.{verdictOf}
 use Rattle.rules_verdict.specs.Number.{number, placeOf, judgedOf}
 use Rattle.rules_verdict.proofs.of_check.Statement.{statement}
 use Rattle.rules_verdict.proofs.of_check.Tie as tie

@@ -2,8 +2,8 @@
 -- Assumes nothing.
 use borrow.Author.Needs.{needs}
 use mathlib.Core.Path.{sym, ap}
-use Rattle.design.specs.declared.Refusal.{Refusal}
-use Rattle.design.specs.Answers.{refusalVerdict}
+use Rattle.answers.specs.declared.Refusal.{Refusal}
+use Rattle.answers.specs.Answers.{refusalVerdict}
 use Rattle.rules_verdict.specs.Number.{number, placeOf, judgedOf}
 use Rattle.rules_verdict.proofs.of_refusal.Statement.{statement}
 use Rattle.rules_verdict.proofs.of_refusal.Tie as tie

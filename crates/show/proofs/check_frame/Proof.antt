@@ -2,7 +2,7 @@
 -- Assumes nothing.
 use mathlib.Core.Path.{sym, _∙_}
 use Rattle.show.specs.Show.{frameRules}
-use Rattle.design.proofs.Answers.{refused-then, passed-then, check-passed}
+use Rattle.answers.proofs.Checks.{refused-then, passed-then, check-passed}
 use Rattle.staircase.proofs.Rules.{count-limits}
 use borrow.Author.Needs.{needs}
 use Rattle.show.proofs.check_frame.Statement.{statement}

@@ -3,7 +3,7 @@
 use native.Mathlib.Omega.{arith}
 use borrow.Author.Tests.{lt-ltb, le-ltb}
 use Rattle.staircase.proofs.Rules.{inRange}
-use Rattle.design.specs.Answers.{refusalVerdict, verdictOf}
+use Rattle.answers.specs.Answers.{refusalVerdict, verdictOf}
 use Rattle.show.proofs.check_number.Statement.{statement}
 use Rattle.show.proofs.check_number.Tie as tie
 

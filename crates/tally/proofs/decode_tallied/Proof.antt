@@ -47,7 +47,7 @@ use denote.Signature.{plain, Slot, shrSliceOf}
 use Rattle.staircase.specs.Frame.{frameOf}
 use Rattle.staircase.specs.Tally as totals
 use Rattle.staircase.specs.Tally.{decodeWith, tallyCall}
-use Rattle.decoder.specs.Answers.{correctedOf}
+use Rattle.answers.specs.Answers.{correctedOf}
 use Rattle.tally.specs.Answers.{totalsOf}
 use Rattle.tally.specs.declared.Tally.{Tally}
 use Rattle.tally.specs.declared.Tallied.{Tallied}
@@ -55,8 +55,8 @@ use Rattle.tally.proofs.Tally as T
 use Rattle.tally.proofs.Tally.Laws as T′
 use Rattle.tally.proofs.Tallied as X
 use Rattle.tally.proofs.Tallied.Laws as X′
-use Rattle.decoder.proofs.Decoding as O
-use Rattle.decoder.proofs.Decoding.Laws as O′
+use Rattle.answers.proofs.Decoding as O
+use Rattle.answers.proofs.Decoding.Laws as O′
 use Rattle.tally.proofs.decode_counted as bv
 use Rattle.tally.proofs.decode_counted.Symbol as bv-def
 use Rattle.tally.proofs.decode_counted.Symbol.{name as #tally·decode-counted}
@@ -180,7 +180,7 @@ module _ {M : Type 1} (𝓤 : URA M) (H : Heap 𝓤) (A : Atoms 𝓤) (W : Given
     corrected = correctedOf (r .decoding) (frameOf (z-info) (z-red));
     tally = totalsOf (r
         .tally);
-  }) (tallyCall (totalsOf h) (decodeWith m t size blocks rounds (now own) (now parity) (now info) (now red) (length (now work))))
+  }) (tallyCall (totalsOf h) (decodeWith m t size 0 blocks rounds (now own) (now parity) (now info) (now red) (length (now work))))
 
   -- what is known of the fields of what the callee returned
   module _ (r : Tallied) (v : Val) (is : Is X.the-row r (v ∷ [])) where

@@ -3,7 +3,7 @@
 use native.Mathlib.Omega.{arith}
 use mathlib.Core.Path.{_≡_, _∙_}
 use Rattle.design.specs.Sizes.{orderOf}
-use Rattle.design.proofs.Answers.{refused-then, passed-then}
+use Rattle.answers.proofs.Checks.{refused-then, passed-then}
 use Rattle.text_kit_write.specs.Checks.{textRules}
 use Rattle.text_kit_write.proofs.WriteCall.{lengths-passed, text-judged}
 use borrow.Author.Needs.{needs}

@@ -3,8 +3,8 @@
 use borrow.Author.Needs.{needs}
 use mathlib.Core.Path.{sym, ap, _∙_}
 use Rattle.staircase.specs.Rules.{Verdict}
-use Rattle.design.specs.Answers.{verdictOf}
-use Rattle.design.proofs.Answers.{check-passed}
+use Rattle.answers.specs.Answers.{verdictOf}
+use Rattle.answers.proofs.Checks.{check-passed}
 use Rattle.text.specs.KitWriter.{measuredBy}
 use Rattle.text_kit_write.specs.Checks.{measuredOf}
 use Rattle.text_kit_write.proofs.WriteCall.{measured-refused}

@@ -3,10 +3,11 @@
 use borrow.Author.Needs.{needs}
 use mathlib.Core.Path.{sym, _∙_}
 use Rattle.staircase.proofs.Rules.{list-lengths}
-use Rattle.design.proofs.Answers.{check-passed, made-allowed}
+use Rattle.design.proofs.Answers.{made-allowed}
 use Rattle.text_kit_write.proofs.WriteCall.{measure-design, measure-lists, measure-made}
 use Rattle.text_kit_write.proofs.text_length.Statement.{statement}
 use Rattle.text_kit_write.proofs.text_length.Tie as tie
+use Rattle.answers.proofs.Checks.{check-passed}
 
 returns : tie.Need-returns
 returns c =

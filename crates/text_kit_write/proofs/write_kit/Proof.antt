@@ -3,10 +3,11 @@
 use borrow.Author.Needs.{needs}
 use mathlib.Core.Path.{sym, _∙_}
 use lib.ListN.{length}
-use Rattle.design.proofs.Answers.{check-passed, made-allowed}
+use Rattle.design.proofs.Answers.{made-allowed}
 use Rattle.text_kit_write.proofs.WriteCall.{text-fits, write-design, write-refused, write-made}
 use Rattle.text_kit_write.proofs.write_kit.Statement.{statement}
 use Rattle.text_kit_write.proofs.write_kit.Tie as tie
+use Rattle.answers.proofs.Checks.{check-passed}
 
 returns : tie.Need-returns
 returns c =
@@ -37,7 +38,7 @@ put-kit-requires c κs =
     let made = c .before .before .before .before .before in
     let a = made .before .before .before .before .before .before .before .args in
     let passed = sym (c .before .before .before .check-text .ensures) ∙ check-passed (c .before .enum-told2 .given .1) in
-    let fits = text-fits _ _ _ (a .own .now) (a .parity .now) (a .inverse .now) (length (a .text .now)) passed in
+    let fits = text-fits _ _ _ _ (a .own .now) (a .parity .now) (a .inverse .now) (length (a .text .now)) passed in
     ((made-allowed (made .designed .given .1) (made .before .before .new .ensures .2), fits .0), fits .1)
 
 returns-3 : tie.Need-returns-3

@@ -7,7 +7,7 @@ use native.Mathlib.Omega.{arith}
 use lib.ListN.{length}
 use lib.Seq.{length-take-le}
 use Rattle.design.specs.Sizes.{paramsOf}
-use Rattle.design.proofs.Answers.{refused-then, passed-then, check-passed}
+use Rattle.answers.proofs.Checks.{refused-then, passed-then, check-passed}
 use Rattle.rules.specs.Lengths.{lengthsOf, frameDue}
 use Rattle.rules.proofs.Accepted.{frame-accepted, frame-small}
 use Rattle.words.specs.Checks.{receivedRules}

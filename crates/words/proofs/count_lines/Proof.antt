@@ -6,13 +6,12 @@ use native.Mathlib.Omega.{arith}
 use lib.ListN.{length}
 use Rattle.staircase.specs.Lists.{tabulate, concat}
 use Rattle.staircase.specs.Frame.{groups, outsideAmong, frameOf}
-use Rattle.staircase.specs.Lines.{lineSites}
+use Rattle.staircase.specs.Lines.{readSites}
 use Rattle.design.specs.Sizes.{paramsOf, listsOf}
 use Rattle.rules.specs.Received.{Received}
-use Rattle.words_tables.specs.Tables.{MayParts}
 use Rattle.words_lines.specs.declared.Line.{Line}
 use Rattle.words_lines.specs.Lines.{LineFits, lineRemainder}
-use Rattle.words.specs.Words.{nonzeros, WordTable}
+use Rattle.words.specs.Words.{nonzeros, WordTable, MayBoth}
 use Rattle.words.proofs.Count.{line-count, none-yet, next-line, all-counted}
 use borrow.Author.Needs.{needs}
 use Rattle.words.proofs.count_lines.Statement.{statement}
@@ -22,7 +21,7 @@ abbrev Inv-loop : tie.InvT-loop
 Inv-loop line own parity info red positions tables sums₀ lines total₀ k₀ sums total k =
     (lines ≡ 2 * groups (line .blocks)) × (k ≤ lines) × (length sums ≡ length sums₀) × (total ≤ 500 * k)
     × (total ≡ outsideAmong (paramsOf (line .d)) (frameOf info red)
-    (concat k (λ j. tabulate (line .d .size) (lineSites (paramsOf (line .d)) (listsOf (line .d) own parity) (line .blocks) j))))
+    (concat k (λ j. tabulate (line .d .size) (readSites (paramsOf (line .d)) (listsOf (line .d) own parity) (line .blocks) j))))
 
 abbrev μ-loop : tie.MeasureT-loop
 μ-loop line own parity info red positions tables sums₀ lines total₀ k₀ sums total k = lines - k
@@ -45,7 +44,7 @@ line-remainders-requires c κs =
     let fits : LineFits (record { d = a .line .d; blocks = a .line .blocks; k = l .k }) =
     record { allowed = p .0 .allowed; few-blocks = p .0 .few-blocks; within = omega (arith, c .before .before .loop-test .taken, l .inv .0) } in
     subst (λ (z : Line). Received (z .d) (z .blocks) (a .own .now) (a .parity .now) (a .info .now) (a .red .now) × LineFits z × WordTable (z .d) (a .positions .now)
-    × (length (l .sums) ≡ z .d .size) × MayParts (a .positions .now) (z .d .size) (z .d .m * z .d .t) (a .tables .now)) (sym (c .before .line-at .ensures))
+    × (length (l .sums) ≡ z .d .size) × MayBoth (a .positions .now) (z .d .size) (z .d .m * z .d .t) (a .tables .now)) (sym (c .before .line-at .ensures))
     (p .0, fits, p .1, l .inv .2 ∙ p .2, p .3)
 
 add-total : tie.Need-add-total Inv-loop μ-loop

@@ -1,33 +1,30 @@
--- A report of another length is refused; else the decoder's answer, reported.
+-- The decoder's answer, reported; where the report has another length the decoder is lent no working bytes.
 -- Assumes nothing.
-use mathlib.Core.Path.{sym, _∙_}
+use Prim.Native.Nat.{ℕ}
 use lib.ListN.{length}
 use Rattle.staircase.specs.Calls.{Corrected}
 use Rattle.staircase.specs.Tally.{decodeWith}
 use Rattle.bauchleton.specs.Answers.{correctedAnswer}
-use Rattle.bauchleton.specs.Report.{reportBytes}
+use Rattle.bauchleton.specs.Report.{windowCallOf, windowReported, reportBytes}
 use Rattle.bauchleton.proofs.Answers.{corrected-told}
-use Rattle.bauchleton.proofs.Report.{window-forty, window-other}
+use Rattle.bauchleton.proofs.Report.{window-forty, lending, window-other, part-lent, decoded-told}
 use borrow.Author.Needs.{needs}
 use Rattle.bauchleton.proofs.calls.bauchleton_decode_window.Statement.{statement}
 use Rattle.bauchleton.proofs.calls.bauchleton_decode_window.Tie as tie
 
 returns : tie.Need-returns
 returns c =
-    let a = c .before .before .before .before .before .before .before .before .before .args in
-    let x = decodeWith (a .m) (a .t) (a .size) (a .blocks) (a .rounds) (a .own .now) (a .parity .now) (a .info .now) (a .red .now) (length (a .work .now)) in
-    window-other (a .report .now) (c .before .before .if1 .taken) (c .of-check .result) (c .before .refuse-decode .result) (c .of-check .ensures) x (a .window)
-    (c .before .refuse-decode .ensures)
-
-returns-2 : tie.Need-returns-2
-returns-2 c =
     let a = c .before .before .before .before .before .before .before .before .before .before .before .before .before .before .before .before .before .before .before .before .before .args in
-    let x = decodeWith (a .m) (a .t) (a .size) (a .blocks) (a .rounds) (a .own .now) (a .parity .now) (a .info .now) (a .red .now) (length (a .work .now)) in
-    corrected-told (λ (z : Corrected). reportBytes (correctedAnswer z)) (a .report .now) _
-    (c .before .before .before .before .before .before .before .before .before .before .decode-window .ensures ∙ sym (window-forty x (a .window) (a .report .now) (c .before .before .before .before .before .before .before .before .before .before .before .before .before .before .if1 .left)))
-    (c .before .before .report-decoding .ensures _)
+    let lent = c .before .before .before .before .before .before .before .before .before .before .before .before .before .before .lent-length in
+    let n = part-lent (a .work .now) (a .report .now) (lent .result) (lent .ensures .0) (lent .ensures .1) in
+    let made = c .before .before .before .before .before .before .before .before .before .before .decode-window in
+    let report = a .report .now in
+    let x = decodeWith (a .m) (a .t) (a .size) 0 (a .blocks) (a .rounds) (a .own .now) (a .parity .now) (a .info .now) (a .red .now) (length (a .work .now)) in
+    decoded-told report (λ (n : ℕ). windowCallOf (a .window) (lending n x)) (x .work) (windowReported report (a .window) x) (window-forty x (a .window) report) (λ h. window-other report h x (a .window)) n
+    (corrected-told (λ (z : Corrected). reportBytes (correctedAnswer z)) report (made .result) (made .ensures) (c .before .before .report-decoding .ensures _))
 
 pub bauchleton-decode-window-spec : {M : Type 1} → statement M
 bauchleton-decode-window-spec =
     tie.close
-    (tie.spec (λ c κs. search needs) (λ c κs. search needs) returns (λ c κs. search needs) (λ c κs. search needs) (λ c. search needs) (λ c. search needs) (λ c. search needs) (λ c. search needs) returns-2)
+    (tie.spec (λ c κs. search needs) (λ c. search needs) (λ c. search needs) (λ c. search needs) (λ c κs. search needs) (λ c κs. search needs)
+    (λ c. search needs) (λ c. search needs) (λ c. search needs) (λ c. search needs) returns)

@@ -2,8 +2,8 @@
 -- Assumes nothing.
 use mathlib.Core.Path.{refl, sym}
 use Rattle.staircase.specs.Frame.{Frame}
-use Rattle.decoder.specs.declared.Decoding.{Decoding}
-use Rattle.decoder.specs.Answers.{refusedFrame, correctedOf}
+use Rattle.answers.specs.declared.Decoding.{Decoding}
+use Rattle.answers.specs.Answers.{refusedFrame, correctedOf}
 use Rattle.rules_verdict.specs.Number.{number, placeOf}
 use Rattle.rules_verdict.proofs.Stores.{told-alike}
 use Rattle.bauchleton.specs.Answers.{correctedAnswer}

@@ -4,19 +4,20 @@ use mathlib.Core.Path.{sym, ap, _∙_}
 use Rattle.staircase.specs.Design.{Params}
 use Rattle.staircase.specs.Rules.{Verdict, _then_, countRule}
 use Rattle.staircase.proofs.Rules.{count-limits}
-use Rattle.design.specs.Answers.{verdictOf}
-use Rattle.design.proofs.Answers.{check-refused, check-passed, design-made, made-allowed, refused-design}
+use Rattle.answers.specs.Answers.{verdictOf}
+use Rattle.design.proofs.Answers.{design-made, made-allowed, refused-design}
 use Rattle.bauchleton.proofs.FrameSizes.{sizes-none, sizes-some}
 use borrow.Author.Needs.{needs}
 use Rattle.bauchleton.proofs.sizes.bauchleton_sizes.Statement.{statement}
 use Rattle.bauchleton.proofs.sizes.bauchleton_sizes.Tie as tie
+use Rattle.answers.proofs.Checks.{check-refused, check-passed}
 
 returns : tie.Need-returns
 returns c =
     let a = c .before .before .before .before .before .before .before .before .before .args in
     let made = c .before .before .before .before .before .before .before .new in
     let x = c .before .before .before .before .design-check in
-    let q = refused-design (a .m) (a .t) (a .size) (λ (s : Params). countRule (a .blocks)) (made .result) (made .ensures .0) (x .result) (c .before .before .before .before .before .enum-told .given .1)
+    let q = refused-design (a .m) (a .t) (a .size) 0 (λ (s : Params). countRule (a .blocks)) (made .result) (made .ensures .0) (x .result) (c .before .before .before .before .before .enum-told .given .1)
     (x .ensures) in
     sizes-none (a .m) (a .t) (a .size) (a .blocks) (a .answer .now) (verdictOf (x .result)) (q .0) (q .1) (c .before .before .tell-no-sizes .ensures)
 

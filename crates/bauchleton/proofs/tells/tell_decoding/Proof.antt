@@ -4,8 +4,8 @@ use borrow.Author.Needs.{needs}
 use mathlib.Core.Path.{sym}
 use mathlib.Core.List.{[], _∷_}
 use Rattle.staircase.specs.Frame.{Frame}
-use Rattle.decoder.specs.declared.Decoding.{Decoding}
-use Rattle.decoder.specs.Answers.{refusedFrame, correctedOf}
+use Rattle.answers.specs.declared.Decoding.{Decoding}
+use Rattle.answers.specs.Answers.{refusedFrame, correctedOf}
 use Rattle.rules_verdict.specs.Number.{number, placeOf}
 use Rattle.bauchleton.specs.Answers.{correctedAnswer}
 use Rattle.rules_verdict.proofs.Stores.{told-alike, judged-told}

@@ -3,8 +3,8 @@
 use borrow.Author.Needs.{needs}
 use mathlib.Core.Path.{sym}
 use mathlib.Core.List.{[], _∷_}
-use Rattle.words.specs.declared.WordCount.{WordCount}
-use Rattle.words.specs.Checks.{countedOf}
+use Rattle.answers.specs.declared.WordCount.{WordCount}
+use Rattle.answers.specs.Answers.{countedOf}
 use Rattle.rules_verdict.specs.Number.{number, placeOf}
 use Rattle.bauchleton.specs.Answers.{wordsAnswer}
 use Rattle.rules_verdict.proofs.Stores.{told-alike, judged-told}

@@ -15,13 +15,13 @@ use Rattle.encoder_frame.proofs.group.start_group.Tie as tie
 
 mul-area : tie.Need-mul-area
 mul-area c =
-    let s = c .before .before .before .before in
+    let s = c .before .before .before .before .before in
     let few = s .pre .0 .tables .few-columns in
     omega (arith, small-product (s .args .sizes .size) (s .args .sizes .size) 512 512 few few)
 
 start-rows-requires : tie.Need-start-rows-requires
 start-rows-requires c κs =
-    let s = c .before .before .before .before .before .before .before .before .before .before in
+    let s = c .before .before .before .before .before .before .before .before .before .before .before in
     let a = s .args in
     let z = a .sizes in
     let n = z .size * z .r in
@@ -30,13 +30,13 @@ start-rows-requires c κs =
     let before = c .before .before .before .before .before .block-of in
     let has-even = c .before .is-sent2 in
     let has-before = c .before .before .is-sent in
-    let fits = odd-fits (z .blocks) (z .size) (z .r) (a .info .now) (a .positions .now) (a .i) (odd .result .now) (even .result .now)
+    let fits = odd-fits (z .blocks) (z .size) (z .r) (a .info .now) (a .columns .now) (a .positions .now) (a .i) (odd .result .now) (even .result .now)
     (before .result .now) (has-even .result) (has-before .result) (odd .ensures) (even .ensures) (before .ensures) (has-even .ensures)
     (has-before .ensures) (s .pre .0) (s .pre .1) in (
       s .pre .0 .tables,
       fits .0,
       fits .1,
-      before-fits (z .blocks) (z .size) (z .r) (a .info .now) (a .positions .now) (a .i) (odd .result .now)
+      before-fits (z .blocks) (z .size) (z .r) (a .info .now) (a .columns .now) (a .positions .now) (a .i) (odd .result .now)
           (even .result .now) (before .result .now) (has-even .result) (has-before .result) (odd .ensures) (even .ensures) (before .ensures)
           (has-even .ensures) (has-before .ensures) (s .pre .0),
       part-length (a .out .now) 0 n n (omega arith) (omega arith),
@@ -44,7 +44,7 @@ start-rows-requires c κs =
 
 start-columns-requires : tie.Need-start-columns-requires
 start-columns-requires c κs =
-    let s = c .before .before .before .before .before .before .before .before .before .before .before .before .before .before in
+    let s = c .before .before .before .before .before .before .before .before .before .before .before .before .before .before .before in
     let a = s .args in
     let z = a .sizes in
     let n = z .size * z .r in
@@ -54,14 +54,14 @@ start-columns-requires c κs =
     let has-even = c .before .before .before .before .before .is-sent2 in
     let has-before = c .before .before .before .before .before .before .is-sent in
     let x = c .before .before .before .start-rows in
-    let fits = odd-fits (z .blocks) (z .size) (z .r) (a .info .now) (a .positions .now) (a .i) (odd .result .now) (even .result .now)
+    let fits = odd-fits (z .blocks) (z .size) (z .r) (a .info .now) (a .columns .now) (a .positions .now) (a .i) (odd .result .now) (even .result .now)
     (before .result .now) (has-even .result) (has-before .result) (odd .ensures) (even .ensures) (before .ensures) (has-even .ensures)
     (has-before .ensures) (s .pre .0) (s .pre .1) in
     let room = front-length (x .last .1 .1 .1 .1 .1 .1 .0) (a .out .now) (n - 0) (ap length (x .ensures) ∙ tabulate-length n _ ∙ omega arith) (omega arith) in (
-      s .pre .0 .tables,
+      s .pre .0 .column-tables,
       fits .0,
       fits .1,
-      even-fits (z .blocks) (z .size) (z .r) (a .info .now) (a .positions .now) (a .i) (odd .result .now)
+      even-fits (z .blocks) (z .size) (z .r) (a .info .now) (a .columns .now) (a .positions .now) (a .i) (odd .result .now)
           (even .result .now) (before .result .now) (has-even .result) (has-before .result) (odd .ensures) (even .ensures) (before .ensures)
           (has-even .ensures) (has-before .ensures) (s .pre .0),
       part-length _ n (2 * n) n (omega arith) (omega (arith, room)),
@@ -69,7 +69,7 @@ start-columns-requires c κs =
 
 returns : tie.Need-returns
 returns c =
-    let s = c .before .before .before .before .before .before .before .before .before .before .before .before .before .before .before .before .before in
+    let s = c .before .before .before .before .before .before .before .before .before .before .before .before .before .before .before .before .before .before in
     let a = s .args in
     let z = a .sizes in
     let n = z .size * z .r in
@@ -80,7 +80,7 @@ returns c =
     let has-before = c .before .before .before .before .before .before .before .before .before .is-sent in
     let x = c .before .before .before .before .before .before .start-rows in
     let y = c .before .before .start-columns in
-    start-made (z .blocks) (z .size) (z .r) (a .info .now) (a .positions .now) (a .i) (odd .result .now) (even .result .now) (before .result .now)
+    start-made (z .blocks) (z .size) (z .r) (a .info .now) (a .columns .now) (a .positions .now) (a .i) (odd .result .now) (even .result .now) (before .result .now)
     (has-even .result) (has-before .result) (odd .ensures) (even .ensures) (before .ensures) (has-even .ensures) (has-before .ensures) (a .out .now)
     (x .last .1 .1 .1 .1 .1 .1 .0) (y .last .1 .1 .1 .1 .1 .1 .0) (s .pre .2) (x .ensures) (y .ensures)
 

@@ -18,31 +18,31 @@ use Rattle.encoder_frame.proofs.stretch.make_stretch.Tie as tie
 
 solve-groups-requires : tie.Need-solve-groups-requires
 solve-groups-requires c κs =
-    let s = c .before .before .before .before .before .before .before .before .before .before .before .before in
+    let s = c .before .before .before .before .before .before .before .before .before .before .before .before .before in
     let a = s .args in
     let p = s .pre in
     let z = a .sizes in
     let n = z .size * z .r in
     let x = c .before .before .before .before .start-groups in
     let zeros : List ℕ = replicate 4096 0 in
-    let f : ℕ → List ℕ = λ g. startAt (a .positions .now) (z .size) (z .r) (z .blocks) (a .info .now) (a .first + g) in (
+    let f : ℕ → List ℕ = λ g. startAt (a .columns .now) (a .positions .now) (z .size) (z .r) (z .blocks) (a .info .now) (a .first + g) in (
       p .1,
       p .2,
       part-length zeros 0 n n (omega arith) (omega (arith, p .0 .tables .small)),
       λ q. zeros-part 4096 (n - 0) q,
-      ap length (x .ensures) ∙ concat-length (a .count) (2 * n) f (λ g. startAt-length (a .positions .now) (z .size) (z .r) (z .blocks) (a .info .now)
+      ap length (x .ensures) ∙ concat-length (a .count) (2 * n) f (λ g. startAt-length (a .columns .now) (a .positions .now) (z .size) (z .r) (z .blocks) (a .info .now)
           (a .first + g)),
-      subst⁻¹ Bits (x .ensures) (concat-bits (a .count) f (λ g. startAt-bits (a .positions .now) (z .size) (z .r) (z .blocks) (a .info .now) (a .first + g))),
+      subst⁻¹ Bits (x .ensures) (concat-bits (a .count) f (λ g. startAt-bits (a .columns .now) (a .positions .now) (z .size) (z .r) (z .blocks) (a .info .now) (a .first + g))),
     )
 
 returns : tie.Need-returns
 returns c =
-    let s = c .before .before .before .before .before .before .before .before .before .before .before .before .before .before .before .before in
+    let s = c .before .before .before .before .before .before .before .before .before .before .before .before .before .before .before .before .before in
     let a = s .args in
     let z = a .sizes in
     let x = c .before .before .before .before .before .before .before .before .start-groups in
-    stretch-made (a .positions .now) (a .preimages .now) (a .inverse .now) (z .size) (z .r) (z .blocks) (a .info .now) (a .first) (a .count) (s .pre .1)
-    (x .last .1 .1 .1 .1 .1 .0) _ (x .ensures) (c .before .before .before .solve-groups .ensures)
+    stretch-made (a .columns .now) (a .positions .now) (a .preimages .now) (a .inverse .now) (z .size) (z .r) (z .blocks) (a .info .now) (a .first) (a .count) (s .pre .1)
+    (x .last .1 .1 .1 .1 .1 .1 .0) _ (x .ensures) (c .before .before .before .solve-groups .ensures)
 
 pub make-stretch-spec : {M : Type 1} → statement M
 make-stretch-spec =

@@ -44,7 +44,7 @@ finish-groups-requires c κs =
     let T = p .0 .words in (
       ap length (c .before .before .before .before .before .solve .ensures) ∙ tabulate-length (z .size * z .r) _,
       p .1,
-      part-length (a .positions .now) (2 * z .size) (2 * z .size + z .r) (z .r) (omega arith) (omega (arith, T .powers)),
+      part-length (a .columns .now) (2 * z .size) (2 * z .size + z .r) (z .r) (omega arith) (omega (arith, T .powers)),
       p .4,
       p .5,
       T .some-columns,
@@ -64,7 +64,7 @@ returns c =
     let x = c .before .before .before .before .before .before .before .before .before .before .before .before .add-constants in
     let y = c .before .before .before .before .before .before .before .before .solve in
     c .before .before .finish-groups .ensures
-    ∙ groups-solved (a .positions .now) (a .preimages .now) (a .inverse .now) (x .last .1 .1 .1 .0) (y .last .1 .1 .1 .1 .0) (a .red .now) (z .size) (z .r) (a .count)
+    ∙ groups-solved (a .columns .now) (a .preimages .now) (a .inverse .now) (x .last .1 .1 .1 .0) (y .last .1 .1 .1 .1 .0) (a .red .now) (z .size) (z .r) (a .count)
     (p .0 .words .some-columns) (p .0 .words .some-rows) (omega (arith, p .0 .words .powers)) (y .ensures)
     (λ g q h l. rw (p .2) at (x .ensures .1) g q h l)
 

@@ -14,13 +14,13 @@ use Rattle.encoder_frame.proofs.stretch.start_at.Tie as tie
 
 mul-area : tie.Need-mul-area
 mul-area c =
-    let s = c .before .before .before .before .before in
+    let s = c .before .before .before .before .before .before in
     let few = s .pre .0 .tables .few-columns in
     omega (arith, small-product (s .args .sizes .size) (s .args .sizes .size) 512 512 few few)
 
 mul-area-2 : tie.Need-mul-area-2
 mul-area-2 c =
-    let s = c .before .before .before .before .before .before in
+    let s = c .before .before .before .before .before .before .before in
     let z = s .args .sizes in
     let few = s .pre .0 .tables .few-columns in
     let one = small-product (z .size) (z .size) 512 512 few few in
@@ -28,17 +28,17 @@ mul-area-2 c =
 
 div-from : tie.Need-div-from
 div-from c =
-    let s = c .before .before .before .before .before .before in
+    let s = c .before .before .before .before .before .before .before in
     omega (arith, group-number (s .args .sizes .frames) (groups (s .args .sizes .blocks)) (s .args .q) (s .pre .1), c .before .before .group-count .ensures)
 
 rem-start-group : tie.Need-rem-start-group
 rem-start-group c =
-    let s = c .before .before .before .before .before .before .before in
+    let s = c .before .before .before .before .before .before .before .before in
     omega (arith, group-number (s .args .sizes .frames) (groups (s .args .sizes .blocks)) (s .args .q) (s .pre .1), c .before .before .before .group-count .ensures)
 
 mul-from : tie.Need-mul-from
 mul-from c =
-    let s = c .before .before .before .before .before .before in
+    let s = c .before .before .before .before .before .before .before in
     let z = s .args .sizes in
     let m = c .before .before .group-count in
     let at = subst⁻¹ (λ (k : ℕ). s .args .q / k < z .frames) (m .ensures) (group-number (z .frames) (groups (z .blocks)) (s .args .q) (s .pre .1) .frame) in
@@ -46,7 +46,7 @@ mul-from c =
 
 add-start-group : tie.Need-add-start-group
 add-start-group c =
-    let s = c .before .before .before .before .before .before in
+    let s = c .before .before .before .before .before .before .before in
     let z = s .args .sizes in
     let m = c .before .before .group-count in
     let at = subst⁻¹ (λ (k : ℕ). s .args .q / k < z .frames) (m .ensures) (group-number (z .frames) (groups (z .blocks)) (s .args .q) (s .pre .1) .frame) in
@@ -54,7 +54,7 @@ add-start-group c =
 
 part-start-group-end : tie.Need-part-start-group-end
 part-start-group-end c =
-    let s = c .before .before .before .before .before .before in
+    let s = c .before .before .before .before .before .before .before in
     let z = s .args .sizes in
     let m = c .before .before .group-count in
     let at = subst⁻¹ (λ (k : ℕ). s .args .q / k < z .frames) (m .ensures) (group-number (z .frames) (groups (z .blocks)) (s .args .q) (s .pre .1) .frame) in
@@ -62,13 +62,13 @@ part-start-group-end c =
 
 start-group-requires : tie.Need-start-group-requires
 start-group-requires c κs =
-    let s = c .before .before .before .before .before .before .before .before in
+    let s = c .before .before .before .before .before .before .before .before .before in
     let a = s .args in
     let z = a .sizes in
     let m = c .before .before .before .before .group-count in
     let number = group-number (z .frames) (groups (z .blocks)) (a .q) (s .pre .1) in
     let at = subst⁻¹ (λ (k : ℕ). a .q / k < z .frames) (m .ensures) (number .frame) in (
-      subst⁻¹ (λ (x : List ℕ). FrameReady (z .blocks) (z .size) (z .r) x (a .positions .now)) (part-of (a .info .now) (a .q / m .result) (z .blocks *
+      subst⁻¹ (λ (x : List ℕ). FrameReady (z .blocks) (z .size) (z .r) x (a .columns .now) (a .positions .now)) (part-of (a .info .now) (a .q / m .result) (z .blocks *
           (z .size * z .size)))
           (frame-of (s .pre .0) (a .q / m .result) at),
       subst⁻¹ (λ (k : ℕ). a .q % k < groups (z .blocks)) (m .ensures) (number .group),
@@ -77,9 +77,9 @@ start-group-requires c κs =
 
 returns : tie.Need-returns
 returns c =
-    let a = c .before .before .before .before .before .before .before .before .before .before .before .args in
+    let a = c .before .before .before .before .before .before .before .before .before .before .before .before .args in
     let z = a .sizes in
-    start-at (a .positions .now) (z .size) (z .r) (z .blocks) (a .info .now) (a .q)
+    start-at (a .columns .now) (a .positions .now) (z .size) (z .r) (z .blocks) (a .info .now) (a .q)
     (c .before .before .before .before .before .before .before .group-count .ensures) (c .before .before .start-group .ensures)
 
 pub start-at-spec : {M : Type 1} → statement M

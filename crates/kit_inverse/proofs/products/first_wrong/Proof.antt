@@ -21,8 +21,8 @@ part-first-in-rows-end c =
 
 first-in-rows-requires : tie.Need-first-in-rows-requires
 first-in-rows-requires c κs =
-    let a = c .before .before .before .before .before .before .before .before .before .args in
-    let h = c .before .before .before .before .before .before .before .before .before .pre in
+    let a = c .before .before .before .before .before .before .before .before .before .before .args in
+    let h = c .before .before .before .before .before .before .before .before .before .before .pre in
     let f = c .before .before .before .fill-preimages in (
       h .0,
       omega (arith, c .first-in-rows-arg .given .2),
@@ -32,13 +32,13 @@ first-in-rows-requires c κs =
 returns : tie.Need-returns
 unfolding productWrong
 returns c =
-    let a = c .before .before .before .before .before .before .before .before .before .before .args in
-    let h = c .before .before .before .before .before .before .before .before .before .before .pre in
+    let a = c .before .before .before .before .before .before .before .before .before .before .before .args in
+    let h = c .before .before .before .before .before .before .before .before .before .before .before .pre in
     let f = c .before .before .before .before .fill-preimages in
     c .first-in-rows .ensures
     ∙ sent-found (a .n) (entries (a .n) (a .parity .now)) (h .1 .permutes) (f .last .1 .1 .0) _ (f .ensures .1) (part-is _ _ _ (f .ensures .0))
     (a .size) (length (a .part .now)) (h .1 .order) (h .1 .positive)
-    (λ p i. wrongIn (rowEntry (a .part .now) (entries (a .n) (a .own .now)) (a .size) p (i / a .n)) (a .t .now) (a .n) (i / a .n) (i % a .n))
+    (λ p i. wrongIn (rowEntry (a .columns .now) (a .part .now) (entries (a .n) (a .own .now)) (a .size) p (i / a .n)) (a .t .now) (a .n) (i / a .n) (i % a .n))
 
 pub first-wrong-spec : {M : Type 1} → statement M
 first-wrong-spec =

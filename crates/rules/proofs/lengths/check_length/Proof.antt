@@ -2,7 +2,7 @@
 -- Assumes nothing.
 use native.Mathlib.Omega.{arith}
 use borrow.Author.Tests.{eq-eqb, ne-eqb}
-use Rattle.design.specs.Answers.{refusalVerdict, verdictOf}
+use Rattle.answers.specs.Answers.{refusalVerdict, verdictOf}
 use Rattle.rules.proofs.lengths.check_length.Statement.{statement}
 use Rattle.rules.proofs.lengths.check_length.Tie as tie
 

@@ -2,8 +2,8 @@
 -- Assumes nothing.
 use mathlib.Core.Path.{refl, sym, ap, _∙_}
 use Rattle.staircase.specs.Rules.{Verdict, _then_}
-use Rattle.design.specs.Answers.{verdictOf}
-use Rattle.design.proofs.Answers.{refused-then, check-passed}
+use Rattle.answers.specs.Answers.{verdictOf}
+use Rattle.answers.proofs.Checks.{refused-then, check-passed}
 use borrow.Author.Needs.{needs}
 use Rattle.rules.proofs.lengths.first.Statement.{statement}
 use Rattle.rules.proofs.lengths.first.Tie as tie
