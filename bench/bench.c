@@ -359,7 +359,14 @@ int main(void)
         size_t lists = 2 * (size_t)s.size, matrix = s.size * (((size_t)s.size + 7) / 8), area = (size_t)M * M, group = 2 * (size_t)s.size;
         uint8_t *self = lend(lists), *parity = lend(lists), *inverse = lend(matrix), *work = lend(matrix);
         uint8_t *info = lend(LONG * area), *red = lend(LONG / 2 * group), *other = lend(LONG / 2 * group);
-        plain_random_lists(m, t, M, plain_kits[i].seed, self, parity);
+        plain_lists(m, t, M, plain_kits[i].seed, self, parity);
+        if (2 * m * t <= M) {
+            uint8_t *ours = lend(lists), *ours_parity = lend(lists);
+            differ |= bauchleton_mixed_lists(m, t, M, (uint32_t)plain_kits[i].seed, ours, lists, ours_parity, lists, load_answer, 2) != 0
+                || memcmp(ours, self, lists) != 0 || memcmp(ours_parity, parity, lists) != 0;
+            free(ours);
+            free(ours_parity);
+        }
         if (!plain_make_inverse(m, t, M, self, parity, inverse))
             return 1;
         differ |= bauchleton_load_fill(m, t, M, LONG, SEED, info, LONG * area, load_answer, 2) != 0;

@@ -1,5 +1,5 @@
-/* kits m t M [seed]: finds the first seed from the given one (from 1 by default) whose random lists have an inverse. The seed goes to standard
-   error, the kit text to standard output. gcc -O3 -o kits kits.c plain_text.c plain.c */
+/* kits m t M [seed]: finds the first seed from the given one (from 1 by default) whose lists have an inverse, mixed lists where 2 r is at
+   most M and random ones elsewhere. The seed goes to standard error, the kit text to standard output. gcc -O3 -o kits kits.c plain_text.c plain.c */
 
 #include "plain_text.h"
 
@@ -28,7 +28,7 @@ int main(int count, char **argument)
     if (!self || !parity || !inverse || !text)
         return 1;
     for (;; seed++) {
-        plain_random_lists(m, t, M, seed, self, parity);
+        plain_lists(m, t, M, seed, self, parity);
         if (plain_make_inverse(m, t, M, self, parity, inverse))
             break;
     }

@@ -12,7 +12,7 @@
 
 enum { MAX_N = 1023, MAX_T = 3, MAX_M = 500, MAX_R = 30, MAX_SIZE = 4096, MAX_ROUNDS = 64, MAX_WINDOW = 64, DEFAULT_ROUNDS = 12 };
 
-const plain_kit plain_kits[PLAIN_KITS] = { { 4, 1, 2, 3 }, { 8, 3, 72, 4 }, { 9, 3, 135, 3 }, { 10, 2, 204, 4 } };
+const plain_kit plain_kits[PLAIN_KITS] = { { 4, 1, 2, 3 }, { 8, 3, 72, 4 }, { 9, 3, 135, 15 }, { 10, 2, 204, 1 } };
 
 static void *zeroed(size_t count, size_t each)
 {
@@ -586,16 +586,21 @@ uint32_t plain_load_fill(uint32_t seed, uint8_t *bits, size_t count)
     return seed;
 }
 
+/* A number of 16 steps, the first output its highest bit. */
+static unsigned load_draw(uint32_t *state)
+{
+    unsigned drawn = 0;
+    for (unsigned step = 0; step < 16; step++) {
+        *state = *state * 1664525u + 1013904223u;
+        drawn = 2 * drawn + (*state >> 31);
+    }
+    return drawn;
+}
+
 uint32_t plain_load_errors(uint32_t seed, uint64_t limit, uint8_t *bits, size_t count)
 {
-    for (size_t i = 0; i < count; i++) {
-        unsigned drawn = 0;
-        for (unsigned step = 0; step < 16; step++) {
-            seed = seed * 1664525u + 1013904223u;
-            drawn = 2 * drawn + (seed >> 31);
-        }
-        bits[i] ^= drawn < limit;
-    }
+    for (size_t i = 0; i < count; i++)
+        bits[i] ^= load_draw(&seed) < limit;
     return seed;
 }
 
@@ -634,6 +639,41 @@ void plain_random_lists(unsigned m, unsigned t, unsigned M, uint64_t seed, uint8
         plain_random(&state);
     random_permutation(self, M * m * t, &state);
     random_permutation(parity, M * m * t, &state);
+}
+
+/* Place j M + a goes to row `row[j]` of column word c, where c is a + shift + j modulo M. */
+static void mixed_list(unsigned r, unsigned M, unsigned shift, uint32_t *state, uint8_t *list)
+{
+    for (unsigned c = 0; c < M; c++) {
+        unsigned row[32];
+        for (unsigned j = 0; j < r; j++)
+            row[j] = j;
+        for (unsigned i = r - 1; i > 0; i--) {
+            unsigned j = load_draw(state) % (i + 1), swap = row[i];
+            row[i] = row[j];
+            row[j] = swap;
+        }
+        for (unsigned j = 0; j < r; j++) {
+            unsigned place = j * M + (c + 2 * M - shift - j) % M, entry = row[j] * M + c;
+            list[2 * place] = entry & 255;
+            list[2 * place + 1] = entry >> 8;
+        }
+    }
+}
+
+uint32_t plain_mixed_lists(unsigned m, unsigned t, unsigned M, uint32_t seed, uint8_t *self, uint8_t *parity)
+{
+    mixed_list(m * t, M, 0, &seed, self);
+    mixed_list(m * t, M, m * t, &seed, parity);
+    return seed;
+}
+
+void plain_lists(unsigned m, unsigned t, unsigned M, uint64_t seed, uint8_t *self, uint8_t *parity)
+{
+    if (2 * m * t <= M)
+        plain_mixed_lists(m, t, M, (uint32_t)seed, self, parity);
+    else
+        plain_random_lists(m, t, M, seed, self, parity);
 }
 
 /* ---- Frames ---- */

@@ -82,6 +82,12 @@ uint32_t plain_random(uint64_t *state);
 /* Fills both lists with permutations that depend on the seed alone. */
 void plain_random_lists(unsigned m, unsigned t, unsigned M, uint64_t seed, uint8_t *self, uint8_t *parity);
 
+/* Fills both lists with the mixed lists of a seed, where 2 r is at most M, and returns the last state of the load's generator. */
+uint32_t plain_mixed_lists(unsigned m, unsigned t, unsigned M, uint32_t seed, uint8_t *self, uint8_t *parity);
+
+/* Mixed lists where 2 r is at most M, else random ones. */
+void plain_lists(unsigned m, unsigned t, unsigned M, uint64_t seed, uint8_t *self, uint8_t *parity);
+
 /* Designs with the smallest seed from 1 whose lists have an inverse, as kits.c finds it. */
 typedef struct {
     unsigned m, t, M;

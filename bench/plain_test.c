@@ -486,7 +486,7 @@ static void test_generators(void)
     group_done("generators", start);
 }
 
-/* ---- Kits with random lists ---- */
+/* ---- Kits, with mixed lists where 2 r is at most M and random ones elsewhere ---- */
 
 typedef struct {
     uint8_t *self, *parity, *inverse;
@@ -499,7 +499,7 @@ static kit make_kit(unsigned m, unsigned t, unsigned M, uint64_t seed, unsigned 
     unsigned N = M * m * t;
     kit k = { get(2 * N), get(2 * N), get((size_t)N * ((N + 7) / 8)), N * ((N + 7) / 8) };
     for (; tries > 0; tries--, seed++) {
-        plain_random_lists(m, t, M, seed, k.self, k.parity);
+        plain_lists(m, t, M, seed, k.self, k.parity);
         if (plain_make_inverse(m, t, M, k.self, k.parity, k.inverse))
             return k;
     }

@@ -56,7 +56,7 @@ static kit make_kit(unsigned m, unsigned t, unsigned M, uint64_t seed)
     k.self = get(2 * k.size);
     k.parity = get(2 * k.size);
     k.inverse = get(k.bytes);
-    plain_random_lists(m, t, M, seed, k.self, k.parity);
+    plain_lists(m, t, M, seed, k.self, k.parity);
     k.regular = plain_make_inverse(m, t, M, k.self, k.parity, k.inverse);
     return k;
 }

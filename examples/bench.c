@@ -1,4 +1,4 @@
-/* A bench of a link at m 8, t 3, M 72, whole: makes a kit from two lists, encodes frames in one call, turns bits as a link would, corrects the frames
+/* A bench of a link at m 8, t 3, M 72, whole: makes a kit from mixed lists, encodes frames in one call, turns bits as a link would, corrects the frames
    and prints what was counted. Whoever runs it sees the same numbers, examples/bench.txt.
 
        gcc -std=c99 -O2 -Iinclude examples/bench.c target/staticlib/libbauchleton.a -o bench && ./bench
@@ -17,7 +17,7 @@ enum {
     BLOCKS = 31,                    /* an odd number: the last block of an even number has column words only */
     FRAMES = 4,
     LIMIT = 655,                    /* a bit turns where a draw of 16 bits is below it: a rate of about 0.01 */
-    LOAD_SEED = 1, LINK_SEED = 2
+    KIT_SEED = 1, LOAD_SEED = 1, LINK_SEED = 2
 };
 
 /* What all calls of the bench are lent. */
@@ -72,50 +72,23 @@ static bench make_bench(void)
     return b;
 }
 
-/* A draw of 16 steps of the test load's generator, the first output its highest bit. */
-static unsigned draw(uint32_t *state)
-{
-    unsigned number = 0;
-    for (int step = 0; step < 16; step++) {
-        *state = (uint32_t)(*state * UINT64_C(1664525) + 1013904223);
-        number = 2 * number + (*state >> 31);
-    }
-    return number;
-}
-
-/* A permutation of 0 to order - 1, two bytes an entry, low byte first: each entry, from the last, changes places with the one at a draw's remainder. */
-static void permute(uint8_t *list, unsigned order, uint32_t *state)
-{
-    for (unsigned p = 0; p < order; p++) {
-        list[2 * p] = p % 256;
-        list[2 * p + 1] = (uint8_t)(p / 256);
-    }
-    for (unsigned p = order - 1; p > 0; p--) {
-        uint8_t *last = list + 2 * p, *other = list + 2 * (draw(state) % (p + 1)), entry[2];
-        memcpy(entry, last, 2);
-        memcpy(last, other, 2);
-        memcpy(other, entry, 2);
-    }
-}
-
-/* The kit: lists from a seed, the next seed where they have no inverse. */
+/* The kit: mixed lists from a seed, which keep the error floor low, and on from the generator's last state where they have no inverse. */
 static void make_kit(const bench *b)
 {
-    const unsigned order = SIZE * (unsigned)b->sizes[BAUCHLETON_SIZES_R];
     uint8_t report[BAUCHLETON_REPORT_BYTES];
-    uint64_t answer[1], rule;
-    uint32_t seed = 0;
+    uint64_t lists[2] = { 0, KIT_SEED }, answer[1], rule;
+    uint32_t seed;
     do {
-        uint32_t state = ++seed;
-        permute(b->self, order, &state);
-        permute(b->parity, order, &state);
+        seed = (uint32_t)lists[1];
+        rule = bauchleton_mixed_lists(M, T, SIZE, seed, b->self, b->list, b->parity, b->list, lists, 2);
+        accept("mixed_lists", rule, lists[0]);
         rule = bauchleton_make_inverse(M, T, SIZE, b->self, b->list, b->parity, b->list, b->inverse, b->matrix, b->work,
                                        b->sizes[BAUCHLETON_SIZES_MAKE_INVERSE_WORK], answer, 1);
         if (rule == BAUCHLETON_SINGULAR)
             printf("lists of seed %" PRIu32 ": no inverse, column %" PRIu64 " is a sum of earlier ones\n", seed, answer[0]);
     } while (rule == BAUCHLETON_SINGULAR);
     accept("make_inverse", rule, answer[0]);
-    printf("lists of seed %" PRIu32 ": inverse of %u rows made\n", seed, order);
+    printf("lists of seed %" PRIu32 ": inverse of %zu rows made\n", seed, b->list / 2);
     rule = bauchleton_check_kit(M, T, SIZE, b->self, b->list, b->parity, b->list, b->inverse, b->matrix, b->work, b->sizes[BAUCHLETON_SIZES_CHECK_KIT_WORK],
                                 report, sizeof report);
     accept("check_kit", rule, place_of(report));

@@ -3,6 +3,7 @@
 --   corrected-left, corrected-told    a call that decodes: the frame that it leaves, and what it tells, whichever numbers of its result
 --   show-told                         showing
 --   part-block, part-group            what is shown
+--   accepted-told, refused-told       a call that tells some numbers, accepted and refused
 --   pasted-none                       a stretch that does not fit
 --   pasted-more, pasted-all           a turn of the loop that copies one, and its end
 -- Assumes nothing.
@@ -19,7 +20,7 @@ use Rattle.staircase.specs.Design.{params}
 use Rattle.staircase.specs.Frame.{Frame}
 use Rattle.staircase.specs.Rules.{Verdict, Part, designRules}
 use Rattle.staircase.specs.Calls.{Corrected, Shown}
-use Rattle.staircase.specs.Rules.Verdict.{accepted}
+use Rattle.staircase.specs.Rules.Verdict.{accepted, refused}
 use Rattle.staircase.specs.Rules.Part.{block, group}
 use Rattle.design.specs.declared.Design.{Design}
 use Rattle.design.specs.declared.Designed.{Designed}
@@ -33,7 +34,7 @@ use Rattle.rules_verdict.specs.declared.Judged.{Judged}
 use Rattle.rules_verdict.specs.Number.{number, placeOf, judgedOf, told}
 use Rattle.rules_verdict.proofs.Refused.{refusal-whole}
 use Rattle.rules_verdict.proofs.Stores.{told-alike, judged-told}
-use Rattle.bauchleton.specs.Answers.{designAnswer, showAnswer, shownPart, pasted}
+use Rattle.bauchleton.specs.Answers.{designAnswer, showAnswer, shownPart, pasted, zeros, answerBy}
 
 -- ---- designs
 
@@ -72,6 +73,23 @@ pub corrected-told : (answer : Corrected → List ℕ) (l : List ℕ) (d : Decod
 corrected-told answer l d {f = f} e h =
     let t = told-alike (λ (z : Corrected). number (z .verdict)) answer l e h in
     (t .0, sym (corrected-left d f) ∙ ap (λ (z : Corrected). z .frame) e, t .1)
+
+-- ---- calls that tell some numbers
+
+refused-by : (v : Verdict) (l : List ℕ) → v ≢ accepted → placeOf v ∷ zeros l ≡ answerBy v l
+unfolding placeOf answerBy
+refused-by accepted l h = absurd (h refl)
+refused-by (refused n p) l h = refl
+
+module _ (l old : List ℕ) {a : ℕ} {k : List ℕ} where
+  pub accepted-told : {v : Verdict} → accepted ≡ v → (a ≡ 0) × (k ≡ told (0 ∷ l) old) → (a ≡ number v) × (k ≡ told (answerBy v l) old)
+  unfolding number answerBy
+  accepted-told e h = told-alike number (λ (v : Verdict). answerBy v l) old e h
+
+  -- u is what the code answers
+  pub refused-told : (u : Verdict) {v : Verdict} → u ≢ accepted → u ≡ v → (a ≡ number u) × (k ≡ told (placeOf u ∷ zeros l) old)
+      → (a ≡ number v) × (k ≡ told (answerBy v l) old)
+  refused-told u h e t = told-alike number (λ (v : Verdict). answerBy v l) old e (t .0, t .1 ∙ ap (λ (z : List ℕ). told z old) (refused-by u l h))
 
 -- ---- showing
 

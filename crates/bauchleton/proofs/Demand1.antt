@@ -20,6 +20,7 @@ use Rattle.staircase.specs.Rules.Verdict.{accepted, refused}
 use Rattle.staircase.specs.Calls.{encodedBy, encodeVerdict, encodeCall, wordsCall, Counts, correctedBy, showVerdict, stretch, shownBy, showCall}
 use Rattle.staircase.specs.Maker.{makeCall}
 use Rattle.staircase.specs.Spread.{spreadCall}
+use Rattle.staircase.specs.Mixed.{mixedCall}
 use Rattle.staircase.specs.Batch.{batchVerdict, batchRedundancy, batchCall}
 use Rattle.staircase.specs.Window.{windowed, windowCounts, windowVerdict, windowCall}
 use Rattle.staircase.specs.Tally.{Decode, decodeWith, callOf}
@@ -27,7 +28,7 @@ use Rattle.staircase.specs.Demand1.{among, ByTable, worked}
 use Rattle.staircase.specs.Demand1 as table
 use Rattle.staircase.proofs.Encoded.{encodedBy-verdict}
 use Rattle.staircase.proofs.Decoded.{correctedBy-verdict}
-use Rattle.staircase.proofs.Demand1.{byTable-then, byTable-refuse, encodedBy-untouched, correctedBy-untouched, design-demand1, kit-demand1, make-demand1, spread-demand1, encode-demand1, batch-demand1, words-demand1, decode-byTable, window-demand1, show-demand1}
+use Rattle.staircase.proofs.Demand1.{byTable-then, byTable-refuse, encodedBy-untouched, correctedBy-untouched, design-demand1, kit-demand1, make-demand1, spread-demand1, mixed-demand1, encode-demand1, batch-demand1, words-demand1, decode-byTable, window-demand1, show-demand1}
 use Rattle.loopback.specs.Link.{loopbackCall}
 use Rattle.loopback.proofs.Demand1.{loopback-demand1}
 use Rattle.rules_verdict.specs.Number.{number, placeOf}
@@ -103,6 +104,11 @@ pub bauchleton-spread-lists-demand1 : (m t M : ℕ) (self parity : List ℕ)
     → Demand1C (1 ∷ 2 ∷ 3 ∷ 6 ∷ 15 ∷ []) (number (spreadCall m t M 0 self parity .verdict)) (placeOf (spreadCall m t M 0 self parity .verdict))
     (self ∷ parity ∷ []) (spreadCall m t M 0 self parity .self ∷ spreadCall m t M 0 self parity .parity ∷ [])
 bauchleton-spread-lists-demand1 m t M self parity = demand1-number _ _ _ _ (spread-demand1 m t M 0 self parity)
+
+pub bauchleton-mixed-lists-demand1 : (m t M seed : ℕ) (self parity : List ℕ)
+    → Demand1C (1 ∷ 2 ∷ 3 ∷ 6 ∷ 15 ∷ []) (number (mixedCall m t M 0 seed self parity .verdict)) (placeOf (mixedCall m t M 0 seed self parity .verdict))
+    (self ∷ parity ∷ []) (mixedCall m t M 0 seed self parity .self ∷ mixedCall m t M 0 seed self parity .parity ∷ [])
+bauchleton-mixed-lists-demand1 m t M seed self parity = demand1-number _ _ _ _ (mixed-demand1 m t M 0 seed self parity)
 
 module _ (m t M L : ℕ) (self parity w info red : List ℕ) (work : ℕ) where
   pub bauchleton-encode-demand1 : (report : List ℕ)

@@ -10,27 +10,27 @@
 --   bauchleton-decode-tallied-demand1, bauchleton-report-demand1   demand 1 of both calls
 -- Assumes nothing.
 use mathlib.Core.Path.{_≡_, refl, sym, ap, ap₂, subst, subst⁻¹, _∙_}
-use mathlib.Core.Bool.{Bool, true, false, cond, not}
+use mathlib.Core.Bool.{Bool, true, false, cond, not, true≢false}
 use mathlib.Core.Logic.{_≢_}
 use mathlib.Core.List.{List, [], _∷_, _++_}
-use Prim.Native.Nat.{ℕ, _+_, _-_, _*_, _^_, _≤_, _<_}
+use Prim.Native.Nat.{ℕ, _+_, _≤_, _<_}
 use native.Mathlib.Nat.{suc-inj, suc-ne-zero}
 use native.Mathlib.Omega.{arith}
-use borrow.Author.Tests.{eq-eqb, ne-eqb, lt-ltb, le-ltb}
+use borrow.Author.Tests.{eq-eqb, ne-eqb, lt-ltb, le-ltb, ltb-true, ltb-false}
 use lib.Dec.{eqb, ltb}
 use lib.ListN.{length, getD}
 use Rattle.staircase.specs.Lists.{firstWhere}
-use Rattle.staircase.specs.Design.{Params, Interleavers, params, wordLength, order, least-m, most-m, most-t, most-M, most-col, most-order, most-blocks, most-rounds}
+use Rattle.staircase.specs.Design.{Params, Interleavers, params, order}
 use Rattle.staircase.specs.Frame.{Frame, frameOf}
-use Rattle.staircase.specs.Rules.{Verdict, _then_, refuse, refuseFirst, outOfRange, sizeRule, longRule, largeRule, designRules, countRule, roundsRule, lengthRule, listLengths, frameLengths, infoLength, redLength, decoderWork, interleavers, badEntry, listRule, bitRule, frameBits}
+use Rattle.staircase.specs.Rules.{Verdict, _then_, refuse, refuseFirst, designRules, countRule, roundsRule, lengthRule, listLengths, frameLengths, decoderWork, interleavers, badEntry, listRule, bitRule, frameBits}
 use Rattle.staircase.specs.Rules.Verdict.{accepted, refused}
 use Rattle.staircase.specs.Calls.{Counts, no-counts, Corrected, correctedBy}
 use Rattle.staircase.specs.Tally.{Tally, plus, totals, Decode, callOf, contribution, fullRule, verdictFor, furtherCall, tallyVerdict, talliedBy, Tallied, tallyCall}
 use Rattle.staircase.specs.Report.{Report, reportCall}
-use Rattle.staircase.specs.Demand1.{among, ByTable}
+use Rattle.staircase.specs.Demand1.{among, ByTable, worked, refusedBy}
 use Rattle.staircase.specs.Demand1 as table
 use Rattle.staircase.proofs.Decoded.{correctedBy-verdict}
-use Rattle.staircase.proofs.Demand1.{byTable-then, byTable-refuse, byTable-more, decode-byTable, correctedBy-untouched}
+use Rattle.staircase.proofs.Demand1.{byTable-then, byTable-refuse, byTable-more, design-byTable, count-byTable, rounds-byTable, length-byTable, lists-fit-byTable, frame-fits-byTable, decode-byTable, correctedBy-untouched}
 use Rattle.staircase.proofs.Tally.{full-byTable}
 use Rattle.answers.specs.Answers.{correctedOf, refusedFrame}
 use Rattle.rules.proofs.Chain.{then-assoc}
@@ -119,50 +119,45 @@ tallied-alike (refused n p) (refused k q) l y z f g o c d h = (h .0, refl)
 
 -- ---- rules up to 6, and those behind them
 
-low-then : (u v : Verdict) → number u ≤ 6 → number v ≤ 6 → number (u then v) ≤ 6
-low-then accepted v hu hv = hv
-low-then (refused n p) v hu hv = hu
+up-to-six : (n : ℕ) → among n (1 ∷ 2 ∷ 3 ∷ 4 ∷ 5 ∷ 6 ∷ []) ≡ true → n ≤ 6
+up-to-six n a = by-test (ltb 6 n) refl
+  where
+    by-test : (b : Bool) → ltb 6 n ≡ b → n ≤ 6
+    by-test false e = ltb-false 6 n e
+    by-test true e =
+        let h : 6 < n = ltb-true 6 n e in
+        let none : among n (1 ∷ 2 ∷ 3 ∷ 4 ∷ 5 ∷ 6 ∷ []) ≡ false =
+        rw (
+          ne-eqb n 1 (λ z. omega arith),
+          ne-eqb n 2 (λ z. omega arith),
+          ne-eqb n 3 (λ z. omega arith),
+          ne-eqb n 4 (λ z. omega arith),
+          ne-eqb n 5 (λ z. omega arith),
+          ne-eqb n 6 (λ z. omega arith),
+        ) in
+        absurd (true≢false (sym a ∙ none))
 
-low-refuse : (b : Bool) (n p : ℕ) → n ≤ 6 → number (refuse b n p) ≤ 6
+low-number : (v : Verdict) → ByTable (1 ∷ 2 ∷ 3 ∷ 4 ∷ 5 ∷ 6 ∷ []) v → number v ≤ 6
 unfolding number
-low-refuse true n p h = h
-low-refuse false n p h = omega arith
-
-low-length : (place have due : ℕ) → number (lengthRule place have due) ≤ 6
-low-length place have due = low-refuse (not (eqb have due)) 6 place (omega arith)
-
-design-low : (m t M col : ℕ) → number (designRules m t M col) ≤ 6
-unfolding designRules sizeRule longRule largeRule
-design-low m t M col =
-    let s : Params = params m t M col in
-    let a : Verdict = refuse (outOfRange least-m most-m m) 1 1 in
-    let b : Verdict = refuse (outOfRange 1 most-t t) 1 2 in
-    let c : Verdict = refuse (outOfRange 1 most-M M) 1 3 in
-    let d : Verdict = refuse (ltb most-col col) 1 4 in
-    low-then (a then b then c then d) (longRule m s then largeRule s)
-    (low-then a (b then c then d) (low-refuse (outOfRange least-m most-m m) 1 1 (omega arith))
-    (low-then b (c then d) (low-refuse (outOfRange 1 most-t t) 1 2 (omega arith))
-    (low-then c d (low-refuse (outOfRange 1 most-M M) 1 3 (omega arith)) (low-refuse (ltb most-col col) 1 4 (omega arith)))))
-    (low-then (longRule m s) (largeRule s) (low-refuse (ltb (2 ^ m - 1) (wordLength s)) 2 (wordLength s) (omega arith))
-    (low-refuse (ltb most-order (order s)) 3 (order s) (omega arith)))
+low-number v (worked e) = rw e (omega arith)
+low-number v (refusedBy n p e a t) = rw e (up-to-six n a)
 
 numbers-low : (x : Decode) → number (numbersFor x) ≤ 6
-unfolding numbersFor countRule roundsRule listLengths frameLengths
+unfolding numbersFor
 numbers-low x =
+    let R : List ℕ = 1 ∷ 2 ∷ 3 ∷ 4 ∷ 5 ∷ 6 ∷ [] in
     let s : Params = params (x .m) (x .t) (x .M) (x .col) in
     let work : Verdict = lengthRule 6 (x .work) (decoderWork s (x .L)) in
-    let frame : Verdict = frameLengths s (x .L) (x .info) (x .red) then work in
-    let lists : Verdict = listLengths s (x .self) (x .parity) then frame in
-    low-then (designRules (x .m) (x .t) (x .M) (x .col)) (countRule (x .L) then roundsRule (x .rounds) then lists) (design-low (x .m) (x .t) (x .M) (x .col))
-    (low-then (countRule (x .L)) (roundsRule (x .rounds) then lists) (low-refuse (outOfRange 1 most-blocks (x .L)) 4 (x .L) (omega arith))
-    (low-then (roundsRule (x .rounds)) lists (low-refuse (ltb most-rounds (x .rounds)) 5 (x .rounds) (omega arith))
-    (low-then (listLengths s (x .self) (x .parity)) frame
-    (low-then (lengthRule 1 (length (x .self)) (2 * order s)) (lengthRule 2 (length (x .parity)) (2 * order s))
-    (low-length 1 (length (x .self)) (2 * order s)) (low-length 2 (length (x .parity)) (2 * order s)))
-    (low-then (frameLengths s (x .L) (x .info) (x .red)) work
-    (low-then (lengthRule 4 (length (x .info)) (infoLength s (x .L))) (lengthRule 5 (length (x .red)) (redLength s (x .L)))
-    (low-length 4 (length (x .info)) (infoLength s (x .L))) (low-length 5 (length (x .red)) (redLength s (x .L))))
-    (low-length 6 (x .work) (decoderWork s (x .L)))))))
+    let frame : Verdict = frameLengths s (x .L) (x .info) (x .red) in
+    let lists : Verdict = listLengths s (x .self) (x .parity) in
+    low-number (numbersFor x)
+    (byTable-then R (designRules (x .m) (x .t) (x .M) (x .col)) (countRule (x .L) then roundsRule (x .rounds) then lists then frame then work)
+    (design-byTable R refl refl refl (x .m) (x .t) (x .M) (x .col))
+    (λ a. byTable-then R (countRule (x .L)) (roundsRule (x .rounds) then lists then frame then work) (count-byTable R refl (x .L))
+    (λ b. byTable-then R (roundsRule (x .rounds)) (lists then frame then work) (rounds-byTable R refl (x .rounds))
+    (λ c. byTable-then R lists (frame then work) (lists-fit-byTable R refl s (x .self) (x .parity))
+    (λ d. byTable-then R frame work (frame-fits-byTable R refl s (x .L) (x .info) (x .red))
+    (λ e. length-byTable R refl 6 (x .work) (decoderWork s (x .L)) (omega arith) (omega arith)))))))
 
 abbrev Late : Verdict → Type 0
 Late v = v ≢ accepted → 6 < number v

@@ -7,3 +7,6 @@ pub mod LoadDemand1
 pub mod FrameSizes
 pub mod OriginalReport
 pub mod OriginalDemand1
+pub mod RuleNames
+pub mod MadeTold
+pub mod BufferDemand1

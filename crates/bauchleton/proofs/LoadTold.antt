@@ -1,4 +1,4 @@
--- Laws of what the calls of the test load tell.
+-- Laws of what the calls that start from a seed tell.
 --   load-told   a call that starts from a seed
 -- Assumes nothing.
 use mathlib.Core.Path.{_≡_, ap, ap₂, _∙_}

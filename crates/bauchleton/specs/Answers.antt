@@ -4,6 +4,7 @@
 --   correctedAnswer   of the decoder and the loopback: four counts
 --   showAnswer        of showing: the length of the stretch
 --   shownPart         what is shown: a block or a group
+--   zeros, answerBy   of a call that tells some numbers: these, or as many zeros
 --   pasted            a lent slice after a stretch was copied to its start, which is only done where it fits
 -- Assumes nothing.
 use mathlib.Core.Bool.{cond}
@@ -40,3 +41,13 @@ shownPart kind n = cond (eqb kind 0) (block n) (group n)
 
 unfoldable pub pasted : List ℕ → List ℕ → List ℕ
 pasted s old = cond (leb (length s) (length old)) (s ++ drop (length s) old) old
+
+-- a list of as many zeros
+unfoldable pub zeros : List ℕ → List ℕ
+zeros [] = []
+zeros (x ∷ l) = 0 ∷ zeros l
+
+-- the place and some numbers, "0 where the call is refused"
+unfoldable pub answerBy : Verdict → List ℕ → List ℕ
+answerBy accepted l = 0 ∷ l
+answerBy (refused n p) l = p ∷ zeros l

@@ -37,7 +37,7 @@ fn part_of(kind: u64, which: u64) -> Part
 }
 
 // Copies a stretch to the start of `out`, where it fits.
-fn paste(stretch: &[u8], out: &mut [u8])
+pub fn paste(stretch: &[u8], out: &mut [u8])
     ensures { λ u. ⌜ now (out .exit) ≡ pasted (now (stretch .entry)) (now (out .entry)) ⌝ }
 {
     if out.len() < stretch.len() {

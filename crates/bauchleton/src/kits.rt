@@ -3,6 +3,7 @@
 //   bauchleton_check_kit   the kit checker
 //   bauchleton_make_inverse   the maker of a kit's inverse
 //   bauchleton_spread_lists   spread lists
+//   bauchleton_mixed_lists    mixed lists of a seed
 ghost use mathlib.Core.Path.{_≡_};
 ghost use mathlib.Core.List.{[], _∷_};
 ghost use lib.ListN.{length};
@@ -10,12 +11,14 @@ ghost use Rattle.staircase.specs.Design.{params};
 ghost use Rattle.staircase.specs.Rules.{designRules};
 ghost use Rattle.staircase.specs.Maker.{makeCall};
 ghost use Rattle.staircase.specs.Spread.{spreadCall};
+ghost use Rattle.staircase.specs.Mixed.{mixedCall};
 ghost use Rattle.rules_verdict.specs.Number.{number, placeOf, told};
 ghost use Rattle.bauchleton.specs.Answers.{designAnswer};
 ghost use Rattle.bauchleton.specs.Report.{kitReported, checkReport, reportBytes};
 use crate::reports::lent_length;
 use crate::reports::report_check;
 use crate::tells::tell_check;
+use crate::tells::tell_load;
 use design::Design;
 use design::Designed;
 use rules_verdict::Judged;
@@ -98,4 +101,24 @@ pub extern "C" fn bauchleton_spread_lists(
 {
     let c = kit_spread::spread_lists(m, t, size, own, parity);
     tell_check(c, answer)
+}
+
+// Fills both lists with the mixed lists of a design and a seed. `answer` has two entries: the place and the generator's last state.
+#[no_mangle]
+pub extern "C" fn bauchleton_mixed_lists(
+    m: u64,
+    t: u64,
+    size: u64,
+    seed: u32,
+    own: &mut [u8],
+    parity: &mut [u8],
+    answer: &mut [u64],
+) -> u64
+    ensures { λ a.
+        let c = mixedCall m t size 0 seed (now (own .entry)) (now (parity .entry)) in
+        ⌜ (a ≡ number (c .verdict)) × (now (own .exit) ≡ c .self) × (now (parity .exit) ≡ c .parity)
+        × (now (answer .exit) ≡ told (placeOf (c .verdict) ∷ c .state ∷ []) (now (answer .entry))) ⌝ }
+{
+    let a = kit_spread::mixed_lists(m, t, size, seed, own, parity);
+    tell_load(a, answer)
 }

@@ -6,23 +6,9 @@ ghost use mathlib.Core.Path.{_≡_};
 ghost use mathlib.Core.List.{[], _∷_};
 ghost use Rattle.staircase.specs.Frame.{frameOf};
 ghost use Rattle.staircase.specs.Load.{fillCall, errorsCall, runCall};
-ghost use Rattle.load.specs.Answers.{loadVerdict, loadState};
 ghost use Rattle.rules_verdict.specs.Number.{number, placeOf, told};
 use crate::tells::tell_check;
-use load::Loaded;
-use rules_verdict::Judged;
-use rules_verdict::of_refusal;
-use rules_verdict::tell_two;
-
-// Tells the answer of a call that starts from a seed.
-fn tell_load(a: Loaded, answer: &mut [u64]) -> u64
-    ensures { λ n. ⌜ (n ≡ number (loadVerdict a)) × (now (answer .exit) ≡ told (placeOf (loadVerdict a) ∷ loadState a ∷ []) (now (answer .entry))) ⌝ }
-{
-    match a {
-        Loaded::State(s) => tell_two(Judged { rule: 0, place: 0 }, s as u64, answer),
-        Loaded::Refused(r) => tell_two(of_refusal(r), 0, answer),
-    }
-}
+use crate::tells::tell_load;
 
 // Fills the information of a frame, a step of the generator a bit. `answer` has two entries: the place and the last state.
 #[no_mangle]

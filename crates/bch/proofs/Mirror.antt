@@ -8,24 +8,22 @@
 --   mirror-divides            a word that g divides is, backwards, divided by the mirror of g
 --   mirror-codeword           exactly when
 -- Assumes nothing.
-use mathlib.Core.Path.{_≡_, refl, sym, ap, ap₂, _∙_, subst, subst⁻¹}
-use mathlib.Core.Bool.{Bool, true}
-use mathlib.Core.Logic.{_≢_}
+use mathlib.Core.Path.{_≡_, refl, sym, ap, ap₂, _∙_, subst}
 use mathlib.Core.List.{List, [], _∷_, _++_}
 use Prim.Native.Nat.{ℕ, zero, suc, _+_, _-_, _*_, _/_, _%_, _^_, _≤_, _<_}
-use native.Mathlib.Nat.{zero-lt-suc, zero-mul, one-mul, mul-one, mul-assoc, add-comm, add-zero, add-suc, zero-add, suc-add, pow-suc, pow-succ', mul-mod-left, mul-div-cancel, mod-eq-of-lt, div-eq-of-lt, le-refl, le-trans, suc-inj, suc-ne-zero, div-div-eq-div-mul, div-one, lt-of-lt-of-le}
+use native.Mathlib.Nat.{zero-lt-suc, zero-mul, mul-one, mul-assoc, add-zero, add-suc, suc-add, pow-suc, pow-succ', mul-mod-left, mul-div-cancel, mod-eq-of-lt, le-refl, suc-inj, suc-ne-zero, div-div-eq-div-mul, div-one, lt-of-lt-of-le}
 use native.Mathlib.Decide.{ℕ-discrete, decLt}
 use lib.Dec.{eqb}
 use borrow.Author.Tests.{ne-eqb}
 use native.Mathlib.Omega.{arith}
-use lib.Arith.{bin-ind, digits-lt, digits-mod}
+use lib.Arith.{bin-ind, digits-lt}
 use lib.Pow.{pow-pos, pow-mono, high}
 use lib.Bits.{xor-shifted}
-use lib.ListN.{length, getD, length-append}
-use Rattle.bch.specs.Polynomial.{Bits, _⊕_, _⊗_, timesX, iterate, horner, wordPoly, remainder}
+use lib.ListN.{length, length-append}
+use Rattle.bch.specs.Polynomial.{Bits, _⊕_, _⊗_, horner, wordPoly, remainder}
 use Rattle.bch.specs.Code.{isCodeword, unlike, distance}
 use Rattle.bch.specs.Mirror.{reversed, mirror, backwards}
-use Rattle.bch.proofs.Sum.{mod2-bit, bit-ind, ⊕-comm, ⊕-swap, ⊕-zero-left, ⊕-zero-right, ⊕-scale, ⊕-half}
+use Rattle.bch.proofs.Sum.{mod2-bit, ⊕-comm, ⊕-swap, ⊕-zero-left, ⊕-scale, ⊕-half}
 use Rattle.bch.proofs.Polynomial.{linear-zero, linear-bit, half-and-bit, product-zero, product-double, product-sum-l, product-bit, product-horner}
 use Rattle.bch.proofs.Modulus.{degree-high, degree-low}
 use Rattle.bch.proofs.Word.{multiple, divides}

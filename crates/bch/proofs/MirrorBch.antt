@@ -4,15 +4,15 @@
 --   mirrored-parity, mirrored-only   information with its parity is a codeword, and no other end makes one
 --   mirrored-bound              codewords of the mirrored code within 2t changes are equal
 -- Assumes nothing.
-use mathlib.Core.Path.{_≡_, refl, sym, ap, ap₂, _∙_, subst}
+use mathlib.Core.Path.{_≡_, refl, sym, ap, _∙_, subst}
 use mathlib.Core.Bool.{true}
 use mathlib.Core.List.{List, _++_}
-use Prim.Native.Nat.{ℕ, zero, suc, _+_, _-_, _*_, _/_, _%_, _^_, _≤_, _<_, zero-le}
+use Prim.Native.Nat.{ℕ, zero, suc, _+_, _-_, _*_, _/_, _%_, _^_, _≤_, zero-le}
 use native.Mathlib.Nat.{one-mul, mul-mod-left}
 use native.Mathlib.Omega.{arith}
 use lib.Dec.{T, eqb, eqb→eq}
-use lib.ListN.{length, getD}
-use Rattle.bch.specs.Polynomial.{Bits, _⊕_, _⊗_, remainder}
+use lib.ListN.{length}
+use Rattle.bch.specs.Polynomial.{Bits, _⊕_, _⊗_}
 use Rattle.bch.specs.Code.{minimalPoly, generator, isCodeword, parity, distance}
 use Rattle.bch.specs.Mirror.{mirror, backwards}
 use Rattle.bch.proofs.Tests.{allFrom, all-from}

@@ -35,10 +35,11 @@ use Rattle.decoder_marks.specs.Marks.{setMarks, Marked}
 use Rattle.decoder_marks.proofs.Marks.{cleared-marked, marked-errors}
 use Rattle.decoder_words.specs.Ready.{FrameKept, marksIn}
 use Rattle.decoder_words.proofs.Marks.{rest-is, flippable, flipped-kept, marks-back}
-use Rattle.decoder_lines.specs.declared.Shape.the-variants.{FeedForward}
-use Rattle.decoder_lines.specs.Layouts.{linesIn, FramesFit}
+use Rattle.layout.specs.declared.Shape.the-variants.{FeedForward}
+use Rattle.layout.specs.Layouts.{linesIn, feedFrames}
+use Rattle.decoder_lines.specs.Layouts.{FramesFit}
 use Rattle.decoder_lines.proofs.Layouts.{info-few, red-few}
-use Rattle.decoder_frame.specs.Stretch.{feedFrames, readWindow}
+use Rattle.decoder_frame.specs.Stretch.{readWindow}
 use Rattle.decoder_frame.proofs.Feed.{feed-total}
 use Rattle.decoder_frame.proofs.Limit.{allowed-itself}
 use Rattle.answers.specs.declared.Counts.{Counts}

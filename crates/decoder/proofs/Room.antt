@@ -1,5 +1,5 @@
 -- The working entries are as many as a design needs.
---   positions-room, tables-room, links-room      for the positions of a word of both kinds of lines, for these with their values and those of four bits, for the table of links
+--   tables-room, links-room                      for the positions of a word with their values and those of four bits, for the table of links
 --   field-is, field-room                         for a field: four tables of 2^m
 -- Assumes nothing.
 use mathlib.Core.Path.{_≡_, ap}
@@ -14,9 +14,6 @@ use Rattle.design.proofs.Sizes.{shl-one}
 use Rattle.design.proofs.Allowed.{bits-small}
 
 module _ (d : Design) (h : Allowed d) where
-  pub positions-room : (n : ℕ) → n ≡ wordLength (paramsOf d) → 2 * n ≤ 2048
-  positions-room n e = omega (arith, bits-small d h)
-
   pub tables-room : (n : ℕ) → n ≡ wordLength (paramsOf d) → 2 * n + 128 ≤ 2304
   tables-room n e = omega (arith, bits-small d h)
 

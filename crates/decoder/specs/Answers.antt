@@ -11,15 +11,12 @@ use Rattle.staircase.specs.Design.{Params, Interleavers, params}
 use Rattle.staircase.specs.Frame.{Frame, frameOf}
 use Rattle.staircase.specs.Rules.{Verdict, _then_, designRules, countRule, roundsRule, interleavers}
 use Rattle.staircase.specs.Rules.Verdict.{accepted}
-use Rattle.staircase.specs.Calls.{Counts, no-counts, Corrected, correctedBy}
+use Rattle.staircase.specs.Calls.{Corrected, correctedBy}
 use Rattle.staircase.specs.Window.{windowRule, windowed, windowCounts}
-use Rattle.answers.specs.Answers.{refusalVerdict, verdictOf}
+use Rattle.answers.specs.Answers.{verdictOf}
 use Rattle.rules.specs.Lengths.{decoderDue}
 use Rattle.words.specs.Checks.{receivedRules}
-use Rattle.answers.specs.declared.Counts as told
 use Rattle.decoder.specs.declared.Call.{Call}
-use Rattle.answers.specs.declared.Decoding.{Decoding}
-use Rattle.answers.specs.declared.Decoding.the-variants as decoding
 
 unfoldable pub copyRules : Params → ℕ → ℕ → List ℕ → List ℕ → List ℕ → List ℕ → ℕ → Verdict
 copyRules s L k self parity info red work = receivedRules s L k (decoderDue s L) self parity info red work

@@ -9,9 +9,8 @@ ghost use mathlib.Core.Path.{_≡_};
 ghost use Prim.Native.Nat.{_+_, _≤_};
 ghost use lib.ListN.{length};
 ghost use Rattle.staircase.specs.Design.{most-blocks, most-rounds};
-ghost use Rattle.staircase.specs.Frame.{Frame, frameOf, groups};
+ghost use Rattle.staircase.specs.Frame.{frameOf, groups};
 ghost use Rattle.staircase.specs.Decoder.{roundsAllowed};
-ghost use Rattle.staircase.specs.Lines.{wordCount};
 ghost use Rattle.staircase.specs.Rules.{keptWork};
 ghost use Rattle.staircase.specs.Rules.Verdict.{accepted};
 ghost use Rattle.staircase.specs.Calls.{decodeCall};
@@ -20,22 +19,23 @@ ghost use Rattle.staircase.specs.Window.{positions, windowGroups, windowCall};
 ghost use Rattle.design.specs.Answers.{Allowed};
 ghost use Rattle.design.specs.Sizes.{paramsOf, orderOf, listsOf};
 ghost use Rattle.rules.specs.Received.{Received};
-ghost use Rattle.words_lines.specs.Lines.{LineFits};
 ghost use Rattle.decoder_lines.specs.Links.{listsIn};
 ghost use Rattle.decoder_words.specs.Ready.{FramesReady, FrameKept};
 ghost use Rattle.decoder_frame.specs.Filled.{Filled};
-ghost use Rattle.decoder_frame.specs.Stretch.{feedFrames, WindowFits};
+ghost use Rattle.layout.specs.Layouts.{feedFrames};
+ghost use Rattle.decoder_frame.specs.Stretch.{WindowFits};
 ghost use Rattle.decoder.specs.Answers.{copyRules, windowNumbers, correctedFrame, answered};
 ghost use Rattle.answers.specs.declared.Decoding.the-variants as Decoding;
-ghost use Rattle.answers.specs.Answers.{verdictOf, correctedOf, refusedFrame};
+ghost use Rattle.answers.specs.Answers.{verdictOf, correctedOf};
 use answers::Check;
 use answers::Counts;
 use answers::Decoding;
 use decoder_frame::Window;
 use design::Design;
 use design::Designed;
+use layout::Frames;
+use layout::Shape;
 use words::Asked;
-use words_lines::Line;
 
 // What a call asks: a design, a frame's blocks, the rounds and the groups of a window, and a check before and one behind the rules on the frame.
 struct Call {
@@ -50,27 +50,7 @@ struct Call {
     last: Check,
 }
 
-// Working entries for the positions of a word of both kinds of lines, for those of one with their values and those of four bits, for a field, and for the table of links. Only their
-// lengths are told: the most that a design needs, or more. A word has at most 2^10 - 1 bits, and behind the values of its positions stand 128 of four
-// bits; a field has four tables of at most 2^10 entries; a list has at most 4,096 entries.
-fn position_entries() -> [u32; 2048]
-    ensures { λ a. ⌜ 2048 ≡ length a ⌝ }
-{
-    [0; 2048]
-}
-
-fn table_entries() -> [u32; 2304]
-    ensures { λ a. ⌜ 2304 ≡ length a ⌝ }
-{
-    [0; 2304]
-}
-
-fn field_entries() -> [u16; 4096]
-    ensures { λ a. ⌜ 4096 ≡ length a ⌝ }
-{
-    [0; 4096]
-}
-
+// Working entries for the table of links. Only their number is told: a list has at most 4,096 entries.
 fn link_entries() -> [u16; 16384]
     ensures { λ a. ⌜ 16384 ≡ length a ⌝ }
 {
@@ -91,9 +71,9 @@ fn idle_counts(blocks: usize, window: Window) -> Counts
 }
 
 // Runs the rounds of a window over a frame with all tables, and counts. The kept numbers of its words stand first in `kept`, and behind them is room for
-// the marks of its bits. The line is any of the frame.
+// the marks of its bits.
 fn correct_lines(
-    line: Line,
+    frames: Frames,
     window: Window,
     links: &[u16],
     tables: &[u32],
@@ -102,16 +82,17 @@ fn correct_lines(
     red: &mut [u8],
     kept: &mut [u8],
 ) -> Counts
-    requires { ⌜ FramesReady (feedFrames (line .d) (line .blocks)) (now links) (now tables) (now field) × WindowFits (line .blocks) window
-        × FrameKept (feedFrames (line .d) (line .blocks)) (now links) (now info) (now red) (now kept) ⌝ }
+    requires { ⌜ FramesReady (feedFrames (frames .d) (frames .blocks)) (now links) (now tables) (now field) × WindowFits (frames .blocks) window
+        × FrameKept (feedFrames (frames .d) (frames .blocks)) (now links) (now info) (now red) (now kept)
+        × (frames ≡ feedFrames (frames .d) (frames .blocks)) ⌝ }
     ensures { λ a. ⌜ correctedOf (Decoding.Decoded a) (frameOf (now (info .exit)) (now (red .exit)))
-        ≡ correctedFrame (paramsOf (line .d)) (listsIn (line .d) (now (links .entry))) (line .blocks) (window .groups) (window .limit)
+        ≡ correctedFrame (paramsOf (frames .d)) (listsIn (frames .d) (now (links .entry))) (frames .blocks) (window .groups) (window .limit)
         (frameOf (now (info .entry)) (now (red .entry))) ⌝ }
 {
-    let n = decoder_frame::number_bytes(line);
+    let n = decoder_words::number_bytes(frames);
     let all = kept.len();
     decoder_marks::clear(&mut kept[n..all]);
-    let made = decoder_frame::run_window(line, window, links, tables, field, info, red, kept);
+    let made = decoder_frame::run_window(frames, window, links, tables, field, info, red, kept);
     let turned = decoder_marks::count(&kept[n..all]);
     let outside = decoder_kept::count(&kept[..], n / 4);
     Counts {
@@ -123,9 +104,9 @@ fn correct_lines(
 }
 
 // Corrects a frame whose words are not all in the code, from the kept numbers of its words, and counts. The tables are filled here, so that a frame
-// without errors does not pay for them. The line is any of the frame.
+// without errors does not pay for them.
 fn correct_words(
-    line: Line,
+    frames: Frames,
     window: Window,
     own: &[u8],
     parity: &[u8],
@@ -133,28 +114,24 @@ fn correct_words(
     red: &mut [u8],
     kept: &mut [u8],
 ) -> Counts
-    requires { ⌜ Received (line .d) (line .blocks) (now own) (now parity) (now info) (now red) × LineFits line × WindowFits (line .blocks) window
-        × (length (now kept) ≡ keptWork (paramsOf (line .d)) (line .blocks))
-        × Filled line (now own) (now parity) (frameOf (now info) (now red)) (now kept) (wordCount (paramsOf (line .d)) (line .blocks)) ⌝ }
+    requires { ⌜ Received (frames .d) (frames .blocks) (now own) (now parity) (now info) (now red) × (frames ≡ feedFrames (frames .d) (frames .blocks)) × WindowFits (frames .blocks) window
+        × (length (now kept) ≡ keptWork (paramsOf (frames .d)) (frames .blocks))
+        × Filled frames (now own) (now parity) (frameOf (now info) (now red)) (now kept) ⌝ }
     ensures { λ a. ⌜ correctedOf (Decoding.Decoded a) (frameOf (now (info .exit)) (now (red .exit)))
-        ≡ correctedFrame (paramsOf (line .d)) (listsOf (line .d) (now (own .entry)) (now (parity .entry))) (line .blocks) (window .groups) (window .limit)
+        ≡ correctedFrame (paramsOf (frames .d)) (listsOf (frames .d) (now (own .entry)) (now (parity .entry))) (frames .blocks) (window .groups) (window .limit)
         (frameOf (now (info .entry)) (now (red .entry))) ⌝ }
 {
-    let d = line.d;
+    let d = frames.d;
     let n = d.order();
     let due = 2 * d.n() + 128;
     let powers = 1 << d.m();
-    let mut tables = table_entries();
-    let mut field = field_entries();
+    let mut tables = decoder_frame::table_entries();
+    let mut field = decoder_frame::field_entries();
     let mut links = link_entries();
-    decoder_frame::fill_tables(
-        decoder_frame::frames_of(line),
-        &mut tables[0..due],
-        &mut field[0..4 * powers],
-    );
+    decoder_frame::fill_tables(frames, &mut tables[0..due], &mut field[0..4 * powers]);
     decoder_lines::fill_links(d, own, parity, &mut links[0..4 * n]);
     correct_lines(
-        line,
+        frames,
         window,
         &links[0..4 * n],
         &tables[0..due],
@@ -165,33 +142,10 @@ fn correct_words(
     )
 }
 
-// Fills the kept numbers of a frame. What follows them is room for the marks of its bits, and stays. The line is any of the frame.
-fn fill_kept(line: Line, own: &[u8], parity: &[u8], info: &[u8], red: &[u8], kept: &mut [u8])
-    requires { ⌜ Received (line .d) (line .blocks) (now own) (now parity) (now info) (now red) × LineFits line
-        × (length (now kept) ≡ keptWork (paramsOf (line .d)) (line .blocks)) ⌝ }
-    ensures { λ u. ⌜ (length (now (kept .exit)) ≡ length (now (kept .entry)))
-        × Filled line (now (own .entry)) (now (parity .entry)) (frameOf (now (info .entry)) (now (red .entry)))
-        (now (kept .exit)) (wordCount (paramsOf (line .d)) (line .blocks)) ⌝ }
-{
-    let bits = line.d.n();
-    let n = decoder_frame::number_bytes(line);
-    let mut positions = position_entries();
-    words::fill_lines(line.d, &mut positions[0..2 * bits]);
-    decoder_frame::fill_numbers(
-        line,
-        own,
-        parity,
-        info,
-        red,
-        &positions[0..2 * bits],
-        &mut kept[0..n],
-    );
-}
-
 // Fills the kept numbers of a frame, and corrects it where not all words are in the code. Where they are, no round is run and only the numbers are
-// filled: each position of the window would have a single idle round. The line is any of the frame.
+// filled: each position of the window would have a single idle round.
 fn correct_kept(
-    line: Line,
+    frames: Frames,
     window: Window,
     own: &[u8],
     parity: &[u8],
@@ -199,19 +153,19 @@ fn correct_kept(
     red: &mut [u8],
     kept: &mut [u8],
 ) -> Counts
-    requires { ⌜ Received (line .d) (line .blocks) (now own) (now parity) (now info) (now red) × LineFits line × WindowFits (line .blocks) window
-        × (length (now kept) ≡ keptWork (paramsOf (line .d)) (line .blocks)) ⌝ }
+    requires { ⌜ Received (frames .d) (frames .blocks) (now own) (now parity) (now info) (now red) × (frames ≡ feedFrames (frames .d) (frames .blocks)) × WindowFits (frames .blocks) window
+        × (length (now kept) ≡ keptWork (paramsOf (frames .d)) (frames .blocks)) ⌝ }
     ensures { λ a. ⌜ correctedOf (Decoding.Decoded a) (frameOf (now (info .exit)) (now (red .exit)))
-        ≡ correctedFrame (paramsOf (line .d)) (listsOf (line .d) (now (own .entry)) (now (parity .entry))) (line .blocks) (window .groups) (window .limit)
+        ≡ correctedFrame (paramsOf (frames .d)) (listsOf (frames .d) (now (own .entry)) (now (parity .entry))) (frames .blocks) (window .groups) (window .limit)
         (frameOf (now (info .entry)) (now (red .entry))) ⌝ }
 {
-    fill_kept(line, own, parity, &info[..], &red[..], kept);
-    let n = decoder_frame::number_bytes(line);
+    decoder_frame::fill_kept(frames, own, parity, &info[..], &red[..], kept);
+    let n = decoder_words::number_bytes(frames);
     let wrong = decoder_kept::count(&kept[..], n / 4);
     if wrong == 0 {
-        return idle_counts(line.blocks, window);
+        return idle_counts(frames.blocks, window);
     }
-    correct_words(line, window, own, parity, info, red, kept)
+    correct_words(frames, window, own, parity, info, red, kept)
 }
 
 // Corrects a received frame whose arguments have passed all rules, and counts. The working bytes that follow those of the lists are what the decoder keeps.
@@ -231,10 +185,14 @@ fn correct_frame(
         ≡ correctedFrame (paramsOf d) (listsOf d (now (own .entry)) (now (parity .entry))) blocks (window .groups) (window .limit)
         (frameOf (now (info .entry)) (now (red .entry))) ⌝ }
 {
-    let line = words_lines::first_line(d, blocks);
+    let frames = Frames {
+        d: d,
+        shape: Shape::FeedForward,
+        blocks: blocks,
+    };
     let n = d.order();
     let all = work.len();
-    correct_kept(line, window, own, parity, info, red, &mut work[n..all])
+    correct_kept(frames, window, own, parity, info, red, &mut work[n..all])
 }
 
 // The groups of a frame that stand in a window of `window` groups, and the rounds that are allowed at each of its positions.

@@ -12,11 +12,11 @@ use Rattle.staircase.specs.Lines.{wordCount}
 use Rattle.design.specs.declared.Design.{Design}
 use Rattle.design.specs.Answers.{Allowed}
 use Rattle.design.specs.Sizes.{paramsOf}
-use Rattle.decoder_lines.specs.declared.Shape.the-variants.{FeedForward}
-use Rattle.decoder_lines.specs.declared.Frames.{Frames}
+use Rattle.layout.specs.declared.Shape.the-variants.{FeedForward}
+use Rattle.layout.specs.declared.Frames.{Frames}
 use Rattle.decoder_lines.specs.Links.{LinksFit}
-use Rattle.decoder_lines.specs.Layouts.{linesIn, bitsIn, AllowedIn, FramesFit}
-use Rattle.decoder_frame.specs.Stretch.{feedFrames}
+use Rattle.layout.specs.Layouts.{linesIn, bitsIn, AllowedIn, feedFrames}
+use Rattle.decoder_lines.specs.Layouts.{LinkedIn, FramesFit}
 
 pub feed-lines : (L : ℕ) → linesIn FeedForward L ≡ 2 * groups L
 unfolding linesIn
@@ -31,12 +31,12 @@ unfolding bitsIn
 feed-bits s = refl
 
 pub feed-fits : (d : Design) {L : ℕ} {links : List ℕ} → L ≤ most-blocks → Allowed d → LinksFit d links → FramesFit (feedFrames d L) links
-unfolding AllowedIn
-feed-fits d few A T = record { few-blocks = few; allowed = (A, T) }
+unfolding AllowedIn LinkedIn
+feed-fits d few A T = record { few-blocks = few; allowed = A; linked = T }
 
 pub feed-allowed : {d : Design} {L : ℕ} {links : List ℕ} → FramesFit (feedFrames d L) links → Allowed d × LinksFit d links
-unfolding AllowedIn
-feed-allowed F = F .allowed
+unfolding AllowedIn LinkedIn
+feed-allowed F = (F .allowed, F .linked)
 
 pub feed-bytes : (d : Design) (L : ℕ) {f : Frames} {n : ℕ} → f ≡ feedFrames d L → n ≡ 4 * (linesIn (f .shape) (f .blocks) * f .d .size)
     → n ≡ 4 * wordCount (paramsOf d) L

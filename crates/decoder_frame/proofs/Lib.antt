@@ -1,4 +1,5 @@
 pub mod Tables
+pub mod Filling
 pub mod Numbers
 pub mod Limit
 pub mod Positions

@@ -15,9 +15,9 @@ use Rattle.staircase.specs.Outcomes.{lastStuck}
 use Rattle.staircase.specs.Window.{windowGroups, slide, slideStuck}
 use Rattle.design.specs.Sizes.{paramsOf}
 use Rattle.design.specs.declared.Design.{Design}
-use Rattle.decoder_lines.specs.Layouts.{sitesIn}
+use Rattle.layout.specs.Layouts.{sitesIn, feedFrames}
 use Rattle.decoder_lines.specs.Links.{listsIn}
-use Rattle.decoder_frame.specs.Stretch.{feedFrames, stretchWords, readWindow}
+use Rattle.decoder_frame.specs.Stretch.{stretchWords, readWindow}
 
 pub window-at : (d : Design) (L : ℕ) (links : List ℕ) (p g : ℕ) → g ≤ groups L
     → stretchWords (record { frames = feedFrames d L; k = 2 * p }) links (2 * g) ≡ readWindow (paramsOf d) (listsIn d links) L g p

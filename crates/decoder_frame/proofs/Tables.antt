@@ -7,8 +7,8 @@ use Rattle.design.specs.declared.Design.{Design}
 use Rattle.design.specs.Answers.{Allowed}
 use Rattle.design.specs.Sizes.{paramsOf}
 use Rattle.design.proofs.Allowed.{code-of}
-use Rattle.decoder_lines.specs.declared.Shape.the-variants.{FeedForward}
-use Rattle.decoder_lines.specs.Layouts.{bitsIn}
+use Rattle.layout.specs.declared.Shape.the-variants.{FeedForward}
+use Rattle.layout.specs.Layouts.{bitsIn}
 use Rattle.decoder_tables.specs.Sizes.{WordSizes}
 
 pub word-sizes : (d : Design) → Allowed d → WordSizes (d .m) (d .t) (bitsIn FeedForward (paramsOf d))

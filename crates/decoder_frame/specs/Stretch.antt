@@ -1,5 +1,4 @@
 -- A window, as code holds it: steps of the decoder, which no promise names.
---   feedFrames      feed-forward frames of a design
 --   stretchSites, stretchWords   the words of n lines, of which a line is the first, as they are read
 --   readWindow      those of a window
 --   WindowFits      some groups of a frame, and an allowed number of rounds
@@ -11,16 +10,10 @@ use Rattle.staircase.specs.Lists.{tabulate, concat}
 use Rattle.staircase.specs.Frame.{Site, Word, plain, groups}
 use Rattle.staircase.specs.Lines.{readFrom}
 use Rattle.staircase.specs.Window.{windowGroups}
-use Rattle.design.specs.declared.Design.{Design}
 use Rattle.design.specs.Sizes.{paramsOf}
-use Rattle.decoder_lines.specs.declared.Shape.the-variants.{FeedForward}
-use Rattle.decoder_lines.specs.declared.Frames.{Frames}
-use Rattle.decoder_lines.specs.declared.Line.{Line}
+use Rattle.layout.specs.declared.Line.{Line}
 use Rattle.decoder_lines.specs.Layouts.{layoutOf}
 use Rattle.decoder_frame.specs.declared.Window.{Window}
-
-abbrev pub feedFrames : Design → ℕ → Frames
-feedFrames d L = record { d = d; shape = FeedForward; blocks = L }
 
 abbrev pub stretchSites : Line → List ℕ → ℕ → List (List Site)
 stretchSites line links n = concat n (λ i. tabulate (line .frames .d .size) (layoutOf (line .frames) links .sites (line .k + i)))

@@ -3,14 +3,14 @@
 --   numberAt        without its mark
 --   markedAt        its mark
 --   OnlyAt          number k is x, and all others and the bytes behind are as they were
---   PutFrom         the entries of a list are the numbers from one on, and those before it are as they were
+--   PutFrom         the entries of a list are the numbers from one on, and all others are as they were
 --   nonzeroNumbers  how many of the first n numbers are not 0, whatever their marks
 -- Assumes nothing.
 use mathlib.Core.Path.{_≡_}
 use mathlib.Core.Bool.{Bool, cond}
 use mathlib.Core.Logic.{_≢_}
 use mathlib.Core.List.{List}
-use Prim.Native.Nat.{ℕ, zero, suc, _+_, _*_, _%_, _<_}
+use Prim.Native.Nat.{ℕ, zero, suc, _+_, _*_, _%_, _≤_, _<_}
 use lib.Dec.{eqb, leb}
 use lib.ListN.{length, getD, drop}
 
@@ -33,6 +33,7 @@ pub record PutFrom (sums : List ℕ) (from : ℕ) (b a : List ℕ) : Type 0 wher
   pub long : length a ≡ length b
   pub here : (k : ℕ) → k < length sums → keptAt a (from + k) ≡ getD sums k 0
   pub before : (w : ℕ) → w < from → keptAt a w ≡ keptAt b w
+  pub behind : (w : ℕ) → from + length sums ≤ w → keptAt a w ≡ keptAt b w
 
 unfoldable pub nonzeroNumbers : List ℕ → ℕ → ℕ
 nonzeroNumbers b zero = 0

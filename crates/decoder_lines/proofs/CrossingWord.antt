@@ -34,15 +34,17 @@ use Rattle.design.proofs.Allowed.{proper-of}
 use Rattle.decoder_kept.specs.Numbers.{numberAt, OnlyAt}
 use Rattle.decoder_kept.specs.Words.{AddedAt}
 use Rattle.decoder_kept.proofs.Words.{added-one, added-none}
-use Rattle.decoder_lines.specs.declared.Shape.{Shape}
-use Rattle.decoder_lines.specs.declared.Shape.the-variants.{FeedForward, Original}
-use Rattle.decoder_lines.specs.declared.Line.{Line}
+use Rattle.layout.specs.declared.Shape.{Shape}
+use Rattle.layout.specs.declared.Shape.the-variants.{FeedForward, Original}
+use Rattle.layout.specs.declared.Line.{Line}
 use Rattle.decoder_lines.specs.declared.WordBit.{WordBit}
 use Rattle.decoder_lines.specs.Links.{listsIn, LinksFit, incidenceOf}
-use Rattle.decoder_lines.specs.Layouts.{linesIn, bitsIn, turnIn, straightIn, acrossIn, sitesIn, crossingIn, layoutOf, AllowedIn, LineFits, lineWord, straightWord, placesAt, PowersFit}
+use Rattle.layout.specs.Layouts.{linesIn, bitsIn, turnIn, straightIn, acrossIn, sitesIn, crossingIn, AllowedIn}
+use Rattle.decoder_lines.specs.Layouts.{layoutOf, LinkedIn, LineFits, lineWord, straightWord, placesAt, PowersFit}
 use Rattle.decoder_lines.proofs.Places.{red-below}
 use Rattle.decoder_lines.proofs.Links.{link-row, link-column}
-use Rattle.decoder_lines.proofs.Layouts.{thin-of, r-high, r-some, g-degree, site-read, crossing-read, site-first}
+use Rattle.layout.proofs.Layouts.{thin-of, crossing-read}
+use Rattle.decoder_lines.proofs.Layouts.{r-high, r-some, g-degree, site-read, site-first}
 
 module _ (d : Design) (k : ℕ) {links : List ℕ} (T : LinksFit d links) (a p q : ℕ) (ha : a < d .size) (low : 2 * d .size ≤ p)
     (hp : p < wordLength (paramsOf d)) (e : q ≡ (p - 2 * d .size) * d .size + a) where
@@ -73,24 +75,24 @@ module _ (d : Design) (k : ℕ) {links : List ℕ} (T : LinksFit d links) (a p q
 
 -- ---- the crossing word of a sent bit
 
-there-in : (z : Shape) (d : Design) (links : List ℕ) (L k a p : ℕ) → AllowedIn z d links → a < d .size → p < bitsIn z (paramsOf d)
+there-in : (z : Shape) (d : Design) (links : List ℕ) (L k a p : ℕ) → AllowedIn z d → LinkedIn z d links → a < d .size → p < bitsIn z (paramsOf d)
     → Sent (getD (sitesIn z (paramsOf d) (listsIn d links) L k a) p unsent)
     → (crossingIn z (paramsOf d) (listsIn d links) k a p .word < d .size) × (crossingIn z (paramsOf d) (listsIn d links) k a p .position < bitsIn z (paramsOf d))
-unfolding AllowedIn sitesIn crossingIn bitsIn
-there-in FeedForward d links L k a p A ha hp sent =
-    let x = readCrossing-holds (paramsOf d) L (listsIn d links) (proper-of d (A .0)) (A .1 .self) (A .1 .parity) k a p ha hp sent in (x .word, x .position)
-there-in Original d links L k a p A ha hp sent =
-    let thin = thin-of d links A in
+unfolding AllowedIn LinkedIn sitesIn crossingIn bitsIn
+there-in FeedForward d links L k a p A K ha hp sent =
+    let x = readCrossing-holds (paramsOf d) L (listsIn d links) (proper-of d A) (K .self) (K .parity) k a p ha hp sent in (x .word, x .position)
+there-in Original d links L k a p A K ha hp sent =
+    let thin = thin-of d A in
     let x = rows.crossing-holds (paramsOf d) thin k a p ha hp (subst Sent (rows.row-at (paramsOf d) thin k a p hp) sent) in (x .word, x .position)
 
-across-in : (z : Shape) (d : Design) (links : List ℕ) (L k a p : ℕ) → AllowedIn z d links → a < d .size → p < bitsIn z (paramsOf d)
+across-in : (z : Shape) (d : Design) (links : List ℕ) (L k a p : ℕ) → AllowedIn z d → LinkedIn z d links → a < d .size → p < bitsIn z (paramsOf d)
     → Sent (getD (straightIn z (paramsOf d) (listsIn d links) L k a) p unsent)
     → acrossIn z (paramsOf d) (listsIn d links) k a p .position < bitsIn z (paramsOf d)
-unfolding AllowedIn straightIn acrossIn bitsIn
-across-in FeedForward d links L k a p A ha hp sent =
-    feed.crossing-holds (paramsOf d) L (listsIn d links) (proper-of d (A .0)) (A .1 .self) (A .1 .parity) k a p ha hp sent .position
-across-in Original d links L k a p A ha hp sent =
-    let thin = thin-of d links A in
+unfolding AllowedIn LinkedIn straightIn acrossIn bitsIn
+across-in FeedForward d links L k a p A K ha hp sent =
+    feed.crossing-holds (paramsOf d) L (listsIn d links) (proper-of d A) (K .self) (K .parity) k a p ha hp sent .position
+across-in Original d links L k a p A K ha hp sent =
+    let thin = thin-of d A in
     rows.crossing-holds (paramsOf d) thin k a p ha hp (subst Sent (rows.row-at (paramsOf d) thin k a p hp) sent) .position
 
 module _ {line : Line} {links : List ℕ} (F : LineFits line links) (a p : ℕ) (ha : a < line .frames .d .size)
@@ -128,7 +130,7 @@ module _ {line : Line} {links : List ℕ} (F : LineFits line links) (a p : ℕ) 
         → h .position < bitsIn (line .frames .shape) (paramsOf (line .frames .d))
     crossed-position below =
         subst (λ (z : Incidence). z .position < n) (sym e)
-        (across-in (line .frames .shape) d links (line .frames .blocks) (line .k) a q (F .frames .allowed) ha below straight-sent)
+        (across-in (line .frames .shape) d links (line .frames .blocks) (line .k) a q (F .frames .allowed) (F .frames .linked) ha below straight-sent)
 
     pub crossed-read : (at : ℕ) → at ≡ turnIn (line .frames .shape) (paramsOf (line .frames .d)) (h .line) (h .position)
         → incidence (h .line) (h .word) at ≡ crossingIn (line .frames .shape) (paramsOf (line .frames .d)) (listsIn (line .frames .d) links) (line .k) a p
@@ -138,7 +140,7 @@ module _ {line : Line} {links : List ℕ} (F : LineFits line links) (a p : ℕ) 
         ∙ crossing-read (line .frames .shape) (paramsOf d) (listsIn d links) (line .k) a p
 
   there : (c .word < d .size) × (c .position < n)
-  there = there-in (line .frames .shape) d links (line .frames .blocks) (line .k) a p (F .frames .allowed) ha hp site-sent
+  there = there-in (line .frames .shape) d links (line .frames .blocks) (line .k) a p (F .frames .allowed) (F .frames .linked) ha hp site-sent
 
   module _ {h : WordBit} (e : incidenceOf h ≡ crossingIn (line .frames .shape) (paramsOf (line .frames .d)) (listsIn (line .frames .d) links) (line .k) a p) where
     pub crossing-word : h .word < line .frames .d .size

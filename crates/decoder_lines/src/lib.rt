@@ -1,17 +1,8 @@
-// The words of frames of either kind, by lines: where their bits stand, and the other word that has a bit.
-//   Shape, Frames, Line   the kinds of frames; frames of a design; a line of them
-//   line_at, line_count   a line, and how many there are
-//   word_bits             the bits of a word
-//   word_number           the number of a word among all words of the frame
+// The words of frames of every kind, by lines (crate `layout`): where their bits stand, and the other word that has a bit.
 //   fill_links            the table of links of feed-forward frames, from the two lists
 //   site_at               where a position of a word, as it is read, stands in the buffers of a frame
 //   crossing_word         the other word that has the bit at a position of a word, and the position, both as they are read
 //   add_power             adds the power of that position to the word's kept number, and takes its mark away
-//
-// A line is M words that share no bit. Line k takes block k and block k + 1, the block before the first being block 0, which is not sent, and its words
-// cross those of line k - 1 in the first and those of line k + 1 in the second. In feed-forward frames an even line has rows of both blocks, and behind
-// them those of X and Q; an odd one has columns, and those of Y and P. In original frames a line has columns of the first block and rows of the second,
-// and nothing behind them.
 //
 // In the redundancy the two lines of a group cross, and the table of links says where: entry q is the place in Y and then P of place q of X and then Q,
 // and entry 2n + q the way back, for lists of n entries. Original frames have no links.
@@ -22,7 +13,7 @@ ghost use mathlib.Core.Bool.{true, cond};
 ghost use mathlib.Core.List.{[], _∷_};
 ghost use Prim.Native.Nat.{ℕ, _+_, _*_, _/_, _%_, _≤_, _<_};
 ghost use lib.ListN.{length, getD};
-ghost use Rattle.staircase.specs.Design.{most-M, most-blocks};
+ghost use Rattle.staircase.specs.Design.{most-blocks};
 ghost use Rattle.staircase.specs.Frame.{blockAt, groups};
 ghost use Rattle.staircase.specs.Frame.Site.{unsent, inRed};
 ghost use Rattle.staircase.specs.Decoder.{allSent};
@@ -34,28 +25,11 @@ ghost use Rattle.rules.specs.Received.{ListsFit};
 ghost use Rattle.decoder_kept.specs.Words.{AddedAt};
 ghost use Rattle.decoder_flips.specs.Sites.{sitesOf, Inside};
 ghost use Rattle.decoder_lines.specs.Links.{listsIn, LinksFit, incidenceOf};
-ghost use Rattle.decoder_lines.specs.Layouts.{linesIn, bitsIn, turnedIn, turnIn, acrossIn, crossingIn, redIn, layoutOf, rowsFirst, rowsSecond, LineFits, lineWord, straightWord, placesAt, PowersFit};
+ghost use Rattle.layout.specs.Layouts.{bitsIn, acrossIn, crossingIn, redIn};
+ghost use Rattle.decoder_lines.specs.Layouts.{layoutOf, LineFits, lineWord, straightWord, placesAt, PowersFit};
 use decoder_flips::BitSite;
 use design::Design;
-
-// The kinds of frames.
-pub enum Shape {
-    FeedForward,
-    Original,
-}
-
-// Frames of a design, of `blocks` blocks.
-pub struct Frames {
-    pub d: Design,
-    pub shape: Shape,
-    pub blocks: usize,
-}
-
-// Line k of such frames.
-pub struct Line {
-    pub frames: Frames,
-    pub k: usize,
-}
+use layout::Line;
 
 // A position of a word of a line.
 pub struct WordBit {
@@ -84,102 +58,6 @@ fn place(row: usize, width: usize, column: usize) -> usize
     ensures { λ a. ⌜ (a ≡ row * width + column) × (a ≤ 8389632) ⌝ }
 {
     row * width + column
-}
-
-// Line k of some frames.
-pub fn line_at(frames: Frames, k: usize) -> Line
-    ensures { λ z. ⌜ z ≡ record { frames = frames; k = k } ⌝ }
-{
-    Line {
-        frames: frames,
-        k: k,
-    }
-}
-
-// How many lines there are: two for each group, or one for each block.
-pub fn line_count(frames: Frames) -> usize
-    requires { ⌜ frames .blocks ≤ most-blocks ⌝ }
-    ensures { λ n. ⌜ (n ≡ linesIn (frames .shape) (frames .blocks)) × (n ≤ 4098) ⌝ }
-{
-    let blocks = frames.blocks;
-    let shape = frames.shape;
-    match shape {
-        Shape::FeedForward => blocks + blocks % 2,
-        Shape::Original => blocks,
-    }
-}
-
-// The bits of a word.
-pub fn word_bits(frames: Frames) -> usize
-    ensures { λ n. ⌜ (n ≡ bitsIn (frames .shape) (paramsOf (frames .d))) × (n < 1048576) ⌝ }
-{
-    let d = frames.d;
-    let shape = frames.shape;
-    match shape {
-        Shape::FeedForward => d.n(),
-        Shape::Original => 2 * d.size(),
-    }
-}
-
-// Whether word a of a line has row a of its first block, and not column a.
-fn rows_first(line: Line) -> bool
-    ensures { λ b. ⌜ b ≡ rowsFirst (line .frames .shape) (line .k) ⌝ }
-{
-    let frames = line.frames;
-    let shape = frames.shape;
-    match shape {
-        Shape::FeedForward => line.k % 2 == 0,
-        Shape::Original => false,
-    }
-}
-
-// The same of its second block.
-fn rows_second(line: Line) -> bool
-    ensures { λ b. ⌜ b ≡ rowsSecond (line .frames .shape) (line .k) ⌝ }
-{
-    let frames = line.frames;
-    let shape = frames.shape;
-    match shape {
-        Shape::FeedForward => line.k % 2 == 0,
-        Shape::Original => true,
-    }
-}
-
-// Whether the words of line k are read backwards: column words of a mirrored design.
-fn turned(frames: Frames, k: usize) -> bool
-    ensures { λ b. ⌜ b ≡ turnedIn (frames .shape) (paramsOf (frames .d)) k ⌝ }
-{
-    if k % 2 == 0 {
-        return false;
-    }
-    let d = frames.d;
-    let shape = frames.shape;
-    match shape {
-        Shape::FeedForward => d.mirrored(),
-        Shape::Original => false,
-    }
-}
-
-// Position p of a word of line k as it is read, in the word as it is written; and back.
-fn turned_position(frames: Frames, k: usize, p: usize) -> usize
-    requires { ⌜ p < bitsIn (frames .shape) (paramsOf (frames .d)) ⌝ }
-    ensures { λ q. ⌜ (q ≡ turnIn (frames .shape) (paramsOf (frames .d)) k p) × (q < bitsIn (frames .shape) (paramsOf (frames .d))) ⌝ }
-{
-    if turned(frames, k) {
-        return word_bits(frames) - 1 - p;
-    }
-    p
-}
-
-// The number of word a of a line, among all words of the frame.
-pub fn word_number(line: Line, a: usize) -> usize
-    requires { ⌜ (line .k < linesIn (line .frames .shape) (line .frames .blocks)) × (line .frames .blocks ≤ most-blocks)
-        × (line .frames .d .size ≤ most-M) × (a < line .frames .d .size) ⌝ }
-    ensures { λ w. ⌜ (w ≡ line .k * line .frames .d .size + a)
-        × (w < linesIn (line .frames .shape) (line .frames .blocks) * line .frames .d .size) × (w ≤ 2049000) ⌝ }
-{
-    let d = line.frames.d;
-    line.k * d.size() + a
 }
 
 // Where the lists send place q of X and then Q: a place of Y and then P.
@@ -263,14 +141,19 @@ fn straight_site(line: Line, links: &[u16], a: usize, p: usize) -> BitSite
     let size = d.size();
     let k = line.k;
     if p < size {
-        return block_site(d, blocks, k, block_bit(rows_first(line), size, a, p));
+        return block_site(
+            d,
+            blocks,
+            k,
+            block_bit(layout::rows_first(line), size, a, p),
+        );
     }
     if p < 2 * size {
         return block_site(
             d,
             blocks,
             k + 1,
-            block_bit(rows_second(line), size, a, p - size),
+            block_bit(layout::rows_second(line), size, a, p - size),
         );
     }
     let q = place(p - 2 * size, size, a);
@@ -284,7 +167,7 @@ pub fn site_at(line: Line, links: &[u16], a: usize, p: usize) -> BitSite
         × Inside x (line .frames .blocks * (line .frames .d .size * line .frames .d .size))
         (redIn (line .frames .shape) (paramsOf (line .frames .d)) (line .frames .blocks)) ⌝ }
 {
-    let q = turned_position(line.frames, line.k, p);
+    let q = layout::turned_position(line.frames, line.k, p);
     straight_site(line, links, a, q)
 }
 
@@ -340,9 +223,9 @@ fn crossing_word(line: Line, links: &[u16], a: usize, p: usize) -> WordBit
     ensures { λ b. ⌜ incidenceOf b
         ≡ crossingIn (line .frames .shape) (paramsOf (line .frames .d)) (listsIn (line .frames .d) (now (links .entry))) (line .k) a p ⌝ }
 {
-    let q = turned_position(line.frames, line.k, p);
+    let q = layout::turned_position(line.frames, line.k, p);
     let c = straight_crossing(line, links, a, q);
-    let at = turned_position(line.frames, c.line, c.position);
+    let at = layout::turned_position(line.frames, c.line, c.position);
     WordBit {
         line: c.line,
         word: c.word,
@@ -369,7 +252,7 @@ pub fn add_power(
 {
     let c = crossing_word(line, links, a, p);
     let d = line.frames.d;
-    if c.line < line_count(line.frames) {
+    if c.line < layout::line_count(line.frames) {
         let w = place(c.line, d.size(), c.word);
         let at = c.position;
         decoder_kept::add(numbers, w, positions[at]);

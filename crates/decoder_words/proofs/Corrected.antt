@@ -28,8 +28,9 @@ use Rattle.decoder_kept.proofs.Words.{word-marked, word-settled}
 use Rattle.decoder_flips.specs.Sites.{Below}
 use Rattle.decoder_flips.specs.Positions.{SentAt, Through}
 use Rattle.decoder_flips.proofs.Positions.{sent-found}
-use Rattle.decoder_lines.specs.declared.Line.{Line}
-use Rattle.decoder_lines.specs.Layouts.{linesIn, bitsIn, layoutOf, LineFits, lineWord}
+use Rattle.layout.specs.declared.Line.{Line}
+use Rattle.layout.specs.Layouts.{linesIn, bitsIn}
+use Rattle.decoder_lines.specs.Layouts.{layoutOf, LineFits, lineWord}
 use Rattle.decoder_lines.proofs.Layouts.{lawful-of}
 use Rattle.decoder_words.specs.Ready.{FrameKept, correctionAt, KeptBut, AddedAll}
 

@@ -19,8 +19,9 @@ use Rattle.decoder_kept.specs.Numbers.{keptAt}
 use Rattle.decoder_kept.proofs.Numbers.{keptAt-take, keptAt-front}
 use Rattle.decoder_marks.specs.Marks.{MarksKept}
 use Rattle.decoder_flips.specs.Sites.{Flippable}
-use Rattle.decoder_lines.specs.declared.Frames.{Frames}
-use Rattle.decoder_lines.specs.Layouts.{linesIn, layoutOf, FramesFit}
+use Rattle.layout.specs.declared.Frames.{Frames}
+use Rattle.layout.specs.Layouts.{linesIn}
+use Rattle.decoder_lines.specs.Layouts.{layoutOf, FramesFit}
 use Rattle.decoder_lines.proofs.Layouts.{info-few, red-few}
 use Rattle.decoder_words.specs.Ready.{FrameKept, marksIn, LineMarks}
 use Rattle.decoder_words.proofs.Tables.{rest-part}

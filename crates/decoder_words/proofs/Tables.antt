@@ -10,8 +10,8 @@ use lib.ListN.{length, take, drop, length-drop}
 use lib.Seq.{take-all}
 use Rattle.design.specs.Sizes.{paramsOf}
 use Rattle.decoder_locator.specs.Located.{LocatorTables}
-use Rattle.decoder_lines.specs.declared.Frames.{Frames}
-use Rattle.decoder_lines.specs.Layouts.{bitsIn}
+use Rattle.layout.specs.declared.Frames.{Frames}
+use Rattle.layout.specs.Layouts.{bitsIn}
 use Rattle.decoder_words.specs.Ready.{WordTables}
 
 pub first-part : (l : List ℕ) (n N : ℕ) → n ≡ N → take (n - 0) (drop 0 l) ≡ take N l

@@ -29,9 +29,10 @@ use Rattle.decoder_locator.proofs.Correction.{remainder-small, located-below, c
 use Rattle.decoder_flips.specs.declared.Spots.{Spots}
 use Rattle.decoder_flips.specs.Sites.{AllInside, Below}
 use Rattle.decoder_flips.proofs.Located.{all-inside, below-all}
-use Rattle.decoder_lines.specs.declared.Frames.{Frames}
-use Rattle.decoder_lines.specs.declared.Line.{Line}
-use Rattle.decoder_lines.specs.Layouts.{linesIn, bitsIn, redIn, layoutOf, lineWord, PowersFit}
+use Rattle.layout.specs.declared.Frames.{Frames}
+use Rattle.layout.specs.declared.Line.{Line}
+use Rattle.layout.specs.Layouts.{linesIn, bitsIn, redIn}
+use Rattle.decoder_lines.specs.Layouts.{layoutOf, lineWord, PowersFit}
 use Rattle.decoder_lines.proofs.Layouts.{lawful-of, r-some, g-degree}
 use Rattle.decoder_words.specs.Ready.{WordTables, FramesReady, LineReady, correctionAt}
 

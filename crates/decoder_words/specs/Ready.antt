@@ -21,9 +21,10 @@ use Rattle.decoder_kept.specs.Words.{keptOf, AddedAt}
 use Rattle.decoder_locator.specs.Located.{LocatorTables}
 use Rattle.decoder_marks.specs.Marks.{MarksKept}
 use Rattle.decoder_flips.specs.Positions.{Through}
-use Rattle.decoder_lines.specs.declared.Frames.{Frames}
-use Rattle.decoder_lines.specs.declared.Line.{Line}
-use Rattle.decoder_lines.specs.Layouts.{linesIn, bitsIn, layoutOf, FramesFit, LineFits, lineWord, placesAt}
+use Rattle.layout.specs.declared.Frames.{Frames}
+use Rattle.layout.specs.declared.Line.{Line}
+use Rattle.layout.specs.Layouts.{linesIn, bitsIn}
+use Rattle.decoder_lines.specs.Layouts.{layoutOf, FramesFit, LineFits, lineWord, placesAt}
 
 pub record WordTables (f : Frames) (tables field : List ℕ) : Type 0 where
   pub long : length tables ≡ bitsIn (f .shape) (paramsOf (f .d)) + (bitsIn (f .shape) (paramsOf (f .d)) + 128)

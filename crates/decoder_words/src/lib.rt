@@ -25,16 +25,17 @@ ghost use Rattle.design.specs.Sizes.{paramsOf};
 ghost use Rattle.decoder_flips.specs.Sites.{listed, AllInside, Below};
 ghost use Rattle.decoder_flips.specs.Told.{outcomeOf};
 ghost use Rattle.decoder_flips.specs.Positions.{SentAt};
-ghost use Rattle.decoder_lines.specs.Layouts.{linesIn, bitsIn, redIn, layoutOf, LineFits, lineWord, PowersFit};
+ghost use Rattle.layout.specs.Layouts.{linesIn, bitsIn, redIn};
+ghost use Rattle.decoder_lines.specs.Layouts.{layoutOf, LineFits, lineWord, PowersFit};
 ghost use Rattle.decoder_locator.specs.Located.{positionsOf, located};
 ghost use Rattle.decoder_words.specs.Ready.{WordTables, FramesReady, LineReady, FrameKept, LineMarks, correctionAt, AddedAll};
 use decoder_flips::BitSite;
 use decoder_flips::Outcome;
 use decoder_flips::Pass;
 use decoder_flips::Spots;
-use decoder_lines::Frames;
-use decoder_lines::Line;
 use decoder_locator::Located;
+use layout::Frames;
+use layout::Line;
 
 // Where the located positions of word a of a line stand.
 fn sites_of(line: Line, links: &[u16], a: usize, found: Located) -> Spots
@@ -91,7 +92,7 @@ fn locate_errors(frames: Frames, x: u32, tables: &[u32], field: &[u16]) -> Locat
     ensures { λ z. ⌜ positionsOf z ≡ located (take (bitsIn (frames .shape) (paramsOf (frames .d))) (now (tables .entry))) (frames .d .t) x ⌝ }
 {
     let d = frames.d;
-    let n = decoder_lines::word_bits(frames);
+    let n = layout::word_bits(frames);
     let all = tables.len();
     decoder_locator::locate(d.m(), d.t(), x, &tables[0..n], &tables[n..all], field)
 }
@@ -102,7 +103,7 @@ pub fn number_bytes(frames: Frames) -> usize
     ensures { λ n. ⌜ (n ≡ 4 * (linesIn (frames .shape) (frames .blocks) * frames .d .size)) × (n ≤ 8196000) ⌝ }
 {
     let d = frames.d;
-    4 * (decoder_lines::line_count(frames) * d.size())
+    4 * (layout::line_count(frames) * d.size())
 }
 
 // Flips the bits at which word a of a line is wrong, each with its mark, and answers their positions. The kept numbers stay those of the frame before.
@@ -126,7 +127,7 @@ fn flip_found(
         × FrameKept (line .frames) (now (links .entry)) (now (info .entry)) (now (red .entry)) (now (kept .exit))
         × LineMarks (line .frames) (now (info .entry)) (now (red .entry)) (now (kept .entry)) (now (info .exit)) (now (red .exit)) (now (kept .exit)) ⌝ }
 {
-    let w = decoder_lines::word_number(line, a);
+    let w = layout::word_number(line, a);
     let x = decoder_kept::get(&kept[..], w) % 2147483648;
     let found = locate_errors(line.frames, x, tables, field);
     let spots = sites_of(line, links, a, found);
@@ -192,13 +193,13 @@ pub fn correct_word(
 {
     let found = flip_found(line, a, links, tables, field, info, red, kept);
     let count = decoder_flips::count_of(found);
-    let w = decoder_lines::word_number(line, a);
+    let w = layout::word_number(line, a);
     if count == 0 {
         let x = decoder_kept::get(&kept[..], w) % 2147483648;
         decoder_kept::put(kept, w, x + 2147483648);
         return 0;
     }
-    let n = decoder_lines::word_bits(line.frames);
+    let n = layout::word_bits(line.frames);
     add_powers(line, a, found, links, &tables[0..n], kept);
     decoder_kept::put(kept, w, 0);
     count
@@ -223,7 +224,7 @@ pub fn visit_word(
         × FrameKept (line .frames) (now (links .entry)) (now (info .exit)) (now (red .exit)) (now (kept .exit))
         × LineMarks (line .frames) (now (info .entry)) (now (red .entry)) (now (kept .entry)) (now (info .exit)) (now (red .exit)) (now (kept .exit)) ⌝ }
 {
-    let w = decoder_lines::word_number(line, a);
+    let w = layout::word_number(line, a);
     let x = decoder_kept::get(&kept[..], w);
     if x % 2147483648 == 0 {
         return Outcome::Clean;
@@ -295,7 +296,7 @@ pub fn correct_lines(
     let mut flips = 0;
     let mut stuck = 0;
     for i in 0..count {
-        let here = decoder_lines::line_at(line.frames, line.k + i);
+        let here = layout::line_at(line.frames, line.k + i);
         let more = correct_line(here, links, tables, field, info, red, kept);
         flips += more.flips;
         stuck += more.stuck;

@@ -1,6 +1,7 @@
 -- Laws of a new design's answer.
 --   design-refused, design-made    the refusal of a design is that of a check, and a design that was made is accepted
 --   sized-refused, sized-passed    rule 1 and then others, as the answer after a refusal by rule 1, and after its acceptance
+--   made-of                        what holds of four numbers holds of the design that they are in
 --   made-params                    a design that was made has the sizes that it was made from
 --   made-allowed, made-original    and is allowed
 --   refused-design, made-design    a call's verdict, the rules of its kind on the design and then others: after a design that is refused, and after one that
@@ -34,6 +35,10 @@ module _ {x : Check} {u : Verdict} (v : Verdict) (is : verdictOf x ≡ u) where
 
   pub sized-passed : (a : Designed) → x ≡ check.Passed → designVerdict a ≡ v → designVerdict a ≡ (u then v)
   sized-passed a e h = h ∙ passed-then v is e
+
+pub made-of : (P : ℕ → ℕ → ℕ → ℕ → Type 0) (d : Design) {m t M col : ℕ} → (d .m ≡ m) × (d .t ≡ t) × (d .size ≡ M) × (d .col ≡ col) → P m t M col
+    → P (d .m) (d .t) (d .size) (d .col)
+made-of P d (a, b, e, f) h = rw (a, b, e, f) h
 
 module _ {a : Designed} {d : Design} (e : a ≡ designed.Made d) where
   pub design-made : designVerdict a ≡ accepted

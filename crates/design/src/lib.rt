@@ -70,7 +70,7 @@ pub fn out_of_range(low: u64, high: u64, x: u64) -> bool
     high < x
 }
 
-// Rule 1 for the four numbers of a design. Constant work, as in the two functions below.
+// Rule 1 for the four numbers of a design. Constant work, as in the three functions below.
 fn check_size(m: u64, t: u64, size: u64, col: u64) -> Check
     ensures { λ a. ⌜ verdictOf a ≡ sizeRule m t size col ⌝ }
 {
@@ -89,6 +89,19 @@ fn check_size(m: u64, t: u64, size: u64, col: u64) -> Check
     Check::Passed
 }
 
+// The design of four numbers that rule 1 accepts, as they are.
+fn design_of(m: u64, t: u64, size: u64, col: u64) -> Design
+    requires { ⌜ sizeRule m t size col ≡ accepted ⌝ }
+    ensures { λ d. ⌜ (d .m ≡ m) × (d .t ≡ t) × (d .size ≡ size) × (d .col ≡ col) ⌝ }
+{
+    Design {
+        m: m as u8,
+        t: t as u8,
+        size: size as u16,
+        col: col as u8,
+    }
+}
+
 // The design of a feed-forward code of numbers that rule 1 accepts, or the first of rules 2 and 3 that refuses it.
 fn feed_forward(m: u64, t: u64, size: u64, col: u64) -> Designed
     requires { ⌜ sizeRule m t size col ≡ accepted ⌝ }
@@ -104,12 +117,7 @@ fn feed_forward(m: u64, t: u64, size: u64, col: u64) -> Designed
     if Design::MOST_ORDER < order {
         return Designed::Refused(Refusal::Large(order));
     }
-    Designed::Made(Design {
-        m: m as u8,
-        t: t as u8,
-        size: size as u16,
-        col: col as u8,
-    })
+    Designed::Made(design_of(m, t, size, col))
 }
 
 // The design of an original staircase code of numbers that rule 1 accepts, or the first of rules 2, which reads 2M for n, and 19 that refuses it.
@@ -126,12 +134,7 @@ fn original(m: u64, t: u64, size: u64, col: u64) -> Designed
     if size <= r {
         return Designed::Refused(Refusal::Thin(r));
     }
-    Designed::Made(Design {
-        m: m as u8,
-        t: t as u8,
-        size: size as u16,
-        col: col as u8,
-    })
+    Designed::Made(design_of(m, t, size, col))
 }
 
 // "these limits belong to the design itself"

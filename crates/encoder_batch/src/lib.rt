@@ -39,7 +39,8 @@ fn check_frames(
         red: red.len(),
         work: work.len(),
     };
-    let lengths = rules::check_batch(d, blocks, frames, have, rules::kit_due(d));
+    let due = rules::batch_due(d, blocks, frames, rules::kit_due(d));
+    let lengths = rules::check_batch(blocks, frames, have, due);
     let Check::Passed = lengths else {
         return lengths;
     };

@@ -22,8 +22,8 @@ use Rattle.staircase.proofs.System.{Proper}
 use Rattle.staircase.proofs.Tabulate.{tabulate-length, concat-same}
 use Rattle.staircase.proofs.Batch.{joined-frame}
 use Rattle.staircase.proofs.Redundancy.{block-binary}
-use Rattle.words_blocks.specs.Blocks.{sent, blockBytes, sentBit, Powers}
-use Rattle.words_blocks.proofs.Blocks.{sent-odd, block-is, odd-is}
+use Rattle.words_blocks.specs.Blocks.{blockBytes, Powers}
+use Rattle.words_blocks.proofs.Blocks.{block-is}
 use Rattle.encoder_frame.specs.Group.{yBit, pBit, groupOf, solvedOf, GroupTables}
 use Rattle.encoder_frame.specs.Groups.{groupFrom, frameFrom, startFrom, startAt, groupAt}
 use Rattle.encoder_frame.proofs.GroupMade.{group-is}
@@ -40,8 +40,8 @@ groupOf-length columns positions preimages inverse size r before odd even =
 pub groupFrom-length : (columns positions preimages inverse : List ℕ) (size r L : ℕ) (info : List ℕ) (i : ℕ) → length (groupFrom columns positions preimages inverse size r L info i) ≡ 2 * (size * r)
 unfolding groupFrom
 groupFrom-length columns positions preimages inverse size r L info i =
-    groupOf-length columns positions preimages inverse size r (sentBit (sent L (2 * i)) (blockBytes L (size * size) info (2 * i)))
-    (λ k. getD (blockBytes L (size * size) info (2 * i + 1)) k 0) (sentBit (sent L (2 * i + 2)) (blockBytes L (size * size) info (2 * i + 2)))
+    groupOf-length columns positions preimages inverse size r (λ k. getD (blockBytes L (size * size) info (2 * i)) k 0)
+    (λ k. getD (blockBytes L (size * size) info (2 * i + 1)) k 0) (λ k. getD (blockBytes L (size * size) info (2 * i + 2)) k 0)
 
 -- ---- groups of all frames
 
@@ -91,11 +91,11 @@ module _ (s : Params) (ok : Proper s) (l : Interleavers) (pp : Permutes (order s
   unfolding groupFrom groupRedundancy
   group-same i h =
       group-is s ok columns positions C P l pp preimages at
-      (sentBit (sent L (2 * i)) (blockBytes L (s .M * s .M) info (2 * i))) (λ k. getD (blockBytes L (s .M * s .M) info (2 * i + 1)) k 0)
-      (sentBit (sent L (2 * i + 2)) (blockBytes L (s .M * s .M) info (2 * i + 2)))
+      (λ k. getD (blockBytes L (s .M * s .M) info (2 * i)) k 0) (λ k. getD (blockBytes L (s .M * s .M) info (2 * i + 1)) k 0)
+      (λ k. getD (blockBytes L (s .M * s .M) info (2 * i + 2)) k 0)
       (blockContents s L info (2 * i)) (blockContents s L info (2 * i + 1)) (blockContents s L info (2 * i + 2))
       (block-binary s L info bits (2 * i)) (block-binary s L info bits (2 * i + 1)) (block-binary s L info bits (2 * i + 2))
-      (λ k m. block-is s L info long k m (2 * i)) (λ k m. odd-is s L info long k m (2 * i + 1) (sent-odd L i h)) (λ k m. block-is s L info long k m (2 * i + 2)) w
+      (λ k m. block-is s L info long k m (2 * i)) (λ k m. block-is s L info long k m (2 * i + 1)) (λ k m. block-is s L info long k m (2 * i + 2)) w
 
   pub groups-are : concat (groups L) (groupFrom columns positions preimages w (s .M) (s .r) L info) ≡ redundancy s l w L info
   unfolding redundancy

@@ -1,5 +1,5 @@
 -- What a group is lent of a frame that is ready, and what it makes of it.
---   odd-fits, even-fits, before-fits   its blocks are as the sums ask
+--   lent-fits                          its blocks are as the sums ask
 --   start-made                         Q and P for Y = 0, when both halves are back
 --   digits-made                        the digits of sums that are lent as a part
 --   frame-of                           of frames that are ready each is
@@ -8,13 +8,11 @@
 --   start-at                           Q and P of a group of all frames' groups
 -- Assumes nothing.
 use mathlib.Core.Path.{_≡_, sym, ap, ap₂, _∙_, subst}
-use mathlib.Core.Bool.{Bool}
 use mathlib.Core.List.{List, _++_}
 use Prim.Native.Nat.{ℕ, zero, suc, _+_, _-_, _*_, _/_, _%_, _^_, _<_}
 use native.Mathlib.Nat.{add-sub-cancel-left, mod-lt, div-lt-iff-lt-mul, mul-zero}
 use native.Mathlib.Omega.{arith}
 use lib.ListN.{length, getD, take, drop, length-drop}
-use Rattle.bch.specs.Polynomial.{Bits}
 use Rattle.staircase.specs.Lists.{tabulate}
 use Rattle.staircase.specs.Frame.{groups}
 use Rattle.staircase.specs.Batch.{frameAt}
@@ -22,36 +20,28 @@ use Rattle.staircase.proofs.Batch.{frame-length, frame-bits}
 use Rattle.staircase.proofs.Fill.{front-last}
 use Rattle.staircase.proofs.Tabulate.{tabulate-length, tabulate-at, tabulate-same}
 use Rattle.words_positions.proofs.Parts.{part-is}
-use Rattle.words_blocks.specs.Blocks.{sent, blockBytes, sentBit, Sent}
-use Rattle.words_blocks.proofs.Blocks.{sent-odd, block-fits}
+use Rattle.words_blocks.specs.Blocks.{blockBytes, BlockLent}
+use Rattle.words_blocks.proofs.Blocks.{block-lent}
 use Rattle.encoder_solution.specs.Bits.{remainderDigit}
 use Rattle.encoder_frame.specs.Group.{rowDigit, columnDigit, startOf}
 use Rattle.encoder_frame.specs.Groups.{startFrom, startAt, FrameReady, FramesReady}
 
-module _ (L size r : ℕ) (info columns positions : List ℕ) (i : ℕ) (odd even before : List ℕ) (has-even has-before : Bool)
-    (eo : odd ≡ blockBytes L (size * size) info (2 * i + 1)) (ee : even ≡ blockBytes L (size * size) info (2 * i + 2))
-    (eb : before ≡ blockBytes L (size * size) info (2 * i)) (se : has-even ≡ sent L (2 * i + 2)) (sb : has-before ≡ sent L (2 * i)) where
-  module _ (R : FrameReady L size r info columns positions) where
-    pub odd-fits : i < groups L → (length odd ≡ size * size) × Bits odd
-    odd-fits h = subst (λ (x : List ℕ). (length x ≡ size * size) × Bits x) (sym eo) (block-fits L (size * size) info (2 * i + 1) (R .blocks) (sent-odd L i h) (R .bits))
+module _ (L size r : ℕ) (info columns positions : List ℕ) (i : ℕ) where
+  pub lent-fits : FrameReady L size r info columns positions → (b : ℕ) (block : List ℕ) → block ≡ blockBytes L (size * size) info b → BlockLent block (size * size)
+  lent-fits R b block e = subst (λ (x : List ℕ). BlockLent x (size * size)) (sym e) (block-lent L (size * size) info b (R .blocks) (R .bits))
 
-    pub even-fits : Sent has-even even (size * size)
-    even-fits e = subst (λ (x : List ℕ). (length x ≡ size * size) × Bits x) (sym ee) (block-fits L (size * size) info (2 * i + 2) (R .blocks) (sym se ∙ e) (R .bits))
-
-    pub before-fits : Sent has-before before (size * size)
-    before-fits e = subst (λ (x : List ℕ). (length x ≡ size * size) × Bits x) (sym eb) (block-fits L (size * size) info (2 * i) (R .blocks) (sym sb ∙ e) (R .bits))
-
-  pub start-made : (old qs ps : List ℕ) → length old ≡ 2 * (size * r)
-      → qs ≡ tabulate (size * r) (rowDigit positions size r (sentBit has-before before) (λ k. getD odd k 0))
-      → ps ≡ tabulate (size * r) (columnDigit columns size r (λ k. getD odd k 0) (sentBit has-even even))
+  pub start-made : (odd even before old qs ps : List ℕ) → odd ≡ blockBytes L (size * size) info (2 * i + 1) → even ≡ blockBytes L (size * size) info (2 * i + 2)
+      → before ≡ blockBytes L (size * size) info (2 * i) → length old ≡ 2 * (size * r)
+      → qs ≡ tabulate (size * r) (rowDigit positions size r (λ k. getD before k 0) (λ k. getD odd k 0))
+      → ps ≡ tabulate (size * r) (columnDigit columns size r (λ k. getD odd k 0) (λ k. getD even k 0))
       → take (size * r) (qs ++ drop (size * r - 0) old) ++ (ps ++ drop (2 * (size * r) - size * r) (drop (size * r) (qs ++ drop (size * r - 0) old)))
       ≡ startFrom columns positions size r L info i
   unfolding startFrom startOf
-  start-made old qs ps room by-rows by-columns =
+  start-made odd even before old qs ps eo ee eb room by-rows by-columns =
       let n : ℕ = size * r in
       front-last qs (drop (n - 0) old) ps n (2 * n - n)
-      (ap length by-rows ∙ tabulate-length n (rowDigit positions size r (sentBit has-before before) (λ k. getD odd k 0))) (omega (arith, length-drop (n - 0) old))
-      ∙ ap₂ _++_ by-rows by-columns ∙ rw (eo, ee, eb, se, sb)
+      (ap length by-rows ∙ tabulate-length n (rowDigit positions size r (λ k. getD before k 0) (λ k. getD odd k 0))) (omega (arith, length-drop (n - 0) old))
+      ∙ ap₂ _++_ by-rows by-columns ∙ rw (eo, ee, eb)
 
 -- the digits of sums that are lent as a part
 pub digits-made : (sums rest out : List ℕ) (f : ℕ → ℕ) (size r : ℕ) → 0 < size → sums ≡ tabulate size f

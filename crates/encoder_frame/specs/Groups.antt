@@ -22,13 +22,13 @@ use Rattle.staircase.specs.Batch.{most-frames, frameAt}
 use Rattle.design.specs.declared.Design.{Design}
 use Rattle.design.specs.Answers.{Allowed}
 use Rattle.design.specs.Sizes.{orderOf}
-use Rattle.words_blocks.specs.Blocks.{sent, blockBytes, sentBit}
+use Rattle.words_blocks.specs.Blocks.{blockBytes}
 use Rattle.encoder_frame.specs.Group.{groupOf, startOf, WordTables}
 
 unfoldable pub groupFrom : List ℕ → List ℕ → List ℕ → List ℕ → ℕ → ℕ → ℕ → List ℕ → ℕ → List ℕ
 groupFrom columns positions preimages inverse size r L info i =
-    groupOf columns positions preimages inverse size r (sentBit (sent L (2 * i)) (blockBytes L (size * size) info (2 * i)))
-    (λ k. getD (blockBytes L (size * size) info (2 * i + 1)) k 0) (sentBit (sent L (2 * i + 2)) (blockBytes L (size * size) info (2 * i + 2)))
+    groupOf columns positions preimages inverse size r (λ k. getD (blockBytes L (size * size) info (2 * i)) k 0)
+    (λ k. getD (blockBytes L (size * size) info (2 * i + 1)) k 0) (λ k. getD (blockBytes L (size * size) info (2 * i + 2)) k 0)
 
 unfoldable pub frameFrom : List ℕ → List ℕ → List ℕ → List ℕ → ℕ → ℕ → ℕ → List ℕ → ℕ → List ℕ
 frameFrom columns positions preimages inverse size r L info f =
@@ -38,8 +38,8 @@ frameFrom columns positions preimages inverse size r L info f =
 
 unfoldable pub startFrom : List ℕ → List ℕ → ℕ → ℕ → ℕ → List ℕ → ℕ → List ℕ
 startFrom columns positions size r L info i =
-    startOf columns positions size r (sentBit (sent L (2 * i)) (blockBytes L (size * size) info (2 * i)))
-    (λ k. getD (blockBytes L (size * size) info (2 * i + 1)) k 0) (sentBit (sent L (2 * i + 2)) (blockBytes L (size * size) info (2 * i + 2)))
+    startOf columns positions size r (λ k. getD (blockBytes L (size * size) info (2 * i)) k 0)
+    (λ k. getD (blockBytes L (size * size) info (2 * i + 1)) k 0) (λ k. getD (blockBytes L (size * size) info (2 * i + 2)) k 0)
 
 unfoldable pub startAt : List ℕ → List ℕ → ℕ → ℕ → ℕ → List ℕ → ℕ → List ℕ
 startAt columns positions size r L info q = startFrom columns positions size r L (frameAt (L * (size * size)) info (q / groups L)) (q % groups L)

@@ -13,7 +13,7 @@ ghost use Rattle.bch.specs.Polynomial.{Bits};
 ghost use Rattle.staircase.specs.Lists.{tabulate};
 ghost use Rattle.staircase.specs.Design.{most-order};
 ghost use Rattle.staircase.specs.Frame.{groups};
-ghost use Rattle.words_blocks.specs.Blocks.{sentBit, Sent};
+ghost use Rattle.words_blocks.specs.Blocks.{BlockLent};
 ghost use Rattle.encoder_frame.specs.Group.{rowDigit, columnDigit, finishedOf, WordTables};
 ghost use Rattle.encoder_frame.specs.Groups.{startFrom, FrameReady};
 
@@ -25,43 +25,27 @@ pub struct Sizes {
     pub frames: usize,
 }
 
-// Makes Q in `out` for Y = 0, from the block before the odd one, where that is sent, and the odd one.
-fn start_rows(
-    before: &[u8],
-    has_before: bool,
-    odd: &[u8],
-    positions: &[u32],
-    size: usize,
-    r: usize,
-    out: &mut [u8],
-)
-    requires { ⌜ WordTables size r (now positions) × (length (now odd) ≡ size * size) × Bits (now odd) × Sent «has_before» (now before) (size * size)
+// Makes Q in `out` for Y = 0, from the block before the odd one, which is empty where it is not sent, and the odd one.
+fn start_rows(before: &[u8], odd: &[u8], positions: &[u32], size: usize, r: usize, out: &mut [u8])
+    requires { ⌜ WordTables size r (now positions) × BlockLent (now before) (size * size) × BlockLent (now odd) (size * size)
         × (length (now out) ≡ size * r) ⌝ }
     ensures { λ u. ⌜ now (out .exit) ≡ tabulate (size * r)
-        (rowDigit (now (positions .entry)) size r (sentBit «has_before» (now (before .entry))) (λ k. getD (now (odd .entry)) k 0)) ⌝ }
+        (rowDigit (now (positions .entry)) size r (λ k. getD (now (before .entry)) k 0) (λ k. getD (now (odd .entry)) k 0)) ⌝ }
 {
     let mut rows = [0u32; 512];
-    words_blocks::row_sums(before, has_before, odd, positions, &mut rows[0..size]);
+    words_blocks::row_sums(before, odd, positions, &mut rows[0..size]);
     encoder_solution::p_bits(&rows[0..size], size, r, out);
 }
 
-// Makes P in `out` for Y = 0, from the odd block and the even one, where that is sent.
-fn start_columns(
-    odd: &[u8],
-    even: &[u8],
-    has_even: bool,
-    positions: &[u32],
-    size: usize,
-    r: usize,
-    out: &mut [u8],
-)
-    requires { ⌜ WordTables size r (now positions) × (length (now odd) ≡ size * size) × Bits (now odd) × Sent «has_even» (now even) (size * size)
+// Makes P in `out` for Y = 0, from the odd block and the even one, which is empty where it is not sent.
+fn start_columns(odd: &[u8], even: &[u8], positions: &[u32], size: usize, r: usize, out: &mut [u8])
+    requires { ⌜ WordTables size r (now positions) × BlockLent (now odd) (size * size) × BlockLent (now even) (size * size)
         × (length (now out) ≡ size * r) ⌝ }
     ensures { λ u. ⌜ now (out .exit) ≡ tabulate (size * r)
-        (columnDigit (now (positions .entry)) size r (λ k. getD (now (odd .entry)) k 0) (sentBit «has_even» (now (even .entry)))) ⌝ }
+        (columnDigit (now (positions .entry)) size r (λ k. getD (now (odd .entry)) k 0) (λ k. getD (now (even .entry)) k 0)) ⌝ }
 {
     let mut columns = [0u32; 512];
-    words_blocks::column_sums(odd, even, has_even, positions, &mut columns[0..size]);
+    words_blocks::column_sums(odd, even, positions, &mut columns[0..size]);
     encoder_solution::p_bits(&columns[0..size], size, r, out);
 }
 
@@ -86,26 +70,8 @@ pub fn start_group(
     let before = words_blocks::block_of(info, area, blocks, 2 * i);
     let odd = words_blocks::block_of(info, area, blocks, 2 * i + 1);
     let even = words_blocks::block_of(info, area, blocks, 2 * i + 2);
-    let has_before = words_blocks::is_sent(blocks, 2 * i);
-    let has_even = words_blocks::is_sent(blocks, 2 * i + 2);
-    start_rows(
-        before,
-        has_before,
-        odd,
-        positions,
-        size,
-        sizes.r,
-        &mut out[0..n],
-    );
-    start_columns(
-        odd,
-        even,
-        has_even,
-        columns,
-        size,
-        sizes.r,
-        &mut out[n..2 * n],
-    );
+    start_rows(before, odd, positions, size, sizes.r, &mut out[0..n]);
+    start_columns(odd, even, columns, size, sizes.r, &mut out[n..2 * n]);
 }
 
 // Makes Y and P of a group in the lent `out`, whose second half has P as it would be for Y = 0. Lent to read are the words of the solutions, of which bit

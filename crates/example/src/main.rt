@@ -1,4 +1,4 @@
-// Encodes the four blocks of document 01's example under kit K and prints the two groups, or the refusal.
+// Encodes four blocks under kit K, the example of docs/REFERENCE.md, and prints the two groups, or the refusal.
 ghost use Rattle.io.specs.Counts.{Counts};
 use answers::Check;
 

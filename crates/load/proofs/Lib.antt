@@ -1,3 +1,3 @@
-pub mod States
 pub mod Turning
 pub mod LoadCalls
+pub mod Demand1

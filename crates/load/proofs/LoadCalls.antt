@@ -1,7 +1,8 @@
 -- What the calls answer and leave at each of their ends.
 --   fill-rules, turn-rules                       their verdicts, the design's rules and then the others
---   fill-refused, errors-refused, run-refused    where a rule refuses
---   fill-done, errors-done, run-done             where all accept
+--   filled-refused, filled-done                  a call that answers one buffer and a state, where a rule refuses and where all accept
+--   fill-refused, errors-refused, run-refused, buffer-refused   each call where a rule refuses
+--   fill-done, errors-done, run-done, buffer-done               and where all accept
 --   accepted-small                               the lengths of a frame that no rule refuses
 -- Assumes nothing.
 use mathlib.Core.Path.{_≡_, refl, sym, ap, ap₂, _∙_}
@@ -13,14 +14,15 @@ use lib.ListN.{length}
 use Rattle.staircase.specs.Lists.{tabulate}
 use Rattle.staircase.specs.Design.{params}
 use Rattle.staircase.specs.Frame.{Frame, frameOf}
-use Rattle.staircase.specs.Rules.{Verdict, _then_, designRules, countRule, frameLengths, frameBits}
+use Rattle.staircase.specs.Rules.{Verdict, _then_, designRules, countRule, frameLengths, frameBits, bitRule}
 use Rattle.staircase.specs.Rules.Verdict.{accepted, refused}
 use Rattle.staircase.specs.Load.{stateAfter, loadBit, randomTurns, runTurns, turnedWhere, turnedFrame, fillVerdict, turnVerdict, filledBy, fillCall, errorsBy, errorsCall, runBy, runCall}
 use Rattle.staircase.proofs.Rules.{then-first, then-rest, design-limits, count-limits}
 use Rattle.staircase.proofs.Load.{turn-lengths}
 use Rattle.rules.proofs.Accepted.{frame-small}
+use Rattle.load.specs.Buffer.{errorsBuffer}
 use Rattle.load.specs.Checks.{fillRules, turnRules}
-use Rattle.load.proofs.States.{after-add}
+use Rattle.generator.proofs.States.{after-add}
 use Rattle.load.proofs.Turning.{drawn-on, run-front}
 
 pub fill-rules : (m t M col L : ℕ) (info : List ℕ) → (designRules m t M col then fillRules (params m t M col) L info) ≡ fillVerdict m t M col L info
@@ -47,16 +49,31 @@ fill-by : (v : Verdict) (old new : List ℕ) (s : ℕ) → v ≢ accepted → fi
 fill-by accepted old new s h = absurd (h refl)
 fill-by (refused n p) old new s h = refl
 
+module _ (old new : List ℕ) (s : ℕ) (v : Verdict) {w : Verdict} (e : v ≡ w) where
+  pub filled-refused : v ≢ accepted → record { verdict = v; info = old; state = 0 } ≡ filledBy w old new s
+  filled-refused h = sym (fill-by v old new s h) ∙ ap (λ (z : Verdict). filledBy z old new s) e
+
+  pub filled-done : v ≡ accepted → record { verdict = accepted; info = new; state = s } ≡ filledBy w old new s
+  filled-done h = ap (λ (z : Verdict). filledBy z old new s) (sym h ∙ e)
+
 module _ (m t M col L seed : ℕ) (info : List ℕ) (v : Verdict) (e : v ≡ fillVerdict m t M col L info) where
   pub fill-refused : v ≢ accepted → record { verdict = v; info = info; state = 0 } ≡ fillCall m t M col L seed info
   unfolding fillCall
-  fill-refused h =
-      sym (fill-by v info (tabulate (length info) (loadBit seed)) (stateAfter seed (length info)) h)
-      ∙ ap (λ (z : Verdict). filledBy z info (tabulate (length info) (loadBit seed)) (stateAfter seed (length info))) e
+  fill-refused = filled-refused info (tabulate (length info) (loadBit seed)) (stateAfter seed (length info)) v e
 
   pub fill-done : v ≡ accepted → record { verdict = accepted; info = tabulate (length info) (loadBit seed); state = stateAfter seed (length info) } ≡ fillCall m t M col L seed info
   unfolding fillCall
-  fill-done h = ap (λ (z : Verdict). filledBy z info (tabulate (length info) (loadBit seed)) (stateAfter seed (length info))) (sym h ∙ e)
+  fill-done = filled-done info (tabulate (length info) (loadBit seed)) (stateAfter seed (length info)) v e
+
+module _ (seed limit : ℕ) (l : List ℕ) (v : Verdict) (e : v ≡ bitRule 0 l) where
+  pub buffer-refused : v ≢ accepted → record { verdict = v; info = l; state = 0 } ≡ errorsBuffer seed limit l
+  unfolding errorsBuffer
+  buffer-refused = filled-refused l (turnedWhere (randomTurns seed limit) l) (stateAfter seed (16 * length l)) v e
+
+  pub buffer-done : v ≡ accepted
+      → record { verdict = accepted; info = turnedWhere (randomTurns seed limit) l; state = stateAfter seed (16 * length l) } ≡ errorsBuffer seed limit l
+  unfolding errorsBuffer
+  buffer-done = filled-done l (turnedWhere (randomTurns seed limit) l) (stateAfter seed (16 * length l)) v e
 
 -- ---- turning
 

@@ -18,7 +18,7 @@ use borrow.Author.Tests.{lt-ltb, le-ltb}
 use Rattle.staircase.specs.Load.{stateAfter, drawn, randomTurns, runTurns, turnedWhere}
 use Rattle.staircase.proofs.Fill.{filled, filled-all}
 use Rattle.staircase.proofs.Load.{turned-same, run-test-in, run-test-behind}
-use Rattle.load.proofs.States.{after-add}
+use Rattle.generator.proofs.States.{after-add}
 
 abbrev pub turnBit : (ℕ → Bool) → List ℕ → ℕ → ℕ
 turnBit test l k = cond (test k) (1 - getD l k 0) (getD l k 0)

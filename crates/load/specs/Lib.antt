@@ -1,2 +1,2 @@
+pub mod Buffer
 pub mod Checks
-pub mod Answers

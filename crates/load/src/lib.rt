@@ -2,11 +2,10 @@
 //   fill     fills the information of a frame, a step of the generator a bit
 //   errors   turns each bit of a frame whose draw, sixteen steps, is below a limit
 //   run      turns a run of bits of a frame
+//   fill_buffer, errors_buffer   the first two on a plain buffer of bits, without a design, as for original frames
 //
 // No call has a `requires`: rules 1 to 4 and 6, and for the two that turn bits rule 10, are asked before a byte is written, so that a refused call leaves
-// the buffers as they were. Bits are counted through the information and on through the redundancy. The generator is the module `generator`.
-mod generator;
-
+// the buffers as they were. Bits are counted through the information and on through the redundancy. The generator and the answer `Loaded` are those of the crate `generator`.
 ghost use mathlib.Core.Path.{_≡_};
 ghost use mathlib.Core.Bool.{cond};
 ghost use Prim.Native.Nat.{_+_, _-_, _*_, _^_, _<_};
@@ -16,19 +15,15 @@ ghost use Rattle.staircase.specs.Frame.{frameOf};
 ghost use Rattle.staircase.specs.Load.{stateAfter, loadBit, randomTurns, runTurns, turnedWhere, fillVerdict, turnVerdict, fillCall, errorsCall, runCall};
 ghost use Rattle.design.specs.Sizes.{paramsOf};
 ghost use Rattle.design.specs.Answers.{Allowed};
-ghost use Rattle.load.specs.Answers.{loadVerdict, loadState};
+ghost use Rattle.generator.specs.Answers.{loadVerdict, loadState};
+ghost use Rattle.load.specs.Buffer.{errorsBuffer};
 ghost use Rattle.load.specs.Checks.{fillRules, turnRules};
 ghost use Rattle.answers.specs.Answers.{verdictOf};
 use answers::Check;
-use answers::Refusal;
 use design::Design;
 use design::Designed;
-
-// The answer of the calls that start from a seed: the generator's last state, or a refusal.
-pub enum Loaded {
-    State(u32),
-    Refused(Refusal),
-}
+use generator::Loaded;
+use generator::refused_load;
 
 // Fills the lent bytes with bits, a step each, and answers the last state.
 fn fill_bits(bits: &mut [u8], seed: u32) -> u32
@@ -151,16 +146,6 @@ fn check_turn(m: u64, t: u64, size: u64, col: u64, blocks: u64, info: &[u8], red
     check_frame(d, blocks, info, red)
 }
 
-// A refused check as the answer of a call that starts from a seed.
-fn refused_load(a: Check) -> Loaded
-    ensures { λ c. ⌜ (loadVerdict c ≡ verdictOf a) × (loadState c ≡ 0) ⌝ }
-{
-    match a {
-        Check::Passed => Loaded::State(0),
-        Check::Refused(r) => Loaded::Refused(r),
-    }
-}
-
 // Fills the information of a frame of `blocks` blocks with the bits that the generator gives from `seed` on, a step a bit, and answers the last state; or
 // the first of rules 1 to 4 and 6 that refuses, and the buffer stays as it was. What it held before plays no part.
 pub fn fill_col(
@@ -279,4 +264,26 @@ pub fn run(
         ⌜ (verdictOf a ≡ r .verdict) × (frameOf (now (info .exit)) (now (red .exit)) ≡ r .frame) ⌝ }
 {
     run_col(m, t, size, 0, blocks, place, length, info, red)
+}
+
+// Fills a buffer with the bits that the generator gives from `seed` on, a step a bit, and answers the last state. It may have any length, and what it held
+// before plays no part.
+pub fn fill_buffer(seed: u32, bits: &mut [u8]) -> u32
+    ensures { λ r. ⌜ (now (bits .exit) ≡ tabulate (length (now (bits .entry))) (loadBit seed)) × (r ≡ stateAfter seed (length (now (bits .entry)))) ⌝ }
+{
+    fill_bits(bits, seed)
+}
+
+// Turns each bit of a buffer whose draw, sixteen steps of the generator from `seed` on, is below `limit`, and answers the last state; or rule 10 refuses,
+// and the buffer stays as it was. It may have any length.
+pub fn errors_buffer(seed: u32, limit: u64, bits: &mut [u8]) -> Loaded
+    ensures { λ a.
+        let e = errorsBuffer seed limit (now (bits .entry)) in
+        ⌜ (loadVerdict a ≡ e .verdict) × (now (bits .exit) ≡ e .info) × (loadState a ≡ e .state) ⌝ }
+{
+    let checked = rules::check_bits(&bits[..], 0);
+    let Check::Passed = checked else {
+        return refused_load(checked);
+    };
+    Loaded::State(turn_drawn(bits, seed, limit))
 }

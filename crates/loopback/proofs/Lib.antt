@@ -1,3 +1,5 @@
 pub mod Demand1
+pub mod Places
 pub mod Restores
 pub mod TwoCalls
+pub mod OrderMoved

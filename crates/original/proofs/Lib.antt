@@ -3,9 +3,11 @@ pub mod Rows
 pub mod Buffer
 pub mod Rules
 pub mod Demand1
+pub mod Places
 pub mod Demand
 pub mod Vectors
 pub mod Words
 pub mod Crossing
 pub mod Lawful
 pub mod Next
+pub mod Rounds

@@ -8,3 +8,4 @@ pub mod Layout
 pub mod Demand
 pub mod RowsOriginal
 pub mod Next
+pub mod Rounds

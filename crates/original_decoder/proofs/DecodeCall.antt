@@ -1,4 +1,5 @@
 -- The decoder's verdict step by step, and its answer.
+--   decode-sizes                rules 4 to 6, as they are for every kind of frame
 --   decode-fits                 what rules 4 to 6 and 10 leave
 --   decode-design, decode-refused, decode-done   the call's answer at each of its ends
 -- Assumes nothing.
@@ -8,7 +9,7 @@ use mathlib.Core.List.{List}
 use Prim.Native.Nat.{ℕ, _≤_}
 use native.Mathlib.Omega.{arith}
 use lib.ListN.{length}
-use Rattle.staircase.specs.Design.{Params, params, most-rounds}
+use Rattle.staircase.specs.Design.{Params, params, most-blocks, most-rounds}
 use Rattle.staircase.specs.Frame.{Frame, outsideEach}
 use Rattle.staircase.specs.Decoder.{Decoded, runEach, roundsAllowed}
 use Rattle.staircase.specs.Outcomes.{lastStuck}
@@ -33,9 +34,21 @@ use Rattle.design.specs.declared.Designed.{Designed}
 use Rattle.design.specs.declared.Designed.the-variants as designed
 use Rattle.design.specs.Sizes.{paramsOf}
 use Rattle.design.proofs.Answers.{design-refused, design-made, made-params}
+use Rattle.rules.specs.declared.lengths.Lengths.{Lengths}
+use Rattle.rules.specs.Lengths.{lengthsRule, bufferLengths, originalDecoderDue, sizeRules}
+use Rattle.rules.proofs.Chain.{then-assoc, sizes-where}
 use Rattle.original_rows.specs.Rows.{BufferFits, bufferRules}
 use Rattle.original_rows.proofs.Checked.{buffer-limits}
 use Rattle.original_decoder.specs.Answers.{decodeSizes, decodeRules, decodedBuffer}
+
+pub decode-sizes : (s : Params) (L k have work : ℕ) {due : Lengths} → (L ≤ most-blocks → due ≡ originalDecoderDue s L)
+    → sizeRules L k (bufferLengths have work) due ≡ decodeSizes s L k have work
+unfolding sizeRules lengthsRule originalDecoderDue decodeSizes bufferRules
+decode-sizes s L k have work {due} same =
+    let v4 : Verdict = lengthRule 4 have (infoLength s L) in
+    let v6 : Verdict = lengthRule 6 work (originalWork s L) in
+    sizes-where L k (bufferLengths have work) due (originalDecoderDue s L) same
+    ∙ sym (then-assoc (countRule L) (roundsRule k then v4) v6 ∙ ap (λ (v : Verdict). countRule L then v) (then-assoc (roundsRule k) v4 v6))
 
 -- what is left of a buffer, its working bytes and a number of rounds
 pub record Decodes (d : Design) (L k : ℕ) (l : List ℕ) (work : ℕ) : Type 0 where

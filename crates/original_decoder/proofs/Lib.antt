@@ -1,4 +1,3 @@
-pub mod Filled
 pub mod Kept
 pub mod Counted
 pub mod Rounds

@@ -2,6 +2,7 @@
 --   word-sizes, tables-room, field-is, field-room   the sizes of a design's tables
 --   tables-lent              the tables, lent again
 --   row-bits, row-lines, rows-fit, kept-frame       the frames of a design among all kinds
+--   row-kept, filled-kept    the numbers of all rows, once they are filled
 --   rounds-back              what rounds over all lines leave
 -- Assumes nothing.
 use mathlib.Core.Path.{_≡_, refl, sym, ap, _∙_, subst, subst⁻¹}
@@ -19,25 +20,32 @@ use Rattle.staircase.specs.Frame.{Word, plain, frameOf}
 use Rattle.staircase.specs.Decoder.{runEach}
 use Rattle.staircase.specs.Outcomes.{lastStuck}
 use Rattle.staircase.specs.Kept.{Holds}
+use Rattle.staircase.specs.Layout.{keptLength}
 use Rattle.staircase.proofs.Tabulate.{concat-same}
 use Rattle.design.proofs.Sizes.{shl-one}
 use Rattle.words_positions.proofs.Parts.{part-is}
 use Rattle.decoder_kept.proofs.Numbers.{keptAt-take}
 use Rattle.decoder_marks.specs.Marks.{MarksKept}
 use Rattle.decoder_tables.specs.Sizes.{WordSizes}
-use Rattle.decoder_lines.specs.declared.Shape.the-variants.{Original}
-use Rattle.decoder_lines.specs.declared.Frames.{Frames}
-use Rattle.decoder_lines.specs.Layouts.{linesIn, bitsIn, sitesIn, redIn, AllowedIn, FramesFit}
+use Rattle.layout.specs.declared.Shape.the-variants.{Original}
+use Rattle.layout.specs.declared.Frames.{Frames}
+use Rattle.layout.specs.Layouts.{linesIn, bitsIn, sitesIn, redIn, AllowedIn, rowFrames}
+use Rattle.decoder_lines.specs.Layouts.{LinkedIn, FramesFit}
 use Rattle.decoder_words.specs.Ready.{WordTables, FrameKept, LineMarks}
 use Rattle.decoder_frame.specs.declared.Made.{Made}
 use Rattle.decoder_frame.specs.Stretch.{stretchWords}
+use Rattle.decoder_frame.specs.Filled.{Filled}
+use Rattle.decoder_frame.proofs.Numbers.{filled-keeps}
+use Rattle.words_lines.specs.Words.{layoutWith}
+use Rattle.words_lines.proofs.Lent.{buffer-lent}
+use Rattle.original_rows.specs.Rows.{BufferFits}
 use Rattle.original.specs.Frame.{rowSites, rowWords, bufferOf}
-use Rattle.original.specs.Rules.{rowLength}
+use Rattle.original.specs.Rules.{rowLength, originalWork}
 use Rattle.original.specs.Crossing.{rowCount, rowWord}
 use Rattle.original.proofs.Words.{blockRows, rowWords-plain}
 use Rattle.design.specs.declared.Design.{Design}
 use Rattle.design.specs.Answers.{AllowedOriginal}
-use Rattle.original_decoder.specs.Kept.{rowFrames, marksIn, BufferKept}
+use Rattle.original_decoder.specs.Kept.{marksIn, BufferKept}
 use Rattle.design.specs.Sizes.{paramsOf}
 
 module _ (d : Design) (h : AllowedOriginal d) where
@@ -82,8 +90,8 @@ unfolding linesIn
 row-lines L = refl
 
 pub rows-fit : (d : Design) {L : ℕ} (links : List ℕ) → AllowedOriginal d → L ≤ most-blocks → FramesFit (rowFrames d L) links
-unfolding AllowedIn
-rows-fit d links A few = record { few-blocks = few; allowed = A }
+unfolding AllowedIn LinkedIn
+rows-fit d links A few = record { few-blocks = few; allowed = A; linked = tt }
 
 pub kept-frame : (d : Design) (L : ℕ) {l kept : List ℕ} (links : List ℕ) → BufferKept d L l kept → FrameKept (rowFrames d L) links l [] kept
 unfolding linesIn sitesIn redIn
@@ -116,6 +124,19 @@ frame-kept d L {l'} {kept} links A few K =
           subst⁻¹ (λ (v : ℕ). Holds (rowWord (paramsOf d) w) (v % 2147483648) (leb 2147483648 v) (bufferOf l'))
           (keptAt-take kept (rowCount (paramsOf d) L) w hw) (K .numbers w hw);
     }
+
+-- the working bytes are what is kept
+pub row-kept : (d : Design) (L : ℕ) {n : ℕ} → n ≡ originalWork (paramsOf d) L → n ≡ keptLength (layoutWith (rowFrames d L) [] [])
+unfolding originalWork linesIn redIn
+row-kept d L e = omega (arith, e)
+
+-- numbers that are filled
+pub filled-kept : {d : Design} {L : ℕ} {l : List ℕ} → BufferFits d L l → (W : List ℕ) → length W ≡ originalWork (paramsOf d) L
+    → Filled (rowFrames d L) [] [] (bufferOf l) W → BufferKept d L l W
+unfolding sitesIn
+filled-kept {d} {L} {l} F W long H =
+    frame-kept d L [] (F .allowed) (F .few-blocks)
+    (filled-keeps (buffer-lent d L l (F .allowed) (F .few-blocks) (F .long) (F .bits)) W H [] (λ k a. refl) (row-kept d L long))
 
 stretch-rows : (d : Design) (L : ℕ) (links : List ℕ) → stretchWords (record { frames = rowFrames d L; k = 0 }) links L ≡ rowWords (paramsOf d) L
 unfolding sitesIn

@@ -9,10 +9,6 @@ use lib.ListN.{length}
 use Rattle.staircase.specs.Design.{Params}
 use Rattle.staircase.specs.Rules.{Verdict, _then_, lengthRule, bitRule}
 use Rattle.staircase.specs.Rules.Verdict.{accepted}
-use Rattle.staircase.specs.Calls.{Corrected}
-use Rattle.answers.specs.declared.Decoding.{Decoding}
-use Rattle.answers.specs.Answers.{correctedOf}
-use Rattle.original.specs.Frame.{bufferOf}
 use Rattle.original.specs.Rules.{originalWork}
 use Rattle.original.specs.Calls.{originalDecoded, originalCounts, CorrectedBuffer, correctedBufferBy}
 use Rattle.original_rows.specs.Rows.{bufferRules}

@@ -1,5 +1,4 @@
--- The kept bytes of an original frame, and its frame among all kinds: steps of the decoder, which no promise names.
---   rowFrames            the frames of a design
+-- The kept bytes of an original frame: steps of the decoder, which no promise names.
 --   numbersIn, marksIn   the parts of the kept bytes: the numbers of all words, and behind them the marks of line errors
 --   BufferKept           a buffer of blocks with the kept numbers of all its words
 -- Assumes nothing.
@@ -9,16 +8,11 @@ use Prim.Native.Nat.{ℕ, _+_, _*_, _/_}
 use lib.ListN.{length, take, drop}
 use Rattle.staircase.specs.Kept.{Keeps}
 use Rattle.decoder_kept.specs.Words.{keptOf}
-use Rattle.decoder_lines.specs.declared.Shape.the-variants.{Original}
-use Rattle.decoder_lines.specs.declared.Frames.{Frames}
 use Rattle.original.specs.Frame.{bufferOf}
 use Rattle.original.specs.Crossing.{rowCount, rowWord}
 use Rattle.design.specs.declared.Design.{Design}
 use Rattle.design.specs.Sizes.{paramsOf}
 use Rattle.original_rows.specs.Rows.{BufferFits}
-
-abbrev pub rowFrames : Design → ℕ → Frames
-rowFrames d L = record { d = d; shape = Original; blocks = L }
 
 abbrev pub numbersIn : Design → ℕ → List ℕ → List ℕ
 numbersIn d L kept = take (4 * rowCount (paramsOf d) L) kept

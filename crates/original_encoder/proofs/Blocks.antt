@@ -38,8 +38,7 @@ use Rattle.original.proofs.Encoder.{read-binary}
 use Rattle.original.proofs.Rows.{Own, column-of, own-site, each-row}
 use Rattle.original.proofs.Buffer.{column-mod, cleared-length, cleared-at, encoded-only}
 use Rattle.words_blocks.proofs.Sums.{zeros-are}
-use Rattle.original_rows.specs.Rows.{rowRemainders}
-use Rattle.original_encoder.specs.Written.{digit, RowsAt}
+use Rattle.original_encoder.specs.Written.{rowRemainders, digit, RowsAt}
 
 -- ---- a byte of a block
 

@@ -1,3 +1,4 @@
+pub mod Rows
 pub mod Blocks
 pub mod Digits
 pub mod EncodeCall

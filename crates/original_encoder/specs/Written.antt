@@ -1,4 +1,5 @@
 -- What the steps of the encoder leave in the buffer.
+--   rowRemainders    the remainders of the rows of a block
 --   digit            bit j of the r digits of a number, the highest first
 --   DigitsAt         the digits of a number are written from a byte on, and nothing else
 --   RowsAt           the digits of a number for each row are written at the row's end
@@ -13,15 +14,20 @@ use mathlib.Core.List.{List}
 use Prim.Native.Nat.{ℕ, _+_, _-_, _*_, _/_, _%_, _^_, _≤_, _<_}
 use lib.Dec.{ltb}
 use lib.ListN.{length, getD}
+use Rattle.bch.specs.Polynomial.{remainder}
+use Rattle.staircase.specs.Lists.{tabulate}
 use Rattle.staircase.specs.Design.{Params, most-blocks}
+use Rattle.staircase.specs.Frame.{read}
 use Rattle.staircase.specs.Rules.{Verdict, _then_, refuseFirst}
-use Rattle.answers.specs.declared.Check.{Check}
-use Rattle.answers.specs.Answers.{verdictOf}
+use Rattle.original.specs.Frame.{rowSites, bufferOf}
 use Rattle.original.specs.Rules.{infoBits}
-use Rattle.original.specs.Calls.{Written}
 use Rattle.design.specs.declared.Design.{Design}
 use Rattle.design.specs.Answers.{AllowedOriginal}
 use Rattle.original_rows.specs.Rows.{bufferRules}
+
+-- of the block that b blocks precede
+unfoldable pub rowRemainders : Params → List ℕ → ℕ → List ℕ
+rowRemainders s l b = tabulate (s .M) (λ a. remainder (s .g) (s .r) (read (bufferOf l) (rowSites s b a)))
 
 abbrev pub digit : ℕ → ℕ → ℕ → ℕ
 digit r x j = x / 2 ^ (r - 1 - j) % 2

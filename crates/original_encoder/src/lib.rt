@@ -2,24 +2,32 @@
 //   encode   writes the last r columns of each block
 //
 // First the parity columns of all blocks are made 0. The remainder of a row whose parity is 0 has the parity as its digits, so block after block the
-// remainders of all its rows are taken at once (crate `original_rows`), and their digits written. The rows of a block share no bit, and a row has bits of
+// remainders of all its rows are taken at once (crate `words_lines`), and their digits written. The rows of a block share no bit, and a row has bits of
 // its own block and of the one before, whose parity is written by then. Where a frame has bits enough, tables of sums are made first, by which eight bits of
 // a row are added at once (crate `words_tables`).
 ghost use mathlib.Core.Path.{_≡_};
-ghost use Prim.Native.Nat.{_+_, _-_, _*_, _/_, _%_, _≤_, _<_};
+ghost use mathlib.Core.Bool.{false};
+ghost use Prim.Native.Nat.{_+_, _-_, _*_, _≤_, _<_};
 ghost use lib.ListN.{length, getD};
 ghost use Rattle.answers.specs.Answers.{verdictOf, writtenOf};
-ghost use Rattle.words_tables.specs.Tables.{MayHalves};
+ghost use Rattle.layout.specs.declared.Shape.the-variants.{Original};
+ghost use Rattle.layout.specs.Layouts.{tailIn};
+ghost use Rattle.words_tables.specs.Tables.{tableLength, MayParts};
+ghost use Rattle.words_lines.specs.Words.{ReadTable};
 ghost use Rattle.original.specs.Frame.{encoded};
 ghost use Rattle.original.specs.Demand.{InfoBits};
 ghost use Rattle.original.specs.Calls.{originalEncodeCall};
 ghost use Rattle.design.specs.Answers.{AllowedOriginal};
-ghost use Rattle.original_rows.specs.Rows.{rowRemainders, RowTable, BufferFits};
-ghost use Rattle.original_encoder.specs.Written.{DigitsAt, RowsAt, ParityZero, BufferLong, widthBits, encodeRules};
+ghost use Rattle.original_rows.specs.Rows.{BufferFits};
+ghost use Rattle.original_encoder.specs.Written.{rowRemainders, DigitsAt, RowsAt, ParityZero, BufferLong, widthBits, encodeRules};
 ghost use Rattle.design.specs.Sizes.{paramsOf};
 use answers::Check;
 use design::Design;
 use design::Designed;
+use layout::Frames;
+use layout::Line;
+use layout::Shape;
+use rules::Lengths;
 
 // Writes the r low bits of x, the highest first, from byte `from` on.
 fn put_digits(x: u32, r: usize, from: usize, buffer: &mut [u8])
@@ -63,14 +71,33 @@ fn encode_block(
     sums: &mut [u32],
     buffer: &mut [u8],
 )
-    requires { ⌜ BufferFits d blocks (now buffer) × (b < blocks) × RowTable (paramsOf d) (now positions) × (length (now sums) ≡ d .size)
-        × MayHalves (now positions) (d .size) (now tables) ⌝ }
+    requires { ⌜ BufferFits d blocks (now buffer) × (b < blocks) × ReadTable Original (paramsOf d) false (now positions) × (length (now sums) ≡ d .size)
+        × MayParts (now positions) (d .size) (tailIn Original (paramsOf d)) (now tables) ⌝ }
     ensures { λ u. ⌜ RowsAt (d .size) (d .size) (d .m * d .t) (b * (d .size * d .size)) (λ a. getD (rowRemainders (paramsOf d) (now (buffer .entry)) b) a 0)
         (now (buffer .entry)) (now (buffer .exit)) × (length (now (sums .exit)) ≡ length (now (sums .entry))) ⌝ }
 {
     let area = d.area();
     let r = d.r();
-    original_rows::row_remainders(d, blocks, b, &buffer[..], positions, tables, sums);
+    let frames = Frames {
+        d: d,
+        shape: Shape::Original,
+        blocks: blocks,
+    };
+    let line = Line {
+        frames: frames,
+        k: b,
+    };
+    let none = [0u8; 0];
+    words_lines::line_remainders(
+        line,
+        &none,
+        &none,
+        &buffer[..],
+        &none,
+        positions,
+        tables,
+        sums,
+    );
     put_rows(&sums[..], r, b * area, buffer);
 }
 
@@ -84,8 +111,8 @@ fn encode_blocks(
     sums: &mut [u32],
     buffer: &mut [u8],
 )
-    requires { ⌜ BufferFits d blocks (now buffer) × RowTable (paramsOf d) (now positions) × (length (now sums) ≡ d .size) × ParityZero (paramsOf d) (now buffer)
-        × MayHalves (now positions) (d .size) (now tables) ⌝ }
+    requires { ⌜ BufferFits d blocks (now buffer) × ReadTable Original (paramsOf d) false (now positions) × (length (now sums) ≡ d .size) × ParityZero (paramsOf d) (now buffer)
+        × MayParts (now positions) (d .size) (tailIn Original (paramsOf d)) (now tables) ⌝ }
     ensures { λ u. ⌜ now (buffer .exit) ≡ encoded (paramsOf d) blocks (now (buffer .entry)) ⌝ }
 {
     for b in 0..blocks {
@@ -95,14 +122,14 @@ fn encode_blocks(
 
 // `encode_cleared` by tables of sums, which are to have `due` entries.
 fn encode_by_tables(d: Design, blocks: usize, positions: &[u32], due: usize, buffer: &mut [u8])
-    requires { ⌜ BufferFits d blocks (now buffer) × RowTable (paramsOf d) (now positions) × ParityZero (paramsOf d) (now buffer) × (due ≤ 32768)
-        × (due ≡ 2 * (256 * ((d .size + 7) / 8))) ⌝ }
+    requires { ⌜ BufferFits d blocks (now buffer) × ReadTable Original (paramsOf d) false (now positions) × ParityZero (paramsOf d) (now buffer) × (due ≤ 36864)
+        × (due ≡ 2 * tableLength (d .size) + 2 * tableLength (tailIn Original (paramsOf d))) ⌝ }
     ensures { λ u. ⌜ now (buffer .exit) ≡ encoded (paramsOf d) blocks (now (buffer .entry)) ⌝ }
 {
     let size = d.size();
     let mut tables = words_tables::entries();
-    words_tables::fill_halves(positions, size, &mut tables[0..due]);
-    let mut sums = words::sum_entries();
+    words_tables::fill_parts(positions, size, 0, &mut tables[0..due]);
+    let mut sums = words_lines::sum_entries();
     encode_blocks(
         d,
         blocks,
@@ -115,13 +142,13 @@ fn encode_by_tables(d: Design, blocks: usize, positions: &[u32], due: usize, buf
 
 // Encodes a buffer of bits whose parity is 0, with the powers of x lent: by tables of sums where the buffer has bits enough.
 fn encode_cleared(d: Design, blocks: usize, positions: &[u32], buffer: &mut [u8])
-    requires { ⌜ BufferFits d blocks (now buffer) × RowTable (paramsOf d) (now positions) × ParityZero (paramsOf d) (now buffer) ⌝ }
+    requires { ⌜ BufferFits d blocks (now buffer) × ReadTable Original (paramsOf d) false (now positions) × ParityZero (paramsOf d) (now buffer) ⌝ }
     ensures { λ u. ⌜ now (buffer .exit) ≡ encoded (paramsOf d) blocks (now (buffer .entry)) ⌝ }
 {
     let size = d.size();
-    let due = words_tables::tables_due(blocks, size);
+    let due = words_tables::parts_due(blocks, size, 0);
     if due == 0 {
-        let mut sums = words::sum_entries();
+        let mut sums = words_lines::sum_entries();
         return encode_blocks(
             d,
             blocks,
@@ -170,7 +197,16 @@ fn check_information(d: Design, blocks: u64, buffer: &[u8]) -> Check
     requires { ⌜ AllowedOriginal d ⌝ }
     ensures { λ a. ⌜ verdictOf a ≡ encodeRules (paramsOf d) blocks (now (buffer .entry)) ⌝ }
 {
-    let lengths = original_rows::check_buffer(d, blocks, 0, buffer.len());
+    let have = Lengths {
+        own: 0,
+        parity: 0,
+        inverse: 0,
+        info: buffer.len(),
+        red: 0,
+        work: 0,
+    };
+    let due = rules::original_due(d, blocks);
+    let lengths = rules::check_frame(blocks, 0, have, due);
     let Check::Passed = lengths else {
         return lengths;
     };

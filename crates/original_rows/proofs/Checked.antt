@@ -1,5 +1,6 @@
 -- What rules 4 to 6 say once they accept, and the word checker's verdict step by step.
---   buffer-limits               rules 4 to 6 for a buffer
+--   buffer-sizes                rules 4 to 6 for a buffer, as they are for every kind of frame
+--   buffer-limits               what they say
 --   buffer-small                its length
 --   received-fits               what rules 4, 6 and 10 leave
 --   words-design, words-received, words-counted   the call's answer at each of its ends
@@ -26,7 +27,10 @@ use Rattle.answers.proofs.Checks.{refused-then, check-refused, check-passed}
 use Rattle.answers.specs.declared.WordCount.{WordCount}
 use Rattle.answers.specs.declared.WordCount.the-variants as count
 use Rattle.design.specs.Answers.{designVerdict, DesignIs, AllowedOriginal}
-use Rattle.words.proofs.WordsCall.{by-refused}
+use Rattle.rules.specs.declared.lengths.Lengths.{Lengths}
+use Rattle.rules.specs.Lengths.{lengthsRule, bufferLengths, originalDue, sizeRules}
+use Rattle.rules.proofs.Chain.{then-none, sizes-where}
+use Rattle.words_lines.proofs.Count.{by-refused}
 use Rattle.original.specs.Frame.{bufferOf, rowWords}
 use Rattle.original.specs.Rules.{originalRules}
 use Rattle.original.specs.Calls.{originalWordsVerdict, originalWordsCall}
@@ -36,6 +40,13 @@ use Rattle.design.specs.declared.Designed.the-variants as designed
 use Rattle.design.specs.Sizes.{paramsOf}
 use Rattle.design.proofs.Answers.{design-refused, design-made, made-params}
 use Rattle.original_rows.specs.Rows.{BufferFits, bufferRules, receivedRules}
+
+-- what lacks has no bytes, and none are due
+pub buffer-sizes : (s : Params) (L k have : ℕ) {due : Lengths} → (L ≤ most-blocks → due ≡ originalDue s L) → sizeRules L k (bufferLengths have 0) due ≡ bufferRules s L k have
+unfolding sizeRules lengthsRule originalDue bufferRules
+buffer-sizes s L k have {due} same =
+    sizes-where L k (bufferLengths have 0) due (originalDue s L) same
+    ∙ ap (λ (v : Verdict). countRule L then roundsRule k then v) (then-none (lengthRule 4 have (infoLength s L)))
 
 pub buffer-limits : (s : Params) (L k have : ℕ) → bufferRules s L k have ≡ accepted → (1 ≤ L) × (L ≤ most-blocks) × (k ≤ most-rounds) × (have ≡ infoLength s L)
 unfolding bufferRules roundsRule

@@ -1,3 +1,1 @@
-pub mod Remainders
 pub mod Checked
-pub mod Count

@@ -1,7 +1,8 @@
-// What the programs read and write: kit.txt, standard input, standard output.
+// What the programs read and write: kit.txt, standard input, files that their words name, standard output.
 //   input_bytes, output_bytes   arrays for an input and for what is printed
 //   read_kit                    kit.txt in the folder in which the program runs
 //   read_text                   standard input
+//   read_named                  the file that a word after the program's name names
 //   write_output                standard output
 //
 // An input is read to its end, or up to one byte more than rule 13 lets through and no further. An input that cannot be opened or read, and an output
@@ -82,11 +83,10 @@ fn read_input(fd: i32, name: &[u8], bytes: &mut [u8]) -> Input
     }
 }
 
-// Reads kit.txt into the start of `bytes`.
-pub fn read_kit(bytes: &mut [u8]) -> Input
+// Reads the file at `path` into the start of `bytes`.
+fn read_file(path: &[u8], bytes: &mut [u8]) -> Input
     ensures { λ a. ⌜ Counts (a .count) (now (bytes .exit)) ⌝ }
 {
-    let path = b"kit.txt";
     let fd = os::open_read(path);
     if fd < 0 {
         os::fail(path);
@@ -95,9 +95,33 @@ pub fn read_kit(bytes: &mut [u8]) -> Input
             count: 0,
         };
     }
-    let kit = read_input(fd, path, bytes);
+    let input = read_input(fd, path, bytes);
     libc::close(fd);
-    kit
+    input
+}
+
+// Reads kit.txt into the start of `bytes`.
+pub fn read_kit(bytes: &mut [u8]) -> Input
+    ensures { λ a. ⌜ Counts (a .count) (now (bytes .exit)) ⌝ }
+{
+    read_file(b"kit.txt", bytes)
+}
+
+// Reads the file that the word of number `word` names, the first after the program's name being 1, into the start of `bytes`. A word that is missing, or
+// longer than a path can be, is told as a failure: what is there of it must not pass for a shorter name, or for an empty one.
+pub fn read_named(word: usize, bytes: &mut [u8]) -> Input
+    ensures { λ a. ⌜ Counts (a .count) (now (bytes .exit)) ⌝ }
+{
+    let mut path = io::buffer();
+    let n = os::arg(word, &mut path);
+    if os::errno() == 0 {
+        return read_file(&path[..n], bytes);
+    }
+    os::fail(b"name of a file");
+    Input {
+        readable: false,
+        count: 0,
+    }
 }
 
 // Reads standard input into the start of `bytes`.
@@ -132,9 +156,12 @@ fn written(bytes: &[u8]) -> bool {
     true
 }
 
-// Writes `bytes` to standard output and closes it: some file systems tell only then that what they took is lost. A failure is told.
-pub fn write_output(bytes: &[u8]) {
+// Writes `bytes` to standard output and closes it: some file systems tell only then that what they took is lost. A failure is told. Answers whether all
+// was taken.
+pub fn write_output(bytes: &[u8]) -> bool {
     if !written(bytes) || libc::close(libc::STDOUT_FILENO) < 0 {
         os::fail(b"standard output");
+        return false;
     }
+    true
 }

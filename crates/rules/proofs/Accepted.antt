@@ -1,6 +1,6 @@
 -- What rules 4 to 7 and 10 say once they accept.
 --   lengths-equal      each slice has the length that is due
---   frame-accepted     rules 4 and 5, and the same
+--   sizes-accepted, frame-accepted   rules 4 and 5, and the same
 --   batch-accepted     rules 4 and 17, and the same
 --   frame-small        the lengths of a frame are small
 --   kept-small         and what the decoder keeps of it
@@ -25,7 +25,7 @@ use Rattle.design.specs.declared.Design.{Design}
 use Rattle.design.specs.Answers.{Allowed}
 use Rattle.design.specs.Sizes.{paramsOf, orderOf}
 use Rattle.rules.specs.declared.lengths.Lengths.{Lengths}
-use Rattle.rules.specs.Lengths.{lengthsOf, lengthsRule, listsWith, listsDue, decoderDue, frameDue, batchDue, frameRules, batchRules}
+use Rattle.rules.specs.Lengths.{lengthsOf, lengthsRule, listsWith, listsDue, decoderDue, frameDue, batchDue, sizeRules, batchSizeRules, frameRules, batchRules}
 use Rattle.rules.specs.Bytes.{byteRules}
 use Rattle.rules.specs.Received.{Received}
 
@@ -52,22 +52,26 @@ lengths-equal have due e =
       length-equal 6 (have .work) (due .work) (then-rest (lengthRule 5 (have .red) (due .red)) (lengthRule 6 (have .work) (due .work)) e5),
     )
 
-pub frame-accepted : (s : Params) (L k : ℕ) (have due : Lengths) → frameRules s L k have due ≡ accepted
-    → (1 ≤ L) × (L ≤ most-blocks) × (k ≤ most-rounds) × Equal have (frameDue s L due)
-unfolding frameRules roundsRule
-frame-accepted s L k have due e =
-    let v : Verdict = lengthsRule have (frameDue s L due) in
+pub sizes-accepted : (L k : ℕ) (have due : Lengths) → sizeRules L k have due ≡ accepted → (1 ≤ L) × (L ≤ most-blocks) × (k ≤ most-rounds) × Equal have due
+unfolding sizeRules roundsRule
+sizes-accepted L k have due e =
+    let v : Verdict = lengthsRule have due in
     let f : (roundsRule k then v) ≡ accepted = then-rest (countRule L) (roundsRule k then v) e in
     let n = count-limits L (then-first (countRule L) (roundsRule k then v) e) in (
       n .0,
       n .1,
       ltb-false most-rounds k (refuse-false (ltb most-rounds k) 5 k (then-first (roundsRule k) v f)),
-      lengths-equal have (frameDue s L due) (then-rest (roundsRule k) v f),
+      lengths-equal have due (then-rest (roundsRule k) v f),
     )
+
+pub frame-accepted : (s : Params) (L k : ℕ) (have due : Lengths) → frameRules s L k have due ≡ accepted
+    → (1 ≤ L) × (L ≤ most-blocks) × (k ≤ most-rounds) × Equal have (frameDue s L due)
+unfolding frameRules
+frame-accepted s L k have due e = sizes-accepted L k have (frameDue s L due) e
 
 pub batch-accepted : (s : Params) (L n : ℕ) (have due : Lengths) → batchRules s L n have due ≡ accepted
     → (L ≤ most-blocks) × (n ≤ most-frames) × Equal have (batchDue s L n due)
-unfolding batchRules
+unfolding batchRules batchSizeRules
 batch-accepted s L n have due e =
     let v : Verdict = lengthsRule have (batchDue s L n due) in
     let f : (batchRule n then v) ≡ accepted = then-rest (countRule L) (batchRule n then v) e in (

@@ -1,11 +1,11 @@
 -- Rules one after another, and rules 4 to 6 of each kind of call as those of the crate `staircase`.
 --   both-then                     the first refusal of two
 --   then-assoc, then-where        of three; a rest that counts only where what comes before it accepts
---   frame-rules-of, due-where     rules 4 to 6, by the number of blocks where it is allowed
+--   sizes-where, frame-where, due-where   rules 4 to 6, by lengths that are due where the number of blocks is allowed
 --   kit-lengths-rule              rule 6 of the kit checker, and then others
 --   make-lengths-rule             rule 6 of the maker of a kit's inverse, and then others
 --   received-rules, decoder-rules  rules 4 to 6 of calls with a kit's lists alone, and then others
---   batch-rules-of, batch-rules   rules 4, 17 and 6, by numbers where they are allowed; of calls with a kit, and then others
+--   batch-where, batch-rules      rules 4, 17 and 6, by lengths that are due where the numbers are allowed; of calls with a kit, and then others
 --   lists-alone, kit-alone, frame-alone   rule 6 for some of the slices
 --   content-rules, kit-rules      rules 7 to 10 of calls with a kit, and of the kit checker
 --   received-bytes                rules 7 and 10 of calls with its lists alone
@@ -27,7 +27,7 @@ use Rattle.staircase.proofs.Batch.{batch-limits}
 use Rattle.rules.specs.declared.lengths.Lengths.{Lengths}
 use Rattle.rules.specs.Bytes.{byteRules}
 use Rattle.rules.proofs.Spare.{empty-spare}
-use Rattle.rules.specs.Lengths.{lengthsOf, lengthsRule, kitDue, makeDue, listsWith, listsDue, decoderDue, frameDue, batchDue, frameRules, batchRules}
+use Rattle.rules.specs.Lengths.{lengthsOf, lengthsRule, kitDue, makeDue, listsWith, listsDue, decoderDue, frameDue, batchDue, sizeRules, batchSizeRules, frameRules, batchRules}
 
 pub both-then : {x y z u v : Verdict} → z ≡ (x then y) → x ≡ u → y ≡ v → z ≡ (u then v)
 both-then h e f = h ∙ ap₂ (λ (p q : Verdict). p then q) e f
@@ -36,7 +36,7 @@ pub then-assoc : (u v w : Verdict) → ((u then v) then w) ≡ (u then v then w)
 then-assoc accepted v w = refl
 then-assoc (refused n p) v w = refl
 
-then-none : (u : Verdict) → (u then accepted) ≡ u
+pub then-none : (u : Verdict) → (u then accepted) ≡ u
 then-none accepted = refl
 then-none (refused n p) = refl
 
@@ -44,28 +44,28 @@ pub then-where : (x u v : Verdict) → (x ≡ accepted → u ≡ v) → (x then 
 then-where accepted u v h = h refl
 then-where (refused n p) u v h = refl
 
+pub sizes-where : (L k : ℕ) (have due other : Lengths) → (L ≤ most-blocks → due ≡ other) → sizeRules L k have due ≡ sizeRules L k have other
+unfolding sizeRules
+sizes-where L k have due other same =
+    then-where (countRule L) (roundsRule k then lengthsRule have due) (roundsRule k then lengthsRule have other)
+    (λ e. ap (λ (x : Lengths). roundsRule k then lengthsRule have x) (same (count-limits L e .1)))
+
 module _ (s : Params) (L k : ℕ) (have due : Lengths) where
-  pub frame-rules-of : (few : ℕ) → (L ≤ most-blocks → few ≡ L)
-      → (countRule L then roundsRule k then lengthsRule have (frameDue s few due)) ≡ frameRules s L k have due
+  pub frame-where : {x : Lengths} → (L ≤ most-blocks → x ≡ frameDue s L due) → sizeRules L k have x ≡ frameRules s L k have due
   unfolding frameRules
-  frame-rules-of few same =
-      then-where (countRule L) (roundsRule k then lengthsRule have (frameDue s few due)) (roundsRule k then lengthsRule have (frameDue s L due))
-      (λ e. ap (λ (n : ℕ). roundsRule k then lengthsRule have (frameDue s n due)) (same (count-limits L e .1)))
+  frame-where {x} same = sizes-where L k have x (frameDue s L due) same
 
   pub due-where : (other : Lengths) → (L ≤ most-blocks → due ≡ other) → frameRules s L k have due ≡ frameRules s L k have other
   unfolding frameRules
-  due-where other same =
-      then-where (countRule L) (roundsRule k then lengthsRule have (frameDue s L due)) (roundsRule k then lengthsRule have (frameDue s L other))
-      (λ e. ap (λ (x : Lengths). roundsRule k then lengthsRule have (frameDue s L x)) (same (count-limits L e .1)))
+  due-where other same = sizes-where L k have (frameDue s L due) (frameDue s L other) (λ h. ap (frameDue s L) (same h))
 
-module _ (s : Params) (L n : ℕ) (have due : Lengths) where
-  pub batch-rules-of : (few some : ℕ) → (L ≤ most-blocks → few ≡ L) → (n ≤ most-frames → some ≡ n)
-      → (countRule L then batchRule n then lengthsRule have (batchDue s few some due)) ≡ batchRules s L n have due
-  unfolding batchRules
-  batch-rules-of few some blocks frames =
-      then-where (countRule L) (batchRule n then lengthsRule have (batchDue s few some due)) (batchRule n then lengthsRule have (batchDue s L n due))
-      (λ e. then-where (batchRule n) (lengthsRule have (batchDue s few some due)) (lengthsRule have (batchDue s L n due))
-      (λ f. ap₂ (λ (x y : ℕ). lengthsRule have (batchDue s x y due)) (blocks (count-limits L e .1)) (frames (batch-limits n f .1))))
+pub batch-where : (s : Params) (L n : ℕ) (have due : Lengths) {x : Lengths} → (L ≤ most-blocks → n ≤ most-frames → x ≡ batchDue s L n due)
+    → batchSizeRules L n have x ≡ batchRules s L n have due
+unfolding batchRules batchSizeRules
+batch-where s L n have due {x} same =
+    then-where (countRule L) (batchRule n then lengthsRule have x) (batchRule n then lengthsRule have (batchDue s L n due))
+    (λ e. then-where (batchRule n) (lengthsRule have x) (lengthsRule have (batchDue s L n due))
+    (λ f. ap (lengthsRule have) (same (count-limits L e .1) (batch-limits n f .1))))
 
 -- a to f flat and then v, and as kit, frame and working bytes and then v
 grouped : (a b c d e f v : Verdict) → ((a then b then c then d then e then f) then v) ≡ (((a then b) then c) then (d then e) then f then v)
@@ -98,7 +98,7 @@ module _ (s : Params) (self parity : List ℕ) (work : ℕ) (v : Verdict) where
 
     lists-rules : (due : ℕ) → (frameRules s L k (lengthsOf self parity [] info red work) (listsWith s due) then v)
         ≡ (countRule L then roundsRule k then listLengths s self parity then frameLengths s L info red then lengthRule 6 work due then v)
-    unfolding frameRules frameDue lengthsRule listLengths frameLengths
+    unfolding frameRules sizeRules frameDue lengthsRule listLengths frameLengths
     lists-rules due =
         counted (roundsRule k) _ _
         (grouped (lengthRule 1 (length self) (2 * order s)) (lengthRule 2 (length parity) (2 * order s)) accepted
@@ -117,7 +117,7 @@ module _ (s : Params) (self parity : List ℕ) (work : ℕ) (v : Verdict) where
 
     pub batch-rules : (n : ℕ) (w : List ℕ) → (batchRules s L n (lengthsOf self parity w info red work) (kitDue s) then v)
         ≡ (countRule L then batchRule n then kitLengths s self parity w then batchLengths s L n info red then lengthRule 6 work (kitWork s) then v)
-    unfolding batchRules batchDue lengthsRule kitDue kitLengths listLengths batchLengths
+    unfolding batchRules batchSizeRules batchDue lengthsRule kitDue kitLengths listLengths batchLengths
     batch-rules n w =
         counted (batchRule n) _ _
         (grouped (lengthRule 1 (length self) (2 * order s)) (lengthRule 2 (length parity) (2 * order s)) (lengthRule 3 (length w) (order s * rowBytes (order s)))

@@ -2,8 +2,9 @@
 --   lengthsOf                   the lengths of a call's slices
 --   lengthsRule have due        rule 6
 --   kitDue, makeDue, listsDue, decoderDue, frameDue, batchDue  what is due
---   frameRules                  rules 4 to 6
---   batchRules                  rules 4, 17 and 6
+--   originalDue, originalDecoderDue, bufferLengths   of an original frame: what is due, and what there is of a buffer and working bytes
+--   sizeRules, batchSizeRules   rules 4 to 6; rules 4, 17 and 6
+--   frameRules, batchRules      the same for the frame or the frames of a design
 -- Assumes nothing.
 use mathlib.Core.List.{List}
 use Prim.Native.Nat.{ℕ, _*_}
@@ -13,6 +14,7 @@ use Rattle.staircase.specs.System.{rowBytes}
 use Rattle.staircase.specs.Rules.{Verdict, _then_, countRule, roundsRule, lengthRule, infoLength, redLength, kitWork, wordWork, decoderWork}
 use Rattle.staircase.specs.Maker.{makeWork}
 use Rattle.staircase.specs.Batch.{batchRule}
+use Rattle.original.specs.Rules.{originalWork}
 use Rattle.rules.specs.declared.lengths.Lengths.{Lengths}
 
 -- the lengths of a call's slices; a call without a slice has an empty one
@@ -72,8 +74,21 @@ frameDue s L due = record {
   work = due .work;
 }
 
+-- "The buffer has place 4 in rule 6"
+abbrev pub bufferLengths : ℕ → ℕ → Lengths
+bufferLengths have work = record { own = 0; parity = 0; inverse = 0; info = have; red = 0; work = work }
+
+unfoldable pub originalDue : Params → ℕ → Lengths
+originalDue s L = bufferLengths (infoLength s L) 0
+
+unfoldable pub originalDecoderDue : Params → ℕ → Lengths
+originalDecoderDue s L = bufferLengths (infoLength s L) (originalWork s L)
+
+unfoldable pub sizeRules : ℕ → ℕ → Lengths → Lengths → Verdict
+sizeRules L k have due = countRule L then roundsRule k then lengthsRule have due
+
 unfoldable pub frameRules : Params → ℕ → ℕ → Lengths → Lengths → Verdict
-frameRules s L k have due = countRule L then roundsRule k then lengthsRule have (frameDue s L due)
+frameRules s L k have due = sizeRules L k have (frameDue s L due)
 
 -- of n frames of L blocks, joined
 unfoldable pub batchDue : Params → ℕ → ℕ → Lengths → Lengths
@@ -86,5 +101,8 @@ batchDue s L n due = record {
   work = due .work;
 }
 
+unfoldable pub batchSizeRules : ℕ → ℕ → Lengths → Lengths → Verdict
+batchSizeRules L n have due = countRule L then batchRule n then lengthsRule have due
+
 unfoldable pub batchRules : Params → ℕ → ℕ → Lengths → Lengths → Verdict
-batchRules s L n have due = countRule L then batchRule n then lengthsRule have (batchDue s L n due)
+batchRules s L n have due = batchSizeRules L n have (batchDue s L n due)

@@ -5,11 +5,12 @@
 //   kit_due, make_due, lists_due, frame_due, batch_due   the lengths that are due of a kit, of one that is made, of its lists, of a frame, of several
 //   kept_work                           the working bytes of what the decoder keeps of a frame
 //   decoder_due                         of the lists, and of the working bytes of the decoder
+//   original_due, original_decoder_due  of an original frame
 //   check_list_lengths, check_kit_lengths, check_frame_lengths   rule 6 for some of the slices
-//   check_frame                         rules 4 to 6
+//   check_frame                         rules 4 to 6, for every kind of frame
 //   check_batch                         rules 4, 17 and 6
 //
-// A call that lacks a slice has 0 for it, and 0 is due. Each rule is judged at once, and `first` picks the first refusal.
+// A call that lacks a slice has 0 for it, and 0 is due. What is due of a frame is told for every number of blocks, and is right where rule 4 accepts it. Each rule is judged at once, and `first` picks the first refusal.
 ghost use mathlib.Core.Path.{_≡_};
 ghost use Prim.Native.Nat.{_≤_};
 ghost use Rattle.staircase.specs.Design.{most-blocks};
@@ -17,7 +18,7 @@ ghost use Rattle.staircase.specs.Rules.{_then_, lengthRule, listLengths, kitLen
 ghost use Rattle.staircase.specs.Batch.{most-frames};
 ghost use Rattle.design.specs.Sizes.{paramsOf};
 ghost use Rattle.design.specs.Answers.{Allowed};
-ghost use Rattle.rules.specs.Lengths.{lengthsRule, kitDue, makeDue, listsDue, decoderDue, frameDue, batchDue, frameRules, batchRules};
+ghost use Rattle.rules.specs.Lengths.{lengthsRule, kitDue, makeDue, listsDue, decoderDue, frameDue, batchDue, originalDue, originalDecoderDue, sizeRules, batchSizeRules};
 ghost use Rattle.answers.specs.Answers.{verdictOf};
 use answers::Check;
 use answers::Refusal;
@@ -136,11 +137,11 @@ pub fn lists_due(d: Design) -> Lengths
 
 // Of the information and the redundancy of a frame of `blocks` blocks, beside what else is due.
 pub fn frame_due(d: Design, blocks: u64, due: Lengths) -> Lengths
-    requires { ⌜ blocks ≤ most-blocks ⌝ }
-    ensures { λ a. ⌜ a ≡ frameDue (paramsOf d) blocks due ⌝ }
+    ensures { λ a. ⌜ (blocks ≤ most-blocks → a ≡ frameDue (paramsOf d) blocks due) ⌝ }
 {
-    let info = (blocks as usize) * d.area();
-    let red = (design::group_count(blocks) as usize) * (2 * d.order());
+    let few = blocks_allowed(blocks);
+    let info = (few as usize) * d.area();
+    let red = (design::group_count(few) as usize) * (2 * d.order());
     Lengths {
         own: due.own,
         parity: due.parity,
@@ -153,11 +154,12 @@ pub fn frame_due(d: Design, blocks: u64, due: Lengths) -> Lengths
 
 // Of the joined information and the joined redundancy of `frames` frames of `blocks` blocks, beside what else is due.
 pub fn batch_due(d: Design, blocks: u64, frames: u64, due: Lengths) -> Lengths
-    requires { ⌜ (blocks ≤ most-blocks) × (frames ≤ most-frames) ⌝ }
-    ensures { λ a. ⌜ a ≡ batchDue (paramsOf d) blocks frames due ⌝ }
+    ensures { λ a. ⌜ (blocks ≤ most-blocks → frames ≤ most-frames → a ≡ batchDue (paramsOf d) blocks frames due) ⌝ }
 {
-    let info = (frames as usize) * ((blocks as usize) * d.area());
-    let red = (frames as usize) * ((design::group_count(blocks) as usize) * (2 * d.order()));
+    let few = blocks_allowed(blocks);
+    let some = frames_allowed(frames);
+    let info = (some as usize) * ((few as usize) * d.area());
+    let red = (some as usize) * ((design::group_count(few) as usize) * (2 * d.order()));
     Lengths {
         own: due.own,
         parity: due.parity,
@@ -254,14 +256,45 @@ pub fn decoder_due(d: Design, blocks: u64) -> Lengths
     }
 }
 
-// Rules 4 to 6, for the frame of a design: the number of blocks, the number of rounds, and the lengths, with `due` for those that are not the frame's.
-// Constant work.
-pub fn check_frame(d: Design, blocks: u64, rounds: u64, have: Lengths, due: Lengths) -> Check
-    ensures { λ a. ⌜ verdictOf a ≡ frameRules (paramsOf d) blocks rounds have due ⌝ }
+// Of the buffer of an original frame of `blocks` blocks, and no working bytes.
+pub fn original_due(d: Design, blocks: u64) -> Lengths
+    ensures { λ a. ⌜ (blocks ≤ most-blocks → a ≡ originalDue (paramsOf d) blocks) ⌝ }
+{
+    let info = (blocks_allowed(blocks) as usize) * d.area();
+    Lengths {
+        own: 0,
+        parity: 0,
+        inverse: 0,
+        info: info,
+        red: 0,
+        work: 0,
+    }
+}
+
+// Of the buffer of an original frame of `blocks` blocks, and of the working bytes of its decoder: four for each row, and a mark for each bit, eight in a byte.
+pub fn original_decoder_due(d: Design, blocks: u64) -> Lengths
+    ensures { λ a. ⌜ (blocks ≤ most-blocks → a ≡ originalDecoderDue (paramsOf d) blocks) ⌝ }
+{
+    let few = blocks_allowed(blocks) as usize;
+    let info = few * d.area();
+    let work = 4 * (few * d.size()) + (info + 7) / 8;
+    Lengths {
+        own: 0,
+        parity: 0,
+        inverse: 0,
+        info: info,
+        red: 0,
+        work: work,
+    }
+}
+
+// Rules 4 to 6: the number of blocks, the number of rounds, and the lengths, of which `due` are due where rule 4 accepts the number of blocks. Constant work.
+pub fn check_frame(blocks: u64, rounds: u64, have: Lengths, due: Lengths) -> Check
+    ensures { λ a. ⌜ verdictOf a ≡ sizeRules blocks rounds have due ⌝ }
 {
     let count = design::check_count(blocks);
     let limit = design::check_rounds(rounds);
-    let lengths = check_lengths(have, frame_due(d, blocks_allowed(blocks), due));
+    let lengths = check_lengths(have, due);
     first(count, first(limit, lengths))
 }
 
@@ -275,14 +308,13 @@ fn frames_allowed(frames: u64) -> u64
     frames
 }
 
-// Rules 4, 17 and 6, for frames of a design: the number of blocks, the number of frames, and the lengths, with `due` for those that are not the frames'.
-// Constant work.
-pub fn check_batch(d: Design, blocks: u64, frames: u64, have: Lengths, due: Lengths) -> Check
-    ensures { λ a. ⌜ verdictOf a ≡ batchRules (paramsOf d) blocks frames have due ⌝ }
+// Rules 4, 17 and 6: the number of blocks, the number of frames, and the lengths, of which `due` are due where rules 4 and 17 accept these numbers. Constant
+// work.
+pub fn check_batch(blocks: u64, frames: u64, have: Lengths, due: Lengths) -> Check
+    ensures { λ a. ⌜ verdictOf a ≡ batchSizeRules blocks frames have due ⌝ }
 {
     let count = design::check_count(blocks);
     let batch = design::check_batch(frames);
-    let due = batch_due(d, blocks_allowed(blocks), frames_allowed(frames), due);
     let lengths = check_lengths(have, due);
     first(count, first(batch, lengths))
 }

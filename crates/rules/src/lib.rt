@@ -3,6 +3,7 @@
 //   check_frame, check_lengths, ..        rules 4 to 6 (module lengths)
 //   check_batch                           rules 4, 17 and 6 (there)
 //   check_bytes                           rules 7, 8 and 10
+//   check_buffer                          rules 4 to 6 and 10 for the buffer of an original frame
 //   entry(list, p)                        entry p of a list
 //   check_lists(own, parity, n, marks)    rule 7
 //   check_spare(inverse, n)               rule 8
@@ -41,6 +42,8 @@ pub use lengths::kept_work;
 pub use lengths::kit_due;
 pub use lengths::lists_due;
 pub use lengths::make_due;
+pub use lengths::original_decoder_due;
+pub use lengths::original_due;
 ghost use mathlib.Core.Path.{_≡_};
 ghost use Prim.Native.Nat.{ℕ, _+_, _*_, _^_, _≤_, _<_};
 ghost use lib.ListN.{length, getD, replicate};
@@ -49,7 +52,7 @@ ghost use Rattle.staircase.specs.System.{rowBytes};
 ghost use Rattle.staircase.specs.Rules.{_then_, refuseFirst, entries, badEntry, spareRow, bitRule};
 ghost use Rattle.answers.specs.Answers.{verdictOf};
 ghost use Rattle.design.specs.Sizes.{paramsOf, listsOf};
-ghost use Rattle.rules.specs.Bytes.{byteRules, Measured};
+ghost use Rattle.rules.specs.Bytes.{byteRules, bufferVerdict, Measured};
 use answers::Check;
 use answers::Refusal;
 use design::Design;
@@ -215,4 +218,23 @@ pub fn check_bytes(
         return bits;
     };
     check_bits(red, info.len() as u64)
+}
+
+// Rules 4 to 6 and 10 for the buffer of an original frame, with `work` working bytes, of which `due` are due. One pass over it.
+pub fn check_buffer(blocks: u64, rounds: u64, due: Lengths, buffer: &[u8], work: usize) -> Check
+    ensures { λ a. ⌜ verdictOf a ≡ bufferVerdict blocks rounds due (now (buffer .entry)) work ⌝ }
+{
+    let have = Lengths {
+        own: 0,
+        parity: 0,
+        inverse: 0,
+        info: buffer.len(),
+        red: 0,
+        work: work,
+    };
+    let sizes = check_frame(blocks, rounds, have, due);
+    let Check::Passed = sizes else {
+        return sizes;
+    };
+    check_bits(buffer, 0)
 }

@@ -6,8 +6,8 @@
 -- Assumes nothing.
 use mathlib.Core.Path.{_≡_, refl, sym, ap, ap₂, _∙_, subst}
 use mathlib.Core.Bool.{Bool, true, false, not, cond}
-use mathlib.Core.List.{List, [], _∷_, _++_, map, map-append}
-use Prim.Native.Nat.{ℕ, zero, suc, _+_, _-_, _*_, _/_, _%_, _^_, _≤_, _<_, zero-le, suc-le-suc}
+use mathlib.Core.List.{List, [], _∷_, _++_, map-append}
+use Prim.Native.Nat.{ℕ, zero, suc, _+_, _-_, _*_, _%_, _≤_, _<_, suc-le-suc}
 use native.Mathlib.Omega.{arith}
 use lib.Dec.{eqb}
 use lib.ListN.{length, getD}
@@ -16,12 +16,12 @@ use Rattle.bch.specs.Mirror.{mirror, backwards}
 use Rattle.bch.proofs.Mirror.{mirror-codeword}
 use Rattle.staircase.specs.Lists.{tabulate, concat}
 use Rattle.staircase.specs.Design.{Params, Interleavers, columnGenerator, columnCode, mirrored, wordLength, order}
-use Rattle.staircase.specs.Frame.{Frame, Site, Word, word, plain, rowAt, columnAt, rowSites, columnSites, groups, words, bitAt, read, inCode, outsideEach, outsideAmong, outside}
+use Rattle.staircase.specs.Frame.{Frame, Site, Word, word, plain, groups, words, bitAt, read, inCode, outsideEach, outsideAmong, outside}
 use Rattle.staircase.specs.Decoder.{correction, flipAll, Progress, correctWord, correctEach, roundOf, Decoded, runEach}
-use Rattle.staircase.specs.Outcomes.{Outcome, correctedBits, stuckOf, outcome, stuckEach, beforeLast, lastStuck}
+use Rattle.staircase.specs.Outcomes.{correctedBits, stuckOf, outcome, stuckEach, beforeLast, lastStuck}
 use Rattle.staircase.specs.Outcomes.Outcome.{clean}
 use Rattle.staircase.specs.Demand2.{Permutes}
-use Rattle.staircase.specs.Lines.{even, lineSites, lineWord, wordsFrom, turned, readSites, readFrom}
+use Rattle.staircase.specs.Lines.{even, lineSites, lineWord, wordsFrom, readSites, readFrom}
 use Rattle.staircase.specs.Window.{windowGroups, windowWords, slide, slideStuck}
 use Rattle.staircase.proofs.Tabulate.{concat-same}
 use Rattle.staircase.proofs.Flip.{Received, Distinct, read-length, read-bits}

@@ -5,7 +5,6 @@
 --   apart-of, columns-apart   codewords that differ in at most 2t places are equal, of row words and of column words
 -- Assumes nothing.
 use mathlib.Core.Path.{_≡_, sym, _∙_, subst}
-use mathlib.Core.Bool.{Bool, true, false, cond}
 use Prim.Native.Nat.{ℕ, _-_, _*_, _/_, _%_, _^_, _≤_}
 use native.Mathlib.Omega.{arith}
 use lib.Dec.{eqb}
@@ -14,7 +13,7 @@ use Rattle.bch.specs.Code.{generator}
 use Rattle.bch.specs.Mirror.{mirror}
 use Rattle.bch.proofs.Bch.{Code, degree, degree-positive, bch-bound}
 use Rattle.bch.proofs.MirrorBch.{generator-odd, mirror-of-degree, mirrored-bound}
-use Rattle.staircase.specs.Design.{Params, params, columnGenerator, columnCode, wordLength, Limits}
+use Rattle.staircase.specs.Design.{params, columnGenerator, columnCode, wordLength, Limits}
 use Rattle.staircase.proofs.Search.{cond-ind}
 use Rattle.staircase.proofs.System.{Proper}
 use Rattle.staircase.proofs.Correction.{CodeDistance}

@@ -1,8 +1,10 @@
 -- What the decoder counts, and a call of it that is accepted.
 --   correctedBy-verdict          a call's verdict is that of its rules
 --   roundsAllowed-some           a round at least is allowed
---   countsOf-stays               of a frame whose words are all in the code: one idle round
---   countsOf-idle, countsOf-early   where the last round made flips nothing, or fewer are made than allowed, stuck words are words outside
+--   countsEach                   what rounds over any list of words count
+--   countsEach-stays             of a frame whose words are all in the code: one idle round
+--   countsEach-idle, countsEach-early   where the last round made flips nothing, or fewer are made than allowed, stuck words are words outside
+--   countsOf-stays, countsOf-idle, countsOf-early   the same of the words of a frame
 --   Decodes, decode-accepted     what the rules ask for
 --   decode-left, decode-received what it leaves: the frame that the rounds make, as long as the copy and of bits
 --   decode-again                 where no word is left outside, a second call makes one idle round
@@ -14,9 +16,9 @@ use mathlib.Core.List.{List}
 use Prim.Native.Nat.{ℕ, zero, suc, _-_, _<_}
 use lib.ListN.{length}
 use Rattle.staircase.specs.Design.{Params, Interleavers, params}
-use Rattle.staircase.specs.Frame.{Frame, Site, Word, frameOf, words, inCode, outsideEach, outside}
+use Rattle.staircase.specs.Frame.{Frame, Word, frameOf, words, inCode, outsideEach, outside}
 use Rattle.staircase.specs.Frame.Site.{inInfo, inRed}
-use Rattle.staircase.specs.Decoder.{Progress, roundOf, Decoded, runEach, runRounds, default-rounds, roundsAllowed, decoded}
+use Rattle.staircase.specs.Decoder.{Progress, roundOf, Decoded, runEach, default-rounds, roundsAllowed, decoded}
 use Rattle.staircase.specs.LineErrors.{lineErrors}
 use Rattle.staircase.specs.Outcomes.{beforeLast, lastStuck}
 use Rattle.staircase.specs.Rules.{Verdict, _then_, designRules, countRule, roundsRule, lengthRule, listLengths, infoLength, redLength, frameLengths, decoderWork, interleavers, listRule, frameBits}
@@ -27,7 +29,7 @@ use Rattle.staircase.proofs.Flip.{Received, bitAt-bits}
 use Rattle.staircase.proofs.Member.{In}
 use Rattle.staircase.proofs.Rounds.{runEach-received}
 use Rattle.staircase.proofs.Outside.{each-inside, outsideEach-inside}
-use Rattle.staircase.proofs.Idle.{roundOf-stays, decoded-stays}
+use Rattle.staircase.proofs.Idle.{roundOf-stays, runEach-stays, decoded-stays}
 use Rattle.staircase.proofs.LineErrors.{lineErrors-same}
 use Rattle.staircase.proofs.Outcomes.{stuckEach-idle, lastStuck-idle, lastStuck-outside, runEach-early}
 
@@ -42,38 +44,52 @@ pub roundsAllowed-some : (k : ℕ) → (j : ℕ) × (roundsAllowed k ≡ suc j)
 roundsAllowed-some zero = (default-rounds - 1, refl)
 roundsAllowed-some (suc k) = (k, refl)
 
-module _ (s : Params) (l : Interleavers) (L k : ℕ) (f : Frame) where
-  abbrev ws : List Word
-  ws = words s l L
+-- what rounds over any list of words count: `countsOf` of the words of a frame
+abbrev pub countsEach : List Word → ℕ → Frame → Counts
+countsEach ws k f =
+    let d : Decoded = runEach ws (roundsAllowed k) f in
+    record { rounds = d .rounds; turned = lineErrors f (d .frame); outside = outsideEach (d .frame) ws; stuck = lastStuck ws (roundsAllowed k) f }
 
-  pub countsOf-stays : ((w : Word) → In w (words s l L) → inCode (w .code) f (w .sites) ≡ true) → countsOf s l L k f ≡ record { rounds = 1; turned = 0; outside = 0; stuck = 0 }
-  unfolding countsOf outside
-  countsOf-stays h =
+module _ (ws : List Word) (k : ℕ) (f : Frame) where
+  pub countsEach-stays : ((w : Word) → In w ws → inCode (w .code) f (w .sites) ≡ true)
+      → (runEach ws (roundsAllowed k) f .frame ≡ f) × (countsEach ws k f ≡ record { rounds = 1; turned = 0; outside = 0; stuck = 0 })
+  countsEach-stays h =
       let (j, some) = roundsAllowed-some k in
-      let ed : decoded s l L k f ≡ record { frame = f; rounds = 1; flips = 0 } = decoded-stays s f l L k h in
+      let ed : runEach ws (roundsAllowed k) f ≡ record { frame = f; rounds = 1; flips = 0 } = ap (λ (n : ℕ). runEach ws n f) some ∙ runEach-stays f ws h j in
       let none : outsideEach f ws ≡ 0 = outsideEach-inside f ws h in
       let idle : roundOf ws f .flips ≡ 0 = ap (λ (x : Progress). x .flips) (roundOf-stays f ws h) in
-      let eo : outsideEach (decoded s l L k f .frame) ws ≡ 0 = ap (λ (d : Decoded). outsideEach (d .frame) ws) ed ∙ none in
+      let eo : outsideEach (runEach ws (roundsAllowed k) f .frame) ws ≡ 0 = ap (λ (d : Decoded). outsideEach (d .frame) ws) ed ∙ none in
       let es : lastStuck ws (roundsAllowed k) f ≡ 0 =
       ap (λ (n : ℕ). lastStuck ws n f) some ∙ lastStuck-idle ws j f idle ∙ stuckEach-idle ws f idle .0 ∙ none in
-      let et : lineErrors f (decoded s l L k f .frame) ≡ 0 = ap (λ (d : Decoded). lineErrors f (d .frame)) ed ∙ lineErrors-same f in
-      λ i. record { rounds = ed i .rounds; turned = et i; outside = eo i; stuck = es i }
+      let et : lineErrors f (runEach ws (roundsAllowed k) f .frame) ≡ 0 = ap (λ (d : Decoded). lineErrors f (d .frame)) ed ∙ lineErrors-same f in
+      (ap (λ (d : Decoded). d .frame) ed, λ i. record { rounds = ed i .rounds; turned = et i; outside = eo i; stuck = es i })
 
   -- where the last round made flips nothing, the stuck words are those outside at the end
-  pub countsOf-idle : roundOf (words s l L) (beforeLast (words s l L) (roundsAllowed k) f) .flips ≡ 0
-      → countsOf s l L k f .stuck ≡ countsOf s l L k f .outside
-  unfolding countsOf decoded outside
-  countsOf-idle =
+  pub countsEach-idle : roundOf ws (beforeLast ws (roundsAllowed k) f) .flips ≡ 0 → countsEach ws k f .stuck ≡ countsEach ws k f .outside
+  countsEach-idle =
       let (j, some) = roundsAllowed-some k in
       subst⁻¹ (λ (n : ℕ). roundOf ws (beforeLast ws n f) .flips ≡ 0 → lastStuck ws n f ≡ outsideEach (runEach ws n f .frame) ws) some (lastStuck-outside ws j f)
 
   -- and so it is where fewer rounds are made than allowed
-  pub countsOf-early : countsOf s l L k f .rounds < roundsAllowed k → countsOf s l L k f .stuck ≡ countsOf s l L k f .outside
-  unfolding countsOf decoded
-  countsOf-early h =
+  pub countsEach-early : countsEach ws k f .rounds < roundsAllowed k → countsEach ws k f .stuck ≡ countsEach ws k f .outside
+  countsEach-early h =
       let (j, some) = roundsAllowed-some k in
-      countsOf-idle
+      countsEach-idle
       (subst⁻¹ (λ (n : ℕ). runEach ws n f .rounds < n → roundOf ws (beforeLast ws n f) .flips ≡ 0) some (runEach-early ws j f) h)
+
+module _ (s : Params) (l : Interleavers) (L k : ℕ) (f : Frame) where
+  pub countsOf-stays : ((w : Word) → In w (words s l L) → inCode (w .code) f (w .sites) ≡ true) → countsOf s l L k f ≡ record { rounds = 1; turned = 0; outside = 0; stuck = 0 }
+  unfolding countsOf decoded outside
+  countsOf-stays h = countsEach-stays (words s l L) k f h .1
+
+  pub countsOf-idle : roundOf (words s l L) (beforeLast (words s l L) (roundsAllowed k) f) .flips ≡ 0
+      → countsOf s l L k f .stuck ≡ countsOf s l L k f .outside
+  unfolding countsOf decoded outside
+  countsOf-idle = countsEach-idle (words s l L) k f
+
+  pub countsOf-early : countsOf s l L k f .rounds < roundsAllowed k → countsOf s l L k f .stuck ≡ countsOf s l L k f .outside
+  unfolding countsOf decoded outside
+  countsOf-early = countsEach-early (words s l L) k f
 
 -- ---- the call
 

@@ -2,7 +2,7 @@
 --   byTable-then, byTable-refuse, byTable-first   one rule after another; a rule of a test; a rule of a search
 --   size-byTable, long-byTable, design-byTable, lists-byTable, ..   the rules
 --   byTable-more, byTable-front                   a call that has more rules
---   design-demand1, kit-demand1, make-demand1, spread-demand1, encode-demand1, batch-demand1, words-demand1, decode-demand1, window-demand1, show-demand1
+--   design-demand1, kit-demand1, make-demand1, spread-demand1, mixed-demand1, encode-demand1, batch-demand1, words-demand1, decode-demand1, window-demand1, show-demand1
 --                                                 the calls
 --   encodedBy-untouched, correctedBy-untouched    what a refused call leaves
 -- Assumes nothing.
@@ -28,6 +28,7 @@ use Rattle.staircase.specs.Calls.{kitVerdict, encodeVerdict, encodedBy, 
 use Rattle.staircase.specs.Square.{dependent, inverseMatrix, packedMatrix}
 use Rattle.staircase.specs.Maker.{makeWork, singularRule, makeVerdict, madeBy, makeCall}
 use Rattle.staircase.specs.Spread.{narrowRule, spreadVerdict, spreadBy, spreadCall}
+use Rattle.staircase.specs.Mixed.{mixedBy, mixedCall}
 use Rattle.staircase.specs.Batch.{most-frames, batchRule, batchLengths, batchVerdict, batchRedundancy, batchCall}
 use Rattle.staircase.specs.Window.{most-window, windowRule, windowVerdict, windowCall}
 use Rattle.staircase.specs.Demand1.{Table, among, ByTable, worked, refusedBy, Demand1}
@@ -36,7 +37,9 @@ use Rattle.staircase.proofs.Bounds.{small-product}
 use Rattle.staircase.proofs.Rules.{inRange, size-limits, design-limits}
 use Rattle.staircase.proofs.Decoded.{correctedBy-verdict}
 use Rattle.staircase.proofs.Encoded.{encodedBy-verdict}
+use Rattle.staircase.proofs.Maker.{madeBy-verdict}
 use Rattle.staircase.proofs.SpreadCall.{spreadBy-verdict}
+use Rattle.staircase.proofs.MixedCall.{mixedBy-verdict}
 
 module _ (rules : List ℕ) where
   pub byTable-then : (u v : Verdict) → ByTable rules u → (u ≡ accepted → ByTable rules v) → ByTable rules (u then v)
@@ -212,7 +215,7 @@ pub countedBy-verdict : (v : Verdict) (o : ℕ) → countedBy v o .verdict ≡ v
 countedBy-verdict accepted o = refl
 countedBy-verdict (refused n p) o = refl
 
-shownBy-verdict : (v : Verdict) (l : List ℕ) → shownBy v l .verdict ≡ v
+pub shownBy-verdict : (v : Verdict) (l : List ℕ) → shownBy v l .verdict ≡ v
 shownBy-verdict accepted l = refl
 shownBy-verdict (refused n p) l = refl
 
@@ -248,10 +251,6 @@ makerNumbers = 1 ∷ 2 ∷ 3 ∷ 6 ∷ 7 ∷ 14 ∷ []
 madeBy-untouched : (v : Verdict) (old new : List ℕ) → madeBy v old new .verdict ≢ accepted → madeBy v old new .inverse ∷ [] ≡ old ∷ []
 madeBy-untouched accepted old new h = absurd (h refl)
 madeBy-untouched (refused n p) old new h = refl
-
-madeBy-verdict : (v : Verdict) (old new : List ℕ) → madeBy v old new .verdict ≡ v
-madeBy-verdict accepted old new = refl
-madeBy-verdict (refused n p) old new = refl
 
 make-byTable : (m t M col : ℕ) (self parity old : List ℕ) (work : ℕ) → ByTable makerNumbers (makeVerdict m t M col self parity old work)
 unfolding makeVerdict singularRule
@@ -309,6 +308,23 @@ spread-demand1 m t M col self parity =
       untouched = spreadBy-untouched v (params m t M col) self parity;
     }
 
+-- mixed lists have the rules of spread lists
+mixedBy-untouched : (v : Verdict) (s : Params) (seed : ℕ) (self parity : List ℕ) → mixedBy v s seed self parity .verdict ≢ accepted
+    → mixedBy v s seed self parity .self ∷ mixedBy v s seed self parity .parity ∷ [] ≡ self ∷ parity ∷ []
+mixedBy-untouched accepted s seed self parity h = absurd (h refl)
+mixedBy-untouched (refused n p) s seed self parity h = refl
+
+pub mixed-demand1 : (m t M col seed : ℕ) (self parity : List ℕ)
+    → Demand1 (1 ∷ 2 ∷ 3 ∷ 6 ∷ 15 ∷ []) (mixedCall m t M col seed self parity .verdict) (self ∷ parity ∷ [])
+    (mixedCall m t M col seed self parity .self ∷ mixedCall m t M col seed self parity .parity ∷ [])
+unfolding mixedCall
+mixed-demand1 m t M col seed self parity =
+    let v : Verdict = spreadVerdict m t M col self parity in
+    record {
+      byTable = subst⁻¹ (ByTable spreadNumbers) (mixedBy-verdict v (params m t M col) seed self parity) (spread-byTable m t M col self parity);
+      untouched = mixedBy-untouched v (params m t M col) seed self parity;
+    }
+
 -- "the encoder 1 to 4 and 6 to 10"
 abbrev encoderNumbers : List ℕ
 encoderNumbers = 1 ∷ 2 ∷ 3 ∷ 4 ∷ 6 ∷ 7 ∷ 8 ∷ 9 ∷ 10 ∷ []
@@ -353,7 +369,7 @@ encode-demand1 m t M col L self parity w info red work =
     }
 
 -- a number that a rule wants from 1 to a limit
-none-or-above : (high n : ℕ) → outOfRange 1 high n ≡ true → 0 < n → high < n
+pub none-or-above : (high n : ℕ) → outOfRange 1 high n ≡ true → 0 < n → high < n
 none-or-above high n e pos = go (decLt high n)
   where
     go : Dec (high < n) → high < n

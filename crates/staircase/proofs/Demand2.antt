@@ -9,7 +9,7 @@ use Prim.Native.Nat.{ℕ, _*_, _<_}
 use native.Mathlib.Omega.{arith}
 use Rattle.staircase.specs.Design.{Params, Interleavers, params, order}
 use Rattle.staircase.specs.System.{systemEntry, inverseEntry}
-use Rattle.staircase.specs.Rules.{Verdict, _then_, refuseFirst, designRules, lengthRule, kitLengths, kitWork, interleavers, badEntry, listRule, spareRow, spareRule, wrongEntry, inverseRule, kitRules}
+use Rattle.staircase.specs.Rules.{Verdict, _then_, refuseFirst, designRules, lengthRule, kitLengths, kitWork, interleavers, listRule, spareRow, spareRule, wrongEntry, inverseRule, kitRules}
 use Rattle.staircase.specs.Rules.Verdict.{accepted}
 use Rattle.staircase.specs.Calls.{kitVerdict}
 use Rattle.staircase.specs.Demand2.{KitPasses, FitsOrder}
@@ -17,7 +17,7 @@ use Rattle.staircase.proofs.System.{Proper, order-positive, systemEntry
 use Rattle.staircase.specs.Square.{Inverts}
 use Rattle.staircase.proofs.Square.{other-order}
 use Rattle.staircase.proofs.BchCode.{proper-of}
-use Rattle.staircase.proofs.Rules.{then-first, then-rest, then-accepted, refuseFirst-false, refuseFirst-accepted, length-accepted, design-limits, lengths-accepted, lists-permute, permute-entries, spare-zero, zero-spare, product-identity, identity-product}
+use Rattle.staircase.proofs.Rules.{then-first, then-rest, then-accepted, refuseFirst-false, refuseFirst-accepted, length-accepted, design-limits, lengths-accepted, lists-permute, permute-lists, spare-zero, zero-spare, product-identity, identity-product}
 
 module _ (s : Params) (l : Interleavers) (w : List ℕ) where
   abbrev n : ℕ
@@ -45,12 +45,9 @@ module _ (s : Params) (l : Interleavers) (w : List ℕ) where
       }
 
   accepts : Proper s → KitPasses s l w → kitRules s l w ≡ accepted
-  unfolding kitRules listRule spareRule inverseRule
+  unfolding kitRules spareRule inverseRule
   accepts ok k =
-      then-accepted
-      (then-accepted
-      (refuseFirst-accepted 7 0 n (badEntry n (l .self)) (permute-entries n (l .self) (k .self)))
-      (refuseFirst-accepted 7 n n (badEntry n (l .parity)) (permute-entries n (l .parity) (k .parity))))
+      then-accepted (permute-lists s l (k .self) (k .parity))
       (then-accepted
       (refuseFirst-accepted 8 0 n (spareRow w n) (λ i hi. zero-spare w n i (λ j. k .spare i j hi)))
       (refuseFirst-accepted 9 0 (n * n) (wrongEntry n (systemEntry s l) (inverseEntry w n)) (identity-product n (systemEntry s l) (inverseEntry w n) (order-positive s ok) (k .rightInverse))))

@@ -15,7 +15,7 @@ use Rattle.staircase.specs.Design.{Params, Interleavers}
 use Rattle.staircase.specs.Lists.{tabulate}
 use Rattle.staircase.specs.Frame.{Frame, Site, Word, words, read, inCode}
 use Rattle.staircase.specs.Frame.Site.{unsent}
-use Rattle.staircase.specs.Decoder.{choices, flipBits, firstCorrecting, errorPositions, everyOccurrence, once, permitted, correction, flipAll, Progress, correctWord, correctEach, roundOf, runEach, runRounds, default-rounds, roundsAllowed, decoded}
+use Rattle.staircase.specs.Decoder.{choices, flipBits, firstCorrecting, errorPositions, everyOccurrence, once, permitted, correction, flipAll, Progress, correctWord, correctEach, roundOf, runEach, default-rounds, roundsAllowed, decoded}
 use Rattle.staircase.proofs.Member.{In}
 use Rattle.staircase.proofs.Rounds.{runEach-idle}
 

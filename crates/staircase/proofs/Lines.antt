@@ -20,7 +20,7 @@ use lib.ListN.{length, getD}
 use borrow.Author.Tests.{eq-eqb, ne-eqb, lt-ltb, le-ltb}
 use Rattle.staircase.specs.Lists.{tabulate, concat}
 use Rattle.staircase.specs.Design.{Params, Interleavers, wordLength, order}
-use Rattle.staircase.specs.Frame.{Site, Word, groups, blockAt, rowSites, columnSites, rowAt, columnAt, words}
+use Rattle.staircase.specs.Frame.{Site, groups, blockAt, rowSites, columnSites, rowAt, columnAt, words}
 use Rattle.staircase.specs.Frame.Site.{unsent, inRed}
 use Rattle.staircase.specs.Demand2.{Permutes}
 use Rattle.staircase.specs.Lines.{even, lineSites, lineWord, readSites, readFrom, wordCount, frameWord, along, partner}

@@ -165,15 +165,15 @@ module _ (m t M col L : ℕ) (info red : List ℕ) (e : turnVerdict m t M col L 
 
 -- ---- the verdicts of the calls
 
-filledBy-verdict : (v : Verdict) (old new : List ℕ) (s : ℕ) → filledBy v old new s .verdict ≡ v
+pub filledBy-verdict : (v : Verdict) (old new : List ℕ) (s : ℕ) → filledBy v old new s .verdict ≡ v
 filledBy-verdict accepted old new s = refl
 filledBy-verdict (refused n p) old new s = refl
 
-errorsBy-verdict : (v : Verdict) (old new : Frame) (s : ℕ) → errorsBy v old new s .verdict ≡ v
+pub errorsBy-verdict : (v : Verdict) (old new : Frame) (s : ℕ) → errorsBy v old new s .verdict ≡ v
 errorsBy-verdict accepted old new s = refl
 errorsBy-verdict (refused n p) old new s = refl
 
-runBy-verdict : (v : Verdict) (old new : Frame) → runBy v old new .verdict ≡ v
+pub runBy-verdict : (v : Verdict) (old new : Frame) → runBy v old new .verdict ≡ v
 runBy-verdict accepted old new = refl
 runBy-verdict (refused n p) old new = refl
 

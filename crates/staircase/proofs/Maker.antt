@@ -1,11 +1,12 @@
 -- The maker of a kit's inverse: what it makes passes the kit checker, it refuses for want of an inverse exactly when there is none, and it makes the
 -- only inverse.
---   inverse-bits                                the entries of the inverse are bits
+--   inverse-bits, entry-bit                     the entries of the inverse are bits, and those of packed rows
+--   madeBy-verdict, made-verdict                the call's verdict; that of rule 14 alone, for buffers of its lengths and permutations
 --   singular-none                               rule 14
 --   made-passes                                 a made kit passes the checker
 --   made-only                                   a kit that passes is the made one
 -- Assumes nothing.
-use mathlib.Core.Path.{_≡_, ap, _∙_}
+use mathlib.Core.Path.{_≡_, refl, ap, _∙_}
 use mathlib.Core.Logic.{_↔_}
 use mathlib.Core.List.{List}
 use Prim.Native.Nat.{ℕ, _*_, _^_, _<_}
@@ -16,7 +17,7 @@ use Rattle.staircase.specs.Design.{Params, Interleavers, params, order}
 use Rattle.staircase.specs.System.{systemEntry, inverseEntry, product, identity}
 use Rattle.staircase.specs.Square.{BitMatrix, Inverts, sendsTo, dependent, inverseMatrix, packedMatrix}
 use Rattle.staircase.specs.Rules.{Verdict, _then_, designRules, lengthRule, kitLengths, kitWork, interleavers, listRule}
-use Rattle.staircase.specs.Rules.Verdict.{accepted}
+use Rattle.staircase.specs.Rules.Verdict.{accepted, refused}
 use Rattle.staircase.specs.Calls.{kitVerdict}
 use Rattle.staircase.specs.Demand2.{KitPasses, FitsOrder}
 use Rattle.staircase.specs.Maker.{makeWork, singularRule, makeVerdict, madeBy, makeCall}
@@ -25,7 +26,7 @@ use Rattle.staircase.proofs.Square.{digit-bit, other-order}
 use Rattle.staircase.proofs.Columns.{independent-inverse, inverse-independent, inverse-is}
 use Rattle.staircase.proofs.System.{Proper, order-positive, systemEntry-lt}
 use Rattle.staircase.proofs.BchCode.{proper-of}
-use Rattle.staircase.proofs.Rules.{then-first, then-rest, refuseFirst-false, refuseFirst-accepted, design-limits, lengths-fit, lists-permute}
+use Rattle.staircase.proofs.Rules.{then-first, then-rest, refuseFirst-false, refuseFirst-accepted, design-limits, length-accepted, lengths-fit, lengths-accepted, lists-permute}
 use Rattle.staircase.proofs.Demand2.{demand2}
 use Rattle.staircase.proofs.Packed.{packed-length, packed-entry, packed-spare, packed-only}
 
@@ -35,7 +36,7 @@ pub inverse-bits : (n : ℕ) (a : ℕ → ℕ → ℕ) → BitMatrix (inverseMat
 unfolding inverseMatrix
 inverse-bits n a i j = digit-bit (firstWhere (2 ^ n) (sendsTo n n a (λ k. identity k j))) i
 
-entry-bit : (u : List ℕ) (n i j : ℕ) → inverseEntry u n i j < 2
+pub entry-bit : (u : List ℕ) (n i j : ℕ) → inverseEntry u n i j < 2
 unfolding inverseEntry
 entry-bit u n i j = omega arith
 
@@ -63,6 +64,10 @@ module _ (s : Params) (l : Interleavers) (ha : BitMatrix (systemEntry s l)) wher
   )
 
 -- ---- the call
+
+pub madeBy-verdict : (v : Verdict) (old new : List ℕ) → madeBy v old new .verdict ≡ v
+madeBy-verdict accepted old new = refl
+madeBy-verdict (refused n p) old new = refl
 
 module _ (m t M col : ℕ) (self parity old : List ℕ) (work : ℕ) where
   abbrev s : Params
@@ -123,6 +128,18 @@ module _ (m t M col : ℕ) (self parity old : List ℕ) (work : ℕ) where
     made-passes =
         ap (λ (z : Verdict). kitVerdict m t M col self parity (madeBy z old new .inverse) (kitWork s)) e
         ∙ demand2 m t M col self parity new design-ok fits .1 passes
+
+  -- lists that are permutations can be refused by rule 14 alone
+  pub made-verdict : designRules m t M col ≡ accepted → FitsOrder (order (params m t M col)) self parity old → work ≡ makeWork (params m t M col)
+      → listRule (params m t M col) (interleavers (params m t M col) self parity) ≡ accepted
+      → makeCall m t M col self parity old work .verdict ≡ singularRule (params m t M col) (interleavers (params m t M col) self parity)
+  unfolding makeCall makeVerdict
+  made-verdict d fit long lists =
+      madeBy-verdict (makeVerdict m t M col self parity old work) old new
+      ∙ ap (λ (z : Verdict). z then kitLengths s self parity old then v6 then listRule s l then singularRule s l) d
+      ∙ ap (λ (z : Verdict). z then v6 then listRule s l then singularRule s l) (lengths-accepted s self parity old fit)
+      ∙ ap (λ (z : Verdict). z then listRule s l then singularRule s l) (length-accepted 6 work (makeWork s) long)
+      ∙ ap (λ (z : Verdict). z then singularRule s l) lists
 
   -- the inverse of a kit that passes is the one that is made
   pub made-only : (w : List ℕ) → ((k : ℕ) → getD w k 0 < 256) → designRules m t M col ≡ accepted → FitsOrder (order (params m t M col)) self parity w

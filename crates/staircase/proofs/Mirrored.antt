@@ -9,14 +9,14 @@ use mathlib.Core.Path.{_≡_, refl, sym, ap, ap₂, _∙_, subst}
 use mathlib.Core.Bool.{Bool, true, false, cond, true≢false}
 use mathlib.Core.Logic.{_≢_, _⊎_, inl, inr}
 use mathlib.Core.List.{List, [], _∷_, _++_, map}
-use Prim.Native.Nat.{ℕ, zero, suc, _+_, _-_, _*_, _/_, _%_, _^_, _≤_, _<_, zero-le}
+use Prim.Native.Nat.{ℕ, zero, suc, _+_, _-_, _/_, _%_, _^_, _≤_, _<_}
 use native.Mathlib.Nat.{not-suc-le-zero, zero-add, add-assoc}
 use native.Mathlib.Decide.{ℕ-discrete, decLt}
 use native.Mathlib.Omega.{arith}
-use lib.ListN.{length, getD, set, length-append, length-map, List·getD-append, List·getD-map}
+use lib.ListN.{length, getD, set, length-append, length-map, List·getD-append}
 use lib.Seq.{ext-getD, getD-append-seam, getD-set-other}
 use Rattle.bch.specs.Polynomial.{Bits}
-use Rattle.bch.specs.Code.{isCodeword, distance}
+use Rattle.bch.specs.Code.{isCodeword}
 use Rattle.bch.specs.Mirror.{backwards}
 use Rattle.bch.proofs.Distance.{distance-comm, distance-triangle}
 use Rattle.bch.proofs.Mirror.{backwards-length, backwards-bits, backwards-twice, mirror-codeword}
@@ -25,10 +25,9 @@ use Rattle.staircase.specs.Design.{Params, mirrored}
 use Rattle.staircase.specs.Frame.{Frame, Site, bitAt, flip, read}
 use Rattle.staircase.specs.Frame.Site.{unsent, inInfo, inRed}
 use Rattle.staircase.specs.Decoder.{flipBits, firstCorrecting, errorPositions, allSent, sameSite, occurrences, correction, flipAll}
-use Rattle.staircase.proofs.Search.{cond-ind}
 use Rattle.staircase.proofs.Tabulate.{tabulate-length, tabulate-at}
-use Rattle.staircase.proofs.Member.{In, in?, in-left, in-right, in-cases, in-map, map-in, Sub, done, skip, keep, sub-nil}
-use Rattle.staircase.proofs.Flip.{Sent, Distinct, site?, flip-other, read-length, read-bits, Received}
+use Rattle.staircase.proofs.Member.{In, in?, in-left, in-right, in-cases, in-map, map-in, Sub, done, skip, keep}
+use Rattle.staircase.proofs.Flip.{Sent, Distinct, read-length, read-bits, Received}
 use Rattle.staircase.proofs.Errors.{flipBits-length, flipBits-bits, flipBits-distance, flipBits-here, flipBits-other, Positions, positions-once, positions-below, errorPositions-found, errorPositions-positions, flips-once}
 use Rattle.staircase.proofs.Correction.{CodeDistance}
 use Rattle.staircase.proofs.Occurrences.{same-site, occurrences-in, distinct-occurrences, correction-distinct}

@@ -1,10 +1,14 @@
 -- Rule 10 before rule 9: which answers change.
---   order-moved   the claim, for every call of the encoder
+--   chain, chain-then   rules one after another, and another behind them
+--   moved-of            two rules that change places behind a chain
+--   bits-moved          rules 10 and 9 behind any others
+--   order-moved         the claim, for every call of the encoder
+--   batch-order-moved   for every call of the encoder of several frames
 -- Assumes nothing.
-use mathlib.Core.Path.{_≡_, refl, sym, ap, _∙_}
+use mathlib.Core.Path.{_≡_, refl, sym, _∙_}
 use mathlib.Core.Bool.{Bool, true, false}
 use mathlib.Core.Logic.{_≢_, _↔_}
-use mathlib.Core.List.{List}
+use mathlib.Core.List.{List, [], _∷_}
 use Prim.Native.Nat.{ℕ, _+_, _*_}
 use native.Mathlib.Omega.{arith}
 use lib.Dec.{ltb}
@@ -15,11 +19,18 @@ use Rattle.staircase.specs.System.{systemEntry, inverseEntry}
 use Rattle.staircase.specs.Rules.{Verdict, _then_, refuse, refuseFirst, designRules, countRule, lengthRule, kitLengths, frameLengths, kitWork, interleavers, listRule, spareRule, wrongEntry, inverseRule, bitRule, contentRules}
 use Rattle.staircase.specs.Rules.Verdict.{accepted, refused}
 use Rattle.staircase.specs.Calls.{encodeVerdict}
-use Rattle.staircase.specs.OrderMoved.{frontRules, formerVerdict, OrderMoved}
+use Rattle.staircase.specs.Batch.{batchRule, batchLengths, batchVerdict}
+use Rattle.staircase.specs.OrderMoved.{Moved, frontRules, formerVerdict, OrderMoved, batchFront, formerBatch, BatchOrderMoved}
 
-then-assoc : (u v w : Verdict) → (u then v then w) ≡ ((u then v) then w)
-then-assoc accepted v w = refl
-then-assoc (refused n p) v w = refl
+-- rules one after another, and u behind them
+abbrev pub chain : List Verdict → Verdict → Verdict
+chain [] u = u
+chain (v ∷ vs) u = v then chain vs u
+
+pub chain-then : (vs : List Verdict) (u x : Verdict) → chain vs (u then x) ≡ (chain vs u then x)
+chain-then [] u x = refl
+chain-then (accepted ∷ vs) u x = chain-then vs u x
+chain-then (refused n p ∷ vs) u x = refl
 
 -- two rules with other numbers, in either order
 Swapped : Verdict → Verdict → Verdict → Type 0
@@ -56,6 +67,28 @@ first-apart : (a n : ℕ) (f : ℕ → Bool) (b k : ℕ) (g : ℕ → Bool) → 
 unfolding refuseFirst
 first-apart a n f b k g e = refuse-apart (ltb (firstWhere n f) n) (ltb (firstWhere k g) k) (a + firstWhere n f) (b + firstWhere k g) e
 
+-- rules 10 and 9, behind the rules vs and u
+module _ (s : Params) (l : Interleavers) (w info : List ℕ) where
+  apart : bitRule 0 info ≡ inverseRule s l w → bitRule 0 info ≡ accepted
+  unfolding bitRule inverseRule
+  apart e =
+      let n : ℕ = order s in
+      first-apart 0 (length info) (λ k. ltb 1 (getD info k 0)) 0 (n * n) (wrongEntry n (systemEntry s l) (inverseEntry w n)) e
+
+  pub bits-moved : (vs : List Verdict) (u : Verdict)
+      → Moved (chain vs u) (bitRule 0 info) (inverseRule s l w) (chain vs (u then bitRule 0 info then inverseRule s l w))
+      (chain vs u then inverseRule s l w then bitRule 0 info)
+  unfolding Swapped
+  bits-moved vs u =
+      let b : Verdict = bitRule 0 info in
+      let i : Verdict = inverseRule s l w in
+      let x : Swapped (chain vs u) b i = swapped (chain vs u) b i apart in
+      let same : chain vs (u then b then i) ≡ (chain vs u then b then i) = chain-then vs u (b then i) in
+      record {
+        where-changed = ((λ n. x .0 .0 (λ e. n (same ∙ e))), (λ y e. x .0 .1 y (sym same ∙ e)));
+        changed = λ n. let z = x .1 (λ e. n (same ∙ e)) in (z .0, same ∙ z .1);
+      }
+
 module _ (m t M col L : ℕ) (self parity w info red : List ℕ) (work : ℕ) where
   abbrev s : Params
   s = params m t M col
@@ -63,40 +96,15 @@ module _ (m t M col L : ℕ) (self parity w info red : List ℕ) (work : ℕ) wh
   abbrev l : Interleavers
   l = interleavers (params m t M col) self parity
 
-  -- rules 1 to 8, and then x
-  front-then : (x : Verdict) → (frontRules m t M col L self parity w info red work then x)
-      ≡ (designRules m t M col then countRule L then kitLengths s self parity w then frameLengths s L info red then lengthRule 6 work (kitWork s)
-      then listRule s l then spareRule s w then x)
-  unfolding frontRules
-  front-then x =
-      let v8 : Verdict = spareRule s w in
-      let v7 : Verdict = listRule s l then v8 in
-      let v6 : Verdict = lengthRule 6 work (kitWork s) then v7 in
-      let frame : Verdict = frameLengths s L info red then v6 in
-      let kit : Verdict = kitLengths s self parity w then frame in
-      let count : Verdict = countRule L then kit in
-      sym (then-assoc (designRules m t M col) count x)
-      ∙ ap (λ (z : Verdict). designRules m t M col then z) (sym (then-assoc (countRule L) kit x)
-      ∙ ap (λ (z : Verdict). countRule L then z) (sym (then-assoc (kitLengths s self parity w) frame x)
-      ∙ ap (λ (z : Verdict). kitLengths s self parity w then z) (sym (then-assoc (frameLengths s L info red) v6 x)
-      ∙ ap (λ (z : Verdict). frameLengths s L info red then z) (sym (then-assoc (lengthRule 6 work (kitWork s)) v7 x)
-      ∙ ap (λ (z : Verdict). lengthRule 6 work (kitWork s) then z) (sym (then-assoc (listRule s l) v8 x))))))
-
-  apart : bitRule 0 info ≡ inverseRule s l w → bitRule 0 info ≡ accepted
-  unfolding bitRule inverseRule
-  apart e =
-      let n : ℕ = order s in
-      first-apart 0 (length info) (λ k. ltb 1 (getD info k 0)) 0 (n * n) (wrongEntry n (systemEntry s l) (inverseEntry w n)) e
-
   pub order-moved : OrderMoved m t M col L self parity w info red work
-  unfolding encodeVerdict contentRules formerVerdict Swapped
+  unfolding encodeVerdict contentRules formerVerdict frontRules
   order-moved =
-      let u : Verdict = frontRules m t M col L self parity w info red work in
-      let b : Verdict = bitRule 0 info in
-      let i : Verdict = inverseRule s l w in
-      let x : Swapped u b i = swapped u b i apart in
-      let same : encodeVerdict m t M col L self parity w info red work ≡ (u then b then i) = sym (front-then (b then i)) in
-      record {
-        where-changed = ((λ n. x .0 .0 (λ e. n (same ∙ e))), (λ y e. x .0 .1 y (sym same ∙ e)));
-        changed = λ n. let z = x .1 (λ e. n (same ∙ e)) in (z .0, same ∙ z .1);
-      }
+      bits-moved s l w info
+      (designRules m t M col ∷ countRule L ∷ kitLengths s self parity w ∷ frameLengths s L info red ∷ lengthRule 6 work (kitWork s) ∷ listRule s l ∷ []) (spareRule s w)
+
+  pub batch-order-moved : (n : ℕ) → BatchOrderMoved m t M col L n self parity w info red work
+  unfolding batchVerdict contentRules formerBatch batchFront
+  batch-order-moved n =
+      bits-moved s l w info
+      (designRules m t M col ∷ countRule L ∷ batchRule n ∷ kitLengths s self parity w ∷ batchLengths s L n info red ∷ lengthRule 6 work (kitWork s) ∷ listRule s l ∷ [])
+      (spareRule s w)

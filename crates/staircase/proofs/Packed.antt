@@ -1,5 +1,5 @@
 -- A packed matrix.
---   packed-length, packed-entry, packed-spare   its length, its entries, its spare bits
+--   packed-length, packed-entry, packed-spare, packed-byte   its length, its entries, its spare bits, its bytes
 --   packed-only                                 bytes with these entries are the packed matrix
 --   packed-same                                 matrices with the same entries, packed
 -- Assumes nothing.
@@ -11,14 +11,14 @@ use native.Mathlib.Nat.{mod-lt, div-add-mod', div-lt-iff-lt-mul}
 use native.Mathlib.Decide.{decLt}
 use native.Mathlib.Omega.{arith}
 use lib.Dec.{ltb}
-use lib.ListN.{length, getD}
+use lib.ListN.{length, getD, List·getD-eq-default}
 use lib.Seq.{ext-getD}
 use borrow.Author.Tests.{lt-ltb, le-ltb}
 use Rattle.staircase.specs.Lists.{tabulate}
 use Rattle.staircase.specs.System.{Contents, inverseEntry, rowBytes}
 use Rattle.staircase.specs.Square.{BitMatrix, digit, number, packedByte, packedMatrix}
 use Rattle.staircase.proofs.Tabulate.{Binary, tabulate-length, tabulate-at, tabulate-same, concat-same, concat-length, concat-at}
-use Rattle.staircase.proofs.Square.{digit-number, number-same, number-digits}
+use Rattle.staircase.proofs.Square.{digit-number, number-below, number-same, number-digits}
 
 module _ (n : ℕ) (w : ℕ → ℕ → ℕ) (hw : BitMatrix w) where
   abbrev rowOf : ℕ → List ℕ
@@ -58,6 +58,19 @@ module _ (n : ℕ) (w : ℕ → ℕ → ℕ) (hw : BitMatrix w) where
 
   pub packed-spare : (i j : ℕ) → i < n → n ≤ j → j < 8 * rowBytes n → inverseEntry (packedMatrix n w) n i j ≡ 0
   packed-spare i j hi lo hj = entry-at i j hi hj ∙ ap (λ (z : Bool). cond z (w i j) 0) (le-ltb j n lo)
+
+  pub packed-byte : 0 < n → (k : ℕ) → getD (packedMatrix n w) k 0 < 256
+  packed-byte pos k = go (decLt k (n * rowBytes n))
+    where
+      go : Dec (k < n * rowBytes n) → getD (packedMatrix n w) k 0 < 256
+      go (yes h) =
+          let rb : ℕ = rowBytes n in
+          let rpos : 0 < rb = omega arith in
+          let e : k / rb * rb + k % rb ≡ k = div-add-mod' k rb in
+          let at : getD (packedMatrix n w) k 0 ≡ number 8 (shown (k / rb) (k % rb)) =
+          ap (λ (z : ℕ). getD (packedMatrix n w) z 0) (sym e) ∙ byte-at (k / rb) (k % rb) (div-lt-iff-lt-mul rpos .1 h) (mod-lt k rpos) in
+          subst (λ (z : ℕ). z < 256) (sym at) (number-below 8 (shown (k / rb) (k % rb)) (shown-bit (k / rb) (k % rb)))
+      go (no h) = let z = List·getD-eq-default (packedMatrix n w) 0 {n = k} (omega (arith, packed-length, h)) in omega (arith, z)
 
   -- bytes with these entries, and spare bits of 0
   pub packed-only : 0 < n → (u : List ℕ) → length u ≡ n * rowBytes n → ((k : ℕ) → getD u k 0 < 256)

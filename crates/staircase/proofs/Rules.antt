@@ -8,7 +8,7 @@
 --   number-in, count-limits                         rule 4
 --   length-equal, length-accepted                   rule 6, for one slice
 --   list-lengths, lengths-fit, lengths-accepted, frame-lengths   for lists, a kit's slices, a frame's buffers
---   entries-permute, permute-entries, lists-permute rule 7
+--   entries-permute, permute-entries, lists-permute, permute-lists rule 7
 --   spare-zero, zero-spare                          rule 8
 --   product-identity, identity-product              rule 9
 --   bytes-bits, bits-accepted, frame-bits           rule 10
@@ -222,6 +222,14 @@ lists-permute s l e =
       entries-permute n (l .self) (refuseFirst-false 7 0 n (badEntry n (l .self)) (then-first u v e)),
       entries-permute n (l .parity) (refuseFirst-false 7 n n (badEntry n (l .parity)) (then-rest u v e)),
     )
+
+pub permute-lists : (s : Params) (l : Interleavers) → Permutes (order s) (λ p. getD (l .self) p 0) → Permutes (order s) (λ p. getD (l .parity) p 0)
+    → listRule s l ≡ accepted
+unfolding listRule
+permute-lists s l ps pp =
+    let n : ℕ = order s in
+    then-accepted (refuseFirst-accepted 7 0 n (badEntry n (l .self)) (permute-entries n (l .self) ps))
+    (refuseFirst-accepted 7 n n (badEntry n (l .parity)) (permute-entries n (l .parity) pp))
 
 -- ---- rule 8
 

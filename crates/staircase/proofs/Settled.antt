@@ -10,8 +10,8 @@ use Prim.Native.Nat.{ℕ, zero, suc, _≤_}
 use native.Mathlib.Decide.{ℕ-discrete}
 use native.Mathlib.Omega.{arith}
 use Rattle.staircase.specs.Design.{Params, Interleavers, params}
-use Rattle.staircase.specs.Frame.{Frame, Word, frameOf, plain, words, outside, outsideAmong, outsideEach}
-use Rattle.staircase.specs.Decoder.{roundOf, Decoded, runEach, runRounds, roundsAllowed, decoded}
+use Rattle.staircase.specs.Frame.{Frame, Word, frameOf, words, outside, outsideEach}
+use Rattle.staircase.specs.Decoder.{roundOf, Decoded, runEach, roundsAllowed, decoded}
 use Rattle.staircase.specs.Rules.{Verdict, interleavers}
 use Rattle.staircase.specs.Rules.Verdict.{accepted}
 use Rattle.staircase.specs.Calls.{Counts, countsOf, Corrected, correctedBy, decodeVerdict, decodeCall}

@@ -1,6 +1,7 @@
 -- The call for spread lists: what an accepted one leaves.
 --   spreadBy-verdict              its verdict
 --   bytes-length, bytes-entries   the bytes of a list: how many, and the entries that are read in them
+--   spread-design, spread-limits, spread-wide   what its rules say of a design
 --   spread-left                   its buffers are the spread lists, with what holds of these
 -- Assumes nothing.
 use mathlib.Core.Path.{_≡_, refl, sym, ap, ap₂, _∙_, subst}
@@ -13,18 +14,18 @@ use lib.Dec.{ltb}
 use lib.ListN.{length, getD}
 use borrow.Author.Tests.{ltb-false}
 use Rattle.staircase.specs.Lists.{tabulate, firstWhere}
-use Rattle.staircase.specs.Design.{Params, Interleavers, Limits, params, order}
+use Rattle.staircase.specs.Design.{Params, Limits, params, order}
 use Rattle.staircase.specs.System.{systemEntry, rowBytes}
 use Rattle.staircase.specs.Square.{dependent}
-use Rattle.staircase.specs.Rules.{Verdict, _then_, refuse, refuseFirst, designRules, lengthRule, listLengths, kitLengths, entries, interleavers, listRule}
+use Rattle.staircase.specs.Rules.{Verdict, _then_, refuse, refuseFirst, designRules, listLengths, entries, interleavers, listRule}
 use Rattle.staircase.specs.Rules.Verdict.{accepted, refused}
-use Rattle.staircase.specs.Maker.{makeWork, singularRule, makeVerdict, madeBy, makeCall}
+use Rattle.staircase.specs.Maker.{makeWork, singularRule, makeCall}
 use Rattle.staircase.specs.Spread.{turnedTo, spread, listBytes, narrowRule, spreadVerdict, spreadBy, spreadCall, Apart, Singular, SpreadLeft}
 use Rattle.staircase.proofs.Tabulate.{tabulate-same, concat-length, concat-at}
 use Rattle.staircase.proofs.System.{systemEntry-lt}
 use Rattle.staircase.proofs.BchCode.{proper-of}
-use Rattle.staircase.proofs.Rules.{then-first, then-rest, refuse-false, design-limits, length-accepted, lengths-accepted}
-use Rattle.staircase.proofs.Maker.{singular-none}
+use Rattle.staircase.proofs.Rules.{then-first, then-rest, refuse-false, design-limits}
+use Rattle.staircase.proofs.Maker.{singular-none, made-verdict}
 use Rattle.staircase.proofs.Spread.{turned-lt, spread-lists, spread-apart}
 use Rattle.staircase.proofs.Singular.{spread-singular}
 
@@ -59,8 +60,24 @@ refused-at : (z : Bool) (n p : ℕ) → refuse z n p ≢ accepted → refuse z n
 refused-at true n p h = refl
 refused-at false n p h = absurd (h refl)
 
-madeBy-refused : (v : Verdict) (old new : List ℕ) (n p : ℕ) → v ≡ refused n p → madeBy v old new .verdict ≡ refused n p
-madeBy-refused v old new n p e = ap (λ (z : Verdict). madeBy z old new .verdict) e
+-- what the rules of the call, which are those of mixed lists too, say of a design
+module _ (m t M col : ℕ) (self parity : List ℕ) (e : spreadVerdict m t M col self parity ≡ accepted) where
+  abbrev rest : Verdict
+  rest = narrowRule (params m t M col) then listLengths (params m t M col) self parity
+
+  pub spread-design : designRules m t M col ≡ accepted
+  unfolding spreadVerdict
+  spread-design = then-first (designRules m t M col) rest e
+
+  pub spread-limits : Limits m t M col
+  spread-limits = design-limits m t M col spread-design
+
+  pub spread-wide : 2 * (m * t) ≤ M
+  unfolding spreadVerdict narrowRule
+  spread-wide =
+      ltb-false M (2 * (m * t))
+      (refuse-false (ltb M (2 * (m * t))) 15 M
+      (then-first (narrowRule (params m t M col)) (listLengths (params m t M col) self parity) (then-rest (designRules m t M col) rest e)))
 
 module _ (m t M col : ℕ) (self parity : List ℕ) (e : spreadCall m t M col self parity .verdict ≡ accepted) where
   abbrev s : Params
@@ -76,19 +93,8 @@ module _ (m t M col : ℕ) (self parity : List ℕ) (e : spreadCall m t M col se
   unfolding spreadCall
   passed = sym (spreadBy-verdict (spreadVerdict m t M col self parity) s self parity) ∙ e
 
-  design-ok : designRules m t M col ≡ accepted
-  unfolding spreadVerdict
-  design-ok = then-first (designRules m t M col) (narrowRule s then listLengths s self parity) passed
-
   limits : Limits m t M col
-  limits = design-limits m t M col design-ok
-
-  wide : 2 * (m * t) ≤ M
-  unfolding spreadVerdict narrowRule
-  wide =
-      ltb-false M (2 * (m * t))
-      (refuse-false (ltb M (2 * (m * t))) 15 M
-      (then-first (narrowRule s) (listLengths s self parity) (then-rest (designRules m t M col) (narrowRule s then listLengths s self parity) passed)))
+  limits = spread-limits m t M col self parity passed
 
   left-self : spreadCall m t M col self parity .self ≡ own
   unfolding spreadCall
@@ -122,34 +128,28 @@ module _ (m t M col : ℕ) (self parity : List ℕ) (e : spreadCall m t M col se
             (λ h. let k = singular-none s (spread s) (systemEntry-lt s (spread s) (proper-of limits)) .0 h in one-code same (k .0) (k .1) (k .2)),
       )
 
+  passes : listRule s (interleavers s (spreadCall m t M col self parity .self) (spreadCall m t M col self parity .parity)) ≡ accepted
+  passes = ap (listRule s) left-lists ∙ spread-lists m t M col limits
+
   maker-refuses : col ≡ 0 → (old : List ℕ) → length old ≡ order s * rowBytes (order s)
       → (p : ℕ) × (makeCall m t M col (spreadCall m t M col self parity .self) (spreadCall m t M col self parity .parity) old (makeWork s) .verdict ≡ refused 14 p)
-  unfolding makeCall makeVerdict
-  maker-refuses same old long =
-      let x : List ℕ = spreadCall m t M col self parity .self in
-      let y : List ℕ = spreadCall m t M col self parity .parity in
-      let l : Interleavers = interleavers s x y in
-      let fits : kitLengths s x y old ≡ accepted =
-      lengths-accepted s x y old record {
-        selfLength = ap length left-self ∙ bytes-length (order s) (turnedTo s 0);
-        parityLength = ap length left-parity ∙ bytes-length (order s) (turnedTo s (s .r));
-        inverseLength = long;
-      } in
-      let lists : listRule s l ≡ accepted = ap (listRule s) left-lists ∙ spread-lists m t M col limits in
-      let singular : singularRule s l ≡ refused 14 (rule14 same .0) = ap (singularRule s) left-lists ∙ rule14 same .1 in
-      let v6 : Verdict = lengthRule 6 (makeWork s) (makeWork s) in (
-        rule14 same .0,
-        madeBy-refused (makeVerdict m t M col x y old (makeWork s)) old _ 14 (rule14 same .0)
-            (ap (λ (z : Verdict). z then kitLengths s x y old then v6 then listRule s l then singularRule s l) design-ok
-            ∙ ap (λ (z : Verdict). z then v6 then listRule s l then singularRule s l) fits
-            ∙ ap (λ (z : Verdict). z then listRule s l then singularRule s l) (length-accepted 6 (makeWork s) (makeWork s) refl)
-            ∙ ap (λ (z : Verdict). z then singularRule s l) lists ∙ singular),
-      )
+  maker-refuses same old long = (
+    rule14 same .0,
+    made-verdict m t M col (spreadCall m t M col self parity .self) (spreadCall m t M col self parity .parity) old (makeWork s)
+        (spread-design m t M col self parity passed)
+        record {
+          selfLength = ap length left-self ∙ bytes-length (order s) (turnedTo s 0);
+          parityLength = ap length left-parity ∙ bytes-length (order s) (turnedTo s (s .r));
+          inverseLength = long;
+        }
+        refl passes
+        ∙ ap (singularRule s) left-lists ∙ rule14 same .1,
+  )
 
   pub spread-left : SpreadLeft m t M col self parity
   spread-left = record {
     lists = left-lists;
-    apart = subst (Apart s) (sym left-lists) (spread-apart m t M col limits wide);
-    pass = ap (listRule s) left-lists ∙ spread-lists m t M col limits;
+    apart = subst (Apart s) (sym left-lists) (spread-apart m t M col limits (spread-wide m t M col self parity passed));
+    pass = passes;
     singular = maker-refuses;
   }

@@ -19,12 +19,12 @@ use native.Mathlib.Decide.{ℕ-discrete}
 use native.Mathlib.Omega.{arith}
 use borrow.Author.Tests.{ltb-false}
 use lib.Dec.{ltb}
-use lib.ListN.{length, length-map}
+use lib.ListN.{length}
 use Rattle.staircase.specs.Design.{Params, Interleavers, params, order, most-M, most-order, most-blocks, most-rounds}
-use Rattle.staircase.specs.Frame.{Frame, Word, plain, word, frameOf, groups, words, outside}
-use Rattle.staircase.specs.Decoder.{Decoded, roundOf, runEach, runRounds, roundsAllowed, decoded}
+use Rattle.staircase.specs.Frame.{Frame, Word, frameOf, groups, words, outside}
+use Rattle.staircase.specs.Decoder.{Decoded, roundOf, runEach, roundsAllowed, decoded}
 use Rattle.staircase.specs.Outcomes.{lastStuck}
-use Rattle.staircase.specs.Lines.{wordCount, frameWord}
+use Rattle.staircase.specs.Lines.{wordCount}
 use Rattle.staircase.specs.Rules.{Verdict, _then_, roundsRule, interleavers}
 use Rattle.staircase.specs.Rules.Verdict.{accepted, refused}
 use Rattle.staircase.specs.Calls.{Counts, countsOf, correctedBy, decodeCall}
@@ -32,7 +32,6 @@ use Rattle.staircase.specs.Tally.{Tally, empty, plus, totals, Decode, ca
 use Rattle.staircase.specs.Demand1.{among, ByTable, Demand1}
 use Rattle.staircase.specs.Demand1 as table
 use Rattle.staircase.proofs.Bounds.{small-product}
-use Rattle.staircase.proofs.Tabulate.{tabulate-length}
 use Rattle.staircase.proofs.Rules.{then-first, then-rest, refuse-false, design-limits, count-limits, frame-lengths}
 use Rattle.staircase.proofs.Rounds.{runEach-idle, runEach-more}
 use Rattle.staircase.proofs.Outside.{outsideEach-bound}

@@ -5,15 +5,14 @@
 --   read-in, in-read, read-distinct   the sites are those of the line
 --   ReadCrosses, readCrossing-holds, read-only-two   the crossing word
 -- Assumes nothing.
-use mathlib.Core.Path.{_≡_, refl, sym, ap, ap₂, _∙_, subst}
+use mathlib.Core.Path.{_≡_, refl, sym, ap, _∙_, subst}
 use mathlib.Core.Bool.{Bool, true, false, not, cond}
 use mathlib.Core.Logic.{_⊎_, inl, inr}
 use mathlib.Core.List.{List}
-use Prim.Native.Nat.{ℕ, _+_, _-_, _*_, _<_}
+use Prim.Native.Nat.{ℕ, _-_, _<_}
 use native.Mathlib.Omega.{arith}
 use lib.Dec.{eqb}
 use lib.ListN.{length, getD}
-use borrow.Author.Tests.{eq-eqb, ne-eqb}
 use Rattle.bch.specs.Mirror.{backwards}
 use Rattle.staircase.specs.Design.{Params, Interleavers, wordLength, order}
 use Rattle.staircase.specs.Frame.{Site}
@@ -25,7 +24,7 @@ use Rattle.staircase.proofs.Flip.{Sent, Distinct}
 use Rattle.staircase.proofs.System.{Proper}
 use Rattle.staircase.proofs.Sites.{rowSites-distinct, columnSites-distinct, rowSites-length, columnSites-length}
 use Rattle.staircase.proofs.Mirrored.{backwards-long, in-backwards, backwards-in, backwards-at, distinct-backwards}
-use Rattle.staircase.proofs.Lines.{line-ind, line-row, line-column, even-twice}
+use Rattle.staircase.proofs.Lines.{line-ind, line-row, line-column}
 use Rattle.staircase.proofs.Crossing.{Crosses, crossing-holds, only-two}
 
 module _ (s : Params) where

@@ -1,8 +1,9 @@
--- The vectors of specs/RowsK.antt, specs/SecondKit.antt and specs/RowsSpread.antt, by computation. Two kinds of steps would be long, and go by laws:
--- the product of the second kit, whose A is read from its rows, and the search for two errors, which ends at the codeword that is named here.
+-- The vectors of specs/RowsK.antt, specs/SecondKit.antt, specs/RowsSpread.antt and specs/RowsMixed.antt, by computation. Two kinds of steps would be
+-- long, and go by laws: the product of the second kit, whose A is read from its rows, and the search for two errors, which ends at the codeword that is named here.
 --   rowsK       document 01's rows under kit K, and more of its refusals, of the word checker and of showing
 --   secondKit   the second kit
 --   rowsSpread  rows of the call for spread lists
+--   rowsMixed   rows of the call for mixed lists
 -- Assumes nothing.
 use mathlib.Core.Path.{_≡_, refl, sym, ap, ap₂, _∙_}
 use mathlib.Core.Bool.{true, not}
@@ -28,10 +29,13 @@ use Rattle.staircase.specs.Rules.{Verdict, refuseFirst, sizeRule, longRu
 use Rattle.staircase.specs.Rules.Verdict.{accepted}
 use Rattle.staircase.specs.Calls.{kitVerdict, encodeVerdict, encodedBy, encodeCall, wordsVerdict, wordsCall, decodeVerdict, countsOf, decodeCall, showVerdict, showCall}
 use Rattle.staircase.specs.Spread.{turnedTo, listBytes, narrowRule, spreadVerdict, spreadCall}
+use Rattle.staircase.specs.Load.{stateAfter, drawnBits}
+use Rattle.staircase.specs.Mixed.{swapped, shuffled, rowsIn, mixedTo, mixedCall}
 use Rattle.staircase.specs.Batch.{batchRule, batchLengths, batchVerdict, batchRedundancy, batchCall}
 use Rattle.staircase.specs.RowsK.{RowsK}
 use Rattle.staircase.specs.SecondKit.{paramsS, selfS, parityS, inverseS, systemS, infoS, redS, paramsT, listsT, receivedT, correctionT, correction0T, correction1T, SecondKit}
 use Rattle.staircase.specs.RowsSpread.{RowsSpread}
+use Rattle.staircase.specs.RowsMixed.{RowsMixed}
 use Rattle.staircase.proofs.Search.{firstWhere-before}
 use Rattle.staircase.proofs.Tabulate.{tabulate-at}
 use Rattle.staircase.proofs.Matrix.{sumBits-same}
@@ -208,3 +212,21 @@ secondKit =
 pub rowsSpread : RowsSpread
 unfolding concat sizeRule longRule largeRule designRules listLengths turnedTo listBytes narrowRule spreadVerdict spreadCall
 rowsSpread = record { accepts = refl; self = refl; parity = refl; narrow = refl; narrowK = refl; short = refl }
+
+-- ---- mixed lists
+
+pub rowsMixed : RowsMixed
+unfolding tabulate concat sizeRule longRule largeRule designRules listLengths listBytes narrowRule spreadVerdict stateAfter drawnBits swapped shuffled rowsIn mixedTo mixedCall
+rowsMixed = record {
+  accepts = refl;
+  rows0 = refl;
+  rows1 = refl;
+  rowsQ = refl;
+  self = refl;
+  parity = refl;
+  state = refl;
+  selfGreatest = refl;
+  stateGreatest = refl;
+  narrow = refl;
+  short = refl;
+}

@@ -19,7 +19,8 @@ use Rattle.staircase.specs.Rules.Verdict.{accepted, refused}
 use Rattle.staircase.specs.Batch.{most-frames}
 use Rattle.staircase.specs.Window.{most-window}
 
--- "Returned", "Place". A place that is a number of blocks, of a byte or of a length may be any number.
+-- "Returned", "Place". A place that is a number of blocks or of a byte may be any number, and each slice has its place; which of these a call has, its law
+-- of Places.antt says.
 pub data Table (n p : ℕ) : Type 0 where
   -- "1, 2, 3 for m, t, M"; document 02: "rule 1 gains place 4"
   size : n ≡ 1 → 1 ≤ p → p ≤ 4 → Table n p

@@ -20,8 +20,11 @@ pub mod Batch
 pub mod Tally
 pub mod Report
 pub mod Load
+pub mod Mixed
 pub mod Demand1
+pub mod Places
 pub mod OrderMoved
+pub mod SecondHalf
 pub mod Demand2
 pub mod Demand3
 pub mod Window
@@ -31,4 +34,6 @@ pub mod RowsK
 pub mod LoadRows
 pub mod SecondKit
 pub mod RowsSpread
+pub mod RowsMaker
+pub mod RowsMixed
 pub mod RowsTally

@@ -3,12 +3,17 @@
 --   singularRule    rule 14
 --   makeVerdict     rules 1 to 3, 6, 7 and 14
 --   makeCall        its verdict and the inverse's buffer
+--   makeFront       rules 1 to 3, 6 and 7 of it
+--   SumOfEarlier, HasInverse   a column that is a sum of earlier ones, and a matrix that has an inverse, said without a search
+--   MakerRefuses    when and where it refuses by rule 14; `maker-refuses` in proofs/MakerRefuses.antt shows it
 -- Assumes nothing.
+use mathlib.Core.Path.{_≡_}
+use mathlib.Core.Logic.{_↔_}
 use mathlib.Core.List.{List}
-use Prim.Native.Nat.{ℕ, _+_, _*_}
+use Prim.Native.Nat.{ℕ, _+_, _*_, _<_}
 use Rattle.staircase.specs.Design.{Params, Interleavers, params, order}
-use Rattle.staircase.specs.System.{systemEntry, rowBytes}
-use Rattle.staircase.specs.Square.{dependent, inverseMatrix, packedMatrix}
+use Rattle.staircase.specs.System.{Contents, systemEntry, rowBytes, apply}
+use Rattle.staircase.specs.Square.{BitMatrix, Inverts, dependent, inverseMatrix, packedMatrix}
 use Rattle.staircase.specs.Rules.{Verdict, _then_, refuseFirst, designRules, lengthRule, kitLengths, interleavers, listRule}
 use Rattle.staircase.specs.Rules.Verdict.{accepted, refused}
 
@@ -40,3 +45,32 @@ unfoldable pub makeCall : ℕ → ℕ → ℕ → ℕ → List ℕ → List ℕ 
 makeCall m t M col self parity old work =
     let s : Params = params m t M col in
     madeBy (makeVerdict m t M col self parity old work) old (packedMatrix (order s) (inverseMatrix (order s) (systemEntry s (interleavers s self parity))))
+
+-- ---- "The maker refuses for want of an inverse precisely when A has none"
+
+-- "14 singular, after 7": the rules before it
+unfoldable pub makeFront : ℕ → ℕ → ℕ → ℕ → List ℕ → List ℕ → List ℕ → ℕ → Verdict
+makeFront m t M col self parity old work =
+    let s : Params = params m t M col in
+    designRules m t M col then kitLengths s self parity old then lengthRule 6 work (makeWork s) then listRule s (interleavers s self parity)
+
+-- column j of n rows is what some bits v take of the columns before it; of no column it is zero
+abbrev pub SumOfEarlier : ℕ → (ℕ → ℕ → ℕ) → ℕ → Type 0
+SumOfEarlier n a j = (v : Contents) × ((k : ℕ) → v k < 2) × ((i : ℕ) → i < n → apply j a v i ≡ a i j)
+
+-- some matrix of bits inverts a, in either order
+abbrev pub HasInverse : ℕ → (ℕ → ℕ → ℕ) → Type 0
+HasInverse n a = (w : ℕ → ℕ → ℕ) × BitMatrix w × Inverts n a w × Inverts n w a
+
+pub record MakerRefuses (m t M col : ℕ) (self parity old : List ℕ) (work : ℕ) : Type 0 where
+  -- "precisely when A has none", of a call that no earlier rule refuses
+  pub precisely : makeFront m t M col self parity old work ≡ accepted
+      → ((p : ℕ) × (makeCall m t M col self parity old work .verdict ≡ refused 14 p))
+      ↔ (HasInverse (order (params m t M col)) (systemEntry (params m t M col) (interleavers (params m t M col) self parity)) → ⊥)
+  -- and then every earlier rule accepts
+  pub front : (p : ℕ) → makeCall m t M col self parity old work .verdict ≡ refused 14 p → makeFront m t M col self parity old work ≡ accepted
+  -- "the place is the first column of A that is a sum of earlier columns (column 0 if it is zero)"
+  pub column : (p : ℕ) → makeCall m t M col self parity old work .verdict ≡ refused 14 p
+      → (p < order (params m t M col))
+      × SumOfEarlier (order (params m t M col)) (systemEntry (params m t M col) (interleavers (params m t M col) self parity)) p
+      × ((j : ℕ) → j < p → SumOfEarlier (order (params m t M col)) (systemEntry (params m t M col) (interleavers (params m t M col) self parity)) j → ⊥)

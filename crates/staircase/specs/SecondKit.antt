@@ -1,6 +1,6 @@
 -- Vectors for what kit K leaves open, since its M and t are 1 and its self list is its own inverse: the sense of the self list, the order in
 -- which Y is stacked, a block's rows and columns, the order of a round's words, the rounds that 0 stands for, corrections of two bits, a bit flipped
--- twice. The values are those of tests/second_kit.py, a literal reading of document 01 with matrices and transposes written out. Names end in S for the
+-- twice. The values are those of tests/check/second_kit.py, a literal reading of document 01 with matrices and transposes written out. Names end in S for the
 -- second kit (m 4, t 1, M 2) and in T for two words with m 5, t 2, M 2. No list here is its own inverse.
 --   paramsS, paramsT                   the sizes of the two designs
 --   selfS, parityS, inverseS           the second kit's slices

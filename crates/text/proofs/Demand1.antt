@@ -3,12 +3,12 @@
 --   writeKit-demand1, textLength-demand1           the writer, and the length of its text
 --   blocks-demand1, readBlocks-demand1             block text
 --   frame-demand1, readFrame-demand1               frame text
---   frame-output-demand1, mend-output-demand1      the rules of the two programs, by which they print what they print
+--   frame-output-demand1, mend-output-demand1, makekit-output-demand1   the rules of the programs, by which they print what they print
 -- Assumes nothing.
 use mathlib.Core.Path.{_≡_, refl, ap, subst⁻¹}
 use mathlib.Core.Bool.{true}
 use mathlib.Core.List.{List, [], _∷_}
-use Prim.Native.Nat.{ℕ, _*_}
+use Prim.Native.Nat.{ℕ, _*_, _≤_}
 use native.Mathlib.Omega.{arith}
 use lib.Dec.{ltb}
 use lib.ListN.{length}
@@ -16,13 +16,16 @@ use Rattle.text_formats.specs.Format as format
 use Rattle.text_formats.specs.Format.{Scan}
 use Rattle.text_formats.specs.Items.{Walk, stuck, past, walk}
 use Rattle.staircase.specs.Frame.{groups}
-use Rattle.staircase.specs.Design.{Params, Interleavers, params}
-use Rattle.staircase.specs.Rules.{Verdict, _then_, refuse, designRules, lengthRule, listLengths, kitLengths, interleavers, listRule, spareRule}
+use Rattle.staircase.specs.Design.{Params, Interleavers, params, order, most-order}
+use Rattle.staircase.specs.System.{systemEntry}
+use Rattle.staircase.specs.Square.{dependent}
+use Rattle.staircase.specs.Maker.{singularRule}
+use Rattle.staircase.specs.Rules.{Verdict, _then_, refuse, refuseFirst, designRules, lengthRule, listLengths, kitLengths, interleavers, listRule, spareRule, inverseRule}
 use Rattle.staircase.specs.Rules.Verdict.{accepted, refused}
 use Rattle.staircase.proofs.Rules.{design-limits}
 use Rattle.staircase.specs.Demand1 as table
 use Rattle.staircase.specs.Demand1.{Table, among, ByTable, worked, refusedBy, Demand1}
-use Rattle.staircase.proofs.Demand1.{byTable-then, byTable-refuse, byTable-more, design-byTable, length-byTable, lists-fit-byTable, kit-fits-byTable, lists-byTable, spare-byTable, encode-demand1, decode-demand1}
+use Rattle.staircase.proofs.Demand1.{byTable-then, byTable-refuse, byTable-first, design-byTable, length-byTable, lists-fit-byTable, kit-fits-byTable, lists-byTable, spare-byTable, inverse-byTable}
 use Rattle.text.specs.Rules.{walkRule, scanRule}
 use Rattle.text.specs.KitText.{headItems, kitBytes}
 use Rattle.text.specs.KitWriter.{writeVerdict, writeCall, textLength, measureVerdict, measuredBy, measureCall}
@@ -31,6 +34,9 @@ use Rattle.text.specs.FrameReader.{blockScan, blockRule, blockCount, blo
 use Rattle.text.specs.Programs.{most-input, inputRule, frameCall, mendCall}
 use Rattle.text.specs.FrameThenMend.{kitM, kitR, frameVerdict}
 use Rattle.text.specs.MendPrints.{mendVerdict}
+use Rattle.text.specs.MakeKit.{listsScan, listsRule, selfShown, parityShown, textRule, makeKitCall, makeKitVerdict}
+use Rattle.text.proofs.KitWritten.{design-accepted}
+use Rattle.text.proofs.ProgramRules.{listsOf, frame-call-rules, mend-call-rules, make-call-rules}
 use Rattle.text.proofs.Kept.{kept-old}
 
 -- ---- the rules
@@ -130,7 +136,7 @@ writeKit-demand1 m t M self parity w text =
       untouched = λ h i. kept-old v (kitBytes m t M self parity w) text h i ∷ [];
     }
 
-measuredBy-verdict : (v : Verdict) (n : ℕ) → measuredBy v n .verdict ≡ v
+pub measuredBy-verdict : (v : Verdict) (n : ℕ) → measuredBy v n .verdict ≡ v
 measuredBy-verdict accepted n = refl
 measuredBy-verdict (refused k p) n = refl
 
@@ -185,29 +191,37 @@ readFrame-demand1 M r s info red =
 
 -- ---- the programs
 
+-- "then makes its call": of the encoder's rules 7 and 9 alone can refuse
 abbrev frameNumbers : List ℕ
-frameNumbers = 1 ∷ 2 ∷ 3 ∷ 4 ∷ 6 ∷ 7 ∷ 8 ∷ 9 ∷ 10 ∷ 11 ∷ 12 ∷ 13 ∷ []
+frameNumbers = 1 ∷ 2 ∷ 3 ∷ 7 ∷ 9 ∷ 11 ∷ 12 ∷ 13 ∷ []
 
-pub frame-output-demand1 : (kit text : List ℕ) → Demand1 (1 ∷ 2 ∷ 3 ∷ 4 ∷ 6 ∷ 7 ∷ 8 ∷ 9 ∷ 10 ∷ 11 ∷ 12 ∷ 13 ∷ []) (frameVerdict kit text) [] []
-unfolding frameVerdict frameCall
+-- M × r of a kit text's design
+shown-small : (kit : List ℕ) → scanKit kit ≡ accepted → order (kitParams kit) ≤ most-order
+shown-small kit e = design-limits (headNumber kit 0) (headNumber kit 1) (headNumber kit 2) 0 (design-accepted kit e) .order-high
+
+pub frame-output-demand1 : (kit text : List ℕ) → Demand1 (1 ∷ 2 ∷ 3 ∷ 7 ∷ 9 ∷ 11 ∷ 12 ∷ 13 ∷ []) (frameVerdict kit text) [] []
+unfolding frameVerdict
 frame-output-demand1 kit text =
     let call : Verdict = frameCall kit text .verdict in
+    let s : Params = kitParams kit in
+    let l : Interleavers = listsOf kit in
     record {
       byTable =
           byTable-then frameNumbers (inputRule kit text) (scanKit kit then blockRule (kitM kit) text then call) (input-byTable frameNumbers refl kit text)
           (λ e. byTable-then frameNumbers (scanKit kit) (blockRule (kitM kit) text then call) (kitText-byTable frameNumbers refl kit refl refl refl)
           (λ f. byTable-then frameNumbers (blockRule (kitM kit) text) call (blocks-byTable frameNumbers refl (kitM kit) text)
-          (λ g. byTable-more (1 ∷ 2 ∷ 3 ∷ 4 ∷ 6 ∷ 7 ∷ 8 ∷ 9 ∷ 10 ∷ []) (11 ∷ 12 ∷ 13 ∷ []) call
-          (encode-demand1 (headNumber kit 0) (headNumber kit 1) (headNumber kit 2) 0 (blockCount (headNumber kit 2) text) (selfOf kit) (parityOf kit)
-          (inverseOf kit) (blockInfo (headNumber kit 2) text) _ _ .byTable))));
+          (λ g. subst⁻¹ (ByTable frameNumbers) (frame-call-rules kit text f g)
+          (byTable-then frameNumbers (listRule s l) (inverseRule s l (inverseOf kit)) (lists-byTable frameNumbers s (shown-small kit f) refl l)
+          (λ h. inverse-byTable frameNumbers s (shown-small kit f) refl l (inverseOf kit))))));
       untouched = λ h. refl;
     }
 
+-- of the decoder's rule 7 alone
 abbrev mendNumbers : List ℕ
-mendNumbers = 1 ∷ 2 ∷ 3 ∷ 4 ∷ 5 ∷ 6 ∷ 7 ∷ 10 ∷ 11 ∷ 12 ∷ 13 ∷ []
+mendNumbers = 1 ∷ 2 ∷ 3 ∷ 7 ∷ 11 ∷ 12 ∷ 13 ∷ []
 
-pub mend-output-demand1 : (kit copy : List ℕ) → Demand1 (1 ∷ 2 ∷ 3 ∷ 4 ∷ 5 ∷ 6 ∷ 7 ∷ 10 ∷ 11 ∷ 12 ∷ 13 ∷ []) (mendVerdict kit copy) [] []
-unfolding mendVerdict mendCall
+pub mend-output-demand1 : (kit copy : List ℕ) → Demand1 (1 ∷ 2 ∷ 3 ∷ 7 ∷ 11 ∷ 12 ∷ 13 ∷ []) (mendVerdict kit copy) [] []
+unfolding mendVerdict
 mend-output-demand1 kit copy =
     let M : ℕ = kitM kit in
     let r : ℕ = kitR kit in
@@ -217,8 +231,39 @@ mend-output-demand1 kit copy =
           byTable-then mendNumbers (inputRule kit copy) (scanKit kit then frameRule M r copy then call) (input-byTable mendNumbers refl kit copy)
           (λ e. byTable-then mendNumbers (scanKit kit) (frameRule M r copy then call) (kitText-byTable mendNumbers refl kit refl refl refl)
           (λ f. byTable-then mendNumbers (frameRule M r copy) call (frame-byTable mendNumbers refl M r copy)
-          (λ g. byTable-more (1 ∷ 2 ∷ 3 ∷ 4 ∷ 5 ∷ 6 ∷ 7 ∷ 10 ∷ []) (11 ∷ 12 ∷ 13 ∷ []) call
-          (decode-demand1 (headNumber kit 0) (headNumber kit 1) M 0 (frameCount M r copy) 0 (selfOf kit) (parityOf kit) (frameInfo M r copy) (frameRed M r copy) _
-          .byTable))));
+          (λ g. subst⁻¹ (ByTable mendNumbers) (mend-call-rules kit copy f g) (lists-byTable mendNumbers (kitParams kit) (shown-small kit f) refl (listsOf kit)))));
+      untouched = λ h. refl;
+    }
+
+-- of the maker's rules 7 and 14 alone
+abbrev makekitNumbers : List ℕ
+makekitNumbers = 1 ∷ 2 ∷ 3 ∷ 7 ∷ 11 ∷ 13 ∷ 14 ∷ []
+
+pub makekit-output-demand1 : (s : List ℕ) → Demand1 (1 ∷ 2 ∷ 3 ∷ 7 ∷ 11 ∷ 13 ∷ 14 ∷ []) (makeKitVerdict s) [] []
+unfolding makeKitVerdict listsRule textRule singularRule
+makekit-output-demand1 s =
+    let m : ℕ = headNumber s 0 in
+    let t : ℕ = headNumber s 1 in
+    let M : ℕ = headNumber s 2 in
+    let p : Params = kitParams s in
+    let l : Interleavers = interleavers p (selfShown s) (parityShown s) in
+    let n : ℕ = order p in
+    let input : Verdict = refuse (ltb most-input (length s)) 13 2 in
+    let call : Verdict = makeKitCall s .verdict in
+    let long : ℕ = textLength m t M (selfShown s) (parityShown s) in
+    record {
+      byTable =
+          byTable-then makekitNumbers input (headRule s then designRules m t M 0 then listsRule s then textRule s then call)
+          (byTable-refuse makekitNumbers (ltb most-input (length s)) 13 2 refl (λ e. table.input refl (omega arith) (omega arith)))
+          (λ a. byTable-then makekitNumbers (headRule s) (designRules m t M 0 then listsRule s then textRule s then call) (head-byTable makekitNumbers refl s)
+          (λ b. byTable-then makekitNumbers (designRules m t M 0) (listsRule s then textRule s then call) (design-byTable makekitNumbers refl refl refl m t M 0)
+          (λ d. byTable-then makekitNumbers (listsRule s) (textRule s then call) (scan-byTable makekitNumbers 11 refl (λ q. table.kitText refl) (listsScan s))
+          (λ e. byTable-then makekitNumbers (textRule s) call
+          (byTable-refuse makekitNumbers (ltb most-input long) 13 1 refl (λ f. table.input refl (omega arith) (omega arith)))
+          (λ f. subst⁻¹ (ByTable makekitNumbers) (make-call-rules s d e)
+          (byTable-then makekitNumbers (listRule p l) (refuseFirst 14 0 n (dependent n (systemEntry p l)))
+          (lists-byTable makekitNumbers p (design-limits m t M 0 d .order-high) refl l)
+          (λ g. byTable-first makekitNumbers 14 0 n (dependent n (systemEntry p l)) refl
+          (λ i k. table.singular refl (omega (arith, k, design-limits m t M 0 d .order-high))))))))));
       untouched = λ h. refl;
     }

@@ -72,7 +72,7 @@ module _ (s : List ℕ) (F : Found s) where
       (body-found ∙ sym (kit-rest s (F .m) (F .t) (F .M) (F .q) (F .lines)))
       ∙ rw (shown .first, shown .second, shown .third)
 
-rule-read : (x : Scan) → scanRule 11 x ≡ accepted → (L : ℕ) × (vs : List ℕ) × (x ≡ format.read L vs)
+pub rule-read : (x : Scan) → scanRule 11 x ≡ accepted → (L : ℕ) × (vs : List ℕ) × (x ≡ format.read L vs)
 unfolding scanRule
 rule-read (format.refused k) e = let z : _≡_ {A = ℕ} 0 1 = cc in absurd (omega arith)
 rule-read (format.read L vs) e = (L, vs, refl)

@@ -1,7 +1,8 @@
--- A text that does not start with two lines: the longest start that it shares with two lines is the longest that it shares with kit texts of any numbers.
+-- A text that does not start with two lines: the longest start that it shares with two lines is the longest that it shares with texts of two lines and some
+-- items, as kit texts are, of any numbers.
 --   head-text        two lines alone
---   kit-text         every two lines start a kit text
---   lines-longest    the longest start
+--   headed-text      every two lines start such a text
+--   headed-longest   the longest start
 -- Assumes nothing.
 use Prim.Native.Nat.{ℕ, _+_, _-_, _*_, _≤_, _<_}
 use mathlib.Core.Path.{_≡_, refl, sym, ap, _∙_, subst}
@@ -14,8 +15,8 @@ use Rattle.text_formats.specs.Format.{Item, byte, num, bit, end, Renders, Text,
 use Rattle.text_formats.specs.Items.{lits, seq, spell, Fit}
 use Rattle.text_formats.proofs.Takes.{takes}
 use Rattle.text_formats.proofs.Spelling.{seq-renders, renders-seq, Spelt, spell-lits, fit-lits}
-use Rattle.text.specs.KitText.{headItems, headFormat, headBytes, kitBody, restFormat, kitFormat, KitText, ShortNumbers, StartsKit}
-use Rattle.text.proofs.KitTexts.{kit-starts}
+use Rattle.text.specs.KitText.{headItems, headFormat, headBytes, ShortNumbers, StartsKit}
+use Rattle.text.proofs.KitTexts.{headed, HeadedText, headed-starts}
 
 -- zeros fit any items
 zeros-fit : (is : List Item) → Fit is (replicate (takes is) 0)
@@ -54,30 +55,30 @@ lines-text m t M h = (
       (seq-renders headItems (end 0) 0 (m ∷ t ∷ M ∷ []) [] [] (h .0, (h .1, (h .2, tt))) (refl, refl, refl)),
 )
 
--- every two lines start a kit text
-pub kit-text : (m t M : ℕ) → (b : List ℕ) × Text (kitFormat m t M) (headBytes m t M ++ b)
-unfolding kitFormat
-kit-text m t M =
+-- every two lines start such a text
+pub headed-text : (body : ℕ → List Item) (m t M : ℕ) → (b : List ℕ) × Text (headed body m t M) (headBytes m t M ++ b)
+headed-text body m t M =
     let n : ℕ = M * (m * t) in
-    let zs : List ℕ = replicate (takes (kitBody n)) 0 in
+    let zs : List ℕ = replicate (takes (body n)) 0 in
     let hb : List ℕ = headBytes m t M in
-    let body : List ℕ = spell (kitBody n) zs ++ [] in
-    let inner = seq-renders (kitBody n) (end 0) 0 zs [] [] (zeros-fit (kitBody n)) (refl, refl, refl) in
-    let whole = seq-renders (lits hb) (restFormat n) 0 [] (zs ++ []) body (fit-lits hb) inner in
-    (body, (0, zs ++ [], subst (λ (x : List ℕ). Renders (seq (lits hb) (restFormat n)) 0 (zs ++ []) (x ++ body)) (spell-lits hb) whole))
+    let rest : List ℕ = spell (body n) zs ++ [] in
+    let inner = seq-renders (body n) (end 0) 0 zs [] [] (zeros-fit (body n)) (refl, refl, refl) in
+    let whole = seq-renders (lits hb) (seq (body n) (end 0)) 0 [] (zs ++ []) rest (fit-lits hb) inner in
+    (rest, (0, zs ++ [], subst (λ (x : List ℕ). Renders (headed body m t M) 0 (zs ++ []) (x ++ rest)) (spell-lits hb) whole))
 
-pub lines-longest : (s : List ℕ) → ((m t M : ℕ) → StartsKit m t M s → ⊥) → (k : ℕ) → Longest (Text headFormat) s k → Longest (KitText ShortNumbers) s k
-lines-longest s none k l = record { shared = shared (l .shared); most = most }
+pub headed-longest : (body : ℕ → List Item) (s : List ℕ) → ((m t M : ℕ) → StartsKit m t M s → ⊥) → (k : ℕ)
+    → Longest (Text headFormat) s k → Longest (HeadedText body ShortNumbers) s k
+headed-longest body s none k l = record { shared = shared (l .shared); most = most }
   where
-    shared : Shares (Text headFormat) s k → Shares (KitText ShortNumbers) s k
+    shared : Shares (Text headFormat) s k → Shares (HeadedText body ShortNumbers) s k
     shared (h, (u, x)) =
         let H = head-text (take k s ++ u) x in
-        let (b, y) = kit-text (H .m) (H .t) (H .M) in
+        let (b, y) = headed-text body (H .m) (H .t) (H .M) in
         let e : headBytes (H .m) (H .t) (H .M) ++ b ≡ take k s ++ (u ++ b) = ap (λ (z : List ℕ). z ++ b) (sym (H .text)) ∙ append-assoc (take k s) u b in
-        (h, (u ++ b, (H .m, H .t, H .M, H .short, subst (λ (z : List ℕ). Text (kitFormat (H .m) (H .t) (H .M)) z) e y)))
+        (h, (u ++ b, (H .m, H .t, H .M, H .short, subst (λ (z : List ℕ). Text (headed body (H .m) (H .t) (H .M)) z) e y)))
 
-    most : (j : ℕ) → Shares (KitText ShortNumbers) s j → j ≤ k
-    most j (h, (u, (m, t, M, d, x))) = go (kit-starts m t M (take j s ++ u) x) (decLt (length (headBytes m t M)) j)
+    most : (j : ℕ) → Shares (HeadedText body ShortNumbers) s j → j ≤ k
+    most j (h, (u, (m, t, M, d, x))) = go (headed-starts body m t M (take j s ++ u) x) (decLt (length (headBytes m t M)) j)
       where
         go : (r : List ℕ) × (take j s ++ u ≡ headBytes m t M ++ r) → Dec (length (headBytes m t M) < j) → j ≤ k
         go (r, e) (yes o) =

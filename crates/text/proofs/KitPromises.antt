@@ -9,7 +9,7 @@
 --   kit-renders                     an accepted text is the kit text rendered from what the reader leaves
 -- Assumes nothing.
 use Prim.Native.Nat.{ℕ, _+_, _*_, _≤_}
-use mathlib.Core.Path.{_≡_, refl, sym, ap, _∙_, subst}
+use mathlib.Core.Path.{_≡_, sym, ap, _∙_}
 use mathlib.Core.List.{List, _++_}
 use mathlib.Core.Logic.{_⊎_, inl, inr, _↔_}
 use native.Mathlib.Omega.{arith}
@@ -17,7 +17,6 @@ use lib.ListN.{length, drop, length-append}
 use Rattle.text_formats.specs.Format as format
 use Rattle.text_formats.specs.Format.{Longest, Scan, scan}
 use Rattle.text_formats.specs.Items.{stuck, walk, spell, bitsLines}
-use Rattle.text_formats.proofs.Scan.{scan-complete, scan-sound}
 use Rattle.text_formats.proofs.Takes.{fit-long}
 use Rattle.text.specs.Rules.{scanRule, kept}
 use Rattle.staircase.specs.Design.{order}
@@ -25,115 +24,42 @@ use Rattle.staircase.specs.System.{rowBytes}
 use Rattle.staircase.specs.Rules.{Verdict, _then_, designRules, listLengths, kitLengths}
 use Rattle.staircase.specs.Rules.Verdict.{accepted, refused}
 use Rattle.staircase.proofs.Rules.{then-accepted, length-accepted}
-use Rattle.text.specs.KitText.{headItems, headBytes, listNames, rowNames, pairLines, kitFormat, KitText, ShortNumbers, StartsKit, kitBytes}
+use Rattle.text.specs.KitText.{headItems, headBytes, listNames, rowNames, pairLines, kitBody, kitFormat, KitText, ShortNumbers, StartsKit, kitBytes}
 use Rattle.text.specs.KitReader.{headNumber, kitParams, headRule, bodyRule, scanKit, selfOf, parityOf, inverseOf, readVerdict, readKitCall, Passing}
 use Rattle.text.proofs.KitCounting.{rows-count}
-use Rattle.text.proofs.KitTexts.{clear-kit, head-place, head-found, head-passed, head-small, kit-starts, kit-rest, any-place}
-use Rattle.text.proofs.KitJudged.{small, Found, two-lines, scan-stuck, shown, scan-found, accepted-is}
-use Rattle.text.proofs.KitLines.{lines-longest}
+use Rattle.text.proofs.KitTexts.{head-passed, tidy-body}
+use Rattle.text.proofs.KitJudged.{Found, two-lines, scan-stuck, shown, scan-found}
+use Rattle.text.proofs.Headed.{headed-cases, headed-once, headed-accepted, headed-place-lines, headed-place-rest, headed-rules}
 use Rattle.text.proofs.KitTold.{kit-told, rendered}
 
 -- ---- accepted texts
 
 -- A text is accepted exactly when it is a kit text of a design that rules 1 to 3 let through.
 pub kit-accepted : (s : List ℕ) → (scanKit s ≡ accepted → KitText Passing s) × (KitText Passing s → scanKit s ≡ accepted)
-unfolding scanRule
-kit-accepted s = (there, back)
-  where
-    there : scanKit s ≡ accepted → KitText Passing s
-    there e =
-        let A = accepted-is s e in
-        let F = A .found in
-        let k = clear-kit (F .m) (F .t) (F .M) (small (F .m) (F .t) (F .M) (A .passing)) in
-        (F .m, F .t, F .M, A .passing, (A .mark, A .vs, scan-sound (kitFormat (F .m) (F .t) (F .M)) (A .mark) (A .vs) s k (A .scanned)))
-
-    back : KitText Passing s → scanKit s ≡ accepted
-    back (m, t, M, p, (L, vs, r)) =
-        let g = small m t M p in
-        let (u, e) = kit-starts m t M s (L, vs, r) in
-        let F : Found s = record { m = m; t = t; M = M; q = 0 + length (headBytes m t M); lines = head-found m t M s u (g .hm) (g .ht) (g .hM) e } in
-        scan-found s F
-        ∙ ap (λ (v : Verdict). v then scanRule 11 (scan (kitFormat m t M) s)) p
-        ∙ ap (scanRule 11) (scan-complete (kitFormat m t M) L vs s (clear-kit m t M g) r)
+unfolding kitFormat
+kit-accepted = headed-accepted kitBody tidy-body scanKit scan-stuck scan-found
 
 -- ---- refused texts
 
--- one length alone is the longest
-longest-once : (T : List ℕ → Type 0) (s : List ℕ) (j k : ℕ) → Longest T s j → Longest T s k → j ≡ k
-longest-once T s j k a b = omega (arith, a .most k (b .shared), b .most j (a .shared))
-
--- the two lines with which a text starts are found there
-starts-found : (s : List ℕ) (m t M : ℕ) → StartsKit m t M s → Found s
-starts-found s m t M h =
-    record { m = m; t = t; M = M; q = 0 + length (headBytes m t M); lines = head-found m t M s (h .rest) (h .m-short) (h .t-short) (h .M-short) (h .text) }
-
-found-starts : (s : List ℕ) (F : Found s) → StartsKit (F .m) (F .t) (F .M) s
-found-starts s F =
-    let l = head-small s (F .m) (F .t) (F .M) (F .q) (F .lines) in
-    record { m-short = l .0; t-short = l .1; M-short = l .2; rest = drop (F .q) s; text = head-passed s (F .m) (F .t) (F .M) (F .q) (F .lines) .spelt }
-
 -- A text starts with two lines, or it does not; and with those of one design alone.
 pub kit-cases : (s : List ℕ) → ((m t M : ℕ) → StartsKit m t M s → ⊥) ⊎ ((m : ℕ) × (t : ℕ) × (M : ℕ) × StartsKit m t M s)
-unfolding starts-found
-kit-cases s = go (two-lines s)
-  where
-    go : ((q : ℕ) × (walk headItems s 0 ≡ stuck q)) ⊎ Found s → ((m t M : ℕ) → StartsKit m t M s → ⊥) ⊎ ((m : ℕ) × (t : ℕ) × (M : ℕ) × StartsKit m t M s)
-    go (inl (q, f)) = inl (λ m t M h. let g = starts-found s m t M h .lines in let z : _≡_ {A = ℕ} 0 1 = cc in omega arith)
-    go (inr F) = inr (F .m, F .t, F .M, found-starts s F)
+kit-cases = headed-cases
 
 pub kit-once : (s : List ℕ) (m t M m₂ t₂ M₂ : ℕ) → StartsKit m t M s → StartsKit m₂ t₂ M₂ s → (m ≡ m₂) × (t ≡ t₂) × (M ≡ M₂)
-unfolding starts-found
-kit-once s m t M m₂ t₂ M₂ a b =
-    let f = starts-found s m t M a .lines in
-    let g = starts-found s m₂ t₂ M₂ b .lines in
-    let x : m ≡ m₂ = cc in
-    let y : t ≡ t₂ = cc in
-    let z : M ≡ M₂ = cc in
-    (x, y, z)
+kit-once = headed-once
 
 -- A text that does not start with two lines is refused by rule 11, and its place is the length of the longest start that some kit text shares, whatever
 -- its three numbers are: it goes wrong within the two lines.
 pub kit-place-lines : (s : List ℕ) → ((m t M : ℕ) → StartsKit m t M s → ⊥) → (k : ℕ) → (scanKit s ≡ refused 11 k) ↔ Longest (KitText ShortNumbers) s k
-kit-place-lines s none k = go (two-lines s)
-  where
-    go : ((q : ℕ) × (walk headItems s 0 ≡ stuck q)) ⊎ Found s → (scanKit s ≡ refused 11 k) ↔ Longest (KitText ShortNumbers) s k
-    go (inl (q, f)) =
-        let g = scan-stuck s q f in
-        let l : Longest (KitText ShortNumbers) s q = lines-longest s none q (head-place s q f) in (
-          λ e. let z : q ≡ k = cc in subst (λ (j : ℕ). Longest (KitText ShortNumbers) s j) z l,
-          λ h. g ∙ ap (λ (n : ℕ). refused 11 n) (longest-once (KitText ShortNumbers) s q k l h),
-        )
-    go (inr F) = absurd (none (F .m) (F .t) (F .M) (found-starts s F))
+unfolding kitFormat
+kit-place-lines = headed-place-lines kitBody tidy-body scanKit scan-stuck scan-found
 
 -- A text that starts with the two lines of a design that rules 1 to 3 let through is refused by rule 11 exactly where it is no kit text of such a design,
 -- and its place is the length of the longest start that some kit text of such a design shares.
 pub kit-place-rest : (s : List ℕ) (m t M : ℕ) → StartsKit m t M s → Passing m t M
     → (k : ℕ) → (scanKit s ≡ refused 11 k) ↔ ((KitText Passing s → ⊥) × Longest (KitText Passing) s k)
-unfolding scanRule starts-found
-kit-place-rest s m t M h p k = go (scan (kitFormat m t M) s) refl
-  where
-    F : Found s
-    F = starts-found s m t M h
-
-    found : scanKit s ≡ scanRule 11 (scan (kitFormat m t M) s)
-    found = scan-found s F ∙ ap (λ (v : Verdict). v then scanRule 11 (scan (kitFormat m t M) s)) p
-
-    place : (j : ℕ) → scan (kitFormat m t M) s ≡ format.refused j → Longest (KitText Passing) s j
-    place j e = any-place s m t M (F .q) (F .lines) (small m t M p) Passing small p j (sym (kit-rest s m t M (F .q) (F .lines)) ∙ e)
-
-    go : (x : Scan) → scan (kitFormat m t M) s ≡ x → (scanKit s ≡ refused 11 k) ↔ ((KitText Passing s → ⊥) × Longest (KitText Passing) s k)
-    go (format.refused j) e =
-        let v : scanKit s ≡ refused 11 j = found ∙ ap (scanRule 11) e in (
-          λ f.
-              let z : j ≡ k = cc in
-              (λ x. let a = kit-accepted s .1 x in let y : _≡_ {A = ℕ} 0 1 = cc in absurd (omega arith), place k (e ∙ ap format.refused z)),
-          λ x. v ∙ ap (λ (n : ℕ). refused 11 n) (longest-once (KitText Passing) s j k (place j e) (x .1)),
-        )
-    go (format.read L vs) e =
-        let v : scanKit s ≡ accepted = found ∙ ap (scanRule 11) e in (
-          λ f. let y : _≡_ {A = ℕ} 0 1 = cc in absurd (omega arith),
-          λ x. absurd (x .0 (kit-accepted s .0 v)),
-        )
+unfolding kitFormat
+kit-place-rest = headed-place-rest kitBody tidy-body scanKit scan-stuck scan-found
 
 -- A refusal by another rule is that of rules 1 to 3 for the numbers of the two lines with which the text starts.
 pub kit-ruled : (s : List ℕ) (n k : ℕ) → scanKit s ≡ refused n k → (n ≡ 11 → ⊥)
@@ -163,9 +89,8 @@ kit-ruled s n k e h = go (two-lines s)
 
 -- And a text that starts with two lines whose numbers rules 1 to 3 refuse is refused so, whatever follows.
 pub kit-rules : (s : List ℕ) (m t M n k : ℕ) → StartsKit m t M s → designRules m t M 0 ≡ refused n k → scanKit s ≡ refused n k
-unfolding starts-found
-kit-rules s m t M n k h p =
-    scan-found s (starts-found s m t M h) ∙ ap (λ (v : Verdict). v then scanRule 11 (scan (kitFormat m t M) s)) p
+unfolding kitFormat
+kit-rules = headed-rules kitBody tidy-body scanKit scan-stuck scan-found
 
 -- ---- the length of an accepted text
 

@@ -74,7 +74,7 @@ end-read s q L vs e = go (drop q s) e
     go [] f = (refl, cc)
     go (x ∷ l) f = let z : _≡_ {A = ℕ} 0 1 = cc in absurd (omega arith)
 
-items-read : (is : List Item) (s : List ℕ) (q L : ℕ) (vs : List ℕ) → scanAt (seq is (end 0)) s q ≡ format.read L vs
+pub items-read : (is : List Item) (s : List ℕ) (q L : ℕ) (vs : List ℕ) → scanAt (seq is (end 0)) s q ≡ format.read L vs
     → (e : ℕ) × (walk is s q ≡ past vs e) × (drop e s ≡ [])
 items-read is s q L vs f = go (walk is s q) refl (sym (scan-seq is (end 0) s q) ∙ f)
   where

@@ -2,6 +2,9 @@
 --   written-accepted       it is accepted, with the kit's design
 --   written-self, written-parity, written-inverse   and shows the kit's lists and inverse
 --   written-reads          the reader leaves the kit that was written
+--   Writes, write-accepted what the writer's rules ask for, where they accept
+--   write-then-read        the writer's call, and then the reader's
+--   design-accepted, shown-lengths, shown-spare   what an accepted text shows: an allowed design, lists and inverse of its lengths, spare bits of 0
 --   read-writes            the writer leaves the text that was read
 -- Assumes nothing.
 use Prim.Native.Nat.{ℕ, zero, suc, _+_, _*_, _/_, _%_, _^_, _≤_, _<_, zero-le, suc-le-suc}
@@ -23,17 +26,17 @@ use Rattle.text.specs.Rules.{valuesOf, kept}
 use Rattle.staircase.specs.Lists.{tabulate, concat}
 use Rattle.staircase.specs.Design.{params, order}
 use Rattle.staircase.specs.System.{inverseEntry, rowBytes}
-use Rattle.staircase.specs.Rules.{Verdict, _then_, designRules, listLengths, kitLengths, interleavers, entries, listRule, spareRow, spareRule}
+use Rattle.staircase.specs.Rules.{Verdict, _then_, designRules, lengthRule, listLengths, kitLengths, interleavers, entries, listRule, spareRow, spareRule}
 use Rattle.staircase.specs.Rules.Verdict.{accepted}
 use Rattle.staircase.specs.Demand2.{Permutes, FitsOrder}
 use Rattle.staircase.proofs.System.{order-positive}
 use Rattle.staircase.proofs.BchCode.{proper-of}
 use Rattle.staircase.proofs.Tabulate.{tabulate-length, tabulate-at, concat-at}
-use Rattle.staircase.proofs.Rules.{then-first, then-rest, then-accepted, refuseFirst-false, refuseFirst-accepted, length-accepted, design-limits, lists-permute, spare-zero, zero-spare}
+use Rattle.staircase.proofs.Rules.{then-first, then-rest, then-accepted, refuseFirst-false, refuseFirst-accepted, length-accepted, lengths-fit, design-limits, lists-permute, spare-zero, zero-spare}
 use Rattle.text.proofs.Bytes.{entry-at, halves, packs-length, packRows-length}
 use Rattle.text.specs.KitText.{headBytes, listNames, rowNames, pairLine, pairLines, pairTail, kitBody, kitFormat, kitValues, kitBytes}
 use Rattle.text.specs.KitReader.{firsts, seconds, packs, binary, packRows, headNumber, kitParams, headRule, bodyRule, bodyScan, scanKit, selfOf, parityOf, inverseOf, KitRead, readKitCall}
-use Rattle.text.specs.KitWriter.{writeVerdict, writeCall}
+use Rattle.text.specs.KitWriter.{writeVerdict, writeCall, HoldsBytes, WrittenReads}
 use Rattle.text.proofs.KitCounting.{pairs-count, self-shown, parity-shown, inverse-shown}
 use Rattle.text.proofs.KitTexts.{clear-kit, head-found, kit-rest}
 use Rattle.text.proofs.KitJudged.{small, Found, shown, order-found, body-found}
@@ -315,19 +318,97 @@ module _ (m t M : ℕ) (self parity w : List ℕ) (d : designRules m t M 0 ≡ a
       (c ∙ ap (λ (z : ℕ). z * rowBytes z) (sym o)) written-accepted in
       readKit-same (readKitCall text own₂ parity₂ w₂) (r .0) (r .1 ∙ written-self) (r .2 ∙ written-parity) (r .3 ∙ written-inverse)
 
+-- ---- the writer's call, and then the reader's
+
+-- what the rules of the writer ask for
+pub record Writes (m t M : ℕ) (self parity w : List ℕ) : Type 0 where
+  pub design : designRules m t M 0 ≡ accepted
+  pub fits : FitsOrder (order (params m t M 0)) self parity w
+  pub lists : listRule (params m t M 0) (interleavers (params m t M 0) self parity) ≡ accepted
+  pub spare : spareRule (params m t M 0) w ≡ accepted
+
+module _ (m t M : ℕ) (self parity w text : List ℕ) (ok : writeCall m t M self parity w text .verdict ≡ accepted) where
+  pub write-accepted : Writes m t M self parity w
+  unfolding writeCall writeVerdict
+  write-accepted =
+      let s = params m t M 0 in
+      let v8 : Verdict = spareRule s w in
+      let v7 : Verdict = listRule s (interleavers s self parity) in
+      let long : Verdict = lengthRule 7 (length text) (length (kitBytes m t M self parity w)) in
+      let fit : Verdict = kitLengths s self parity w in
+      let rest : (fit then long then v7 then v8) ≡ accepted = then-rest (designRules m t M 0) (fit then long then v7 then v8) ok in
+      let contents : (v7 then v8) ≡ accepted = then-rest long (v7 then v8) (then-rest fit (long then v7 then v8) rest) in
+      record {
+        design = then-first (designRules m t M 0) (fit then long then v7 then v8) ok;
+        fits = lengths-fit s self parity w (then-first fit (long then v7 then v8) rest);
+        lists = then-first v7 v8 contents;
+        spare = then-rest v7 v8 contents;
+      }
+
+  written-is : writeCall m t M self parity w text .text ≡ kitBytes m t M self parity w
+  unfolding writeCall kept
+  written-is = ap (λ (v : Verdict). kept v (kitBytes m t M self parity w) text) ok
+
+  -- "what is written reads back to the same kit", of a kit of bytes
+  pub write-then-read : HoldsBytes self → HoldsBytes parity → HoldsBytes w → WrittenReads m t M self parity w text
+  write-then-read selfBytes parityBytes inverseBytes =
+      let W = write-accepted in
+      let fits = W .fits in
+      let design = written-design m t M self parity w (W .design) fits selfBytes parityBytes inverseBytes (W .lists) (W .spare) in
+      record {
+        scans = ap scanKit written-is ∙ written-accepted m t M self parity w (W .design) fits selfBytes parityBytes inverseBytes (W .lists) (W .spare);
+        first = ap (λ (x : List ℕ). headNumber x 0) written-is ∙ design .0;
+        second = ap (λ (x : List ℕ). headNumber x 1) written-is ∙ design .1;
+        third = ap (λ (x : List ℕ). headNumber x 2) written-is ∙ design .2;
+        reads = λ self₂ parity₂ w₂ a b c.
+            ap (λ (x : List ℕ). readKitCall x self₂ parity₂ w₂) written-is
+            ∙ written-reads m t M self parity w (W .design) fits selfBytes parityBytes inverseBytes (W .lists) (W .spare) self₂ parity₂ w₂
+            (a ∙ fits .selfLength) (b ∙ fits .parityLength) (c ∙ fits .inverseLength);
+      }
+
 -- ---- a text that is read and written again
 
-design-accepted : (s : List ℕ) → scanKit s ≡ accepted → designRules (headNumber s 0) (headNumber s 1) (headNumber s 2) 0 ≡ accepted
+pub design-accepted : (s : List ℕ) → scanKit s ≡ accepted → designRules (headNumber s 0) (headNumber s 1) (headNumber s 2) 0 ≡ accepted
 unfolding scanKit
 design-accepted s e =
     then-first (designRules (headNumber s 0) (headNumber s 1) (headNumber s 2) 0) (bodyRule s)
     (then-rest (headRule s) (designRules (headNumber s 0) (headNumber s 1) (headNumber s 2) 0 then bodyRule s) e)
 
+-- what the reader leaves has the lengths of its design, and spare bits of 0
+module _ (s : List ℕ) (e : scanKit s ≡ accepted) where
+  T : Told s (order (kitParams s))
+  T = kit-told s e
+
+  abbrev size : ℕ
+  size = order (kitParams s)
+
+  pairs : length (T .ps) ≡ 2 * size
+  pairs = pairs-count size 0 (T .ps) (T .pairs-fit)
+
+  pub shown-lengths : kitLengths (kitParams s) (selfOf s) (parityOf s) (inverseOf s) ≡ accepted
+  unfolding kitLengths listLengths
+  shown-lengths =
+      then-accepted
+      (then-accepted
+      (length-accepted 1 (length (selfOf s)) (2 * size)
+      (ap length (self-shown s size (T .ps) (T .rs) refl (T .values-are) pairs) ∙ packs-length (firsts (T .ps)) ∙ ap (λ (z : ℕ). 2 * z) (halves size (T .ps) pairs .0)))
+      (length-accepted 2 (length (parityOf s)) (2 * size)
+      (ap length (parity-shown s size (T .ps) (T .rs) refl (T .values-are) pairs) ∙ packs-length (seconds (T .ps)) ∙ ap (λ (z : ℕ). 2 * z) (halves size (T .ps) pairs .1))))
+      (length-accepted 3 (length (inverseOf s)) (size * rowBytes size)
+      (ap length (inverse-shown s size (T .ps) (T .rs) refl (T .values-are) pairs) ∙ packRows-length size size (T .rs)))
+
+  pub shown-spare : spareRule (kitParams s) (inverseOf s) ≡ accepted
+  unfolding spareRule
+  shown-spare =
+      let bits : AllBits (T .rs) = rows-bits size size 0 (T .rs) (T .rows-fit) in
+      refuseFirst-accepted 8 0 size (spareRow (inverseOf s) size) (λ i hi. zero-spare (inverseOf s) size i (λ j lo hj.
+      ap (λ (x : List ℕ). inverseEntry x size i j) (inverse-shown s size (T .ps) (T .rs) refl (T .values-are) pairs) ∙ spare-none size (T .rs) bits i j hi lo hj))
+
 -- "a kit text whose lists are permutations, read and written again, is the same bytes"
 pub read-writes : (s buffer : List ℕ) → scanKit s ≡ accepted → length buffer ≡ length s
     → listRule (kitParams s) (interleavers (kitParams s) (selfOf s) (parityOf s)) ≡ accepted
     → writeCall (headNumber s 0) (headNumber s 1) (headNumber s 2) (selfOf s) (parityOf s) (inverseOf s) buffer ≡ record { verdict = accepted; text = s }
-unfolding writeCall writeVerdict kept kitLengths listLengths spareRule
+unfolding writeCall writeVerdict kept
 read-writes s buffer e long lists =
     λ i. record {
       verdict = v i;
@@ -336,38 +417,11 @@ read-writes s buffer e long lists =
           ∙ sym (kit-renders s e)) i;
     }
   where
-    T : Told s (order (kitParams s))
-    T = kit-told s e
-
-    n : ℕ
-    n = order (kitParams s)
-
-    design : designRules (headNumber s 0) (headNumber s 1) (headNumber s 2) 0 ≡ accepted
-    design = design-accepted s e
-
-    pairs : length (T .ps) ≡ 2 * n
-    pairs = pairs-count n 0 (T .ps) (T .pairs-fit)
-
-    bits : AllBits (T .rs)
-    bits = rows-bits n n 0 (T .rs) (T .rows-fit)
-
     v : writeVerdict (headNumber s 0) (headNumber s 1) (headNumber s 2) (selfOf s) (parityOf s) (inverseOf s) buffer ≡ accepted
     v =
-        then-accepted design
-        (then-accepted
-        (then-accepted
-        (then-accepted
-        (length-accepted 1 (length (selfOf s)) (2 * n)
-        (ap length (self-shown s n (T .ps) (T .rs) refl (T .values-are) pairs) ∙ packs-length (firsts (T .ps))
-        ∙ ap (λ (z : ℕ). 2 * z) (halves n (T .ps) pairs .0)))
-        (length-accepted 2 (length (parityOf s)) (2 * n)
-        (ap length (parity-shown s n (T .ps) (T .rs) refl (T .values-are) pairs) ∙ packs-length (seconds (T .ps))
-        ∙ ap (λ (z : ℕ). 2 * z) (halves n (T .ps) pairs .1))))
-        (length-accepted 3 (length (inverseOf s)) (n * rowBytes n)
-        (ap length (inverse-shown s n (T .ps) (T .rs) refl (T .values-are) pairs) ∙ packRows-length n n (T .rs))))
+        then-accepted (design-accepted s e)
+        (then-accepted (shown-lengths s e)
         (then-accepted
         (length-accepted 7 (length buffer)
         (length (kitBytes (headNumber s 0) (headNumber s 1) (headNumber s 2) (selfOf s) (parityOf s) (inverseOf s))) (long ∙ ap length (kit-renders s e)))
-        (then-accepted lists
-        (refuseFirst-accepted 8 0 n (spareRow (inverseOf s) n) (λ i hi. zero-spare (inverseOf s) n i (λ j lo hj.
-        ap (λ (x : List ℕ). inverseEntry x n i j) (inverse-shown s n (T .ps) (T .rs) refl (T .values-are) pairs) ∙ spare-none n (T .rs) bits i j hi lo hj))))))
+        (then-accepted lists (shown-spare s e))))

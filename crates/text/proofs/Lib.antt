@@ -7,10 +7,13 @@ pub mod KitJudged
 pub mod KitValues
 pub mod KitTold
 pub mod KitLines
+pub mod Headed
 pub mod KitPromises
+pub mod ListPromises
 pub mod KitWritten
 pub mod KitSpelled
 pub mod KitExamples
+pub mod RowsWriter
 pub mod GroupLine
 pub mod FrameLengths
 pub mod FrameTexts
@@ -20,6 +23,11 @@ pub mod FrameExamples
 pub mod Programs
 pub mod MakeKitLaws
 pub mod FrameThenMend
+pub mod MakeKitThenFrame
 pub mod MendPrints
+pub mod ExitStatus
 pub mod ProgramExamples
+pub mod ProgramRules
+pub mod MakeKitPlace
 pub mod Demand1
+pub mod Places

@@ -23,7 +23,7 @@ use Rattle.text.specs.KitSpelled.{rowText, rowsText}
 use Rattle.text.specs.KitReader.{headNumber, headRule, firsts, seconds, packs}
 use Rattle.text.specs.KitWriter.{textLength}
 use Rattle.text.specs.Programs.{refusalText, most-input, printed}
-use Rattle.text.specs.MakeKit.{listsScan, listsRule, selfShown, parityShown, textRule, makeKitCall, makeKitOutput}
+use Rattle.text.specs.MakeKit.{listsScan, listsRule, selfShown, parityShown, textRule, makeKitCall, makeKitVerdict, makeKitOutput}
 use Rattle.text.proofs.Programs.{then-assoc, then-refused, then-on}
 use Rattle.text.proofs.KitSpelled.{row-length, length-parts}
 
@@ -43,7 +43,7 @@ module _ (s : List ℕ) where
   text = kitBytes (headNumber s 0) (headNumber s 1) (headNumber s 2) (selfShown s) (parityShown s) (makeKitCall s .inverse)
 
   pub long-input : most-input < length s → makeKitOutput s ≡ refusalText 13 2
-  unfolding makeKitOutput printed
+  unfolding makeKitOutput makeKitVerdict printed
   long-input h =
       ap (λ (v : Verdict). printed v text)
       (then-refused input (headRule s then design then listsRule s then call) 13 2 (simp (lt-ltb most-input (length s) h)))
@@ -53,7 +53,7 @@ module _ (s : List ℕ) where
     input-accepted = simp (le-ltb most-input (length s) short)
 
     behind-front : (v : Verdict) → (headRule s then design) ≡ v → makeKitOutput s ≡ printed (v then listsRule s then call) text
-    unfolding makeKitOutput
+    unfolding makeKitOutput makeKitVerdict
     behind-front v e =
         let rest : Verdict = listsRule s then call in
         ap (λ (x : Verdict). printed x text)

@@ -8,5 +8,8 @@ pub mod FrameReader
 pub mod Programs
 pub mod MakeKit
 pub mod FrameThenMend
+pub mod MakeKitThenFrame
 pub mod MendPrints
+pub mod ExitStatus
 pub mod TextsK
+pub mod RowsWriter

@@ -1,5 +1,5 @@
 -- Document 01's worked texts under kit K, byte by byte.
---   textK                  kit K, whole
+--   textK, listsK          kit K, whole, and its list text
 --   fourBlocks, fourBits   the four blocks under "Programs", and their bits
 --   twoGroups, twoBits     the two groups that `frame` turns them into, and their bits
 -- Assumes nothing.
@@ -7,6 +7,14 @@ use mathlib.Core.List.{List, [], _∷_, _++_}
 use Prim.Native.Nat.{ℕ}
 use Rattle.text.specs.KitText.{names, listNames, rowNames}
 use Rattle.text.specs.FrameText.{blockNames, groupNames}
+
+-- `4 1 1`; the lists 1 0 2 3 and 3 0 1 2
+abbrev pub listsK : List ℕ
+listsK =
+    names
+    ++ (52 ∷ 32 ∷ 49 ∷ 32 ∷ 49 ∷ 10 ∷ [])
+    ++ listNames
+    ++ (48 ∷ 32 ∷ 49 ∷ 32 ∷ 51 ∷ 10 ∷ 49 ∷ 32 ∷ 48 ∷ 32 ∷ 48 ∷ 10 ∷ 50 ∷ 32 ∷ 50 ∷ 32 ∷ 49 ∷ 10 ∷ 51 ∷ 32 ∷ 51 ∷ 32 ∷ 50 ∷ 10 ∷ [])
 
 -- `4 1 1`; the lists 1 0 2 3 and 3 0 1 2; the rows 1010, 0101, 1101, 0100
 abbrev pub textK : List ℕ

@@ -2,7 +2,6 @@
 --   lists-asked                                what is asked of the lists
 --   received-due                               the rules with the lengths that are due where rule 4 accepts the number of blocks
 --   received-flat                              the rules on a received frame, one after another
---   by-refused                                 a refusal as an answer
 --   words-design, words-frame, words-counted   the call's answer at each of its ends
 -- Assumes nothing.
 use mathlib.Core.Path.{_≡_, refl, sym, ap, ap₂, _∙_, subst⁻¹}
@@ -12,7 +11,7 @@ use Prim.Native.Nat.{ℕ, _*_, _≤_}
 use Rattle.staircase.specs.Design.{Params, params, most-blocks}
 use Rattle.staircase.specs.Frame.{outside, frameOf}
 use Rattle.staircase.specs.Rules.{Verdict, _then_, designRules, countRule, roundsRule, lengthRule, listLengths, frameLengths, wordWork, interleavers, listRule, frameBits}
-use Rattle.staircase.specs.Rules.Verdict.{accepted, refused}
+use Rattle.staircase.specs.Rules.Verdict.{accepted}
 use Rattle.staircase.specs.Calls.{Counted, wordsVerdict, countedBy, wordsCall}
 use Rattle.answers.specs.declared.Refusal.{Refusal}
 use Rattle.answers.specs.declared.Check.{Check}
@@ -29,6 +28,7 @@ use Rattle.answers.specs.declared.WordCount.the-variants as count
 use Rattle.rules.specs.Lengths.{lengthsOf, listsWith, listsDue, frameRules}
 use Rattle.rules.specs.Bytes.{byteRules}
 use Rattle.rules.proofs.Chain.{due-where, received-rules, received-bytes}
+use Rattle.words_lines.proofs.Count.{by-refused}
 use Rattle.words.specs.Checks.{receivedRules}
 use Rattle.answers.specs.Answers.{verdictOf, countedOf}
 use Rattle.answers.proofs.Checks.{check-refused, check-passed}
@@ -60,10 +60,6 @@ module _ (m t M col L k : ℕ) (own parity info red : List ℕ) (work : ℕ) whe
       ∙ received-rules s own parity work (listRule s (interleavers s own parity) then frameBits info red) L k info red
 
 -- ---- the answer
-
-pub by-refused : (v : Verdict) (n : ℕ) → v ≢ accepted → countedBy v 0 ≡ countedBy v n
-by-refused accepted n h = absurd (h refl)
-by-refused (refused k p) n h = refl
 
 module _ (m t M col L : ℕ) (own parity info red : List ℕ) (work : ℕ) where
   abbrev call : Verdict

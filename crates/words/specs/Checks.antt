@@ -7,17 +7,12 @@ use mathlib.Core.List.{List, []}
 use Prim.Native.Nat.{ℕ, _*_, _≤_}
 use Rattle.staircase.specs.Design.{Params, most-blocks}
 use Rattle.staircase.specs.Rules.{Verdict, _then_, interleavers}
-use Rattle.staircase.specs.Rules.Verdict.{accepted}
-use Rattle.staircase.specs.Calls.{Counted}
 use Rattle.design.specs.declared.Design.{Design}
-use Rattle.answers.specs.Answers.{refusalVerdict}
 use Rattle.design.specs.Sizes.{orderOf}
 use Rattle.rules.specs.declared.lengths.Lengths.{Lengths}
 use Rattle.rules.specs.Lengths.{lengthsOf, frameRules}
 use Rattle.rules.specs.Bytes.{byteRules}
 use Rattle.words.specs.declared.Asked.{Asked}
-use Rattle.answers.specs.declared.WordCount.{WordCount}
-use Rattle.answers.specs.declared.WordCount.the-variants as count
 
 unfoldable pub receivedRules : Params → ℕ → ℕ → Lengths → List ℕ → List ℕ → List ℕ → List ℕ → ℕ → Verdict
 receivedRules s L k due self parity info red work =

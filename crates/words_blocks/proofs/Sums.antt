@@ -7,7 +7,7 @@
 --   square                a block of m × m bits
 --   Adds, adds-part       a sum added for each word, by a part that is lent, and by the table
 --   added-twice           two sums added for each word
---   unsent-added, column-added, row-added   the sums over a block that may not be sent
+--   none-added, column-added, row-added   the sums over a block that may not be sent
 --   unread, read-whole    how many bits of a block are read for a word
 --   read-few              no more than it has columns
 --   read-each             as many for each word as there are words
@@ -21,7 +21,9 @@ use Prim.Native.Nat.{ℕ, zero, suc, _+_, _-_, _*_, _/_, _≤_, _<_}
 use native.Mathlib.Nat.{zero-mul}
 use native.Mathlib.Decide.{decLt}
 use native.Mathlib.Omega.{arith}
-use lib.ListN.{length, getD, take, drop, replicate, length-drop, length-replicate}
+use lib.Dec.{eqb}
+use lib.ListN.{length, getD, take, drop, replicate, length-drop, length-replicate, List·getD-eq-default}
+use borrow.Author.Tests.{eq-eqb, ne-eqb}
 use lib.Seq.{length-take-le, getD-take, getD-drop, ext-getD}
 use Rattle.bch.specs.Polynomial.{_⊕_}
 use Rattle.bch.specs.Powers.{xorSum}
@@ -29,10 +31,11 @@ use Rattle.bch.proofs.Sum.{⊕-zero-left, ⊕-zero-right}
 use Rattle.bch.proofs.PowerSum.{xorSum-same, xorSum-zero}
 use Rattle.staircase.specs.Lists.{tabulate}
 use Rattle.staircase.specs.System.{Contents}
+use Rattle.staircase.proofs.Search.{cond-true, cond-false}
 use Rattle.staircase.proofs.Tabulate.{tabulate-length, tabulate-at, tabulate-same}
 use Rattle.bch_remainders.proofs.Rows.{row-length, row-at}
 use Rattle.words_tables.specs.Tables.{MaySum, MayHalves, partOf}
-use Rattle.words_blocks.specs.Blocks.{sentBit, blockReads, partSum, bitPlace, blockSum, PartAdded}
+use Rattle.words_blocks.specs.Blocks.{blockReads, partSum, bitPlace, blockSum, PartAdded}
 
 module _ (block part : List ℕ) (from : ℕ) (inside : from + length part ≤ length block) where
   abbrev row : List ℕ
@@ -44,23 +47,6 @@ module _ (block part : List ℕ) (from : ℕ) (inside : from + length part ≤ l
       ap (λ (n : ℕ). xorSum n (λ j. getD row j 0 * getD part j 0)) (row-length block from (length part) inside)
       ∙ xorSum-same (length part) (λ j. getD row j 0 * getD part j 0) (λ j. getD block (from + j) 0 * getD part j 0)
       (λ j l. ap (λ (b : ℕ). b * getD part j 0) (row-at block from (length part) j l))
-
--- ---- a block that may not be sent
-
-module _ (sent : Bool) (block : List ℕ) where
-  sent-bit : sent ≡ true → (k : ℕ) → getD block k 0 ≡ sentBit sent block k
-  unfolding sentBit
-  sent-bit e k = sym (ap (λ (z : Bool). cond z (getD block k 0) 0) e)
-
-  unsent-bit : sent ≡ false → (k : ℕ) → sentBit sent block k ≡ 0
-  unfolding sentBit
-  unsent-bit e k = ap (λ (z : Bool). cond z (getD block k 0) 0) e
-
-  module _ (n : ℕ) (at v : ℕ → ℕ) where
-    unsent-sum : sent ≡ false → (x : ℕ) → x ≡ x ⊕ xorSum n (λ j. sentBit sent block (at j) * v j)
-    unsent-sum e x =
-        sym (ap (λ (z : ℕ). x ⊕ z) (xorSum-zero n (λ j. sentBit sent block (at j) * v j) (λ j l. ap (λ (b : ℕ). b * v j) (unsent-bit e (at j)) ∙ zero-mul (v j)))
-        ∙ ⊕-zero-right x)
 
 -- ---- a part of the table, from entry `from` up to entry `end`
 
@@ -149,49 +135,54 @@ added-twice positions from end u v n f b c one two three e first second =
     (first .0 ∙ wide)
     ∙ sym (tabulate-at n g 0 a la))
 
--- ---- the two blocks of a group's words
+-- ---- the two blocks of a line's words
 
-module _ (sent column : Bool) (block positions old : List ℕ) (from : ℕ) where
+module _ (column : Bool) (block positions old : List ℕ) (from : ℕ) where
   abbrev bits : ℕ → ℕ → ℕ → ℕ
-  bits w a j = sentBit sent block (bitPlace column w a j)
+  bits w a j = getD block (bitPlace column w a j) 0
 
-  pub unsent-added : sent ≡ false → PartAdded positions from (length old) (λ w a j. sentBit sent block (bitPlace column w a j)) old old
+  pub none-added : length block ≡ 0 → PartAdded positions from (length old) (λ w a j. getD block (bitPlace column w a j) 0) old old
   unfolding partSum
-  unsent-added e = (refl, λ a h. unsent-sum sent block (length old) (bitPlace column (length old) a) (λ j. getD positions (from + j) 0) e (getD old a 0))
+  none-added e =
+      let n : ℕ = length old in (
+        refl,
+        λ a h. sym (ap (λ (z : ℕ). getD old a 0 ⊕ z)
+            (xorSum-zero n (λ j. bits n a j * getD positions (from + j) 0)
+            (λ j l. ap (λ (b : ℕ). b * getD positions (from + j) 0) (List·getD-eq-default block 0 (omega (arith, e))) ∙ zero-mul (getD positions (from + j) 0)))
+            ∙ ⊕-zero-right (getD old a 0)),
+      )
 
-  module _ (new : List ℕ) (inside : from + length old ≤ length positions) (e : sent ≡ true) where
+  module _ (new : List ℕ) (inside : from + length old ≤ length positions) where
     pub column-added : column ≡ true → Adds (take (from + length old - from) (drop from positions)) (λ w v a j. getD block (j * w + a) 0) old new
-        → PartAdded positions from (length old) (λ w a j. sentBit sent block (bitPlace column w a j)) old new
+        → PartAdded positions from (length old) (λ w a j. getD block (bitPlace column w a j) 0) old new
     unfolding bitPlace
     column-added is added =
         adds-part positions from (length old) inside (λ w v a j. getD block (j * w + a) 0) bits old new
-        (λ a j h l. sent-bit sent block e (j * length old + a)
-        ∙ ap (λ (z : Bool). sentBit sent block (cond z (j * length old + a) (a * length old + j))) (sym is)) added
+        (λ a j h l. ap (λ (z : Bool). getD block (cond z (j * length old + a) (a * length old + j)) 0) (sym is)) added
 
     pub row-added : column ≡ false → Adds (take (from + length old - from) (drop from positions)) (λ w v a j. getD block (a * v + j) 0) old new
-        → PartAdded positions from (length old) (λ w a j. sentBit sent block (bitPlace column w a j)) old new
+        → PartAdded positions from (length old) (λ w a j. getD block (bitPlace column w a j) 0) old new
     unfolding bitPlace
     row-added is added =
         adds-part positions from (length old) inside (λ w v a j. getD block (a * v + j) 0) bits old new
-        (λ a j h l. sent-bit sent block e (a * length old + j)
-        ∙ ap (λ (z : Bool). sentBit sent block (cond z (j * length old + a) (a * length old + j))) (sym is)) added
+        (λ a j h l. ap (λ (z : Bool). getD block (cond z (j * length old + a) (a * length old + j)) 0) (sym is)) added
 
 -- ---- the bits that are read
 
-module _ (sent : Bool) (size : ℕ) where
-  pub unread : sent ≡ false → 0 ≡ blockReads sent size
+module _ (block : List ℕ) (size : ℕ) where
+  pub unread : length block ≡ 0 → 0 ≡ blockReads block size
   unfolding blockReads
-  unread e = sym (ap (λ (z : Bool). cond z size 0) e)
+  unread e = sym (cond-true (eqb (length block) 0) 0 size (eq-eqb (length block) 0 e))
 
-  pub read-whole : {n : ℕ} → sent ≡ true → n ≡ size → n ≡ blockReads sent size
+  pub read-whole : {n : ℕ} → ¬ (length block ≡ 0) → n ≡ size → n ≡ blockReads block size
   unfolding blockReads
-  read-whole e h = h ∙ sym (ap (λ (z : Bool). cond z size 0) e)
+  read-whole e h = h ∙ sym (cond-false (eqb (length block) 0) 0 size (ne-eqb (length block) 0 e))
 
-  pub read-few : blockReads sent size ≤ size
+  pub read-few : blockReads block size ≤ size
   unfolding blockReads
-  read-few = go sent
+  read-few = go (eqb (length block) 0)
     where
-      go : (z : Bool) → cond z size 0 ≤ size
+      go : (z : Bool) → cond z 0 size ≤ size
       go true = omega arith
       go false = omega arith
 
@@ -208,14 +199,14 @@ unfolding tabulate
 zeros-are zero = refl
 zeros-are (suc n) = ap (λ (t : List ℕ). 0 ∷ t) (zeros-are n)
 
-pub blocks-added : (column : Bool) (positions : List ℕ) (n : ℕ) (f h : Contents) (start one two : List ℕ) → start ≡ replicate n 0
+pub blocks-added : (column column' : Bool) (positions : List ℕ) (n : ℕ) (f h : Contents) (start one two : List ℕ) → start ≡ replicate n 0
     → PartAdded positions 0 (length start) (λ w a j. f (bitPlace column w a j)) start one
-    → PartAdded positions (length one) (length one) (λ w a j. h (bitPlace column w a j)) one two
-    → two ≡ tabulate n (blockSum column positions n f h)
+    → PartAdded positions (length one) (length one) (λ w a j. h (bitPlace column' w a j)) one two
+    → two ≡ tabulate n (blockSum column column' positions n f h)
 unfolding blockSum
-blocks-added column positions n f h start one two none first second =
+blocks-added column column' positions n f h start one two none first second =
     let b : ℕ → ℕ → ℕ → ℕ = λ w a j. f (bitPlace column w a j) in
-    let c : ℕ → ℕ → ℕ → ℕ = λ w a j. h (bitPlace column w a j) in
+    let c : ℕ → ℕ → ℕ → ℕ = λ w a j. h (bitPlace column' w a j) in
     let u : ℕ = length start in
     let v : ℕ = length one in
     let wide : u ≡ n = ap length none ∙ length-replicate n 0 in

@@ -2,19 +2,19 @@
 -- entries are for the first block of a word, the next M for the second.
 --   sent L b                   block b of a frame of L blocks is sent
 --   blockBytes L area info b   its bytes; none where it is not sent
---   sentBit, Sent              a bit of a block that may not be sent; what is asked of such a block
---   blockReads                 how many bits of such a block a word reads
+--   BlockLent                  what is asked of a block that is lent
+--   blockReads                 how many bits of it a word reads
 --   partSum                    the sum of a part of the table at the ones of some bits
 --   columnSum, rowSum          the remainder of the blocks of column word a, of row word a
---   bitPlace, blockSum         the place of a word's bit in a block, and both sums by whether it is a column word
+--   bitPlace, blockSum         the place of a word's bit in a block, and the remainder of two blocks by whether the word has columns of them
 --   PartAdded                  a sum for each word is added: of a part of the table, at the ones of the word's bits
 --   Powers s positions             the table has the powers of x that the positions of a word carry
 -- Assumes nothing.
 use mathlib.Core.Path.{_≡_}
-use mathlib.Core.Bool.{Bool, true, false, cond}
+use mathlib.Core.Bool.{Bool, false, cond}
 use mathlib.Core.List.{List, []}
 use Prim.Native.Nat.{ℕ, zero, suc, _+_, _-_, _*_, _<_}
-use lib.Dec.{ltb}
+use lib.Dec.{ltb, eqb}
 use lib.ListN.{length, getD, take, drop}
 use Rattle.bch.specs.Polynomial.{_⊕_, Bits}
 use Rattle.bch.specs.Powers.{xorSum, PositionPowers}
@@ -29,17 +29,13 @@ sent L (suc b) = ltb b L
 unfoldable pub blockBytes : ℕ → ℕ → List ℕ → ℕ → List ℕ
 blockBytes L area info b = cond (sent L b) (take area (drop ((b - 1) * area) info)) []
 
--- "Unsent blocks are zero"
-unfoldable pub sentBit : Bool → List ℕ → Contents
-sentBit sent block k = cond sent (getD block k 0) 0
-
--- a block that is sent has `area` bits; one that is not may be any slice
-abbrev pub Sent : Bool → List ℕ → ℕ → Type 0
-Sent sent block area = sent ≡ true → (length block ≡ area) × Bits block
+-- "Unsent blocks are zero": a block of `area` bits, or none where it is not sent
+abbrev pub BlockLent : List ℕ → ℕ → Type 0
+BlockLent block area = (0 < length block → length block ≡ area) × Bits block
 
 -- as many as it has columns
-unfoldable pub blockReads : Bool → ℕ → ℕ
-blockReads sent size = cond sent size 0
+unfoldable pub blockReads : List ℕ → ℕ → ℕ
+blockReads block size = cond (eqb (length block) 0) 0 size
 
 -- the sum of w entries of the table, from entry `from` on, at the ones of b
 unfoldable pub partSum : List ℕ → ℕ → ℕ → (ℕ → ℕ) → ℕ
@@ -57,9 +53,9 @@ rowSum positions size before odd a = partSum positions 0 size (λ j. before (a *
 unfoldable pub bitPlace : Bool → ℕ → ℕ → ℕ → ℕ
 bitPlace column w a j = cond column (j * w + a) (a * w + j)
 
-unfoldable pub blockSum : Bool → List ℕ → ℕ → Contents → Contents → ℕ → ℕ
-blockSum column positions size first second a =
-    partSum positions 0 size (λ j. first (bitPlace column size a j)) ⊕ partSum positions size size (λ j. second (bitPlace column size a j))
+unfoldable pub blockSum : Bool → Bool → List ℕ → ℕ → Contents → Contents → ℕ → ℕ
+blockSum columns columns' positions size first second a =
+    partSum positions 0 size (λ j. first (bitPlace columns size a j)) ⊕ partSum positions size size (λ j. second (bitPlace columns' size a j))
 
 -- `new` is `old` with the r entries of the table from entry `from` on added at the ones of b w a, for each word a of w
 abbrev pub PartAdded : List ℕ → ℕ → ℕ → (ℕ → ℕ → ℕ → ℕ) → List ℕ → List ℕ → Type 0

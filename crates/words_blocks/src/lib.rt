@@ -7,8 +7,8 @@
 //   column_sums, row_sums     the same for a group's column words and row words, without the number
 //
 // The remainder of a word is a sum of entries of a table of powers of x, one for each of its ones (crate `bch_remainders`), and a word's blocks are
-// its first 2 × size positions. Column words run across the rows of a block and are added row by row, row words lie in a row each; a block that is
-// not sent adds nothing and is not read. Whoever lends tables of the sums of eight entries has eight bits added at once (crate `words_sums`). The bits that are
+// its first 2 × size positions. Words that have columns of a block run across its rows and are added row by row, words that have rows lie in a row each;
+// a block that is not sent is an empty slice, and adds nothing. Whoever lends tables of the sums of eight entries has eight bits added at once (crate `words_sums`). The bits that are
 // read of a word are counted where they are read, in the loops of `bch_remainders`, `words_packed` and `words_sums`.
 ghost use mathlib.Core.Path.{_≡_};
 ghost use Prim.Native.Nat.{ℕ, _+_, _*_, _≤_, _<_};
@@ -17,10 +17,10 @@ ghost use Rattle.bch.specs.Polynomial.{_⊕_, Bits};
 ghost use Rattle.bch.specs.Powers.{xorSum};
 ghost use Rattle.staircase.specs.Lists.{tabulate};
 ghost use Rattle.words_tables.specs.Tables.{MaySum, MayHalves, partOf};
-ghost use Rattle.words_blocks.specs.Blocks.{sent, blockBytes, sentBit, Sent, blockReads, columnSum, rowSum, bitPlace, blockSum, PartAdded};
+ghost use Rattle.words_blocks.specs.Blocks.{sent, blockBytes, BlockLent, blockReads, columnSum, rowSum, bitPlace, blockSum, PartAdded};
 
 // Whether block b of a frame of `blocks` blocks is sent.
-pub fn is_sent(blocks: usize, b: usize) -> bool
+fn is_sent(blocks: usize, b: usize) -> bool
     ensures { λ a. ⌜ a ≡ sent blocks b ⌝ }
 {
     if b < 1 {
@@ -93,24 +93,23 @@ fn add_rows(sums: &mut [u32], block: &[u8], part: &[u32], tables: &[u32]) -> usi
 }
 
 // Adds to each of `sums` the entries of the table from entry `from` on, as many as there are sums, at the ones of its column of a block where
-// `column` is true, else of its row. A block that is not sent adds nothing. The tables are those of the sums of these entries, or none. Answers how many bits
-// it has read for each sum.
+// `column` is true, else of its row. A block that is not sent is empty, and adds nothing. The tables are those of the sums of these entries, or none. Answers
+// how many bits it has read for each sum.
 pub fn add_block(
     sums: &mut [u32],
     block: &[u8],
-    sent: bool,
     column: bool,
     positions: &[u32],
     from: usize,
     tables: &[u32],
 ) -> usize
-    requires { ⌜ Sent sent (now block) (length (now sums) * length (now sums)) × (from + length (now sums) ≤ length (now positions))
+    requires { ⌜ BlockLent (now block) (length (now sums) * length (now sums)) × (from + length (now sums) ≤ length (now positions))
         × MaySum (partOf (now positions) from (length (now sums))) (now tables) ⌝ }
     ensures { λ n. ⌜ PartAdded (now (positions .entry)) from (length (now (sums .entry)))
-        (λ w a j. sentBit sent (now (block .entry)) (bitPlace column w a j)) (now (sums .entry)) (now (sums .exit))
-        × (n ≡ blockReads sent (length (now (sums .entry)))) ⌝ }
+        (λ w a j. getD (now (block .entry)) (bitPlace column w a j) 0) (now (sums .entry)) (now (sums .exit))
+        × (n ≡ blockReads (now (block .entry)) (length (now (sums .entry)))) ⌝ }
 {
-    if !sent {
+    if block.len() == 0 {
         return 0;
     }
     let part = &positions[from..from + sums.len()];
@@ -120,59 +119,50 @@ pub fn add_block(
     add_rows(sums, block, part, tables)
 }
 
-// Makes `sums` the remainders of the two blocks of a group's column words where `column` is true, else of its row words. The tables are those of the powers
-// that the two blocks carry, or none. Answers how many bits it has read for each word.
+// Makes `sums` the remainders of the two blocks of a line's words, which have columns of a block where the flag beside it is true, else rows. A block that is
+// not sent is empty. The tables are those of the powers that the two blocks carry, or none. Answers how many bits it has read for each word.
 pub fn block_sums(
     first: &[u8],
-    has_first: bool,
     second: &[u8],
-    has_second: bool,
-    column: bool,
+    first_columns: bool,
+    second_columns: bool,
     positions: &[u32],
     tables: &[u32],
     sums: &mut [u32],
 ) -> usize
-    requires { ⌜ Sent «has_first» (now first) (length (now sums) * length (now sums)) × Sent «has_second» (now second) (length (now sums) * length (now sums))
+    requires { ⌜ BlockLent (now first) (length (now sums) * length (now sums)) × BlockLent (now second) (length (now sums) * length (now sums))
         × (2 * length (now sums) ≤ length (now positions)) × MayHalves (now positions) (length (now sums)) (now tables) ⌝ }
     ensures { λ n. ⌜ (now (sums .exit) ≡ tabulate (length (now (sums .entry)))
-        (blockSum column (now (positions .entry)) (length (now (sums .entry))) (sentBit «has_first» (now (first .entry))) (sentBit «has_second» (now (second .entry)))))
-        × (n ≡ blockReads «has_first» (length (now (sums .entry))) + blockReads «has_second» (length (now (sums .entry)))) ⌝ }
+        (blockSum «first_columns» «second_columns» (now (positions .entry)) (length (now (sums .entry))) (λ k. getD (now (first .entry)) k 0) (λ k. getD (now (second .entry)) k 0)))
+        × (n ≡ blockReads (now (first .entry)) (length (now (sums .entry))) + blockReads (now (second .entry)) (length (now (sums .entry)))) ⌝ }
 {
     bch_remainders::clear(sums);
     let half = tables.len() / 2;
     let ahead = &tables[0..half];
     let behind = &tables[half..2 * half];
-    let one = add_block(sums, first, has_first, column, positions, 0, ahead);
-    let two = add_block(
-        sums,
-        second,
-        has_second,
-        column,
-        positions,
-        sums.len(),
-        behind,
-    );
+    let one = add_block(sums, first, first_columns, positions, 0, ahead);
+    let two = add_block(sums, second, second_columns, positions, sums.len(), behind);
     one + two
 }
 
 // Makes `columns` the remainders of the blocks of a group's column words.
-pub fn column_sums(odd: &[u8], even: &[u8], has_even: bool, positions: &[u32], columns: &mut [u32])
-    requires { ⌜ (length (now odd) ≡ length (now columns) * length (now columns)) × Bits (now odd)
-        × Sent «has_even» (now even) (length (now columns) * length (now columns)) × (2 * length (now columns) ≤ length (now positions)) ⌝ }
+pub fn column_sums(odd: &[u8], even: &[u8], positions: &[u32], columns: &mut [u32])
+    requires { ⌜ BlockLent (now odd) (length (now columns) * length (now columns)) × BlockLent (now even) (length (now columns) * length (now columns))
+        × (2 * length (now columns) ≤ length (now positions)) ⌝ }
     ensures { λ u. ⌜ now (columns .exit) ≡ tabulate (length (now (columns .entry)))
-        (columnSum (now (positions .entry)) (length (now (columns .entry))) (λ k. getD (now (odd .entry)) k 0) (sentBit «has_even» (now (even .entry)))) ⌝ }
+        (columnSum (now (positions .entry)) (length (now (columns .entry))) (λ k. getD (now (odd .entry)) k 0) (λ k. getD (now (even .entry)) k 0)) ⌝ }
 {
     let none = &positions[0..0];
-    block_sums(odd, true, even, has_even, true, positions, none, columns);
+    block_sums(odd, even, true, true, positions, none, columns);
 }
 
 // Makes `rows` the remainders of the blocks of a group's row words.
-pub fn row_sums(before: &[u8], has_before: bool, odd: &[u8], positions: &[u32], rows: &mut [u32])
-    requires { ⌜ (length (now odd) ≡ length (now rows) * length (now rows)) × Bits (now odd)
-        × Sent «has_before» (now before) (length (now rows) * length (now rows)) × (2 * length (now rows) ≤ length (now positions)) ⌝ }
+pub fn row_sums(before: &[u8], odd: &[u8], positions: &[u32], rows: &mut [u32])
+    requires { ⌜ BlockLent (now before) (length (now rows) * length (now rows)) × BlockLent (now odd) (length (now rows) * length (now rows))
+        × (2 * length (now rows) ≤ length (now positions)) ⌝ }
     ensures { λ u. ⌜ now (rows .exit) ≡ tabulate (length (now (rows .entry)))
-        (rowSum (now (positions .entry)) (length (now (rows .entry))) (sentBit «has_before» (now (before .entry))) (λ k. getD (now (odd .entry)) k 0)) ⌝ }
+        (rowSum (now (positions .entry)) (length (now (rows .entry))) (λ k. getD (now (before .entry)) k 0) (λ k. getD (now (odd .entry)) k 0)) ⌝ }
 {
     let none = &positions[0..0];
-    block_sums(before, has_before, odd, true, false, positions, none, rows);
+    block_sums(before, odd, false, false, positions, none, rows);
 }

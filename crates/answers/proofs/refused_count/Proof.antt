@@ -4,10 +4,8 @@ use borrow.Author.Needs.{needs}
 use mathlib.Core.Path.{sym, ap, _∙_}
 use Rattle.staircase.specs.Rules.{Verdict}
 use Rattle.staircase.specs.Calls.{countedBy}
-use Rattle.answers.specs.Answers.{verdictOf}
-use Rattle.answers.proofs.Checks.{check-passed}
-use Rattle.answers.specs.Answers.{countedOf}
-use Rattle.answers.proofs.Checks.{counted-refused}
+use Rattle.answers.specs.Answers.{verdictOf, countedOf}
+use Rattle.answers.proofs.Checks.{check-passed, counted-refused}
 use Rattle.answers.proofs.refused_count.Statement.{statement}
 use Rattle.answers.proofs.refused_count.Tie as tie
 

@@ -3,9 +3,8 @@
 use mathlib.Core.Path.{sym, ap}
 use Rattle.staircase.specs.Frame.{Frame}
 use Rattle.staircase.specs.Rules.{Verdict}
-use Rattle.answers.specs.Answers.{verdictOf}
+use Rattle.answers.specs.Answers.{verdictOf, correctedOf, refusedFrame}
 use Rattle.answers.proofs.Checks.{check-passed}
-use Rattle.answers.specs.Answers.{correctedOf, refusedFrame}
 use borrow.Author.Needs.{needs}
 use Rattle.answers.proofs.refused_frame.Statement.{statement}
 use Rattle.answers.proofs.refused_frame.Tie as tie

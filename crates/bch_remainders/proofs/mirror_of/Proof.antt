@@ -1,7 +1,7 @@
 -- The loop's invariant: `a` has the bits that are done, in the other order, and before the reversed bits of `p` makes the reversed polynomial. The measure is
 -- the number of bits left.
 -- Assumes nothing.
-use mathlib.Core.Path.{_≡_, refl, sym, ap, _∙_}
+use mathlib.Core.Path.{_≡_, sym, ap, _∙_}
 use Prim.Native.Nat.{ℕ, suc, _+_, _-_, _*_, _/_, _%_, _^_, _≤_, _<_}
 use native.Mathlib.Nat.{zero-add, zero-mul, mul-assoc, add-mul, pow-suc, pow-succ'}
 use native.Mathlib.Numerals.{add-one}

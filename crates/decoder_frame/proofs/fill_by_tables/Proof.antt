@@ -1,63 +1,49 @@
--- The tables that are made are those that the words ask for.
+-- The tables are made in a part of a local array.
 -- Assumes nothing.
-use borrow.Author.Needs.{needs}
 use native.Mathlib.Omega.{arith}
-use mathlib.Core.Path.{_≡_, ap₂, sym, _∙_, subst₂, subst⁻¹}
-use Prim.Native.Nat.{ℕ, _+_, _-_, _*_}
-use lib.ListN.{length, take}
-use lib.Seq.{length-take-le}
-use Rattle.design.proofs.Allowed.{r-small}
+use mathlib.Core.Path.{_∙_, subst⁻¹}
+use Rattle.design.specs.Sizes.{paramsOf}
+use Rattle.layout.specs.Layouts.{tailIn}
+use Rattle.words_blocks.proofs.Sums.{part-length}
+use Rattle.words_tables.specs.Tables.{MayParts}
 use Rattle.words_positions.proofs.Parts.{part-fits, part-is}
-use Rattle.words_tables.specs.Tables.{tableLength}
-use Rattle.words.specs.Words.{MayBoth}
+use Rattle.words_lines.proofs.Tables.{parts-asked, parts-of}
+use borrow.Author.Needs.{needs}
 use Rattle.decoder_frame.proofs.fill_by_tables.Statement.{statement}
 use Rattle.decoder_frame.proofs.fill_by_tables.Tie as tie
 
+fill-parts-requires : tie.Need-fill-parts-requires
+fill-parts-requires c κs =
+    let start = c .before .before .before .before .before .before .before .before .before .before in
+    let a = start .args in
+    let p = start .pre in
+    let entries = c .before .entries in
+    parts-asked (a .frames .shape) (a .frames .d) (a .positions .now) (p .0 .tail .allowed) (p .1 .long) (c .before .before .before .size .ensures) (c .before .before .tail-bits .ensures .0) (p .4)
+    (part-length (entries .result) 0 (a .due) (a .due) (omega arith) (omega (arith, entries .ensures, p .3)))
+
+part-tables-end-2 : tie.Need-part-tables-end-2
+part-tables-end-2 c =
+    let start = c .before .before .before .before .before .before .before .before .before .before .before .before in
+    let x = c .before .fill-parts in
+    let entries = c .before .before .before .entries in
+    let all = x .ensures .1 ∙ part-length (entries .result) 0 (start .args .due) (start .args .due) (omega arith) (omega (arith, entries .ensures, start .pre .3)) in
+    part-fits (x .last .1 .1 .1 .0) _ _ all
+
 fill-both-requires : tie.Need-fill-both-requires
 fill-both-requires c κs =
-    let s = c .before .before .before .before .before .before .before .before .before .before .before in
-    let a = s .args in
-    let p = s .pre in
-    let size = c .before .before .before .before .size in
-    let r = c .before .before .before .r in
-    let n = c .before .before .n in
-    let room = c .before .both-entries in
-    let long : length (take (2 * a .due - 0) (room .result)) ≡ 2 * a .due - 0 = length-take-le (2 * a .due - 0) (room .result) (omega (arith, room .ensures)) in (
-      omega (arith, p .0 .allowed .M-high, size .ensures),
-      omega (arith, r-small (a .line .d) (p .0 .allowed), r .ensures .0),
-      omega (arith, n .ensures .0, size .ensures, r .ensures .0),
-      omega (arith, p .1 .long, n .ensures .0),
-      p .4 ∙ ap₂ (λ (x y : ℕ). 2 * tableLength x + 2 * tableLength y) (sym (size .ensures)) (sym (r .ensures .0)),
-      omega (arith, long),
-    )
-
-part-fill-lines-end : tie.Need-part-fill-lines-end
-part-fill-lines-end c =
-    let made = c .before .before .fill-both in
-    let a = c .before .before .before .before .before .before .before .before .before .before .before .before .before .before .args in
-    let long : length (made .last .1 .1 .1 .1 .1 .0) ≡ 2 * a .due = omega arith in
-    part-fits (made .last .1 .1 .1 .1 .1 .0) _ _ long
-
-fill-lines-requires : tie.Need-fill-lines-requires
-fill-lines-requires c κs =
-    let s = c .before .before .before .before .before .before .before .before .before .before .before .before .before .before .before .before in
-    let a = s .args in
-    let made = c .before .before .before .before .fill-both in
-    let size = c .before .before .before .before .before .before .before .before .before .size in
-    let r = c .before .before .before .before .before .before .before .before .r in
-    let room = c .before .before .before .before .before .before .both-entries in
-    let few : length (take (2 * a .due - 0) (room .result)) ≡ 2 * a .due - 0 = length-take-le (2 * a .due - 0) (room .result) (omega (arith, room .ensures, s .pre .3)) in
-    let long : length (made .last .1 .1 .1 .1 .1 .0) ≡ 2 * a .due = omega (arith, made .ensures .1, few) in (
-      s .pre .0,
-      s .pre .1,
-      s .pre .2,
-      subst⁻¹ (MayBoth (a .positions .now) (a .line .d .size) (a .line .d .m * a .line .d .t)) (part-is (made .last .1 .1 .1 .1 .1 .0) _ _ long)
-          (subst₂ (λ (x y : ℕ). MayBoth (a .positions .now) x y (made .last .1 .1 .1 .1 .1 .0)) (size .ensures) (r .ensures .0) (made .ensures .0)),
-    )
+    let at-size = c .before .before .before .before .before .before .before in
+    let start = at-size .before .before .before .before .before .before .before in
+    let a = start .args in
+    let p = start .pre in
+    let g = a .frames in
+    let x = c .before .before .before .fill-parts in
+    let entries = c .before .before .before .before .before .entries in
+    let all = x .ensures .1 ∙ part-length (entries .result) 0 (a .due) (a .due) (omega arith) (omega (arith, entries .ensures, p .3)) in
+    let made = parts-of (g .shape) (g .d) (a .positions .now) (x .last .1 .1 .1 .0) (at-size .size .ensures) (c .before .before .before .before .before .before .tail-bits .ensures .0) (x .ensures .0) in
+    (p .0, p .1, p .2, subst⁻¹ (MayParts (a .positions .now) (g .d .size) (tailIn (g .shape) (paramsOf (g .d)))) (part-is (x .last .1 .1 .1 .0) _ (a .due) all) made)
 
 pub fill-by-tables-spec : {M : Type 1} → statement M
 fill-by-tables-spec =
     tie.close
-    (tie.spec (λ c κs. search needs) (λ c κs. search needs) (λ c κs. search needs) (λ c κs. search needs) (λ c. search needs) (λ c. search needs) (λ c. search needs)
-    (λ c. search needs) fill-both-requires (λ c. search needs) (λ c. search needs) (λ c. search needs) part-fill-lines-end fill-lines-requires (λ c. search needs)
-    (λ c. search needs))
+    (tie.spec (λ c κs. search needs) (λ c κs. search needs) (λ c κs. search needs) (λ c. search needs) (λ c. search needs) (λ c. search needs)
+    fill-parts-requires (λ c. search needs) (λ c. search needs) part-tables-end-2 fill-both-requires (λ c. search needs) (λ c. search needs))

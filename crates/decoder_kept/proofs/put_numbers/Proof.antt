@@ -13,12 +13,13 @@ abbrev Inv-loop : tie.InvT-loop
 Inv-loop sums from numbers₀ a₀ a-end numbers a =
     (a-end ≡ length sums) × (a ≤ length sums) × (length numbers ≡ length numbers₀)
     × ((k : ℕ) → k < a → keptAt numbers (from + k) ≡ getD sums k 0) × ((w : ℕ) → w < from → keptAt numbers w ≡ keptAt numbers₀ w)
+    × ((w : ℕ) → from + length sums ≤ w → keptAt numbers w ≡ keptAt numbers₀ w)
 
 abbrev μ-loop : tie.MeasureT-loop
 μ-loop sums from numbers₀ a₀ a-end numbers a = length sums - a
 
 loop-holds : tie.Need-loop-holds Inv-loop μ-loop
-loop-holds c = (refl, omega arith, refl, λ k h. absurd (omega (arith, h)), λ w h. refl)
+loop-holds c = (refl, omega arith, refl, λ k h. absurd (omega (arith, h)), λ w h. refl, λ w h. refl)
 
 add-put : tie.Need-add-put Inv-loop μ-loop
 add-put c = omega (arith, c .before .loop-test .taken, c .before .before .loop .inv .0, c .before .before .before .before .before .pre .0, c .before .before .before .before .before .pre .1)
@@ -33,17 +34,27 @@ put-requires : tie.Need-put-requires Inv-loop μ-loop
 put-requires c κs = omega (arith, c .before .before .loop-test .taken, c .before .before .before .loop .inv .0, c .before .before .before .loop .inv .2, c .before .before .before .before .before .before .pre .0)
 
 add-a : tie.Need-add-a Inv-loop μ-loop
-add-a c = omega (arith, c .before .before .before .before .before .loop-test .taken, c .before .before .before .before .before .before .loop .inv .0, c .before .before .before .before .before .before .before .before .before .pre .0, c .before .before .before .before .before .before .before .before .before .pre .1)
+add-a c =
+    let start = c .before .before .before .before .before .before .before .before .before in
+    omega (arith, c .before .before .before .before .before .loop-test .taken, c .before .before .before .before .before .before .loop .inv .0, start .pre .0, start .pre .1)
 
 loop-less : tie.Need-loop-less Inv-loop μ-loop
 loop-less c = omega (arith, c .before .before .before .before .before .loop-test .taken)
 
 loop-again : tie.Need-loop-again Inv-loop μ-loop
 loop-again c =
-    let a = c .before .before .before .before .before .before .before .before .before .args in
+    let start = c .before .before .before .before .before .before .before .before .before in
+    let a = start .args in
     let l = c .before .before .before .before .before .before .loop in
-    let q = put-more (a .sums .now) (a .from) (l .a) (a .numbers .now) (l .numbers) _ (l .inv .3) (l .inv .4) (c .before .before .put .ensures) in
-    (l .inv .0, omega (arith, c .before .before .before .before .before .loop-test .taken), c .before .before .put .ensures .long ∙ l .inv .2, q .0, q .1)
+    let below : l .a < length (a .sums .now) = omega (arith, c .before .before .before .before .before .loop-test .taken, l .inv .0) in
+    let q = put-more (a .sums .now) (a .from) (l .a) (a .numbers .now) (l .numbers) _ (l .inv .3) (l .inv .4) (c .before .before .put .ensures) in (
+      l .inv .0,
+      omega (arith, c .before .before .before .before .before .loop-test .taken),
+      c .before .before .put .ensures .long ∙ l .inv .2,
+      q .0,
+      q .1,
+      λ w h. c .before .before .put .ensures .others w (λ e. let n : ⊥ = omega (arith, e, h, below) in n) ∙ l .inv .5 w h,
+    )
 
 same-length : tie.Need-same-length Inv-loop μ-loop
 same-length c = c .before .loop .inv .2
@@ -52,7 +63,7 @@ returns : tie.Need-returns Inv-loop μ-loop
 returns c =
     let l = c .before .loop in
     let e : l .a ≡ length (c .before .before .before .before .args .sums .now) = omega (arith, c .loop-test .left, l .inv .0, l .inv .1) in
-    record { long = l .inv .2; here = λ k h. l .inv .3 k (omega (arith, h, e)); before = l .inv .4 }
+    record { long = l .inv .2; here = λ k h. l .inv .3 k (omega (arith, h, e)); before = l .inv .4; behind = l .inv .5 }
 
 pub put-numbers-spec : {M : Type 1} → statement M
 put-numbers-spec =

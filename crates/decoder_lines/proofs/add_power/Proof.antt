@@ -4,7 +4,7 @@ use mathlib.Core.Path.{_≡_, ap, _∙_}
 use Prim.Native.Nat.{ℕ, _+_, _*_, _≤_, _<_}
 use native.Mathlib.Omega.{arith}
 use Rattle.staircase.proofs.Bounds.{stretch-end}
-use Rattle.decoder_lines.specs.Layouts.{linesIn}
+use Rattle.layout.specs.Layouts.{linesIn}
 use Rattle.decoder_lines.proofs.Layouts.{size-high, bits-high}
 use Rattle.decoder_lines.proofs.CrossingWord.{crossing-word, crossing-position, power-added, none-added}
 use borrow.Author.Needs.{needs}

@@ -4,7 +4,7 @@ use mathlib.Core.Path.{sym, ap, _∙_, subst}
 use Prim.Native.Nat.{ℕ, _≤_, _<_}
 use Rattle.design.specs.Sizes.{paramsOf}
 use Rattle.decoder_lines.specs.Links.{listsIn}
-use Rattle.decoder_lines.specs.Layouts.{bitsIn, acrossIn}
+use Rattle.layout.specs.Layouts.{bitsIn, acrossIn}
 use Rattle.decoder_lines.proofs.CrossingWord.{not-first, crossed-position, crossed-read}
 use borrow.Author.Needs.{needs}
 use Rattle.decoder_lines.proofs.crossing_word.Statement.{statement}

@@ -8,7 +8,8 @@ use Rattle.staircase.specs.Lines.{incidence}
 use Rattle.design.specs.Sizes.{paramsOf}
 use Rattle.decoder_lines.specs.Links.{listsIn}
 use Rattle.decoder_lines.proofs.Links.{links-long}
-use Rattle.decoder_lines.proofs.Layouts.{size-high, bits-high, lines-few, lawful-of, crossing-first, crossing-second, tail-allowed, tail-bits, tail-crossing}
+use Rattle.layout.proofs.Layouts.{crossing-first, crossing-second}
+use Rattle.decoder_lines.proofs.Layouts.{size-high, bits-high, lines-few, lawful-of, tail-allowed, tail-bits, tail-crossing}
 use Rattle.decoder_lines.proofs.CrossingWord.{red-place, at-row, at-column}
 use borrow.Author.Needs.{needs}
 use Rattle.decoder_lines.proofs.straight_crossing.Statement.{statement}

@@ -10,8 +10,9 @@ use Rattle.staircase.specs.Frame.{Site, frameOf}
 use Rattle.staircase.specs.Decoder.{Progress, round}
 use Rattle.staircase.specs.Outcomes.{stuckAmong}
 use Rattle.design.specs.Sizes.{paramsOf}
-use Rattle.decoder_lines.specs.declared.Line.{Line}
-use Rattle.decoder_lines.specs.Layouts.{linesIn, layoutOf, lineWord}
+use Rattle.layout.specs.declared.Line.{Line}
+use Rattle.layout.specs.Layouts.{linesIn}
+use Rattle.decoder_lines.specs.Layouts.{layoutOf, lineWord}
 use Rattle.decoder_lines.proofs.Layouts.{lines-few}
 use Rattle.decoder_words.specs.Ready.{LineReady, FrameKept, LineMarks}
 use Rattle.decoder_flips.proofs.Passes.{lines-none, lines-next, stuck-lines-none, stuck-lines-next}

@@ -5,7 +5,8 @@ use mathlib.Core.List.{List}
 use Prim.Native.Nat.{ℕ, _+_, _*_, _%_}
 use native.Mathlib.Omega.{arith}
 use Rattle.decoder_flips.proofs.Positions.{sent-found, flips-is}
-use Rattle.decoder_lines.specs.Layouts.{linesIn, bitsIn, lineWord, PowersFit}
+use Rattle.layout.specs.Layouts.{linesIn, bitsIn}
+use Rattle.decoder_lines.specs.Layouts.{lineWord, PowersFit}
 use Rattle.decoder_lines.proofs.Layouts.{size-high}
 use Rattle.design.specs.Sizes.{paramsOf}
 use Rattle.decoder_kept.specs.Numbers.{keptAt, OnlyAt}

@@ -6,7 +6,7 @@ use native.Mathlib.Omega.{arith}
 use mathlib.Core.List.{List}
 use Rattle.design.specs.Sizes.{paramsOf}
 use Rattle.decoder_locator.specs.Located.{located}
-use Rattle.decoder_lines.specs.Layouts.{bitsIn}
+use Rattle.layout.specs.Layouts.{bitsIn}
 use Rattle.decoder_words.proofs.Tables.{first-part, locator-parts}
 use borrow.Author.Needs.{needs}
 use Rattle.decoder_words.proofs.locate_errors.Statement.{statement}

@@ -9,7 +9,8 @@ use Rattle.design.specs.Sizes.{paramsOf}
 use Rattle.decoder_locator.specs.declared.Located.{Located}
 use Rattle.decoder_locator.specs.Located.{positionsOf}
 use Rattle.decoder_flips.specs.Sites.{sitesOf, Inside, listed, Below}
-use Rattle.decoder_lines.specs.Layouts.{bitsIn, lineWord}
+use Rattle.layout.specs.Layouts.{bitsIn}
+use Rattle.decoder_lines.specs.Layouts.{lineWord}
 use Rattle.decoder_flips.proofs.Located.{listed-none, listed-one, listed-two, listed-three}
 use borrow.Author.Needs.{needs}
 use Rattle.decoder_words.proofs.sites_of.Statement.{statement}

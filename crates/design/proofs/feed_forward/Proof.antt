@@ -1,10 +1,11 @@
 -- The laws of Sizes say what each test refuses.
 -- Assumes nothing.
-use Prim.Native.Nat.{_+_, _-_, _*_, _^_, _≤_, _<_}
-use mathlib.Core.Path.{refl}
+use Prim.Native.Nat.{_+_, _-_, _*_, _^_, _≤_}
 use native.Mathlib.Omega.{arith}
+use Rattle.staircase.specs.Design.{Limits}
 use Rattle.answers.specs.Answers.{refusalVerdict}
 use Rattle.design.specs.Answers.{designVerdict, DesignIs, DesignAllowed}
+use Rattle.design.proofs.Answers.{made-of}
 use Rattle.design.proofs.Sizes.{sizes, too-long, too-large, accepts}
 use Rattle.design.proofs.feed_forward.Statement.{statement}
 use Rattle.design.proofs.feed_forward.Tie as tie
@@ -44,41 +45,31 @@ returns-2 c =
     let s = sizes (a .m) (a .t) (a .size) (a .col) (c .before .before .pre) in
     (too-large (a .m) (a .t) (a .size) (a .col) (omega arith) (omega arith), tt, tt)
 
-cast-t14 : tie.Need-cast-t14
-cast-t14 c = let a = c .before .before .args in omega (arith, sizes (a .m) (a .t) (a .size) (a .col) (c .before .before .pre))
-
-cast-t15 : tie.Need-cast-t15
-cast-t15 c = let a = c .before .before .args in omega (arith, sizes (a .m) (a .t) (a .size) (a .col) (c .before .before .pre))
-
-cast-t16 : tie.Need-cast-t16
-cast-t16 c = let a = c .before .before .args in omega (arith, sizes (a .m) (a .t) (a .size) (a .col) (c .before .before .pre))
-
-cast-t17 : tie.Need-cast-t17
-cast-t17 c = let a = c .before .before .args in omega (arith, sizes (a .m) (a .t) (a .size) (a .col) (c .before .before .pre))
+design-of-requires : tie.Need-design-of-requires
+design-of-requires c κs = c .before .before .pre
 
 returns-3 : tie.Need-returns-3
-unfolding designVerdict refusalVerdict DesignIs DesignAllowed
+unfolding designVerdict DesignIs DesignAllowed
 returns-3 c =
-    let a = c .before .before .args in
-    let s = sizes (a .m) (a .t) (a .size) (a .col) (c .before .before .pre) in
+    let a = c .before .before .before .args in
+    let s = sizes (a .m) (a .t) (a .size) (a .col) (c .before .before .before .pre) in
+    let is = c .design-of .ensures in
     let e : 2 * a .size + 2 * (a .m * a .t) ≤ 2 ^ a .m - 1 = omega arith in
-    let f : a .size * (a .m * a .t) ≤ 4096 = omega arith in (
-      accepts (a .m) (a .t) (a .size) (a .col) e f,
-      (refl, refl, refl, refl),
-      record {
-        m-low = s .m-range .0;
-        m-high = s .m-range .1;
-        t-low = s .t-range .0;
-        t-high = s .t-range .1;
-        M-low = s .M-range .0;
-        M-high = s .M-range .1;
-        col-high = s .col-high;
-        n-high = e;
-        order-high = f;
-      },
-    )
+    let f : a .size * (a .m * a .t) ≤ 4096 = omega arith in
+    let limits : Limits (a .m) (a .t) (a .size) (a .col) = record {
+      m-low = s .m-range .0;
+      m-high = s .m-range .1;
+      t-low = s .t-range .0;
+      t-high = s .t-range .1;
+      M-low = s .M-range .0;
+      M-high = s .M-range .1;
+      col-high = s .col-high;
+      n-high = e;
+      order-high = f;
+    } in
+    (accepts (a .m) (a .t) (a .size) (a .col) e f, is, made-of Limits _ is limits)
 
 pub feed-forward-spec : {M : Type 1} → statement M
 feed-forward-spec =
     tie.close
-    (tie.spec mul-r mul-n mul-n-2 add-n shl-longest sub-longest returns mul-order returns-2 cast-t14 cast-t15 cast-t16 cast-t17 returns-3)
+    (tie.spec mul-r mul-n mul-n-2 add-n shl-longest sub-longest returns mul-order returns-2 design-of-requires returns-3)

@@ -17,18 +17,18 @@ returns : tie.Need-returns
 unfolding fillRules
 returns c = refused-then _ (c .before .before .check-count .ensures) (c .enum-told2 .given .1)
 
-frame-due-requires : tie.Need-frame-due-requires
-frame-due-requires c κs = count-limits _ (sym (c .before .before .before .check-count .ensures) ∙ check-passed (c .before .enum-told .given .1)) .1
-
 returns-2 : tie.Need-returns-2
 unfolding fillRules frameDue
 returns-2 c =
     let a = c .before .before .before .before .before .before .before .args in
+    let count = c .before .before .before .before .before .check-count .ensures in
+    let passed = c .before .before .before .enum-told .given .1 in
+    let few = count-limits (a .blocks) (sym count ∙ check-passed passed) .1 in
     c .check-length .ensures
-    ∙ ap (λ (n : ℕ). lengthRule 4 (length (a .info .now)) n) (ap (λ (y : Lengths). y .info) (c .before .frame-due .ensures))
-    ∙ passed-then _ (c .before .before .before .before .before .check-count .ensures) (c .before .before .before .enum-told .given .1)
+    ∙ ap (λ (n : ℕ). lengthRule 4 (length (a .info .now)) n) (ap (λ (y : Lengths). y .info) (c .before .frame-due .ensures few))
+    ∙ passed-then _ count passed
 
 pub check-info-spec : {M : Type 1} → statement M
 check-info-spec =
     tie.close
-    (tie.spec (λ c κs. search needs) (λ c. search needs) (λ c. search needs) returns (λ c κs. search needs) frame-due-requires (λ c κs. search needs) returns-2)
+    (tie.spec (λ c κs. search needs) (λ c. search needs) (λ c. search needs) returns (λ c κs. search needs) (λ c κs. search needs) (λ c κs. search needs) returns-2)

@@ -4,7 +4,7 @@ use mathlib.Core.Path.{ap, _∙_}
 use Rattle.staircase.specs.Load.{WithErrors}
 use Rattle.answers.specs.Answers.{verdictOf}
 use Rattle.answers.proofs.Checks.{check-refused, check-passed}
-use Rattle.load.specs.Answers.{loadVerdict, loadState}
+use Rattle.generator.specs.Answers.{loadVerdict, loadState}
 use Rattle.load.proofs.LoadCalls.{errors-refused, errors-done}
 use borrow.Author.Needs.{needs}
 use Rattle.load.proofs.errors_col.Statement.{statement}

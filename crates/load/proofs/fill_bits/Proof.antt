@@ -7,7 +7,7 @@ use native.Mathlib.Omega.{arith}
 use lib.ListN.{length, set, length-set}
 use Rattle.staircase.specs.Load.{nextState, output, stateAfter, loadBit}
 use Rattle.staircase.proofs.Fill.{filled, filled-none, filled-more, filled-all}
-use Rattle.load.proofs.States.{after-none, after-more}
+use Rattle.generator.proofs.States.{after-none, after-more}
 use borrow.Author.Needs.{needs}
 use Rattle.load.proofs.fill_bits.Statement.{statement}
 use Rattle.load.proofs.fill_bits.Tie as tie

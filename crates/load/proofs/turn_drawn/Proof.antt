@@ -9,7 +9,7 @@ use lib.Dec.{ltb}
 use lib.ListN.{length, getD, set, length-set}
 use Rattle.staircase.specs.Load.{stateAfter, drawn, randomTurns}
 use Rattle.staircase.proofs.Fill.{filled, filled-none, filled-more, filled-next}
-use Rattle.load.proofs.States.{after-none, after-add, draw-small}
+use Rattle.generator.proofs.States.{after-none, after-add, draw-small}
 use Rattle.load.proofs.Turning.{turnBit, turned-all}
 use borrow.Author.Needs.{needs}
 use Rattle.load.proofs.turn_drawn.Statement.{statement}

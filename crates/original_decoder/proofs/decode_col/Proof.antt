@@ -16,9 +16,6 @@ returns c =
     decode-design (a .m) (a .t) (a .size) (a .col) (a .blocks) (a .rounds) (a .buffer .now) (length (a .work .now)) (new .result) (new .ensures .0) (c .refused-frame .result) (c .before .design-check .result) _
     (c .refused-frame .ensures) (c .before .before .enum-told .given .1) (c .before .design-check .ensures)
 
-check-received-requires : tie.Need-check-received-requires
-check-received-requires c κs = made-original (c .before .before .designed .given .1) (c .before .before .before .before .of-original-col .ensures .2)
-
 returns-2 : tie.Need-returns-2
 returns-2 c =
     let a = c .before .before .before .before .before .before .before .before .before .before .before .args in
@@ -53,6 +50,6 @@ returns-3 c =
 pub decode-col-spec : {M : Type 1} → statement M
 decode-col-spec =
     tie.close
-    (tie.spec (λ c κs. search needs) (λ c. search needs) (λ c. search needs) (λ c κs. search needs) (λ c κs. search needs) returns check-received-requires
+    (tie.spec (λ c κs. search needs) (λ c. search needs) (λ c. search needs) (λ c κs. search needs) (λ c κs. search needs) returns (λ c κs. search needs)
     (λ c. search needs) (λ c. search needs) (λ c κs. search needs) (λ c. search needs) returns-2 rounds-allowed-requires correct-buffer-requires
     (λ c. search needs) (λ c. search needs) returns-3)

@@ -15,9 +15,6 @@ returns c =
     words-design (a .m) (a .t) (a .size) (a .col) (a .blocks) (a .buffer .now) (new .result) (new .ensures .0) (c .refused-count .result) (c .before .design-check .result) _
     (c .refused-count .ensures) (c .before .before .enum-told .given .1) (c .before .design-check .ensures)
 
-check-received-requires : tie.Need-check-received-requires
-check-received-requires c κs = made-original (c .before .designed .given .1) (c .before .before .before .of-original-col .ensures .2)
-
 returns-2 : tie.Need-returns-2
 returns-2 c =
     let a = c .before .before .before .before .before .before .before .before .before .args in
@@ -43,5 +40,5 @@ returns-3 c =
 pub check-words-col-spec : {M : Type 1} → statement M
 check-words-col-spec =
     tie.close
-    (tie.spec (λ c κs. search needs) (λ c. search needs) (λ c. search needs) (λ c κs. search needs) (λ c κs. search needs) returns check-received-requires
+    (tie.spec (λ c κs. search needs) (λ c. search needs) (λ c. search needs) (λ c κs. search needs) (λ c κs. search needs) returns (λ c κs. search needs)
     (λ c. search needs) (λ c. search needs) (λ c κs. search needs) returns-2 count-outside-requires returns-3)

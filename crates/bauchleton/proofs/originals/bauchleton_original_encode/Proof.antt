@@ -1,6 +1,5 @@
 -- The encoder's verdict, reported, and the buffer that it leaves; where the report has another length the encoder is lent nothing of it.
 -- Assumes nothing.
-use Rattle.bauchleton.proofs.Report.{part-lent}
 use Rattle.bauchleton.proofs.OriginalReport.{original-told}
 use borrow.Author.Needs.{needs}
 use Rattle.bauchleton.proofs.originals.bauchleton_original_encode.Statement.{statement}

@@ -2,7 +2,6 @@
 -- Assumes nothing.
 use native.Mathlib.Omega.{arith}
 use Rattle.bauchleton.proofs.Report.{lent-none, lent-all}
-use borrow.Author.Needs.{needs}
 use Rattle.bauchleton.proofs.reports.lent_length.Statement.{statement}
 use Rattle.bauchleton.proofs.reports.lent_length.Tie as tie
 

@@ -15,9 +15,10 @@ add-loopback c =
 returns : tie.Need-returns
 returns c =
     let a = c .before .before .before .before .before .before .before .before .before .before .before .before .args in
+    let few = c .before .before .before .before .before .before .before .before .before .before .before .before .pre .1 in
     sizes-made (a .d) (a .blocks) (c .before .before .before .before .r .ensures .0) (c .before .before .before .n .ensures .0) (c .before .before .k .ensures .0) (c .before .group-count .ensures)
-    (c .before .before .before .before .before .before .before .before .before .before .before .kit-due .ensures) (c .before .before .before .before .before .before .before .before .before .before .make-due .ensures) (c .before .before .before .before .before .before .before .before .before .lists-due .ensures) (c .before .before .before .before .before .before .before .before .frame-due .ensures)
-    (c .before .before .before .before .before .before .before .decoder-due .ensures (c .before .before .before .before .before .before .before .before .before .before .before .before .pre .1)) (c .before .before .before .before .before .before .kept-work .ensures .0) (c .row-bytes .ensures .0)
+    (c .before .before .before .before .before .before .before .before .before .before .before .kit-due .ensures) (c .before .before .before .before .before .before .before .before .before .before .make-due .ensures) (c .before .before .before .before .before .before .before .before .before .lists-due .ensures) (c .before .before .before .before .before .before .before .before .frame-due .ensures few)
+    (c .before .before .before .before .before .before .before .decoder-due .ensures few) (c .before .before .before .before .before .before .kept-work .ensures .0) (c .row-bytes .ensures .0)
 
 pub sizes-of-spec : {M : Type 1} → statement M
 sizes-of-spec =

@@ -17,7 +17,7 @@ returns c =
     let a = c .before .before .before .before .before .args in
     c .check-lengths .ensures
     ∙ ap (λ (y : Lengths). lengthsRule (record { own = y .own; parity = y .parity; inverse = y .inverse; info = length (a .info .now); red = length (a .red .now); work = y .work }) y)
-    (c .before .frame-due .ensures ∙ ap (frameDue (paramsOf (a .d)) (a .blocks)) (c .before .before .lists-due .ensures))
+    (c .before .frame-due .ensures (c .before .before .before .before .before .pre) ∙ ap (frameDue (paramsOf (a .d)) (a .blocks)) (c .before .before .lists-due .ensures))
     ∙ frame-alone (paramsOf (a .d)) [] [] [] (a .info .now) (a .red .now) (a .blocks)
 
 pub check-frame-lengths-spec : {M : Type 1} → statement M

@@ -32,37 +32,37 @@ mul-result : tie.Need-mul-result
 mul-result c =
     let a = c .before .before .before .before .args in
     let p = c .before .before .before .before .pre in
-    omega (arith, kept-is (a .d) (a .blocks) _ _ _ _ (p .0) (p .1) (c .before .group-count .ensures) (c .size .ensures) (c .before .before .frame-due .ensures) .0)
+    omega (arith, kept-is (a .d) (a .blocks) _ _ _ _ (p .0) (p .1) (c .before .group-count .ensures) (c .size .ensures) (c .before .before .frame-due .ensures (p .1)) .0)
 
 mul-result-2 : tie.Need-mul-result-2
 mul-result-2 c =
     let a = c .before .before .before .before .args in
     let p = c .before .before .before .before .pre in
-    omega (arith, kept-is (a .d) (a .blocks) _ _ _ _ (p .0) (p .1) (c .before .group-count .ensures) (c .size .ensures) (c .before .before .frame-due .ensures) .0)
+    omega (arith, kept-is (a .d) (a .blocks) _ _ _ _ (p .0) (p .1) (c .before .group-count .ensures) (c .size .ensures) (c .before .before .frame-due .ensures (p .1)) .0)
 
 add-result : tie.Need-add-result
 add-result c =
     let a = c .before .before .before .before .before .args in
     let p = c .before .before .before .before .before .pre in
-    omega (arith, kept-is (a .d) (a .blocks) _ _ _ _ (p .0) (p .1) (c .before .before .group-count .ensures) (c .before .size .ensures) (c .before .before .before .frame-due .ensures) .2)
+    omega (arith, kept-is (a .d) (a .blocks) _ _ _ _ (p .0) (p .1) (c .before .before .group-count .ensures) (c .before .size .ensures) (c .before .before .before .frame-due .ensures (p .1)) .2)
 
 add-result-2 : tie.Need-add-result-2
 add-result-2 c =
     let a = c .before .before .before .before .before .args in
     let p = c .before .before .before .before .before .pre in
-    omega (arith, kept-is (a .d) (a .blocks) _ _ _ _ (p .0) (p .1) (c .before .before .group-count .ensures) (c .before .size .ensures) (c .before .before .before .frame-due .ensures) .2)
+    omega (arith, kept-is (a .d) (a .blocks) _ _ _ _ (p .0) (p .1) (c .before .before .group-count .ensures) (c .before .size .ensures) (c .before .before .before .frame-due .ensures (p .1)) .2)
 
 add-result-3 : tie.Need-add-result-3
 add-result-3 c =
     let a = c .before .before .before .before .before .args in
     let p = c .before .before .before .before .before .pre in
-    omega (arith, kept-is (a .d) (a .blocks) _ _ _ _ (p .0) (p .1) (c .before .before .group-count .ensures) (c .before .size .ensures) (c .before .before .before .frame-due .ensures) .2)
+    omega (arith, kept-is (a .d) (a .blocks) _ _ _ _ (p .0) (p .1) (c .before .before .group-count .ensures) (c .before .size .ensures) (c .before .before .before .frame-due .ensures (p .1)) .2)
 
 returns : tie.Need-returns
 returns c =
     let a = c .before .before .before .before .before .args in
     let p = c .before .before .before .before .before .pre in
-    let k = kept-is (a .d) (a .blocks) _ _ _ _ (p .0) (p .1) (c .before .before .group-count .ensures) (c .before .size .ensures) (c .before .before .before .frame-due .ensures) in
+    let k = kept-is (a .d) (a .blocks) _ _ _ _ (p .0) (p .1) (c .before .before .group-count .ensures) (c .before .size .ensures) (c .before .before .before .frame-due .ensures (p .1)) in
     (k .1, omega (arith, k .2))
 
 pub kept-work-spec : {M : Type 1} → statement M
