@@ -1,7 +1,8 @@
 #!/usr/bin/env python3
 """Checks that what the documents name is there, that crates stand in layers, and that the wrong programs outside the gate still fit the code.
 
-- docs/PROMISES.md: each file, each definition or law named right behind it, and each wrong program.
+- docs/PROMISES.md: each file, each definition or law named right behind it, and each wrong program; each call of the header, and each function of
+  docs/RATTLE.md's table.
 - docs/DECISIONS.md: each wrong program, as crate/name.
 - docs/ARCHITECTURE.md: each crate is in the table, in the order of crates.txt.
 - docs/RATTLE.md: its program is crates/example, which the gate proves and runs. README.md: its program in C is examples/first.c.
@@ -50,6 +51,21 @@ def promises():
     for name in re.findall(r"`([a-z0-9_]+)`", " ".join(ruled)):
         if name not in programs:
             yield f"docs/PROMISES.md: no wrong program {name}"
+
+
+def calls():
+    """The calls of the header are promised from C, and the functions of docs/RATTLE.md from Rattle."""
+    rattle, c = re.split(r"^### From C$", (ROOT / "docs/PROMISES.md").read_text().split("### From Rattle")[1].split("\n## ")[0], flags=re.M)
+    declared = re.findall(r"^\w+ (bauchleton_\w+)\(", (ROOT / "include/bauchleton.h").read_text(), re.M)
+    if len(declared) < 40:
+        yield f"include/bauchleton.h: only {len(declared)} calls are found"
+    for name in declared:
+        if not re.search(rf"`{name}[`(]", c):
+            yield f"docs/PROMISES.md: no promise of the call {name}"
+    for line in re.findall(r"^\| (`\w+::.*?) \|", (ROOT / "docs/RATTLE.md").read_text(), re.M):
+        for name in re.findall(r"`(?:\w+::)*(\w+)`", line):
+            if not stands(name, rattle):
+                yield f"docs/PROMISES.md: no promise of the function {name}"
 
 
 def decisions():
@@ -150,6 +166,6 @@ def edits():
                 yield f"{edit.relative_to(ROOT)}: what it changes does not stand once in its file"
 
 
-missing = [line for check in (promises, decisions, layers, example, prose, uses, edits) for line in check()]
+missing = [line for check in (promises, calls, decisions, layers, example, prose, uses, edits) for line in check()]
 print("\n".join(missing) if missing else "what the documents and the edits name is there")
 sys.exit(1 if missing else 0)
