@@ -100,7 +100,7 @@ enum {
     BAUCHLETON_MAX_WINDOW = 64,      /* groups */
     BAUCHLETON_MAX_INPUT = 32768,    /* bytes of an input of a program */
     BAUCHLETON_OUTPUT = 262144,      /* bytes that a program's output needs */
-    BAUCHLETON_STACK_BYTES = 196608,         /* of stack that a call uses at most, but for the two of the next line; measured, and rounded up */
+    BAUCHLETON_STACK_BYTES = 229376,         /* of stack that a call uses at most, but for the two of the next line; measured, and rounded up */
     BAUCHLETON_PROGRAM_STACK_BYTES = 458752, /* the same for bauchleton_frame and bauchleton_mend */
     BAUCHLETON_REPORT_BYTES = 40,
     BAUCHLETON_TALLY_ENTRIES = 6,
