@@ -9,7 +9,7 @@
 - README.md, NEWS.md, CONTRIBUTING.md, docs/: no line of prose is longer than 120 characters, and no link leads nowhere.
 - crates.txt: a crate stands below those that it knows, each of which its files name, and the crates of a family, FAMILY and FAMILY_PART, stand together;
   theory, which has no functions, stands below them.
-- crates/*/more-fail/*.edit: the lines that it changes stand in its file, once.
+- crates/*/must-fail/*.edit, more-fail/*.edit: the lines that it changes stand in its file, once, and each line of it has its word.
 - `use` lines of .rt and .antt files: a module is named once, and what is named is used.
 
     python3 tests/check/named.py
@@ -157,8 +157,10 @@ def prose():
 
 
 def edits():
-    for edit in sorted(CRATES.glob("*/more-fail/*.edit")):
+    for edit in sorted(CRATES.glob("*/m*-fail/*.edit")):
         file = None
+        if any(not re.match(r"(file|old|new): ", line) for line in edit.read_text().splitlines()[1:]):
+            yield f"{edit.relative_to(ROOT)}: a line that begins with none of file:, old:, new:"
         for key, value in re.findall(r"^(file|old): ?((?:.*\n?)(?:(?!file:|old:|new:).*\n?)*)", edit.read_text(), re.M):
             if key == "file":
                 file = edit.parent.parent / value.strip()
