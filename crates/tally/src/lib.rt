@@ -7,7 +7,7 @@
 //   check_totals     rule 16
 //
 // `decode_tallied` is the thin function over a lent struct: it has no test, loop or sum of its own, and all is in `decode_counted` below it. Neither has
-// a `requires`. The decoder judges rule 16 with its own rules, as the last (`decoder::decode_with`), so that no frame is judged twice. A total is at
+// a `requires`. The decoder judges rule 16 with its own rules, as the last (`decoder::decode_with_col`), so that no frame is judged twice. A total is at
 // most 2^62 where a decode is accepted, and a decode adds at most 2^31 to it, so every sum fits into 64 bits.
 ghost use mathlib.Core.Path.{_≡_};
 ghost use Prim.Native.Nat.{_+_};
