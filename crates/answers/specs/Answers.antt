@@ -5,7 +5,7 @@
 --   counts_told                  the counts that a decoder tells
 --   refused_frame                the result for a frame that is refused
 --   corrected_of                 a decoder's answer and the frame that the call leaves, as its result
---   bufferResult, bufferDecoded the same for the buffer of an original frame
+--   buffer_result, buffer_decoded the same for the buffer of an original frame
 --   written_of                   the answer of an encoder of original frames and the buffer that it leaves
 -- Assumes nothing.
 use Rattle.std.specs.Prelude.{List, ℕ}

@@ -7,13 +7,15 @@
 //
 // An answer is an enum. `refusal_verdict`, `verdict_of`, `counted_of`, `corrected_of` and others of specs/ give the table's number and place, and the counts, of
 // each case: they are what the contracts of the calls speak of. Every kind of frame has the same answers.
+#![tactic(auto)]
+
 ghost use Rattle.std.specs.Prelude.{◌≡◌};
 ghost use Rattle.staircase.specs.Frame.{Frame};
 ghost use Rattle.staircase.specs.Calls.{counted_by};
 ghost use Rattle.answers.specs.Answers.{verdict_of, counted_of, refused_frame, corrected_of};
 
 // A refusal: a rule of the table, by its name there, with the place.
-#[derive(Drop)]
+#[derive(Clone, Copy)]
 pub enum Refusal {
     Size(u64),
     Long(u64),
@@ -34,14 +36,14 @@ pub enum Refusal {
 }
 
 // The answer of a check.
-#[derive(Drop)]
+#[derive(Clone, Copy)]
 pub enum Check {
     Passed,
     Refused(Refusal),
 }
 
 // The answer of a word checker: the number of words outside the code, or a refusal.
-#[derive(Drop)]
+#[derive(Clone, Copy)]
 pub enum WordCount {
     Counted(u64),
     Refused(Refusal),
@@ -49,7 +51,7 @@ pub enum WordCount {
 
 // What decoding a frame has done: rounds made, bits that differ from those received, words outside the code at the end, stuck words of the last round
 // made.
-#[derive(Drop)]
+#[derive(Clone, Copy)]
 pub struct Counts {
     pub rounds: u64,
     pub turned: u64,
@@ -58,7 +60,7 @@ pub struct Counts {
 }
 
 // The answer of a decoder.
-#[derive(Drop)]
+#[derive(Clone, Copy)]
 pub enum Decoding {
     Decoded(Counts),
     Refused(Refusal),

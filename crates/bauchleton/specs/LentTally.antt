@@ -3,7 +3,7 @@
 --   tally_length               place 9 of rule 6
 --   lent_verdict               the decoder's rules with the report's and the tally's lengths, the last of rule 6, and with rule 16
 --   length_first               rule 6 at place 9 for a refusal by a later rule: a step of the code, which no promise names
---   LentTally, lentTallyCall  the answer of a decode, and what it leaves
+--   LentTally, lent_tally_call  the answer of a decode, and what it leaves
 --   reportVerdict, report_answer   a report
 -- Assumes nothing.
 use Rattle.std.specs.Prelude.{cond, List, [], ◌∷◌, ℕ, ltb, length, get_or}

@@ -15,6 +15,8 @@
 // Each call but those of `names` answers 0, or the number of the rule of document 01's table that refuses. The kit checker, the encoders and the decoders are lent `report`, 40
 // bytes for five numbers, which rule 6 judges at place 8. Every other call is lent a slice `answer` of a fixed length, which is left as it was where its
 // length is another. In both, the first number is the refusal's place, 0 where nothing is refused; the others are what the call tells, 0 where it is refused.
+#![tactic(auto)]
+
 mod buffers;
 mod calls;
 mod kits;

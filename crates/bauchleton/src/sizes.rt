@@ -15,7 +15,7 @@ use rules_verdict::{Judged, of_check};
 
 // Of a word r, n and k; groups of a frame; bytes of a list, of the inverse, of the information and of the redundancy; working bytes of the kit checker, of
 // the maker of an inverse, of the encoders, of the word checker, of the decoders and of the self test; bytes of a row of the inverse.
-#[derive(Drop)]
+#[derive(Clone, Copy)]
 struct Sizes {
     r: u64,
     n: u64,

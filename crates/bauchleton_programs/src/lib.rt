@@ -5,6 +5,8 @@
 // Each reads its words and its inputs, prints what its program prints and answers the exit status: 0 where it printed, 1 where it printed a refusal, 2 where the
 // words are wrong, an input cannot be read or standard output does not take all, and nothing else. That 1 is answered for refusals alone, and 0 for none,
 // is the contract of `print_frame`, `print_mend` and `print_makekit`, for every input. What is read no contract can say.
+#![tactic(auto)]
+
 ghost use Rattle.std.specs.Prelude.{◌≡◌, ◌≤◌};
 ghost use Rattle.io.specs.Counts.{IsPrefixLen};
 ghost use Rattle.text.specs.ExitStatus.{output_status};

@@ -7,6 +7,8 @@
 // A reader answers 0, or the number of the rule of document 01's table that refuses. It is lent a slice `answer` of a fixed length, which is left as
 // it was where its length is another. Entry 0 is the refusal's place, 0 where nothing is refused; the others are what the call tells, 0 where it is
 // refused. A writer answers the position after what it wrote, or the position that it was given where there is no room.
+#![tactic(auto)]
+
 mod printing;
 mod readings;
 mod writing;

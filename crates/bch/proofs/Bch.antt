@@ -15,7 +15,7 @@ use native.Mathlib.Nat.{mul-pos, le_trans, zero-lt-suc}
 use lib.ListN.{length}
 use borrow.Author.Tests.{eqb-true, eq-eqb}
 use Rattle.bch.specs.Polynomial.{Bits, ◌⊗◌, word_poly, remainder}
-use Rattle.bch.specs.Field.{fieldPoly, value_at}
+use Rattle.bch.specs.Field.{field_poly, value_at}
 use Rattle.bch.specs.Code.{generator, is_codeword, parity, distance}
 use Rattle.bch.proofs.Primitive.{primitive}
 use Rattle.bch.proofs.Minimal.{Fits}
@@ -67,7 +67,7 @@ module _ (m t : ℕ) (C : Code m t) where
       → is_codeword (generator m t) (m * t) v ≡ true → is_codeword (generator m t) (m * t) w ≡ true → distance v w ≤ 2 * t → v ≡ w
   unfolding value_at
   bch_bound v w hv hw e l cv cw =
-      near_equal (fieldPoly m) m (primitive m C.m-low C.m-high) g (m * t) t
+      near_equal (field_poly m) m (primitive m C.m-low C.m-high) g (m * t) t
       (generator_roots m t C.m-low C.m-high C.t-high C.fits) v w hv hw e l
       (codeword_zero g (m * t) v cv) (codeword_zero g (m * t) w cw)
 
@@ -75,6 +75,6 @@ module _ (m t : ℕ) (C : Code m t) where
       → is_codeword (generator m t) (m * t) v ≡ true → is_codeword (generator m t) (m * t) w ≡ true → distance u v ≤ t → distance u w ≤ t → v ≡ w
   unfolding value_at
   one_codeword u v w hv hw ev ew l cv cw =
-      near_one (fieldPoly m) m (primitive m C.m-low C.m-high) g (m * t) t
+      near_one (field_poly m) m (primitive m C.m-low C.m-high) g (m * t) t
       (generator_roots m t C.m-low C.m-high C.t-high C.fits) u v w hv hw ev ew l
       (codeword_zero g (m * t) v cv) (codeword_zero g (m * t) w cw)

@@ -14,7 +14,7 @@ use native.Mathlib.Decide.{ℕ_discrete}
 use native.Mathlib.Omega.{arith}
 use lib.Arith.{bin_ind}
 use lib.ListN.{length}
-use Rattle.bch.specs.Polynomial.{Bits, ◌⊕◌, timesX, iterate, poly_at, horner, remainder}
+use Rattle.bch.specs.Polynomial.{Bits, ◌⊕◌, times_x, iterate, poly_at, horner, remainder}
 use Rattle.bch.specs.Code.{distance, unlike}
 use Rattle.bch.proofs.Sum.{bit_ind, ⊕-self, ⊕-zero-right, ⊕-below}
 use Rattle.bch.proofs.Polynomial.{linear_zero, iterate-add, iterate-iterate, poly_at-zero}
@@ -32,7 +32,7 @@ locators X (suc b ∷ w) = iterate X (length w) 1 ∷ locators X w
 
 module _ (f d : ℕ) (P : Primitive f d) where
   abbrev X : ℕ → ℕ
-  X = timesX f d
+  X = times_x f d
 
   -- ---- values of a word are power sums
   steps_below : (k i v : ℕ) → v < 2 ^ d → iterate (iterate X k) i v < 2 ^ d
@@ -156,7 +156,7 @@ module _ (f d : ℕ) (P : Primitive f d) where
   loc_distance (a ∷ v) (b ∷ w) hv hw h =
       loc_cons a b (hv 0) (hw 0) (sum_word v w) ∙ ap (λ n. unlike a b + n) (loc_distance v w (λ k. hv (suc k)) (λ k. hw (suc k)) (suc_inj h))
 
-  module _ (g r t : ℕ) (roots : (i : ℕ) → i % 2 ≡ 1 → i < 2 * t → poly_at (iterate (timesX f d) i) g 1 ≡ 0) where
+  module _ (g r t : ℕ) (roots : (i : ℕ) → i % 2 ≡ 1 → i < 2 * t → poly_at (iterate (times_x f d) i) g 1 ≡ 0) where
     codeword_values : (w : List ℕ) → Bits w → remainder g r w ≡ 0 → (i : ℕ) → 0 < i → i < 2 * t + 1 → horner (iterate X i) 0 w ≡ 0
     codeword_values w hw hc =
         even-values (2 * t + 1) w hw

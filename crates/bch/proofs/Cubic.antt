@@ -11,7 +11,7 @@ use mathlib.Core.Logic.{◌≢◌, ◌⊎◌, inl, inr, ⊎_map}
 use Prim.Native.Nat.{ℕ, ◌+◌, ◌-◌, ◌*◌, ◌^◌, ◌≤◌, ◌<◌}
 use native.Mathlib.Decide.{ℕ_discrete}
 use Rattle.bch.specs.Polynomial.{◌⊕◌}
-use Rattle.bch.specs.Field.{fieldPoly, power}
+use Rattle.bch.specs.Field.{field_poly, power}
 use Rattle.bch.specs.Locator.{Solution, TripleOf, PowerIs}
 use Rattle.bch.proofs.Sum.{⊕·simp, ⊕-self, ⊕_equal, ⊕-below}
 use Rattle.bch.proofs.Field.{Field, mul}
@@ -65,9 +65,9 @@ module _ (m : ℕ) (◌·◌ : ℕ → ℕ → ℕ) (F : Field m ◌·◌) where
 module _ (m : ℕ) (low : 4 ≤ m) (high : m ≤ 10) where
   infixl 70 ◌·◌
   abbrev ◌·◌ : ℕ → ℕ → ℕ
-  a · b = mul (fieldPoly m) m a b
+  a · b = mul (field_poly m) m a b
 
-  F : Field m (mul (fieldPoly m) m)
+  F : Field m (mul (field_poly m) m)
   F = field_laws m low high
 
   by-power : (k s p : ℕ) (f : ℕ → ℕ) → s < 2 ^ m → PowerIs m k s p → f 0 ≡ 0 → ((e : ℕ) → power m (k * e) ≡ f (power m e)) → p ≡ f s

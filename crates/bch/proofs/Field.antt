@@ -17,7 +17,7 @@ use native.Mathlib.Omega.{arith}
 use lib.Pow.{pow_pos, pow_mono}
 use lib.Dec.{T, eqb, eqb→eq, T_not}
 use lib.Ieee.Fits.{and_l, and_r}
-use Rattle.bch.specs.Polynomial.{◌⊕◌, timesX, iterate, poly_at}
+use Rattle.bch.specs.Polynomial.{◌⊕◌, times_x, iterate, poly_at}
 use Rattle.bch.proofs.Polynomial.{linear_zero, iterate-add, iterate_inner, poly_at-bit, poly_at-sum, poly_at_linear, poly_at-map, poly_at_comm}
 use Rattle.bch.proofs.Modulus.{times_x_linear, iterate-times_x_linear, iterate-times_x-below, poly_at_one, poly_at-below}
 use Rattle.bch.proofs.Pigeonhole.{pigeonhole}
@@ -55,66 +55,66 @@ not-before X (suc n) v t (suc k) h e =
 pub record Primitive (f d : ℕ) : Type 0 where
   pub positive : 0 < d
   pub degree : f / 2 ^ d ≡ 1
-  pub returns : T (comes_back (timesX f d) (2 ^ d - 2) (timesX f d 1))
+  pub returns : T (comes_back (times_x f d) (2 ^ d - 2) (times_x f d 1))
 
 unfoldable pub mul : (f d a b : ℕ) → ℕ
-mul f d a b = poly_at (timesX f d) a (poly_at (timesX f d) b 1)
+mul f d a b = poly_at (times_x f d) a (poly_at (times_x f d) b 1)
 
 module _ (f d : ℕ) (P : Primitive f d) where
   pub two_below : 2 ≤ 2 ^ d
   two_below = pow_mono P.positive
 
-  value_of_one : (p : ℕ) → p < 2 ^ d → poly_at (timesX f d) p 1 ≡ p
+  value_of_one : (p : ℕ) → p < 2 ^ d → poly_at (times_x f d) p 1 ≡ p
   value_of_one = poly_at_one f d P.degree
 
-  reduced : (p : ℕ) → poly_at (timesX f d) p 1 < 2 ^ d
+  reduced : (p : ℕ) → poly_at (times_x f d) p 1 < 2 ^ d
   reduced p = poly_at-below f d P.degree p 1 two_below
 
-  pub power_below : (j : ℕ) → iterate (timesX f d) j 1 < 2 ^ d
+  pub power_below : (j : ℕ) → iterate (times_x f d) j 1 < 2 ^ d
   power_below j = iterate-times_x-below f d P.degree j 1 two_below
 
-  iterate-poly_at : (j p v : ℕ) → iterate (timesX f d) j (poly_at (timesX f d) p v) ≡ poly_at (timesX f d) p (iterate (timesX f d) j v)
+  iterate-poly_at : (j p v : ℕ) → iterate (times_x f d) j (poly_at (times_x f d) p v) ≡ poly_at (times_x f d) p (iterate (times_x f d) j v)
   unfolding iterate
   iterate-poly_at zero p v = refl
-  iterate-poly_at (suc j) p v = ap (timesX f d) (iterate-poly_at j p v) ∙ poly_at-map (timesX f d) (times_x_linear f d) p (iterate (timesX f d) j v)
+  iterate-poly_at (suc j) p v = ap (times_x f d) (iterate-poly_at j p v) ∙ poly_at-map (times_x f d) (times_x_linear f d) p (iterate (times_x f d) j v)
 
   -- 2^d - 1 steps lead back
-  power-order : iterate (timesX f d) (2 ^ d - 1) 1 ≡ 1
+  power-order : iterate (times_x f d) (2 ^ d - 1) 1 ≡ 1
   unfolding iterate
   power-order =
       let n : 2 ^ d - 1 ≡ 2 ^ d - 2 + 1 = omega (arith, two_below) in
-      ap (λ (n : ℕ). iterate (timesX f d) n 1) n ∙ iterate-add (timesX f d) (2 ^ d - 2) 1 1 ∙ back (timesX f d) (2 ^ d - 2) (timesX f d 1) P.returns
+      ap (λ (n : ℕ). iterate (times_x f d) n 1) n ∙ iterate-add (times_x f d) (2 ^ d - 2) 1 1 ∙ back (times_x f d) (2 ^ d - 2) (times_x f d 1) P.returns
 
-  power-first : (k : ℕ) → 0 < k → k < (2 ^ d - 1) → iterate (timesX f d) k 1 ≢ 1
+  power-first : (k : ℕ) → 0 < k → k < (2 ^ d - 1) → iterate (times_x f d) k 1 ≢ 1
   unfolding iterate
-  power-first (suc k) h l e = not-before (timesX f d) (2 ^ d - 2) (timesX f d 1) P.returns k (omega arith) (iterate_inner (timesX f d) k 1 ∙ e)
+  power-first (suc k) h l e = not-before (times_x f d) (2 ^ d - 2) (times_x f d 1) P.returns k (omega arith) (iterate_inner (times_x f d) k 1 ∙ e)
   power-first zero h l e = not-suc-le-zero h
 
-  pub cycle : (v : ℕ) → v < 2 ^ d → iterate (timesX f d) (2 ^ d - 1) v ≡ v
-  cycle v h = ap (iterate (timesX f d) (2 ^ d - 1)) (sym (value_of_one v h)) ∙ iterate-poly_at (2 ^ d - 1) v 1 ∙ ap (poly_at (timesX f d) v) power-order ∙ value_of_one v h
+  pub cycle : (v : ℕ) → v < 2 ^ d → iterate (times_x f d) (2 ^ d - 1) v ≡ v
+  cycle v h = ap (iterate (times_x f d) (2 ^ d - 1)) (sym (value_of_one v h)) ∙ iterate-poly_at (2 ^ d - 1) v 1 ∙ ap (poly_at (times_x f d) v) power-order ∙ value_of_one v h
 
   -- a power of x can be taken away
-  iterate_injective : (j u v : ℕ) → j ≤ (2 ^ d - 1) → u < 2 ^ d → v < 2 ^ d → iterate (timesX f d) j u ≡ iterate (timesX f d) j v → u ≡ v
+  iterate_injective : (j u v : ℕ) → j ≤ (2 ^ d - 1) → u < 2 ^ d → v < 2 ^ d → iterate (times_x f d) j u ≡ iterate (times_x f d) j v → u ≡ v
   iterate_injective j u v h hu hv e =
-      sym (undo u hu) ∙ ap (iterate (timesX f d) ((2 ^ d - 1) - j)) e ∙ undo v hv
+      sym (undo u hu) ∙ ap (iterate (times_x f d) ((2 ^ d - 1) - j)) e ∙ undo v hv
     where
-      undo : (w : ℕ) → w < 2 ^ d → iterate (timesX f d) ((2 ^ d - 1) - j) (iterate (timesX f d) j w) ≡ w
-      undo w hw = sym (iterate-add (timesX f d) ((2 ^ d - 1) - j) j w) ∙ ap (λ (n : ℕ). iterate (timesX f d) n w) (sub-add_cancel h) ∙ cycle w hw
+      undo : (w : ℕ) → w < 2 ^ d → iterate (times_x f d) ((2 ^ d - 1) - j) (iterate (times_x f d) j w) ≡ w
+      undo w hw = sym (iterate-add (times_x f d) ((2 ^ d - 1) - j) j w) ∙ ap (λ (n : ℕ). iterate (times_x f d) n w) (sub-add_cancel h) ∙ cycle w hw
 
-  pub power_nonzero : (j : ℕ) → iterate (timesX f d) j 1 ≢ 0
+  pub power_nonzero : (j : ℕ) → iterate (times_x f d) j 1 ≢ 0
   unfolding iterate
   power_nonzero zero e = omega (arith, e)
   power_nonzero (suc j) e =
       power_nonzero j
-      (iterate_injective 1 (iterate (timesX f d) j 1) 0 (omega (arith, two_below)) (power_below j) (pow_pos d) (e ∙ sym (linear_zero (timesX f d) (times_x_linear f d))))
+      (iterate_injective 1 (iterate (times_x f d) j 1) 0 (omega (arith, two_below)) (power_below j) (pow_pos d) (e ∙ sym (linear_zero (times_x f d) (times_x_linear f d))))
 
-  power-apart : (i j : ℕ) → i < j → j < (2 ^ d - 1) → iterate (timesX f d) i 1 ≢ iterate (timesX f d) j 1
+  power-apart : (i j : ℕ) → i < j → j < (2 ^ d - 1) → iterate (times_x f d) i 1 ≢ iterate (times_x f d) j 1
   power-apart i j h l e =
       power-first (j - i) (omega arith) (omega arith)
-      (sym (iterate_injective i 1 (iterate (timesX f d) (j - i) 1) (omega arith) two_below (power_below (j - i))
-      (e ∙ ap (λ (n : ℕ). iterate (timesX f d) n 1) (sym (add-sub_of_le {n = j} {m = i} (omega arith))) ∙ iterate-add (timesX f d) i (j - i) 1)))
+      (sym (iterate_injective i 1 (iterate (times_x f d) (j - i) 1) (omega arith) two_below (power_below (j - i))
+      (e ∙ ap (λ (n : ℕ). iterate (times_x f d) n 1) (sym (add-sub_of_le {n = j} {m = i} (omega arith))) ∙ iterate-add (times_x f d) i (j - i) 1)))
 
-  pub power_injective : (i j : ℕ) → i < (2 ^ d - 1) → j < (2 ^ d - 1) → iterate (timesX f d) i 1 ≡ iterate (timesX f d) j 1 → i ≡ j
+  pub power_injective : (i j : ℕ) → i < (2 ^ d - 1) → j < (2 ^ d - 1) → iterate (times_x f d) i 1 ≡ iterate (times_x f d) j 1 → i ≡ j
   power_injective i j hi hj e = go (ℕ_discrete i j) (dec_lt i j)
     where
       go : Dec (i ≡ j) → Dec (i < j) → i ≡ j
@@ -123,37 +123,37 @@ module _ (f d : ℕ) (P : Primitive f d) where
       go (no q) (no l) = absurd (power-apart j i (omega arith) hi (sym e))
 
   -- each number but 0 is a power
-  pub power-all : (a : ℕ) → a < 2 ^ d → a ≢ 0 → (j : ℕ) × (j < (2 ^ d - 1)) × (iterate (timesX f d) j 1 ≡ a)
+  pub power-all : (a : ℕ) → a < 2 ^ d → a ≢ 0 → (j : ℕ) × (j < (2 ^ d - 1)) × (iterate (times_x f d) j 1 ≡ a)
   power-all a h nz =
       let (j, l, e) =
-      pigeonhole (2 ^ d - 1) (λ j. pred (iterate (timesX f d) j 1))
+      pigeonhole (2 ^ d - 1) (λ j. pred (iterate (times_x f d) j 1))
       (λ i k. omega (arith, power_below i, power_nonzero i))
       (λ i k hi hk e. power_injective i k hi hk (omega (arith, e, power_nonzero i, power_nonzero k)))
       (pred a) (omega arith)
       in (j, l, omega (arith, e, power_nonzero j))
 
   -- times x^j is a product
-  pub iterate-mul : (j v : ℕ) → v < 2 ^ d → iterate (timesX f d) j v ≡ mul f d (iterate (timesX f d) j 1) v
+  pub iterate-mul : (j v : ℕ) → v < 2 ^ d → iterate (times_x f d) j v ≡ mul f d (iterate (times_x f d) j 1) v
   unfolding mul
   iterate-mul j v h =
-      ap (iterate (timesX f d) j) (sym (value_of_one v h)) ∙ iterate-poly_at j v 1
-      ∙ ap (poly_at (timesX f d) v) (sym (value_of_one (iterate (timesX f d) j 1) (power_below j))) ∙ poly_at_comm (timesX f d) (times_x_linear f d) v (iterate (timesX f d) j 1) 1
+      ap (iterate (times_x f d) j) (sym (value_of_one v h)) ∙ iterate-poly_at j v 1
+      ∙ ap (poly_at (times_x f d) v) (sym (value_of_one (iterate (times_x f d) j 1) (power_below j))) ∙ poly_at_comm (times_x f d) (times_x_linear f d) v (iterate (times_x f d) j 1) 1
 
   pub field : Field d (mul f d)
   unfolding mul
   field = record {
     one_below = two_below;
-    mul-below = λ a b. poly_at-below f d P.degree a (poly_at (timesX f d) b 1) (reduced b);
-    mul_comm = λ a b. poly_at_comm (timesX f d) (times_x_linear f d) a b 1;
+    mul-below = λ a b. poly_at-below f d P.degree a (poly_at (times_x f d) b 1) (reduced b);
+    mul_comm = λ a b. poly_at_comm (times_x f d) (times_x_linear f d) a b 1;
     mul_assoc = λ a b c.
-        poly_at_comm (timesX f d) (times_x_linear f d) (mul f d a b) c 1
-        ∙ ap (poly_at (timesX f d) c) (value_of_one (mul f d a b) (poly_at-below f d P.degree a (poly_at (timesX f d) b 1) (reduced b)))
-        ∙ poly_at_comm (timesX f d) (times_x_linear f d) c a (poly_at (timesX f d) b 1) ∙ ap (poly_at (timesX f d) a) (poly_at_comm (timesX f d) (times_x_linear f d) c b 1)
-        ∙ ap (poly_at (timesX f d) a) (sym (value_of_one (mul f d b c) (poly_at-below f d P.degree b (poly_at (timesX f d) c 1) (reduced c))));
-    mul-sum = λ a b c. ap (poly_at (timesX f d) a) (poly_at-sum (timesX f d) b c 1) ∙ poly_at_linear (timesX f d) (times_x_linear f d) a (poly_at (timesX f d) b 1) (poly_at (timesX f d) c 1);
-    mul-one = λ a h. poly_at-bit (timesX f d) 1 (poly_at (timesX f d) a 1) (le_refl 2) ∙ one-mul (poly_at (timesX f d) a 1) ∙ value_of_one a h;
+        poly_at_comm (times_x f d) (times_x_linear f d) (mul f d a b) c 1
+        ∙ ap (poly_at (times_x f d) c) (value_of_one (mul f d a b) (poly_at-below f d P.degree a (poly_at (times_x f d) b 1) (reduced b)))
+        ∙ poly_at_comm (times_x f d) (times_x_linear f d) c a (poly_at (times_x f d) b 1) ∙ ap (poly_at (times_x f d) a) (poly_at_comm (times_x f d) (times_x_linear f d) c b 1)
+        ∙ ap (poly_at (times_x f d) a) (sym (value_of_one (mul f d b c) (poly_at-below f d P.degree b (poly_at (times_x f d) c 1) (reduced c))));
+    mul-sum = λ a b c. ap (poly_at (times_x f d) a) (poly_at-sum (times_x f d) b c 1) ∙ poly_at_linear (times_x f d) (times_x_linear f d) a (poly_at (times_x f d) b 1) (poly_at (times_x f d) c 1);
+    mul-one = λ a h. poly_at-bit (times_x f d) 1 (poly_at (times_x f d) a 1) (le_refl 2) ∙ one-mul (poly_at (times_x f d) a 1) ∙ value_of_one a h;
     domain = λ a b ha hb nz e.
         let (j, l, q) = power-all a ha nz in
         iterate_injective j b 0 (omega arith) hb (pow_pos d)
-        (iterate-mul j b hb ∙ ap (λ (n : ℕ). mul f d n b) q ∙ e ∙ sym (linear_zero (iterate (timesX f d) j) (iterate-times_x_linear f d j)));
+        (iterate-mul j b hb ∙ ap (λ (n : ℕ). mul f d n b) q ∙ e ∙ sym (linear_zero (iterate (times_x f d) j) (iterate-times_x_linear f d j)));
   }

@@ -8,8 +8,8 @@ use Prim.Native.Nat.{ℕ, zero, suc, ◌+◌, ◌*◌, ◌/◌, ◌%◌, ◌^◌
 use native.Mathlib.Nat.{zero-lt-suc, div-eq_of_lt, one-mul, le_refl, pow-suc, suc-add, mul-suc, mul-zero, lt_of_lt_of_le, div-div-eq-div-mul, mul-div-mul_right, zero-add, div-one, eq-or-lt_of_le, pow-succ'}
 use native.Mathlib.Omega.{arith}
 use lib.Pow.{pow_mono}
-use Rattle.bch.specs.Polynomial.{◌⊕◌, ◌⊗◌, timesX, iterate, poly_at}
-use Rattle.bch.specs.Field.{fieldPoly, value_at}
+use Rattle.bch.specs.Polynomial.{◌⊕◌, ◌⊗◌, times_x, iterate, poly_at}
+use Rattle.bch.specs.Field.{field_poly, value_at}
 use Rattle.bch.specs.Code.{minimal_poly, generator}
 use Rattle.bch.proofs.Sum.{mod2_bit, bit_below, ⊕-zero-right, ⊕_shift}
 use Rattle.bch.proofs.Polynomial.{linear_zero, poly_at_linear, poly_at_comm, poly_at-product, product-bit, product-horner}
@@ -42,16 +42,16 @@ generator_roots m zero lo hi ht fits i o l = absurd (omega arith)
 generator_roots m (suc t) lo hi ht fits i o l =
     poly_at-product X lin G M 1
     ∙ ⊎_elim
-    (λ (e : i ≡ 2 * t + 1). ap (poly_at X G) (ap (λ n. poly_at (iterate (timesX (fieldPoly m) m) n) M 1) e ∙ last) ∙ linear_zero (poly_at X G) (poly_at_linear X lin G))
+    (λ (e : i ≡ 2 * t + 1). ap (poly_at X G) (ap (λ n. poly_at (iterate (times_x (field_poly m) m) n) M 1) e ∙ last) ∙ linear_zero (poly_at X G) (poly_at_linear X lin G))
     (λ (k : i < 2 * t + 1).
     poly_at_comm X lin G M 1 ∙ ap (poly_at X M) (generator_roots m t lo hi (omega arith) (omega arith) i o (omega arith)) ∙ linear_zero (poly_at X M) (poly_at_linear X lin M))
     (eq-or-lt_of_le {n = i} {m = 2 * t + 1} (omega arith))
   where
     X : ℕ → ℕ
-    X = iterate (timesX (fieldPoly m) m) i
+    X = iterate (times_x (field_poly m) m) i
 
     lin : (a b : ℕ) → X (a ⊕ b) ≡ X a ⊕ X b
-    lin = iterate-times_x_linear (fieldPoly m) m i
+    lin = iterate-times_x_linear (field_poly m) m i
 
     G : ℕ
     G = generator m t
@@ -59,5 +59,5 @@ generator_roots m (suc t) lo hi ht fits i o l =
     M : ℕ
     M = minimal_poly m (2 * t + 1)
 
-    last : poly_at (iterate (timesX (fieldPoly m) m) (2 * t + 1)) M 1 ≡ 0
+    last : poly_at (iterate (times_x (field_poly m) m) (2 * t + 1)) M 1 ≡ 0
     last = (minimal m t lo hi ht fits).vanishes

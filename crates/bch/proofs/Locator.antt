@@ -20,8 +20,8 @@ use native.Mathlib.Nat.{add_comm, zero-add, zero-mul, mul-zero, one-mul, suc-mul
 use native.Mathlib.Decide.{ℕ_discrete}
 use native.Mathlib.Omega.{arith}
 use lib.ListN.{length, get_or, take, drop}
-use Rattle.bch.specs.Polynomial.{◌⊕◌, timesX, iterate}
-use Rattle.bch.specs.Field.{fieldPoly, power, powerTable}
+use Rattle.bch.specs.Polynomial.{◌⊕◌, times_x, iterate}
+use Rattle.bch.specs.Field.{field_poly, power, power_table}
 use Rattle.bch.specs.Locator.{LogTable, Solution, HalfTable, CubicTable, FieldTables}
 use Rattle.bch.proofs.Sum.{⊕·simp, ⊕-self, ⊕-self-left, ⊕_equal, ⊕-below}
 use Rattle.bch.proofs.Polynomial.{iterate-add}
@@ -31,18 +31,18 @@ use Rattle.bch.proofs.Algebra.{sum-mul, square_sum, cubes, cancel, two_roots}
 
 module _ (m : ℕ) (low : 4 ≤ m) (high : m ≤ 10) where
   -- ---- the powers of the root
-  F : Field m (mul (fieldPoly m) m)
+  F : Field m (mul (field_poly m) m)
   F = field_laws m low high
 
   pub power_below : (j : ℕ) → power m j < 2 ^ m
   unfolding power
-  power_below = x-power-below (fieldPoly m) m (primitive m low high)
+  power_below = x-power-below (field_poly m) m (primitive m low high)
 
   pub power_cycle : (j : ℕ) → power m (j + (2 ^ m - 1)) ≡ power m j
   unfolding power
   power_cycle j =
-      ap (power m) (add_comm j (2 ^ m - 1)) ∙ iterate-add (timesX (fieldPoly m) m) (2 ^ m - 1) j 1
-      ∙ cycle (fieldPoly m) m (primitive m low high) (power m j) (power_below j)
+      ap (power m) (add_comm j (2 ^ m - 1)) ∙ iterate-add (times_x (field_poly m) m) (2 ^ m - 1) j 1
+      ∙ cycle (field_poly m) m (primitive m low high) (power m j) (power_below j)
 
   pub power-rounds : (q r : ℕ) → power m (q * (2 ^ m - 1) + r) ≡ power m r
   power-rounds zero r = ap (power m) (ap (λ n. n + r) (zero-mul (2 ^ m - 1)) ∙ zero-add r)
@@ -55,29 +55,29 @@ module _ (m : ℕ) (low : 4 ≤ m) (high : m ≤ 10) where
 
   pub power_one_only : (i j : ℕ) → i < 2 ^ m - 1 → j < 2 ^ m - 1 → power m i ≡ power m j → i ≡ j
   unfolding power
-  power_one_only = power_injective (fieldPoly m) m (primitive m low high)
+  power_one_only = power_injective (field_poly m) m (primitive m low high)
 
   pub power-not-zero : (j : ℕ) → power m j ≢ 0
   unfolding power
-  power-not-zero = power_nonzero (fieldPoly m) m (primitive m low high)
+  power-not-zero = power_nonzero (field_poly m) m (primitive m low high)
 
   -- the product of the field
   infixl 70 ◌·◌
   abbrev ◌·◌ : ℕ → ℕ → ℕ
-  a · b = mul (fieldPoly m) m a b
+  a · b = mul (field_poly m) m a b
 
-  pub power-add : (i j : ℕ) → power m (i + j) ≡ mul (fieldPoly m) m (power m i) (power m j)
+  pub power-add : (i j : ℕ) → power m (i + j) ≡ mul (field_poly m) m (power m i) (power m j)
   unfolding power
-  power-add i j = iterate-add (timesX (fieldPoly m) m) i j 1 ∙ iterate-mul (fieldPoly m) m (primitive m low high) i (power m j) (power_below j)
+  power-add i j = iterate-add (times_x (field_poly m) m) i j 1 ∙ iterate-mul (field_poly m) m (primitive m low high) i (power m j) (power_below j)
 
-  pub power_square : (e : ℕ) → power m (2 * e) ≡ mul (fieldPoly m) m (power m e) (power m e)
+  pub power_square : (e : ℕ) → power m (2 * e) ≡ mul (field_poly m) m (power m e) (power m e)
   power_square e = ap (power m) (omega arith) ∙ power-add e e
 
-  pub power_cube : (e : ℕ) → power m (3 * e) ≡ mul (fieldPoly m) m (power m e) (mul (fieldPoly m) m (power m e) (power m e))
+  pub power_cube : (e : ℕ) → power m (3 * e) ≡ mul (field_poly m) m (power m e) (mul (field_poly m) m (power m e) (power m e))
   power_cube e = ap (power m) (omega arith) ∙ power-add e (e + e) ∙ ap (λ n. power m e · n) (power-add e e)
 
   pub power_fifth : (e : ℕ)
-      → power m (5 * e) ≡ mul (fieldPoly m) m (power m e) (mul (fieldPoly m) m (mul (fieldPoly m) m (power m e) (power m e)) (mul (fieldPoly m) m (power m e) (power m e)))
+      → power m (5 * e) ≡ mul (field_poly m) m (power m e) (mul (field_poly m) m (mul (field_poly m) m (power m e) (power m e)) (mul (field_poly m) m (power m e) (power m e)))
   power_fifth e =
       let q : 5 * e ≡ e + (2 * e + 2 * e) = omega arith in
       ap (power m) q ∙ power-add e (2 * e + 2 * e)
@@ -208,7 +208,7 @@ module _ {m : ℕ} {field : List ℕ} (T : FieldTables m field) where
   part_same : (k a i b : ℕ) → k ≡ i → a ≡ b → take k (drop a field) ≡ take i (drop b field)
   part_same k a i b e f = ap₂ (λ (k a : ℕ). take k (drop a field)) e f
 
-  pub quarter_powers : take (length field / 4 - 1 - 0) field ≡ powerTable m (2 ^ m - 1)
+  pub quarter_powers : take (length field / 4 - 1 - 0) field ≡ power_table m (2 ^ m - 1)
   quarter_powers = part_same (q - 1 - 0) 0 (2 ^ m - 1) 0 (omega (arith, q_is)) refl ∙ T.powers
 
   pub quarter_logs : LogTable m (take (2 * (length field / 4) - length field / 4) (drop (length field / 4) field))

@@ -15,8 +15,8 @@ use lib.Pow.{pow_mono, pow-add}
 use lib.Dec.{T, eqb, leb, eqb→eq, leb→le}
 use lib.Ieee.Fits.{and_l, and_r}
 use lib.ListN.{get_or}
-use Rattle.bch.specs.Polynomial.{◌⊕◌, timesX, iterate, poly_at, poly_at_digits}
-use Rattle.bch.specs.Field.{fieldPoly, value_at}
+use Rattle.bch.specs.Polynomial.{◌⊕◌, times_x, iterate, poly_at, poly_at_digits}
+use Rattle.bch.specs.Field.{field_poly, value_at}
 use Rattle.bch.specs.Code.{least_from, minimal_poly}
 use Rattle.bch.proofs.Tests.{or_r, all_from, all-from, least_is}
 use Rattle.bch.proofs.Sum.{⊕-self, ⊕_equal, ⊕_shift}
@@ -31,7 +31,7 @@ keeps K lin m h p l = linear_bits m K lin (λ k. 2 ^ k) h p l ∙ sym (linear_bi
 -- ---- a polynomial c of degree m that is 0 at X, and no polynomial of a lower degree is, is the least
 -- X undone: v as a polynomial in the product with q modulo c
 undo : (c q m v : ℕ) → ℕ
-undo c q m v = poly_at (poly_at (timesX c m) q) v 1
+undo c q m v = poly_at (poly_at (times_x c m) q) v 1
 
 module _ (X : ℕ → ℕ) (m c q : ℕ) (pos : 0 < m) (deg : c / 2 ^ m ≡ 1) (zero-at : poly_at X c 1 ≡ 0)
     (undone : (k : ℕ) → k < m → undo c q m (poly_at X (2 ^ k) 1) ≡ 2 ^ k) where
@@ -39,12 +39,12 @@ module _ (X : ℕ → ℕ) (m c q : ℕ) (pos : 0 < m) (deg : c / 2 ^ m ≡ 1) (
   unfolding undo
   undo_all =
       keeps (λ p. undo c q m (poly_at X p 1))
-      (λ a b. ap (undo c q m) (poly_at-sum X a b 1) ∙ poly_at-sum (poly_at (timesX c m) q) (poly_at X a 1) (poly_at X b 1) 1)
+      (λ a b. ap (undo c q m) (poly_at-sum X a b 1) ∙ poly_at-sum (poly_at (times_x c m) q) (poly_at X a 1) (poly_at X b 1) 1)
       m undone
 
   no_root : (p : ℕ) → p < 2 ^ m → poly_at X p 1 ≡ 0 → p ≡ 0
   unfolding undo
-  no_root p h e = sym (undo_all p h) ∙ ap (undo c q m) e ∙ poly_at-zero (poly_at (timesX c m) q) 1
+  no_root p h e = sym (undo_all p h) ∙ ap (undo c q m) e ∙ poly_at-zero (poly_at (times_x c m) q) 1
 
   only_root : (p : ℕ) → p / 2 ^ m ≡ 1 → poly_at X p 1 ≡ 0 → p ≡ c
   only_root p h e =
@@ -89,7 +89,7 @@ minimal_test m t =
     || (eqb (c / 2 ^ m) 1 && (eqb (value_at m (2 * t + 1) c) 0 && all_from (λ k. eqb (undo c q m (value_at m (2 * t + 1) (2 ^ k))) (2 ^ k)) 0 m))
 
 tested : T (all_from (λ m. all_from (minimal_test m) 0 3) 4 7)
-unfolding all_from minimal_test minimals undoing undo value_at fieldPoly poly_at poly_at_digits iterate timesX ◌⊕◌
+unfolding all_from minimal_test minimals undoing undo value_at field_poly poly_at poly_at_digits iterate times_x ◌⊕◌
 tested = tt
 
 pub record Minimal (m i c : ℕ) : Type 0 where
@@ -103,7 +103,7 @@ minimal m t lo hi ht fits =
     let c : ℕ = table_at minimals m t in
     let q : ℕ = table_at undoing m t in
     let i : ℕ = 2 * t + 1 in
-    let X : ℕ → ℕ = iterate (timesX (fieldPoly m) m) i in
+    let X : ℕ → ℕ = iterate (times_x (field_poly m) m) i in
     let row = all-from (λ m. all_from (minimal_test m) 0 3) 4 7 tested m lo (omega arith) in
     let t₁ : T (minimal_test m t) = all-from (minimal_test m) 0 3 row t zero-le (omega arith) in
     let t₂ = or_r (leb (2 ^ m) (2 * (m * suc t) + 2)) _ t₁ (λ l. omega (arith, leb→le (2 ^ m) (2 * (m * suc t) + 2) l)) in

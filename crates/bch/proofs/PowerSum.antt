@@ -15,7 +15,7 @@ use lib.Arith.{lt-one}
 use lib.Pow.{pow_mono}
 use lib.ListN.{length, get_or, replicate, length-append, length-replicate, get_or-replicate, get_or-append}
 use lib.Seq.{get_or-append-add}
-use Rattle.bch.specs.Polynomial.{Bits, ◌⊕◌, timesX, iterate, horner, remainder, bits_of}
+use Rattle.bch.specs.Polynomial.{Bits, ◌⊕◌, times_x, iterate, horner, remainder, bits_of}
 use Rattle.bch.specs.Code.{parity}
 use Rattle.bch.specs.Powers.{power_mod, xor_sum}
 use Rattle.bch.proofs.Sum.{mod2_bit, ⊕_assoc, ⊕_comm, ⊕-self, ⊕-zero-right, ⊕_double}
@@ -72,7 +72,7 @@ pub remainder-powers : (g r : ℕ) (w : List ℕ) → Bits w → remainder g r w
 unfolding remainder power_mod horner xor_sum
 remainder-powers g r [] h = refl
 remainder-powers g r (b ∷ w) h =
-    let T : ℕ → ℕ = timesX g r in
+    let T : ℕ → ℕ = times_x g r in
     horner_cons T (times_x_linear g r) b w
     ∙ ap₂ ◌⊕◌
     (ap (iterate T (length w)) (sym (mul-one b)) ∙ linear_bit (iterate T (length w)) (iterate-times_x_linear g r (length w)) b 1 (h 0)

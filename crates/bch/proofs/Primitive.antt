@@ -10,33 +10,33 @@ use Prim.Native.Nat.{ℕ, ◌-◌, ◌/◌, ◌^◌, ◌≤◌, ◌<◌}
 use native.Mathlib.Omega.{arith}
 use lib.Dec.{T, eqb, ltb, eqb→eq, ltb→lt}
 use lib.Ieee.Fits.{and_l, and_r}
-use Rattle.bch.specs.Polynomial.{◌⊕◌, timesX}
-use Rattle.bch.specs.Field.{fieldPoly, power}
+use Rattle.bch.specs.Polynomial.{◌⊕◌, times_x}
+use Rattle.bch.specs.Field.{field_poly, power}
 use Rattle.bch.proofs.Tests.{all_from, all-from}
 use Rattle.bch.proofs.Field.{comes_back, Primitive, Field, mul, field, power-all}
 
 primitive_test : ℕ → Bool
 primitive_test m =
-    ltb 0 m && (eqb (fieldPoly m / 2 ^ m) 1 && comes_back (timesX (fieldPoly m) m) (2 ^ m - 2) (timesX (fieldPoly m) m 1))
+    ltb 0 m && (eqb (field_poly m / 2 ^ m) 1 && comes_back (times_x (field_poly m) m) (2 ^ m - 2) (times_x (field_poly m) m 1))
 
 seven : T (all_from primitive_test 4 7)
-unfolding all_from primitive_test comes_back timesX fieldPoly ◌⊕◌
+unfolding all_from primitive_test comes_back times_x field_poly ◌⊕◌
 seven = tt
 
-pub primitive : (m : ℕ) → 4 ≤ m → m ≤ 10 → Primitive (fieldPoly m) m
+pub primitive : (m : ℕ) → 4 ≤ m → m ≤ 10 → Primitive (field_poly m) m
 unfolding primitive_test
 primitive m lo hi =
     let t : T (primitive_test m) = all-from primitive_test 4 7 seven m lo (omega arith) in
     let u = and_r (ltb 0 m) _ t in
     record {
       positive = ltb→lt 0 m (and_l (ltb 0 m) _ t);
-      degree = eqb→eq (fieldPoly m / 2 ^ m) 1 (and_l (eqb (fieldPoly m / 2 ^ m) 1) _ u);
-      returns = and_r (eqb (fieldPoly m / 2 ^ m) 1) _ u;
+      degree = eqb→eq (field_poly m / 2 ^ m) 1 (and_l (eqb (field_poly m / 2 ^ m) 1) _ u);
+      returns = and_r (eqb (field_poly m / 2 ^ m) 1) _ u;
     }
 
-pub field_laws : (m : ℕ) → 4 ≤ m → m ≤ 10 → Field m (mul (fieldPoly m) m)
-field_laws m lo hi = field (fieldPoly m) m (primitive m lo hi)
+pub field_laws : (m : ℕ) → 4 ≤ m → m ≤ 10 → Field m (mul (field_poly m) m)
+field_laws m lo hi = field (field_poly m) m (primitive m lo hi)
 
 pub every_power : (m : ℕ) → 4 ≤ m → m ≤ 10 → (a : ℕ) → a < 2 ^ m → a ≢ 0 → (j : ℕ) × (j < 2 ^ m - 1) × (power m j ≡ a)
 unfolding power
-every_power m lo hi = power-all (fieldPoly m) m (primitive m lo hi)
+every_power m lo hi = power-all (field_poly m) m (primitive m lo hi)

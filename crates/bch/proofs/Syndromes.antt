@@ -12,8 +12,8 @@ use native.Mathlib.Nat.{mul_comm, one-mul, le_trans}
 use native.Mathlib.Omega.{arith}
 use lib.Pow.{pow_mono}
 use lib.Bits.{xor_block}
-use Rattle.bch.specs.Polynomial.{◌⊕◌, timesX, iterate}
-use Rattle.bch.specs.Field.{fieldPoly, power, value_at}
+use Rattle.bch.specs.Polynomial.{◌⊕◌, times_x, iterate}
+use Rattle.bch.specs.Field.{field_poly, power, value_at}
 use Rattle.bch.specs.Code.{generator}
 use Rattle.bch.specs.Powers.{power_mod, xor_sum}
 use Rattle.bch.specs.Locator.{syndromes, power_syndromes}
@@ -28,30 +28,30 @@ use Rattle.bch.proofs.Bch.{Code}
 
 value-sum : (m i a b : ℕ) → value_at m i (a ⊕ b) ≡ value_at m i a ⊕ value_at m i b
 unfolding value_at
-value-sum m i a b = poly_at-sum (iterate (timesX (fieldPoly m) m) i) a b 1
+value-sum m i a b = poly_at-sum (iterate (times_x (field_poly m) m) i) a b 1
 
 -- the powers of a power of the root
-power-power : (m i e : ℕ) → iterate (iterate (timesX (fieldPoly m) m) i) e 1 ≡ power m (i * e)
+power-power : (m i e : ℕ) → iterate (iterate (times_x (field_poly m) m) i) e 1 ≡ power m (i * e)
 unfolding power
-power-power m i e = iterate-iterate (timesX (fieldPoly m) m) i e 1 ∙ ap (power m) (mul_comm e i)
+power-power m i e = iterate-iterate (times_x (field_poly m) m) i e 1 ∙ ap (power m) (mul_comm e i)
 
 value-power : (m i e : ℕ) → value_at m i (2 ^ e) ≡ power m (i * e)
 unfolding value_at
-value-power m i e = power-value (iterate (timesX (fieldPoly m) m) i) (iterate-times_x_linear (fieldPoly m) m i) e ∙ power-power m i e
+value-power m i e = power-value (iterate (times_x (field_poly m) m) i) (iterate-times_x_linear (field_poly m) m i) e ∙ power-power m i e
 
 pub value-bits : (m i r x : ℕ) → x < 2 ^ r → value_at m i x ≡ xor_sum r (λ k. (x / 2 ^ k % 2) * power m (i * k))
 value-bits m i r = linear_bits r (value_at m i) (value-sum m i) (λ k. power m (i * k)) (λ k l. value-power m i k)
 
 value_root : (m i g r : ℕ) → value_at m i g ≡ 0 → (e : ℕ) → value_at m i (power_mod g r e) ≡ power m (i * e)
 unfolding value_at power_mod
-value_root m i g r z e = power_root (iterate (timesX (fieldPoly m) m) i) (iterate-times_x_linear (fieldPoly m) m i) g r z e ∙ power-power m i e
+value_root m i g r z e = power_root (iterate (times_x (field_poly m) m) i) (iterate-times_x_linear (field_poly m) m i) g r z e ∙ power-power m i e
 
 module _ (m : ℕ) (low : 4 ≤ m) (high : m ≤ 10) where
   pub value-below : (i p : ℕ) → value_at m i p < 2 ^ m
   unfolding value_at
   value-below i p =
-      poly_at-within m (iterate (timesX (fieldPoly m) m) i) (iterate-times_x-below (fieldPoly m) m (primitive m low high).degree i) p 1
-      (two_below (fieldPoly m) m (primitive m low high))
+      poly_at-within m (iterate (times_x (field_poly m) m) i) (iterate-times_x-below (field_poly m) m (primitive m low high).degree i) p 1
+      (two_below (field_poly m) m (primitive m low high))
 
   value-small : (i p : ℕ) → value_at m i p < 65536
   value-small i p = le_trans (value-below i p) (pow_mono {i = m} {j = 16} (omega arith))

@@ -15,7 +15,7 @@ use lib.Arith.{digits_lt}
 use lib.Pow.{pow_pos, pow_mono, mod-pow-add, high, low}
 use lib.Bits.{xor_shifted}
 use lib.ListN.{length, replicate, length-replicate, length-append}
-use Rattle.bch.specs.Polynomial.{Bits, ◌⊕◌, timesX, iterate, horner, word_poly, remainder, bits_of}
+use Rattle.bch.specs.Polynomial.{Bits, ◌⊕◌, times_x, iterate, horner, word_poly, remainder, bits_of}
 use Rattle.bch.specs.Code.{parity}
 use Rattle.bch.proofs.Store.{zeros-at}
 use Rattle.bch.proofs.Sum.{mod2_bit, ⊕-self, ⊕-zero-right, ⊕-below, ⊕_equal, ⊕_double, ⊕_shift, ⊕-mod}
@@ -35,19 +35,19 @@ horner-zeros T z (suc n) = ap (λ s. horner T s (replicate n 0)) (⊕-zero-right
 
 -- ---- short words have nothing to take away
 module _ (g r : ℕ) where
-  short-from : (w : List ℕ) → Bits w → (k s : ℕ) → s < 2 ^ k → k + length w ≤ r → horner (timesX g r) s w ≡ horner (λ v. v * 2) s w
+  short-from : (w : List ℕ) → Bits w → (k s : ℕ) → s < 2 ^ k → k + length w ≤ r → horner (times_x g r) s w ≡ horner (λ v. v * 2) s w
   unfolding horner
   short-from [] hw k s h l = refl
   short-from (b ∷ w) hw k s h l =
       let dbl : s * 2 < 2 ^ suc k = omega (arith, pow-suc 2 k) in
-      ap (λ n. horner (timesX g r) (n ⊕ b) w) (times_x-small g r s (lt_of_lt_of_le dbl (pow_mono (omega arith))))
+      ap (λ n. horner (times_x g r) (n ⊕ b) w) (times_x-small g r s (lt_of_lt_of_le dbl (pow_mono (omega arith))))
       ∙ short-from w (λ k. hw (suc k)) (suc k) (s * 2 ⊕ b) (⊕-below (suc k) (s * 2) b dbl (le_trans (hw 0) (pow_mono (zero-lt-suc k)))) (omega arith)
 
   -- the end of a word adds to what the word would leave with zeros there
   remainder-end : (u p : List ℕ) → Bits p → length p ≡ r → remainder g r (u ++ p) ≡ remainder g r (u ++ replicate r 0) ⊕ word_poly p
   unfolding remainder word_poly
   remainder-end u p hp e =
-      let T : ℕ → ℕ = timesX g r in
+      let T : ℕ → ℕ = times_x g r in
       let s : ℕ = horner T 0 u in
       let zs : List ℕ = replicate r 0 in
       let end : (v : List ℕ) → horner T s v ≡ iterate T (length v) s ⊕ horner T 0 v = λ v. ap (λ n. horner T n v) (sym (⊕-zero-right s)) ∙ horner_shift T (times_x_linear g r) v s 0 in

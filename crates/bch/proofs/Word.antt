@@ -12,7 +12,7 @@ use Prim.Native.Nat.{ℕ, zero, suc, ◌*◌, ◌/◌, ◌%◌, ◌^◌, ◌<◌
 use native.Mathlib.Nat.{one-mul, mul-one, mul-zero, suc_inj, suc-ne-zero, le_refl, le_trans}
 use lib.Pow.{pow_pos, pow_mono}
 use lib.ListN.{length}
-use Rattle.bch.specs.Polynomial.{Bits, ◌⊕◌, ◌⊗◌, timesX, iterate, poly_at, horner, word_poly, remainder}
+use Rattle.bch.specs.Polynomial.{Bits, ◌⊕◌, ◌⊗◌, times_x, iterate, poly_at, horner, word_poly, remainder}
 use Rattle.bch.proofs.Sum.{⊕·simp, mod2_bit, ⊕_assoc, ⊕_comm, ⊕-self, ⊕-zero-right, ⊕_swap, ⊕-below, ⊕_double}
 use Rattle.bch.proofs.Polynomial.{linear_zero, linear_bit, iterate_inner, iterate_double, poly_at-bit, poly_at_double, poly_at-sum, poly_at_linear, poly_at-map, poly_at-product, poly_at-zero, product_double, product-sum_l, product-bit, product-zero}
 use Rattle.bch.proofs.Modulus.{times_x_linear, times_x-below, poly_at_modulus}
@@ -78,8 +78,8 @@ module _ (T : ℕ → ℕ) (lin : (a b : ℕ) → T (a ⊕ b) ≡ T a ⊕ T b) w
   double_stands : (s : ℕ) → poly_at T (s * 2) 1 ≡ T (poly_at T s 1)
   double_stands s = poly_at_double T s 1 ∙ sym (poly_at-map T lin s 1)
 
-  root_stands : (g r : ℕ) → poly_at T g 1 ≡ 0 → (s : ℕ) → poly_at T (timesX g r s) 1 ≡ T (poly_at T s 1)
-  unfolding timesX
+  root_stands : (g r : ℕ) → poly_at T g 1 ≡ 0 → (s : ℕ) → poly_at T (times_x g r s) 1 ≡ T (poly_at T s 1)
+  unfolding times_x
   root_stands g r z s =
       poly_at-sum T (s * 2) ((s * 2 / 2 ^ r % 2) * g) 1
       ∙ ap₂ ◌⊕◌ (double_stands s)
@@ -89,11 +89,11 @@ module _ (T : ℕ → ℕ) (lin : (a b : ℕ) → T (a ⊕ b) ≡ T a ⊕ T b) w
   -- where g is 0, the remainder by g has the word's value
   pub remainder_root : (g r : ℕ) → poly_at T g 1 ≡ 0 → (w : List ℕ) → Bits w → poly_at T (remainder g r w) 1 ≡ horner T 0 w
   unfolding remainder
-  remainder_root g r z w hw = value (timesX g r) (root_stands g r z) w hw
+  remainder_root g r z w hw = value (times_x g r) (root_stands g r z) w hw
 
   -- and so has a power of x modulo g
-  pub power_root : (g r : ℕ) → poly_at T g 1 ≡ 0 → (e : ℕ) → poly_at T (iterate (timesX g r) e 1) 1 ≡ iterate T e 1
-  power_root g r z = stands_power (timesX g r) (root_stands g r z)
+  pub power_root : (g r : ℕ) → poly_at T g 1 ≡ 0 → (e : ℕ) → poly_at T (iterate (times_x g r) e 1) 1 ≡ iterate T e 1
+  power_root g r z = stands_power (times_x g r) (root_stands g r z)
 
   pub power-value : (e : ℕ) → poly_at T (2 ^ e) 1 ≡ iterate T e 1
   power-value e = ap (λ n. poly_at T n 1) (sym (iterate_double e 1 ∙ one-mul (2 ^ e))) ∙ stands_power (λ v. v * 2) double_stands e
@@ -101,18 +101,18 @@ module _ (T : ℕ → ℕ) (lin : (a b : ℕ) → T (a ⊕ b) ≡ T a ⊕ T b) w
 -- ---- division
 module _ (g r : ℕ) where
   divide_step : (q s b : ℕ)
-      → (q ⊗ g ⊕ s) * 2 ⊕ b ≡ (q * 2 ⊕ s * 2 / 2 ^ r % 2) ⊗ g ⊕ (timesX g r s ⊕ b)
-  unfolding timesX
+      → (q ⊗ g ⊕ s) * 2 ⊕ b ≡ (q * 2 ⊕ s * 2 / 2 ^ r % 2) ⊗ g ⊕ (times_x g r s ⊕ b)
+  unfolding times_x
   divide_step q s b =
       let k : ℕ = s * 2 / 2 ^ r % 2 in
       ap (λ n. n ⊕ b) (⊕_double (q ⊗ g) s ∙ ap (λ n. n ⊕ s * 2) (sym (product_double q g)))
       ∙ sym (ap (λ n. n ⊕ (s * 2 ⊕ k * g ⊕ b)) (product-sum_l (q * 2) k g ∙ ap (λ n. q * 2 ⊗ g ⊕ n) (product-bit k g (mod2_bit (s * 2 / 2 ^ r)))) ∙ simp ⊕·simp)
 
-  divide_from : (w : List ℕ) (q s : ℕ) → (p : ℕ) × (horner (λ v. v * 2) (q ⊗ g ⊕ s) w ≡ p ⊗ g ⊕ horner (timesX g r) s w)
+  divide_from : (w : List ℕ) (q s : ℕ) → (p : ℕ) × (horner (λ v. v * 2) (q ⊗ g ⊕ s) w ≡ p ⊗ g ⊕ horner (times_x g r) s w)
   unfolding horner
   divide_from [] q s = (q, refl)
   divide_from (b ∷ w) q s =
-      let (p, e) = divide_from w (q * 2 ⊕ s * 2 / 2 ^ r % 2) (timesX g r s ⊕ b) in
+      let (p, e) = divide_from w (q * 2 ⊕ s * 2 / 2 ^ r % 2) (times_x g r s ⊕ b) in
       (p, ap (λ n. horner (λ v. v * 2) n w) (divide_step q s b) ∙ e)
 
   -- every word is a multiple of g and its remainder
@@ -129,15 +129,15 @@ module _ (g r : ℕ) where
     pub divides : (w : List ℕ) → Bits w → (p : ℕ) → word_poly w ≡ p ⊗ g → remainder g r w ≡ 0
     unfolding word_poly remainder
     divides w hw p e =
-        let T : ℕ → ℕ = timesX g r in
+        let T : ℕ → ℕ = times_x g r in
         sym (value T (times_x_linear g r) (λ v. v * 2) (double_stands T (times_x_linear g r)) w hw)
         ∙ ap (λ n. poly_at T n 1) e ∙ poly_at-product T (times_x_linear g r) p g 1 ∙ ap (poly_at T p) (poly_at_modulus g r deg pos) ∙ linear_zero (poly_at T p) (poly_at_linear T (times_x_linear g r) p)
 
-    below-from : (w : List ℕ) → Bits w → (s : ℕ) → s < 2 ^ r → horner (timesX g r) s w < 2 ^ r
+    below-from : (w : List ℕ) → Bits w → (s : ℕ) → s < 2 ^ r → horner (times_x g r) s w < 2 ^ r
     unfolding horner
     below-from [] hw s h = h
     below-from (b ∷ w) hw s h =
-        below-from w (λ k. hw (suc k)) (timesX g r s ⊕ b) (⊕-below r (timesX g r s) b (times_x-below g r deg s h) (le_trans (hw 0) (pow_mono pos)))
+        below-from w (λ k. hw (suc k)) (times_x g r s ⊕ b) (⊕-below r (times_x g r s) b (times_x-below g r deg s h) (le_trans (hw 0) (pow_mono pos)))
 
     pub remainder-below : (w : List ℕ) → Bits w → remainder g r w < 2 ^ r
     unfolding remainder
@@ -145,4 +145,4 @@ module _ (g r : ℕ) where
 
 pub remainder-sum : (g r : ℕ) (v w : List ℕ) → length v ≡ length w → remainder g r (sum_word v w) ≡ remainder g r v ⊕ remainder g r w
 unfolding remainder
-remainder-sum g r v w h = ap (λ n. horner (timesX g r) n (sum_word v w)) (sym (⊕-self 0)) ∙ horner-sum (timesX g r) (times_x_linear g r) v w 0 0 h
+remainder-sum g r v w h = ap (λ n. horner (times_x g r) n (sum_word v w)) (sym (⊕-self 0)) ∙ horner-sum (times_x g r) (times_x_linear g r) v w 0 0 h

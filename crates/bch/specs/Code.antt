@@ -1,7 +1,7 @@
 -- The BCH codes: minimal polynomials, generators, codewords, parity and distance.
---   minimalPoly m i    the minimal polynomial of power i of the root
+--   minimal_poly m i    the minimal polynomial of power i of the root
 --   generator m t      the generator of the code that corrects t errors
---   isCodeword g r w   the test whether the generator g, of degree r, divides the word w
+--   is_codeword g r w   the test whether the generator g, of degree r, divides the word w
 --   parity g r u       the r bits that make a codeword of the information u
 --   distance v w       the number of positions at which two words differ
 -- Assumes nothing.

@@ -13,7 +13,7 @@
 -- Assumes nothing.
 use Rattle.std.specs.Prelude.{◌≡◌, ◌≢◌, List, ℕ, ◌+◌, ◌-◌, ◌*◌, ◌^◌, ◌<◌, length, get_or, take, drop}
 use Rattle.bch.specs.Polynomial.{◌⊕◌}
-use Rattle.bch.specs.Field.{power, powerTable, value_at}
+use Rattle.bch.specs.Field.{power, power_table, value_at}
 
 pub record LogTable (m : ℕ) (logs : List ℕ) : Type 0 where
   pub long : length logs ≡ 2 ^ m
@@ -39,7 +39,7 @@ CubicTable m = SolutionTable m 2
 -- the last entry of each quarter but the second can be anything
 pub record FieldTables (m : ℕ) (field : List ℕ) : Type 0 where
   pub long : length field ≡ 4 * 2 ^ m
-  pub powers : take (2 ^ m - 1) field ≡ powerTable m (2 ^ m - 1)
+  pub powers : take (2 ^ m - 1) field ≡ power_table m (2 ^ m - 1)
   pub logs : LogTable m (take (2 ^ m) (drop (2 ^ m) field))
   pub halves : HalfTable m (take (2 ^ m - 1) (drop (2 * 2 ^ m) field))
   pub cubics : CubicTable m (take (2 ^ m - 1) (drop (3 * 2 ^ m) field))

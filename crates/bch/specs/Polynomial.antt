@@ -1,12 +1,12 @@
 -- Polynomials over GF(2), and words as polynomials. A polynomial is a number, bit i for x^i.
 --   a ⊕ b             the sum
---   timesX f d v      x times v modulo a polynomial f of degree d
+--   times_x f d v      x times v modulo a polynomial f of degree d
 --   iterate T j v     the map T applied j times
---   polyAt T p v      p as a polynomial in the map T, applied to v
+--   poly_at T p v      p as a polynomial in the map T, applied to v
 --   p ⊗ q             the product
 --   Bits w            every entry of w is 0 or 1
 --   horner T s w      the bits of w taken into s by Horner's rule with the map T
---   wordPoly w        a word as a polynomial
+--   word_poly w        a word as a polynomial
 --   remainder g r w   the remainder of a word by a polynomial g of degree r
 --   bits_of n p        the n low bits of a number, the highest first
 -- Assumes nothing.
@@ -20,8 +20,8 @@ unfoldable pub ◌⊕◌ : ℕ → ℕ → ℕ
 a ⊕ b = bit_xor a b
 
 -- twice v, less f where the degree has come to d
-unfoldable pub timesX : ℕ → ℕ → ℕ → ℕ
-timesX f d v = v * 2 ⊕ (v * 2 / 2 ^ d % 2) * f
+unfoldable pub times_x : ℕ → ℕ → ℕ → ℕ
+times_x f d v = v * 2 ⊕ (v * 2 / 2 ^ d % 2) * f
 
 unfoldable pub iterate : (ℕ → ℕ) → ℕ → ℕ → ℕ
 iterate T zero v = v
@@ -52,7 +52,7 @@ unfoldable pub word_poly : List ℕ → ℕ
 word_poly w = horner (λ v. v * 2) 0 w
 
 unfoldable pub remainder : ℕ → ℕ → List ℕ → ℕ
-remainder g r w = horner (timesX g r) 0 w
+remainder g r w = horner (times_x g r) 0 w
 
 unfoldable pub bits_of : ℕ → ℕ → List ℕ
 bits_of zero p = []

@@ -1,13 +1,13 @@
 -- Remainders by tables: the powers of x modulo a polynomial, and sums of many.
---   powerMod g r e   x^e modulo g, of degree r
---   xorSum n f       the sum of f 0, .., f (n - 1)
+--   power_mod g r e   x^e modulo g, of degree r
+--   xor_sum n f       the sum of f 0, .., f (n - 1)
 --   PositionPowers   a table of the power that each position of a word carries
 -- Assumes nothing.
 use Rattle.std.specs.Prelude.{◌≡◌, List, ℕ, zero, suc, ◌-◌, ◌<◌, length, get_or}
-use Rattle.bch.specs.Polynomial.{◌⊕◌, timesX, iterate}
+use Rattle.bch.specs.Polynomial.{◌⊕◌, times_x, iterate}
 
 unfoldable pub power_mod : ℕ → ℕ → ℕ → ℕ
-power_mod g r e = iterate (timesX g r) e 1
+power_mod g r e = iterate (times_x g r) e 1
 
 -- the last term last, as a loop adds it
 unfoldable pub xor_sum : ℕ → (ℕ → ℕ) → ℕ

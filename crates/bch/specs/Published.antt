@@ -2,8 +2,8 @@
 --   Published, published   the generators, and that they are the definition's
 -- Assumes nothing.
 use Rattle.std.specs.Prelude.{◌≡◌, refl}
-use Rattle.bch.specs.Polynomial.{◌⊕◌, ◌⊗◌, timesX, iterate, poly_at_digits, poly_at}
-use Rattle.bch.specs.Field.{fieldPoly, value_at}
+use Rattle.bch.specs.Polynomial.{◌⊕◌, ◌⊗◌, times_x, iterate, poly_at_digits, poly_at}
+use Rattle.bch.specs.Field.{field_poly, value_at}
 use Rattle.bch.specs.Code.{least_from, minimal_poly, generator}
 
 -- a code by its word length and its information length
@@ -16,5 +16,5 @@ pub record Published : Type 0 where
   pub code_63_45 : generator 6 3 ≡ 0o1701317
 
 pub published : Published
-unfolding ◌⊕◌ ◌⊗◌ timesX iterate poly_at_digits poly_at fieldPoly value_at least_from minimal_poly generator
+unfolding ◌⊕◌ ◌⊗◌ times_x iterate poly_at_digits poly_at field_poly value_at least_from minimal_poly generator
 published = record { code_15_7 = refl; code_15_5 = refl; code_31_21 = refl; code_31_16 = refl; code_63_51 = refl; code_63_45 = refl }

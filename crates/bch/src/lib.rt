@@ -8,3 +8,4 @@
 //             Minimal, Generator               minimal polynomials, generators
 //             Bch                              the codes of the designs: what a user of the theory needs
 //             Powers, Locator, Cubic, Syndromes   tables of a field, and two or three errors from them
+#![tactic(auto)]

@@ -10,7 +10,7 @@ use Prim.Native.Nat.{ℕ, ◌+◌, ◌-◌, ◌*◌, ◌^◌, ◌≤◌}
 use native.Mathlib.Omega.{arith}
 use borrow.Rule.Slice.PartMut.{put_mid, same_len_mid, mid_len}
 use lib.ListN.{length, take, drop}
-use Rattle.bch.specs.Field.{powerTable}
+use Rattle.bch.specs.Field.{power_table}
 use Rattle.bch.specs.Locator.{LogTable, HalfTable, CubicTable, FieldTables}
 use Rattle.bch.proofs.Store.{part-written, part-before}
 use Rattle.bch.proofs.Powers.{powers-length}
@@ -28,7 +28,7 @@ four q l powers logs halves cubics = put_mid (3 * q) (4 * q - 1 - 3 * q) (three 
 pub quarter_length : (m a e : ℕ) (xs : List ℕ) → length xs ≡ 4 * 2 ^ m → e ≤ 4 * 2 ^ m → e - a ≡ 2 ^ m - 1 → length (take (e - a) (drop a xs)) ≡ 2 ^ m - 1
 quarter_length m a e xs long h w = mid_len a e xs (omega (arith, long, h)) ∙ w
 
-module _ {m : ℕ} (low : 4 ≤ m) (high : m ≤ 10) {powers logs : List ℕ} (powers-are : powers ≡ powerTable m (2 ^ m - 1)) (L : LogTable m logs) (l : List ℕ)
+module _ {m : ℕ} (low : 4 ≤ m) (high : m ≤ 10) {powers logs : List ℕ} (powers-are : powers ≡ power_table m (2 ^ m - 1)) (L : LogTable m logs) (l : List ℕ)
     (long : length l ≡ 4 * 2 ^ m) (q : ℕ) (is : q ≡ 2 ^ m) where
   written-length : (a e : ℕ) (xs ys : List ℕ) → length xs ≡ 4 * 2 ^ m → e ≤ 4 * 2 ^ m → length ys ≡ e - a → length (put_mid a (e - a) xs ys) ≡ 4 * 2 ^ m
   written-length a e xs ys h k w = same_len_mid a (e - a) xs ys (w ∙ sym (mid_len a e xs (omega arith))) ∙ h

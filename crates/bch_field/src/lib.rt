@@ -4,15 +4,17 @@
 //
 // The crate `bch_powers` and the module `logarithms` make each table; here they are put side by side. The powers and the logarithms are made apart and
 // copied: the other two are made from them while `field` is written.
+#![tactic(auto)]
+
 mod logarithms;
 
 ghost use Rattle.std.specs.Prelude.{◌≡◌, ◌-◌, ◌*◌, ◌^◌, ◌≤◌, ◌<◌, length};
-ghost use Rattle.bch.specs.Field.{powerTable};
+ghost use Rattle.bch.specs.Field.{power_table};
 ghost use Rattle.bch.specs.Locator.{LogTable, FieldTables, SyndromeTable};
 
 // Fills the quarters of `field` from the powers and the logarithms of field m. The work grows with 2^m.
 fn fill_quarters(m: usize, powers: &[u16], logs: &[u16], field: &mut [u16])
-    requires { (4 ≤ m) × (m ≤ 10) × (powers.now ≡ powerTable m (2 ^ m - 1)) × LogTable m logs.now × (length field.old ≡ 4 * 2 ^ m) }
+    requires { (4 ≤ m) × (m ≤ 10) × (powers.now ≡ power_table m (2 ^ m - 1)) × LogTable m logs.now × (length field.old ≡ 4 * 2 ^ m) }
     ensures { FieldTables m field.new }
 {
     let q = logs.len();

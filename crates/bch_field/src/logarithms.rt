@@ -5,12 +5,12 @@
 //
 // Each is filled in one pass over the powers.
 ghost use Rattle.std.specs.Prelude.{◌≡◌, ◌-◌, ◌*◌, ◌%◌, ◌^◌, ◌≤◌, ◌<◌, length, replicate};
-ghost use Rattle.bch.specs.Field.{power, powerTable};
+ghost use Rattle.bch.specs.Field.{power, power_table};
 ghost use Rattle.bch.specs.Locator.{LogTable, Solution, SolutionTable, power_syndromes, SyndromeTable};
 
 // Power e of the root of field m, from the table of powers.
 fn power_at(m: usize, powers: &[u16], e: usize) -> usize
-    requires { (4 ≤ m) × (m ≤ 10) × (powers.now ≡ powerTable m (2 ^ m - 1)) × (e < 2 ^ m - 1) }
+    requires { (4 ≤ m) × (m ≤ 10) × (powers.now ≡ power_table m (2 ^ m - 1)) × (e < 2 ^ m - 1) }
     ensures { (result ≡ power m e) × (result < 2 ^ m) × (result < 1024) }
 {
     powers[e] as usize
@@ -35,7 +35,7 @@ fn clear(out: &mut [u16])
 
 // Fills `logs`, which has an entry for each element of field m: that of power j of the root is j, and that of 0 is 0. The work grows with 2^m.
 pub fn fill_logs(m: usize, powers: &[u16], logs: &mut [u16])
-    requires { (4 ≤ m) × (m ≤ 10) × (powers.now ≡ powerTable m (2 ^ m - 1)) × (length logs.old ≡ 2 ^ m) }
+    requires { (4 ≤ m) × (m ≤ 10) × (powers.now ≡ power_table m (2 ^ m - 1)) × (length logs.old ≡ 2 ^ m) }
     ensures { LogTable m logs.new }
 {
     clear(logs);
@@ -47,7 +47,7 @@ pub fn fill_logs(m: usize, powers: &[u16], logs: &mut [u16])
 // The v for which power e of the root solves z^(k + 1) + z = power v, where k is 1 or 2: z is power e, z^k + 1 is power f, and their product
 // is power e + f.
 fn solved_by(m: usize, k: usize, powers: &[u16], logs: &[u16], e: usize) -> usize
-    requires { (4 ≤ m) × (m ≤ 10) × (1 ≤ k) × (k ≤ 2) × (powers.now ≡ powerTable m (2 ^ m - 1)) × LogTable m logs.now × (0 < e) × (e < 2 ^ m - 1) }
+    requires { (4 ≤ m) × (m ≤ 10) × (1 ≤ k) × (k ≤ 2) × (powers.now ≡ power_table m (2 ^ m - 1)) × LogTable m logs.now × (0 < e) × (e < 2 ^ m - 1) }
     ensures { (result < 2 ^ m - 1) × Solution m k result e }
 {
     let d = reduced(k * e, powers.len());
@@ -58,7 +58,7 @@ fn solved_by(m: usize, k: usize, powers: &[u16], logs: &[u16], e: usize) -> usiz
 // Fills `table`, which has an entry for each power of the root of field m: entry v is an exponent e for which power e solves
 // z^(k + 1) + z = power v, and 0 where there is none. All solutions of an equation are met; the largest exponent stays. The work grows with 2^m.
 pub fn fill_solutions(m: usize, k: usize, powers: &[u16], logs: &[u16], table: &mut [u16])
-    requires { (4 ≤ m) × (m ≤ 10) × (1 ≤ k) × (k ≤ 2) × (powers.now ≡ powerTable m (2 ^ m - 1)) × LogTable m logs.now
+    requires { (4 ≤ m) × (m ≤ 10) × (1 ≤ k) × (k ≤ 2) × (powers.now ≡ power_table m (2 ^ m - 1)) × LogTable m logs.now
         × (length table.old ≡ 2 ^ m - 1) }
     ensures { SolutionTable m k table.new }
 {
@@ -71,7 +71,7 @@ pub fn fill_solutions(m: usize, k: usize, powers: &[u16], logs: &[u16], table: &
 
 // Power e of the root, and power e of its cube as the high half.
 fn syndromes_of(m: usize, powers: &[u16], e: usize) -> u32
-    requires { (4 ≤ m) × (m ≤ 10) × (powers.now ≡ powerTable m (2 ^ m - 1)) × (e < 2 ^ m - 1) }
+    requires { (4 ≤ m) × (m ≤ 10) × (powers.now ≡ power_table m (2 ^ m - 1)) × (e < 2 ^ m - 1) }
     ensures { result ≡ power_syndromes m e }
 {
     let order = powers.len();
@@ -83,7 +83,7 @@ fn syndromes_of(m: usize, powers: &[u16], e: usize) -> u32
 // Fills `table`, which has an entry for each position of a word, with the powers of the root and of its cube that the positions carry.
 // One step for each entry.
 pub fn fill_syndromes_by(m: usize, powers: &[u16], table: &mut [u32])
-    requires { (4 ≤ m) × (m ≤ 10) × (powers.now ≡ powerTable m (2 ^ m - 1)) × (0 < length table.old) × (length table.old ≤ 2 ^ m - 1) }
+    requires { (4 ≤ m) × (m ≤ 10) × (powers.now ≡ power_table m (2 ^ m - 1)) × (0 < length table.old) × (length table.old ≤ 2 ^ m - 1) }
     ensures { SyndromeTable m table.new × (length table.new ≡ length table.old) }
 {
     let n = table.len();

@@ -3,12 +3,14 @@
 //   copy_table(table, out)   copies a table
 //
 // "2,025 entries over the seven fields, follow one rule: the first entry is 1, and each entry is the one before times x in its field."
-// The rule is the definition `powerTable` of the crate `bch`. The proof of `fill_powers` computes the list that the rule makes and compares
+// The rule is the definition `power_table` of the crate `bch`. The proof of `fill_powers` computes the list that the rule makes and compares
 // the constant with it, one test a field; the lemma `power_table-at` of `bch` carries the rule to each entry.
 //
 // The compiler copies a constant array at each call that reads it, so no loop indexes one: a caller that needs a table fills it once.
+#![tactic(auto)]
+
 ghost use Rattle.std.specs.Prelude.{◌≡◌, ◌-◌, ◌^◌, ◌≤◌, length};
-ghost use Rattle.bch.specs.Field.{powerTable};
+ghost use Rattle.bch.specs.Field.{power_table};
 
 // Copies `table` into `out`.
 pub fn copy_table(table: &[u16], out: &mut [u16])
@@ -23,7 +25,7 @@ pub fn copy_table(table: &[u16], out: &mut [u16])
 // Fills `out`, which has an entry for each power, with the powers of the root of field m. The work grows with 2^m.
 pub fn fill_powers(m: usize, out: &mut [u16])
     requires { (4 ≤ m) × (m ≤ 10) × (length out.old ≡ 2 ^ m - 1) }
-    ensures { out.new ≡ powerTable m (2 ^ m - 1) }
+    ensures { out.new ≡ power_table m (2 ^ m - 1) }
 {
     match m {
         4 => copy_table(&POWERS_4, out),

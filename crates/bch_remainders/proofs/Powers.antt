@@ -15,14 +15,14 @@ use native.Mathlib.Numerals.{add-one}
 use native.Mathlib.Omega.{arith}
 use lib.Bits.{bit_xor, bit_and, and_comm, and_mask}
 use lib.ListN.{length, get_or, set}
-use Rattle.bch.specs.Polynomial.{◌⊕◌, timesX, iterate}
+use Rattle.bch.specs.Polynomial.{◌⊕◌, times_x, iterate}
 use Rattle.bch.specs.Powers.{power_mod, xor_sum}
 use Rattle.bch.proofs.Sum.{bit_ind}
 use Rattle.bch.proofs.Store.{set_each}
 
 -- ---- powers
-pub times_x_over : (f d v : ℕ) → v < 2 ^ d → 2 ^ d ≤ v * 2 → bit_xor (v * 2) f ≡ timesX f d v
-unfolding timesX ◌⊕◌
+pub times_x_over : (f d v : ℕ) → v < 2 ^ d → 2 ^ d ≤ v * 2 → bit_xor (v * 2) f ≡ times_x f d v
+unfolding times_x ◌⊕◌
 times_x_over f d v h l =
     let e : v * 2 / 2 ^ d ≡ 1 = div-eq_of_lt-le (2 ^ d) (omega arith) (omega arith) in
     sym (ap (λ (n : ℕ). bit_xor (v * 2) ((n % 2) * f)) e ∙ ap (bit_xor (v * 2)) (one-mul f))
@@ -31,9 +31,9 @@ pub power_mod-none : (g r e : ℕ) → e ≡ 0 → 1 ≡ power_mod g r e
 unfolding power_mod iterate
 power_mod-none g r e h = ap (power_mod g r) (sym h)
 
-pub power_mod_next : (g r e k v : ℕ) → v ≡ power_mod g r e → k ≡ suc e → timesX g r v ≡ power_mod g r k
+pub power_mod_next : (g r e k v : ℕ) → v ≡ power_mod g r e → k ≡ suc e → times_x g r v ≡ power_mod g r k
 unfolding power_mod iterate
-power_mod_next g r e k v h l = ap (timesX g r) h ∙ ap (power_mod g r) (sym l)
+power_mod_next g r e k v h l = ap (times_x g r) h ∙ ap (power_mod g r) (sym l)
 
 -- ---- sums
 pub spread-bit : (b v : ℕ) → b < 2 → v < 2 ^ 32 → bit_and (b * 4294967295) v ≡ b * v

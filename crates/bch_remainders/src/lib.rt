@@ -16,14 +16,16 @@
 //
 // The hot loops have no jump at a bit (`masked`). Reads of bits are counted where they are made: once a bit in `dot`, and once a row in `read_rows`,
 // where each row gives every column one bit.
+#![tactic(auto)]
+
 ghost use Rattle.std.specs.Prelude.{◌≡◌, ℕ, ◌+◌, ◌-◌, ◌*◌, ◌/◌, ◌^◌, ◌≤◌, ◌<◌, length, get_or, replicate};
-ghost use Rattle.bch.specs.Polynomial.{◌⊕◌, timesX, Bits};
+ghost use Rattle.bch.specs.Polynomial.{◌⊕◌, times_x, Bits};
 ghost use Rattle.bch.specs.Code.{generator};
 ghost use Rattle.bch.specs.Mirror.{mirror};
 ghost use Rattle.bch.specs.Powers.{xor_sum, PositionPowers};
 
 // A sum of entries, and how many bits were read for it.
-#[derive(Drop)]
+#[derive(Clone, Copy)]
 pub struct Reading {
     pub sum: u32,
     pub reads: usize,
@@ -73,7 +75,7 @@ pub fn fill_backwards(table: &[u32], out: &mut [u32])
 // x times v modulo g, of degree r. `top` is 2^r.
 fn times_x(g: u32, r: usize, top: u32, v: u32) -> u32
     requires { (r ≤ 30) × (top ≡ 2 ^ r) × (v < top) }
-    ensures { result ≡ timesX g r v }
+    ensures { result ≡ times_x g r v }
 {
     let w = v * 2;
     if w < top { w } else { w ^ g }

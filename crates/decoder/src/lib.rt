@@ -5,6 +5,8 @@
 //   decode_window   the same, with a window that slides over the frame
 //   decode_with_col   `decode` with one more check, which is asked last
 //   decode_col, decode_window_col   `decode` and `decode_window` with a column code
+#![tactic(auto)]
+
 ghost use Rattle.std.specs.Prelude.{◌≡◌, ◌+◌, ◌≤◌, length};
 ghost use Rattle.staircase.specs.Design.{most-blocks, most-rounds};
 ghost use Rattle.staircase.specs.Frame.{frame_of, groups};
@@ -33,7 +35,7 @@ use layout::{Frames, Shape};
 use words::Asked;
 
 // What a call asks: a design, a frame's blocks, the rounds and the groups of a window, and a check before and one behind the rules on the frame.
-#[derive(Drop)]
+#[derive(Clone, Copy)]
 struct Call {
     m: u64,
     t: u64,

@@ -10,6 +10,8 @@
 // A bit of the information is one byte and a bit of the redundancy is one byte, whichever word it is read by, so both its places change. Each flip
 // toggles the bit's mark (crate `decoder_marks`), so that the marks tell at the end which bits are not the ones that were received. A frame of one
 // buffer is one with an empty redundancy.
+#![tactic(auto)]
+
 ghost use Rattle.std.specs.Prelude.{◌≡◌, ◌-◌, ◌/◌, ◌≤◌, ◌<◌, length, get_or, set};
 ghost use Rattle.bch.specs.Polynomial.{Bits};
 ghost use Rattle.staircase.specs.Frame.{frame_of};
@@ -23,7 +25,7 @@ ghost use Rattle.decoder_flips.specs.Told.{outcome_of};
 use decoder_locator::Located;
 
 // Where a bit of a word stands: in a block that is not sent, in a byte of the information or in a byte of the redundancy. `Absent` is no bit.
-#[derive(Drop)]
+#[derive(Clone, Copy)]
 pub enum BitSite {
     Absent,
     Unsent,
@@ -32,7 +34,7 @@ pub enum BitSite {
 }
 
 // Where at most three bits of a word stand, and how many there are.
-#[derive(Drop)]
+#[derive(Clone, Copy)]
 pub struct Spots {
     pub count: usize,
     pub x: BitSite,
@@ -41,7 +43,7 @@ pub struct Spots {
 }
 
 // What correcting a word comes to: it was in the code, so many bits of it were flipped, or it has no correction and stays outside the code.
-#[derive(Drop)]
+#[derive(Clone, Copy)]
 pub enum Outcome {
     Clean,
     Corrected(usize),
@@ -49,7 +51,7 @@ pub enum Outcome {
 }
 
 // What correcting some words has done: bits flipped, and words that were stuck.
-#[derive(Drop)]
+#[derive(Clone, Copy)]
 pub struct Pass {
     pub flips: usize,
     pub stuck: usize,

@@ -15,6 +15,8 @@
 //
 // Numbers are right for all words of the frame, whichever lines are corrected. So the remainders are computed once per frame; each window position only
 // inspects those of its own words, and corrects the words that are outside the code.
+#![tactic(auto)]
+
 ghost use Rattle.std.specs.Prelude.{◌≡◌, true, false, ◌+◌, ◌-◌, ◌*◌, ◌/◌, ◌^◌, ◌≤◌, ◌<◌, length};
 ghost use Rattle.staircase.specs.Design.{most-blocks, most-rounds};
 ghost use Rattle.staircase.specs.Frame.{frame_of, groups};
@@ -38,7 +40,7 @@ use layout::{Frames, Line, Pass, PassLine};
 const DEFAULT_ROUNDS: usize = 12;
 
 // Rounds made, bits flipped, and words that were stuck in the last round made.
-#[derive(Drop)]
+#[derive(Clone, Copy)]
 pub struct Made {
     pub rounds: usize,
     pub flips: usize,
@@ -46,14 +48,14 @@ pub struct Made {
 }
 
 // How many groups stand in a window, and how many rounds are allowed at each of its positions.
-#[derive(Drop)]
+#[derive(Clone, Copy)]
 pub struct Window {
     pub groups: usize,
     pub limit: usize,
 }
 
 // How many lines are corrected in a round, and how many rounds are allowed.
-#[derive(Drop)]
+#[derive(Clone, Copy)]
 pub struct Stretch {
     pub lines: usize,
     pub limit: usize,

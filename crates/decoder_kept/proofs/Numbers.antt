@@ -2,7 +2,7 @@
 --   stored_only   they are one number, and no other number is touched
 --   only-behind   nor is what stands behind the numbers
 --   kept_at-take   a number is the same where what follows the numbers is left out
---   keptAt-front  and where something follows them
+--   kept_at-front  and where something follows them
 --   nonzero_none, nonzero_more   numbers counted
 --   put-more      one number more
 -- Assumes nothing.

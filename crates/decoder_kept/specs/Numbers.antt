@@ -4,7 +4,7 @@
 --   marked_at        its mark
 --   OnlyAt          number k is x, and all others and the bytes behind are as they were
 --   PutFrom         the entries of a list are the numbers from one on, and all others are as they were
---   nonzeroNumbers  how many of the first n numbers are not 0, whatever their marks
+--   nonzero_numbers  how many of the first n numbers are not 0, whatever their marks
 -- Assumes nothing.
 use Rattle.std.specs.Prelude.{◌≡◌, Bool, cond, ◌≢◌, List, ℕ, zero, suc, ◌+◌, ◌*◌, ◌%◌, ◌≤◌, ◌<◌, eqb, leb, length, get_or, drop}
 

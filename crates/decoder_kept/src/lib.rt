@@ -4,6 +4,8 @@
 //   put_numbers       stores some, from one on
 //   add(kept, k, x)   adds x to it and takes the mark away
 //   count(kept, n)    how many of the first n are not 0, whatever their marks
+#![tactic(auto)]
+
 ghost use Rattle.std.specs.Prelude.{◌≡◌, cond, ◌+◌, ◌*◌, ◌%◌, ◌≤◌, ◌<◌, eqb, length};
 ghost use Rattle.bch.specs.Polynomial.{◌⊕◌};
 ghost use Rattle.decoder_kept.specs.Numbers.{kept_at, number_at, OnlyAt, PutFrom, nonzero_numbers};

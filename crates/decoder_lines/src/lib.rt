@@ -8,6 +8,8 @@
 // and entry 2n + q the way back, for lists of n entries. Original frames have no links.
 //
 // All words are read in one code: the column words of a mirrored design are read backwards.
+#![tactic(auto)]
+
 ghost use Rattle.std.specs.Prelude.{◌≡◌, true, cond, [], ◌∷◌, ℕ, ◌+◌, ◌*◌, ◌/◌, ◌%◌, ◌≤◌, ◌<◌, length, get_or};
 ghost use Rattle.staircase.specs.Design.{most-blocks};
 ghost use Rattle.staircase.specs.Frame.{block_at, groups};
@@ -29,7 +31,7 @@ use design::Design;
 use layout::Line;
 
 // A position of a word of a line.
-#[derive(Drop)]
+#[derive(Clone, Copy)]
 pub struct WordBit {
     pub line: usize,
     pub word: usize,

@@ -15,7 +15,7 @@ use native.Mathlib.Decide.{ℕ_discrete}
 use native.Mathlib.Omega.{arith}
 use lib.ListN.{length, get_or, replicate, length-replicate}
 use borrow.Author.Tests.{ne_eqb}
-use Rattle.bch.specs.Polynomial.{Bits, ◌⊕◌, remainder, timesX}
+use Rattle.bch.specs.Polynomial.{Bits, ◌⊕◌, remainder, times_x}
 use Rattle.bch.specs.Code.{generator}
 use Rattle.bch.specs.Powers.{PositionPowers}
 use Rattle.bch.proofs.Sum.{⊕-self, ⊕-zero-left, ⊕-zero-right, ⊕_equal}
@@ -95,7 +95,7 @@ module _ (m t : ℕ) (table : List ℕ) (at : PositionPowers (generator m t) (m 
 
   zeros-remainder : remainder (generator m t) (m * t) zeros ≡ 0
   unfolding remainder
-  zeros-remainder = horner-zeros (timesX (generator m t) (m * t)) (linear_zero _ (times_x_linear (generator m t) (m * t))) n
+  zeros-remainder = horner-zeros (times_x (generator m t) (m * t)) (linear_zero _ (times_x_linear (generator m t) (m * t))) n
 
   word-bits : (c : List ℕ) → Bits (flip_bits c zeros)
   word-bits c = flip_bits-bits c zeros (zeros-bits n)

@@ -13,7 +13,7 @@ use native.Mathlib.Omega.{arith}
 use lib.Pow.{pow_pos, pow_mono}
 use lib.ListN.{length}
 use Rattle.bch.specs.Polynomial.{◌⊕◌}
-use Rattle.bch.specs.Field.{fieldPoly, power}
+use Rattle.bch.specs.Field.{field_poly, power}
 use Rattle.bch.specs.Locator.{Solution, PowerIs}
 use Rattle.bch.proofs.Sum.{⊕_comm}
 use Rattle.bch.proofs.Field.{mul}
@@ -45,7 +45,7 @@ module _ {m : ℕ} {field : List ℕ} (F : Field m field) where
   pub fifth_next : (e k a : ℕ) → Wrapped field (e + 5) a → power m e ≡ power m (5 * k) → power m a ≡ power m (5 * (k + 1))
   fifth_next e k a w same =
       let q : 5 * k + 5 ≡ 5 * (k + 1) = omega arith in
-      wrapped_same F w ∙ power-add m low high e 5 ∙ ap (λ (z : ℕ). mul (fieldPoly m) m z (power m 5)) same
+      wrapped_same F w ∙ power-add m low high e 5 ∙ ap (λ (z : ℕ). mul (field_poly m) m z (power m 5)) same
       ∙ sym (power-add m low high (5 * k) 5) ∙ ap (power m) q
 
   reduced : {y : ℕ} (x : ℕ) → y ≡ power m (x % n) → y ≡ power m x
@@ -71,7 +71,7 @@ module _ {m : ℕ} {field : List ℕ} (F : Field m field) where
   over h u b =
       let x : ℕ = u + 6 * n - 3 * h in
       let q : x + 3 * h ≡ 6 * (2 ^ m - 1) + u = omega (arith, count) in
-      power-add m low high (x % n) (3 * h) ∙ ap (λ (z : ℕ). mul (fieldPoly m) m z (power m (3 * h))) (reduced x refl)
+      power-add m low high (x % n) (3 * h) ∙ ap (λ (z : ℕ). mul (field_poly m) m z (power m (3 * h))) (reduced x refl)
       ∙ sym (power-add m low high x (3 * h)) ∙ ap (power m) q ∙ power-rounds m low high 6 u
 
   pub cubic_root_is : {s d e u l h g y a : ℕ} → d ≢ 0 → LogIs m d u → e ≢ 0 → LogIs m e l → h < 2 * (length field / 4 - 1)

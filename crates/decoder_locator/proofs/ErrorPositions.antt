@@ -14,7 +14,7 @@ use native.Mathlib.Omega.{arith}
 use lib.Dec.{eqb}
 use lib.ListN.{length, get_or, set, length-set}
 use borrow.Author.Tests.{eq-eqb, ne_eqb}
-use Rattle.bch.specs.Polynomial.{Bits, ◌⊕◌, timesX, iterate, horner, remainder}
+use Rattle.bch.specs.Polynomial.{Bits, ◌⊕◌, times_x, iterate, horner, remainder}
 use Rattle.bch.specs.Code.{is_codeword}
 use Rattle.bch.specs.Powers.{power_mod, PositionPowers}
 use Rattle.bch.proofs.Sum.{bit_ind, ⊕_assoc, ⊕_comm, ⊕-zero-right, ⊕-self, ⊕_equal}
@@ -39,7 +39,7 @@ pub flip-remainder : (g r : ℕ) (u : List ℕ) (j : ℕ) → Bits u → j < len
 unfolding remainder power_mod
 flip-remainder g r [] j h l = absurd (not-suc-le-zero l)
 flip-remainder g r (b ∷ u) zero h l =
-    let T : ℕ → ℕ = timesX g r in
+    let T : ℕ → ℕ = times_x g r in
     let n : ℕ = length u in
     let lin : (a c : ℕ) → T (a ⊕ c) ≡ T a ⊕ T c = times_x_linear g r in
     horner_cons T lin (1 - b) u
@@ -50,7 +50,7 @@ flip-remainder g r (b ∷ u) zero h l =
     moved : (a b c : ℕ) → a ⊕ b ⊕ c ≡ a ⊕ c ⊕ b
     moved a b c = ⊕_assoc a b c ∙ ap (λ (z : ℕ). a ⊕ z) (⊕_comm b c) ∙ sym (⊕_assoc a c b)
 flip-remainder g r (b ∷ u) (suc j) h l =
-    let T : ℕ → ℕ = timesX g r in
+    let T : ℕ → ℕ = times_x g r in
     let n : ℕ = length u in
     let v : List ℕ = set u j (1 - get_or u j 0) in
     let lin : (a c : ℕ) → T (a ⊕ c) ≡ T a ⊕ T c = times_x_linear g r in

@@ -13,6 +13,8 @@
 // - Three errors: with S5, the value at the fifth power of the root, and Y = α^e + S1, Y³ + a Y + d = 0, where d = S1³ + S3 and
 //   a d = S1⁵ + S5. With a = c² and Y = c z, z³ + z = d / c³. A table has a solution z for each value of z³ + z; each solution is one of the
 //   three, and the other two are found as above from what is left of the sum. Where a is 0, each position is tried.
+#![tactic(auto)]
+
 ghost use Rattle.std.specs.Prelude.{◌≡◌, ◌≢◌, ◌⊎◌, ◌+◌, ◌-◌, ◌*◌, ◌%◌, ◌^◌, ◌≤◌, ◌<◌, length, take, drop};
 ghost use Rattle.bch.specs.Field.{power, value_at};
 ghost use Rattle.bch.specs.Locator.{FieldTables, PowerIs, SyndromeTable, syndromes};
@@ -20,7 +22,7 @@ ghost use Rattle.decoder_locator.specs.Located.{located, positions_of, SumTable,
 ghost use Rattle.decoder_locator.specs.Steps.{Field, LogIs, SolutionIs, NotOne, SingleIs, PairIs, TripleIs, TripleWith, CarryAre, RootOf, ExponentsAre, CubicRootOf};
 
 // The positions of at most three errors, the first in front.
-#[derive(Drop)]
+#[derive(Clone, Copy)]
 pub enum Located {
     Nowhere,
     One(usize),
@@ -29,21 +31,21 @@ pub enum Located {
 }
 
 // A position, if there is one.
-#[derive(Drop)]
+#[derive(Clone, Copy)]
 enum Single {
     Absent,
     At(usize),
 }
 
 // Two positions, or two exponents, if there are such.
-#[derive(Drop)]
+#[derive(Clone, Copy)]
 enum Pair {
     Absent,
     At(usize, usize),
 }
 
 // Three positions, if there are such.
-#[derive(Drop)]
+#[derive(Clone, Copy)]
 enum Triple {
     Absent,
     At(usize, usize, usize),

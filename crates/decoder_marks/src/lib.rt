@@ -8,6 +8,8 @@
 //
 // The ones of each byte are counted by additions of neighbouring bits, in 16 bits for each stretch of 4,096 bytes, without a jump, so that the compiler
 // makes steps of 16 bytes of it. A stretch of 16 bytes, counted in 8 bits, is taken apart by the compiler, and takes many times as long.
+#![tactic(auto)]
+
 ghost use Rattle.std.specs.Prelude.{◌≡◌, ◌*◌, ◌/◌, ◌≤◌, ◌<◌, length, replicate};
 ghost use Rattle.decoder_marks.specs.Marks.{Toggled, set_marks};
 

@@ -1,6 +1,8 @@
 // The tables from which a word's error positions are read (crate `decoder_locator`), for any of the codes and any length that it has.
 //   fill_values    the values of the positions of a word and, behind them, those of four bits
 //   fill_tables    the powers of x at the positions, behind them their values and those of four bits, and the field's tables
+#![tactic(auto)]
+
 ghost use Rattle.std.specs.Prelude.{◌≡◌, ◌+◌, ◌-◌, ◌*◌, ◌^◌, ◌≤◌, length, take, drop};
 ghost use Rattle.bch.specs.Locator.{FieldTables, SyndromeTable};
 ghost use Rattle.decoder_locator.specs.Located.{SumTable, LocatorTables};

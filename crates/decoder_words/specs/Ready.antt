@@ -4,7 +4,7 @@
 --   FrameKept     a frame with the kept numbers of all its words and, behind them, the marks of its bits
 --   marks_in       the marks
 --   LineMarks     marks that were right are right again
---   correctionAt  the correction of word a of a line
+--   correction_at  the correction of word a of a line
 --   KeptBut       all numbers but that of word a of a line are right
 --   AddedAll      the numbers of the words that cross at some positions have got their powers
 -- Assumes nothing.

@@ -10,6 +10,8 @@
 // with its mark in the bytes behind the numbers. Then the other word that has the bit gets the power of the bit's position in it, and the own number
 // becomes 0. A word that has no correction is marked in its number, until one of its bits is flipped: a word whose number is 0 and a marked word are
 // passed over; the first is clean, the second is stuck.
+#![tactic(auto)]
+
 ghost use Rattle.std.specs.Prelude.{◌≡◌, map, ◌+◌, ◌*◌, ◌^◌, ◌≤◌, ◌<◌, length, get_or, take};
 ghost use Rattle.staircase.specs.Lists.{tabulate, concat};
 ghost use Rattle.staircase.specs.Design.{most-M, most-blocks};

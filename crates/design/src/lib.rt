@@ -17,6 +17,8 @@
 // The ranges are tested before anything is multiplied, so any numbers may be given. A design's fields are private, so another crate has no design but
 // those that the rules of a kind accept; which kind it is stands in the contracts, as `Allowed` or `AllowedOriginal`, and not in the type, so that what
 // both kinds do is written once. The fields have the smallest types that hold the limits, so that the sizes fit whatever the fields hold.
+#![tactic(auto)]
+
 ghost use Rattle.std.specs.Prelude.{◌≡◌, not, cond, ◌+◌, ◌*◌, ◌/◌, ◌≤◌, ◌<◌, eqb};
 ghost use Rattle.staircase.specs.Design.{most-blocks, params};
 ghost use Rattle.staircase.specs.Frame.{groups};
@@ -32,7 +34,7 @@ use answers::{Check, Refusal};
 
 // A design: its field's degree m, the errors t that a word may have, M, the rows and columns of a block, as `size`, and the column code, 0 for the same code
 // as that of row words, 1 for the mirrored one.
-#[derive(Drop)]
+#[derive(Clone, Copy)]
 pub struct Design {
     m: u8,
     t: u8,
@@ -41,7 +43,7 @@ pub struct Design {
 }
 
 // The answer of a new design.
-#[derive(Drop)]
+#[derive(Clone, Copy)]
 pub enum Designed {
     Made(Design),
     Refused(Refusal),

@@ -2,6 +2,8 @@
 //   differences   the number of places, as far as both buffers go
 //
 // It has no `requires`: the buffers may have any lengths and any bytes, and bytes are compared as they are. One pass.
+#![tactic(auto)]
+
 ghost use Rattle.std.specs.Prelude.{◌≡◌, ◌⊎◌, ◌≤◌};
 ghost use Rattle.bch.specs.Code.{unlike, distance};
 

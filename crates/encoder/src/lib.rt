@@ -3,6 +3,8 @@
 //
 // A frame is encoded as a batch of one, which no rule but those of a single frame refuses (`batch_single` of the crate `staircase`). All rules are judged
 // before the first byte is written, and rule 10 before the product that rule 9 makes. The crate `encoder_frame` makes the redundancy.
+#![tactic(auto)]
+
 ghost use Rattle.std.specs.Prelude.{◌≡◌, length};
 ghost use Rattle.staircase.specs.Calls.{encode_call};
 ghost use Rattle.answers.specs.Answers.{verdict_of};

@@ -3,6 +3,8 @@
 //
 // The frames' information is joined, frame after frame, and so is their redundancy. The kit, which is most of the work of a short frame, is judged once
 // for all of them, and the tables that the encoder reads are made once. All rules are judged before the first byte is written.
+#![tactic(auto)]
+
 ghost use Rattle.std.specs.Prelude.{◌≡◌, length};
 ghost use Rattle.staircase.specs.Batch.{batch_call};
 ghost use Rattle.design.specs.Sizes.{params_of};

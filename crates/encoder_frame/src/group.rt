@@ -16,7 +16,7 @@ ghost use Rattle.encoder_frame.specs.Group.{row_digit, column_digit, finished_of
 ghost use Rattle.encoder_frame.specs.Groups.{start_from, FrameReady};
 
 // The block size, the parity bits of a word, the blocks of a frame and the frames of a batch.
-#[derive(Drop)]
+#[derive(Clone, Copy)]
 pub struct Sizes {
     pub size: usize,
     pub r: usize,

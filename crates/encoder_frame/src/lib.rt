@@ -4,6 +4,8 @@
 // A group needs three blocks, which are parts of the lent information, and its redundancy is written through a lent part of the redundancy: nothing
 // of the frame is copied. The table of powers of x and the places that the parity list brings are made once for all groups of all frames. The groups of
 // a stretch are solved by one product with the inverse (module `stretch`), whether they are of one frame or of several.
+#![tactic(auto)]
+
 mod group;
 mod stretch;
 

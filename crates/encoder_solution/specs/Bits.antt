@@ -1,6 +1,6 @@
 -- The bits of a group's system by what code has at hand: the remainders of its words, and the place of Q that the parity list sends to each place of P
 -- (`preimages`).
---   remainderDigit x r a    bit a of the r bits of a remainder x, the highest first
+--   remainder_digit x r a    bit a of the r bits of a remainder x, the highest first
 --   constant_bit             entry k of the constant c, from the remainders
 --   place_constant           the same by its place in P, from P and Q as they would be for Y = 0, Q first
 -- Assumes nothing.

@@ -1,6 +1,6 @@
 -- Steps of the product W c for up to 64 groups: words, of which bit g belongs to group g, and their sums by exclusive or.
---   rowEntry m w e k       bit k of row e of a packed matrix of w bytes a row
---   rowProduct m w c e n   the sum of those of the first n words at which row e has ones
+--   row_entry m w e k       bit k of row e of a packed matrix of w bytes a row
+--   row_product m w c e n   the sum of those of the first n words at which row e has ones
 --   solution_word           word q of the solutions: the inverse times the constants, both by their places in a matrix of r rows
 -- Assumes nothing.
 use Rattle.std.specs.Prelude.{List, ℕ, ◌+◌, ◌*◌, ◌/◌, ◌%◌, ◌^◌, get_or}

@@ -11,6 +11,8 @@
 // W has (size × r)² bits and is most of what is read, so it is read once for up to 64 groups: bit g of a word belongs to group g. For many groups the
 // product goes by tables of sums (module `product`), for few by the parity of each row and each constant (module `rows`). Words are in the order of places, as Y and P are, so that bits go in and come out side by side and without a division; `solve` brings them into the order of the
 // stack and back, once for all groups.
+#![tactic(auto)]
+
 mod product;
 mod rows;
 

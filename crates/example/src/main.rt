@@ -1,4 +1,6 @@
 // Encodes four blocks under kit K, the example of docs/REFERENCE.md, and prints the two groups, or the refusal.
+#![tactic(auto)]
+
 ghost use Rattle.io.specs.Counts.{IsPrefixLen};
 
 use answers::Check;

@@ -1,6 +1,8 @@
 // `frame`: reads kit.txt and, on standard input, block text, and prints group text, or a refusal.
 //
 // Everything that is decided is in the crate `program_frame`.
+#![tactic(auto)]
+
 fn main() {
     let mut kit = program_io::input_bytes();
     let kit_read = program_io::read_kit(&mut kit);

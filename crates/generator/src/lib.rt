@@ -7,6 +7,8 @@
 //
 // The step is that of a linear congruence: its low bits repeat early, so that the highest bit is the output. A step is a multiplication and a sum, and
 // waits for the one before it.
+#![tactic(auto)]
+
 ghost use Rattle.std.specs.Prelude.{◌≡◌, ◌*◌, ◌%◌, ◌^◌, ◌<◌};
 ghost use Rattle.staircase.specs.Load.{next_state, output, state_after, drawn};
 ghost use Rattle.generator.specs.Answers.{load_verdict, load_state};
@@ -28,14 +30,14 @@ const HIGHEST: u32 = 2147483648;
 const DRAW_STEPS: usize = 16;
 
 // The answer of the calls that start from a seed: the generator's last state, or a refusal.
-#[derive(Drop)]
+#[derive(Clone, Copy)]
 pub enum Loaded {
     State(u32),
     Refused(Refusal),
 }
 
 // A number that was drawn, and the state after its last step.
-#[derive(Drop)]
+#[derive(Clone, Copy)]
 pub struct Drawing {
     pub number: u32,
     pub state: u32,

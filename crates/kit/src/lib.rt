@@ -4,6 +4,8 @@
 //
 // The crate `rules` has rules 6 to 8 and 10, and `kit_inverse` rule 9, which is most of the work. Rule 10, of the information that the encoder has, comes
 // before it; the kit checker has no information.
+#![tactic(auto)]
+
 ghost use Rattle.std.specs.Prelude.{◌≡◌, length};
 ghost use Rattle.staircase.specs.Rules.{content_rules};
 ghost use Rattle.staircase.specs.Calls.{kit_verdict};

@@ -3,6 +3,8 @@
 //
 // The module `products` finds the first wrong entry of the product. Here are made what it is lent: the powers of x that the bits of X and Y carry,
 // and a copy of W in planes, which is the one matrix of working bytes.
+#![tactic(auto)]
+
 mod products;
 
 ghost use Rattle.std.specs.Prelude.{◌≡◌, ◌*◌};

@@ -4,7 +4,7 @@
 --   RowsFit           what its rows are made from
 --   sent_row           an entry of a row, for the place that it is sent from
 --   new_inverse        the packed inverse of A
---   rightByte m n k   byte k of the right halves of the first n rows of m, row after row
+--   right_byte m n k   byte k of the right halves of the first n rows of m, row after row
 -- Assumes nothing.
 use Rattle.std.specs.Prelude.{◌≡◌, List, ℕ, ◌+◌, ◌*◌, ◌/◌, ◌%◌, ◌≤◌, ◌<◌, length, get_or}
 use Rattle.staircase.specs.Design.{Params, Interleavers, order, most-order}

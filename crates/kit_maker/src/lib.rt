@@ -3,6 +3,8 @@
 //
 // The working bytes are the one matrix in which the crate `matrix_elimination` inverts: the left halves of its first rows are filled with the rows of
 // A, and once A is inverted the right halves are the packed inverse. The inverse's buffer is written only then, so a refusal leaves it as it was.
+#![tactic(auto)]
+
 ghost use Rattle.std.specs.Prelude.{◌≡◌, ℕ, ◌+◌, ◌*◌, ◌≤◌, ◌<◌, length};
 ghost use Rattle.staircase.specs.Design.{most-order, column_code};
 ghost use Rattle.staircase.specs.Lists.{tabulate};
@@ -121,7 +123,7 @@ fn make_content(d: Design, own: &[u8], parity: &[u8], inverse: &mut [u8], work: 
 
 // Makes the inverse of a kit: rules 1 to 3, 6, 7 and 14, with the table's number and place of the first that refuses. The lists have two bytes an
 // entry and are read, the inverse's buffer has M × r packed rows and is written, and not read; a refusal leaves it as it was. The working bytes are
-// makeWork of staircase/specs/Maker.antt, and are free before and afterwards. The work is that of the elimination.
+// make_work of staircase/specs/Maker.antt, and are free before and afterwards. The work is that of the elimination.
 pub fn make_inverse_col(
     m: u64,
     t: u64,

@@ -1,5 +1,5 @@
 -- Steps of the code: an entry of a mixed list.
---   tableTo s by rows p   the place to which place p goes, where `rows` has the r rows of each column word, one column word after the other
+--   table_to s by rows p   the place to which place p goes, where `rows` has the r rows of each column word, one column word after the other
 -- Assumes nothing.
 use Rattle.std.specs.Prelude.{List, ℕ, ◌+◌, ◌*◌, ◌/◌, get_or}
 use Rattle.staircase.specs.Design.{Params}

@@ -7,6 +7,8 @@
 // `kit_maker::make_inverse` refuses them by rule 14 (`spread-singular` there). Mixed lists send row a, column j to the same column word, in a row that is
 // drawn (module `mixing`): the bits never meet either (`mixed-apart`), and about 3 in 10 of such lists have an inverse. All rules are judged before the
 // first byte is written, so a refused call leaves both lists as they were.
+#![tactic(auto)]
+
 mod mixing;
 
 ghost use Rattle.std.specs.Prelude.{◌≡◌, ◌*◌, ◌<◌, length};

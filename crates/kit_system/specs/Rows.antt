@@ -2,7 +2,7 @@
 -- carry in a row word (`part`), the entries of the self list, and the place of Q that the parity list sends to a row.
 --   PartOf s part            `part` holds the powers of x that the bits of X carry; for `column_code s`, those that the bits of Y carry
 --   stack_of, unstack_of       the place in the stack of a place of Y or P, and back
---   powerDigit part b a           digit a of power b, the highest first: what bit b of X or Y adds to bit a of the parity
+--   power_digit part b a           digit a of power b, the highest first: what bit b of X or Y adds to bit a of the parity
 --   row_term, row_entry        what two digits of a power add to an entry of a row of A, and the entry
 -- Assumes nothing.
 use Rattle.std.specs.Prelude.{◌≡◌, cond, List, ℕ, ◌+◌, ◌-◌, ◌*◌, ◌/◌, ◌%◌, ◌^◌, ◌<◌, eqb, length, get_or}

@@ -13,6 +13,8 @@
 // and nothing behind them.
 //
 // All words are read in one code: the column words of a mirrored design are read backwards. A new kind of frame is a case of each function.
+#![tactic(auto)]
+
 ghost use Rattle.std.specs.Prelude.{◌≡◌, ◌+◌, ◌*◌, ◌≤◌, ◌<◌};
 ghost use Rattle.staircase.specs.Design.{most-M, most-blocks};
 ghost use Rattle.design.specs.Sizes.{params_of};
@@ -21,14 +23,14 @@ ghost use Rattle.layout.specs.Layouts.{lines_in, bits_in, tail_in, turns_in, tur
 use design::Design;
 
 // The kinds of frames.
-#[derive(Drop)]
+#[derive(Clone, Copy)]
 pub enum Shape {
     FeedForward,
     Original,
 }
 
 // Frames of a design, of `blocks` blocks.
-#[derive(Drop)]
+#[derive(Clone, Copy)]
 pub struct Frames {
     pub d: Design,
     pub shape: Shape,
@@ -36,21 +38,21 @@ pub struct Frames {
 }
 
 // Line k of such frames.
-#[derive(Drop)]
+#[derive(Clone, Copy)]
 pub struct Line {
     pub frames: Frames,
     pub k: usize,
 }
 
 // The lines of some frames that are read backwards, or those that are not.
-#[derive(Drop)]
+#[derive(Clone, Copy)]
 pub struct Pass {
     pub frames: Frames,
     pub back: bool,
 }
 
 // Line k, which a pass may take.
-#[derive(Drop)]
+#[derive(Clone, Copy)]
 pub struct PassLine {
     pub pass: Pass,
     pub k: usize,

@@ -6,6 +6,8 @@
 //
 // No call has a `requires`: rules 1 to 4 and 6, and for the two that turn bits rule 10, are asked before a byte is written, so that a refused call leaves
 // the buffers as they were. Bits are counted through the information and on through the redundancy. The generator and the answer `Loaded` are those of the crate `generator`.
+#![tactic(auto)]
+
 ghost use Rattle.std.specs.Prelude.{◌≡◌, cond, ◌+◌, ◌-◌, ◌*◌, ◌^◌, ◌<◌, length};
 ghost use Rattle.staircase.specs.Lists.{tabulate};
 ghost use Rattle.staircase.specs.Frame.{frame_of};

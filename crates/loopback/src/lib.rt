@@ -4,6 +4,8 @@
 // It is the encoder's call followed by the decoder's, on the same buffers. The number of rounds is asked before anything is written, and nothing that
 // the encoder accepts is refused by the decoder, so a refused call leaves the buffers as they were. Demand 3's last part holds of it
 // (`loopback_restores` in proofs/Restores.antt): where the patterns leave no word with more than t wrong bits, the frame comes back.
+#![tactic(auto)]
+
 ghost use Rattle.std.specs.Prelude.{◌≡◌, cond, ◌-◌, ◌≤◌, eqb, length, get_or};
 ghost use Rattle.staircase.specs.Design.{params, most-blocks};
 ghost use Rattle.staircase.specs.Frame.{frame_of};

@@ -1,6 +1,8 @@
 // `makekit`: reads on standard input the first part of a kit text, to the last line of the lists, and prints the whole kit text, or a refusal.
 //
 // Everything that is decided is in the crate `program_makekit`.
+#![tactic(auto)]
+
 fn main() {
     let mut text = program_io::input_bytes();
     let text_read = program_io::read_text(&mut text);

@@ -1,6 +1,6 @@
 -- Numbers made of bytes, the first byte lowest, and bytes that are stored side by side.
 --   bit_joined_low, bit_joined_high   the bits of x + 2 ^ k * y, of which x has k bits: those of x, then those of y
---   bytesNumber n f       the number whose bytes are f 0, .., f (n - 1)
+--   bytes_number n f       the number whose bytes are f 0, .., f (n - 1)
 --   bytes_number_bit       its bits are those of its bytes
 --   stores f l a n        the list l after n stores, f k at a + k
 --   stores_length, stores_at, stores_before   its length, what was stored, and what stands before that

@@ -1,8 +1,8 @@
 -- Bits in packed bytes, the lowest bit of a byte first.
---   packedBit row k        bit k of a packed row
---   planeBit t n k x       entry (k, x) of a matrix of n columns in planes: plane b has n bytes, one a column, and holds the rows 8 b to 8 b + 7
+--   packed_bit row k        bit k of a packed row
+--   plane_bit t n k x       entry (k, x) of a matrix of n columns in planes: plane b has n bytes, one a column, and holds the rows 8 b to 8 b + 7
 --   Planes t n f           the planes t hold the entries f k x, in every row of every plane
---   paddedEntry w n k x    entry (k, x) of a packed matrix of n rows, and 0 in the rows from n on
+--   padded_entry w n k x    entry (k, x) of a packed matrix of n rows, and 0 in the rows from n on
 -- Assumes nothing.
 use Rattle.std.specs.Prelude.{◌≡◌, cond, List, ℕ, ◌+◌, ◌*◌, ◌/◌, ◌%◌, ◌^◌, ◌<◌, ltb, get_or}
 use Rattle.staircase.specs.System.{row_bytes, inverse_entry}

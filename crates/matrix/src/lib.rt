@@ -15,7 +15,9 @@
 //
 // The module `planes` brings a packed matrix into planes.
 //
-// n is the order, 1 to 4,096, and a packed row has rowBytes n bytes. Every function leaves the lengths of what it is lent as they are.
+// n is the order, 1 to 4,096, and a packed row has row_bytes n bytes. Every function leaves the lengths of what it is lent as they are.
+#![tactic(auto)]
+
 mod planes;
 mod tiles;
 

@@ -4,7 +4,7 @@
 // A matrix comes into planes by blocks of eight rows and eight columns, 64 bits in one number, which three exchanges of bits transpose
 // (H. Warren, "Hacker's Delight", section 7-3). The crate `matrix` says what planes are for.
 //
-// n is the order, 1 to 4,096, and a packed row has rowBytes n bytes. Every function leaves the lengths of what it is lent as they are.
+// n is the order, 1 to 4,096, and a packed row has row_bytes n bytes. Every function leaves the lengths of what it is lent as they are.
 ghost use Rattle.std.specs.Prelude.{◌≡◌, cond, ℕ, ◌+◌, ◌*◌, ◌/◌, ◌%◌, ◌^◌, ◌≤◌, ◌<◌, ltb, length, get_or};
 ghost use Rattle.staircase.specs.Design.{most-order};
 ghost use Rattle.staircase.specs.System.{row_bytes};

@@ -1,5 +1,5 @@
 -- Two rows are exchanged, by three additions.
---   exchangedRow x y i   the row that comes to row i where x and y are exchanged
+--   exchanged_row x y i   the row that comes to row i where x and y are exchanged
 --   exchanged_row_left, exchanged_row_right, exchanged_row_other   its values
 --   exchanged_row_same, exchanged_row_below, exchanged_row_back    where x is y; it is a row; twice it is row i again
 --   Exchanged            two rows were exchanged, byte by byte

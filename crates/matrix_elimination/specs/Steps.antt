@@ -1,6 +1,6 @@
--- Elimination in one packed matrix of n + 256 rows of 2 × rowBytes n bytes: a row below n has a row of the system and behind it a row of what was the
+-- Elimination in one packed matrix of n + 256 rows of 2 × row_bytes n bytes: a row below n has a row of the system and behind it a row of what was the
 -- identity; the other 256 rows are a table of sums of rows.
---   rowWidth n               the bytes of a row
+--   row_width n               the bytes of a row
 --   bit_at m w i j            bit j of row i, of w bytes
 --   left, right              the bits of the two halves of a row
 --   SpareZero n m            the spare bits of the right half are 0

@@ -5,6 +5,8 @@
 // half is the identity, the right half is the inverse. For each byte of the rows, pivots are found for its eight columns (module `rows`); 256 further
 // rows are a table of all sums of the pivot rows, and every other row takes the sum that its byte names (module `tables`). Each column done leaves a
 // system with one column fewer.
+#![tactic(auto)]
+
 mod rows;
 mod tables;
 

@@ -1,6 +1,8 @@
 // `mend`: reads kit.txt and, on standard input, block text followed by group text, and prints both corrected and three counts, or a refusal.
 //
 // Everything that is decided is in the crate `program_mend`.
+#![tactic(auto)]
+
 fn main() {
     let mut kit = program_io::input_bytes();
     let kit_read = program_io::read_kit(&mut kit);

@@ -202,6 +202,7 @@ encode_in_code (w ∷ ws) order f ok h v (inl e) =
 encode_in_code (w ∷ ws) order f ok h v (inr i) =
     let x = ok w (inl refl) in
     encode_in_code ws order.1 (encode_word f w) (λ u j. fresh_alike (encode_word_alike f w x) u (ok u (inr j))) (encode_word-binary f w x h) v i
+encode_in_code [] order f ok h v x4 = elim x4 [ ]
 
 -- "The parity is the only one": a frame of bits that has the same bits but for the parity and all words in their codes is the encoded one
 pub encode-only : (ws : List Systematic) → After ws → (f : Frame) → ((w : Systematic) → In w ws → Fresh f w)

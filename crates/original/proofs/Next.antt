@@ -21,7 +21,7 @@ use native.Mathlib.Decide.{dec_lt}
 use native.Mathlib.Omega.{arith}
 use lib.Arith.{digits_lt}
 use lib.ListN.{length, get_or, replicate, length-replicate, get_or-eq_default}
-use Rattle.bch.specs.Polynomial.{◌⊕◌, timesX, iterate, horner, remainder}
+use Rattle.bch.specs.Polynomial.{◌⊕◌, times_x, iterate, horner, remainder}
 use Rattle.bch.specs.Code.{parity}
 use Rattle.bch.specs.Powers.{power_mod, xor_sum}
 use Rattle.bch.proofs.Sum.{bit_ind, mod2_bit, ⊕-self, ⊕_equal, ⊕-below, ⊕_shift, ⊕-mod, ⊕-zero-left, ⊕-zero-right}
@@ -56,13 +56,13 @@ unfolding horner
 horner_two T lin [] v s = ap (λ (n : ℕ). horner T n v) (sym (⊕-zero-right s)) ∙ horner_shift T lin v s 0
 horner_two T lin (b ∷ u) v s = horner_two T lin u v (T s ⊕ b)
 
-pub remainder-append : (g r : ℕ) (u v : List ℕ) → remainder g r (u ++ v) ≡ iterate (timesX g r) (length v) (remainder g r u) ⊕ remainder g r v
+pub remainder-append : (g r : ℕ) (u v : List ℕ) → remainder g r (u ++ v) ≡ iterate (times_x g r) (length v) (remainder g r u) ⊕ remainder g r v
 unfolding remainder
-remainder-append g r u v = horner_two (timesX g r) (times_x_linear g r) u v 0
+remainder-append g r u v = horner_two (times_x g r) (times_x_linear g r) u v 0
 
 remainder-zeros : (g r n : ℕ) → remainder g r (replicate n 0) ≡ 0
 unfolding remainder
-remainder-zeros g r = horner-zeros (timesX g r) (linear_zero (timesX g r) (times_x_linear g r))
+remainder-zeros g r = horner-zeros (times_x g r) (linear_zero (times_x g r) (times_x_linear g r))
 
 tabulate-sum : (n : ℕ) (f h : ℕ → ℕ) → tabulate n (λ j. f j ⊕ h j) ≡ sum_word (tabulate n f) (tabulate n h)
 unfolding tabulate sum_word
@@ -138,7 +138,7 @@ module _ (g r M : ℕ) (pos : 0 < r) (thin : r < M) (deg : g / 2 ^ r ≡ 1) (L :
     (none : (i j : ℕ) → D 0 i j ≡ 0) (coded : (b a : ℕ) → b < L → a < M → remainder g r (info_changes r M D b a ++ end_changes r M D b a) ≡ 0)
     (c : ℕ) (same : (b a j : ℕ) → b < L → b ≢ c → a < M → j < M - r → D (suc b) a j ≡ 0) where
   abbrev T : ℕ → ℕ → ℕ
-  T = iterate (timesX g r)
+  T = iterate (times_x g r)
 
   -- no change; the generator divides each column of the changes
   abbrev Still : ℕ → Type 0

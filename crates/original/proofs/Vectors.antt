@@ -2,8 +2,8 @@
 --   rows_original   each row of specs/RowsOriginal.antt
 -- Assumes nothing.
 use mathlib.Core.Path.{refl}
-use Rattle.bch.specs.Polynomial.{◌⊕◌, ◌⊗◌, timesX, iterate, poly_at_digits, poly_at, horner, remainder, bits_of}
-use Rattle.bch.specs.Field.{fieldPoly, value_at}
+use Rattle.bch.specs.Polynomial.{◌⊕◌, ◌⊗◌, times_x, iterate, poly_at_digits, poly_at, horner, remainder, bits_of}
+use Rattle.bch.specs.Field.{field_poly, value_at}
 use Rattle.bch.specs.Code.{least_from, minimal_poly, generator, is_codeword, parity, unlike, distance}
 use Rattle.staircase.specs.Lists.{tabulate, concat, first_where}
 use Rattle.staircase.specs.Frame.{outside_each}
@@ -18,7 +18,7 @@ use Rattle.original.specs.Calls.{original_encode_verdict, original_encode_call, 
 use Rattle.original.specs.RowsOriginal.{RowsOriginal}
 
 pub rows_original : RowsOriginal
-unfolding ◌⊕◌ ◌⊗◌ timesX iterate poly_at_digits poly_at horner remainder bits_of fieldPoly value_at least_from minimal_poly generator is_codeword parity unlike distance tabulate concat first_where outside_each choices flip_bits first_correcting error_positions occurrences every_occurrence once permitted correction flip_all correct_word correct_each round_of run_each outcome stuck_each before_last last_stuck line_errors refuse_first size_rule count_rule rounds_rule bit_rule put_all encode_word encode_each row_of rows row_words encoded row_long_rule thin_rule original_rules info_bits original_work original_encode_verdict original_encode_call original_words_verdict original_words_call original_decode_verdict original_decoded original_counts original_decode_call
+unfolding ◌⊕◌ ◌⊗◌ times_x iterate poly_at_digits poly_at horner remainder bits_of field_poly value_at least_from minimal_poly generator is_codeword parity unlike distance tabulate concat first_where outside_each choices flip_bits first_correcting error_positions occurrences every_occurrence once permitted correction flip_all correct_word correct_each round_of run_each outcome stuck_each before_last last_stuck line_errors refuse_first size_rule count_rule rounds_rule bit_rule put_all encode_word encode_each row_of rows row_words encoded row_long_rule thin_rule original_rules info_bits original_work original_encode_verdict original_encode_call original_words_verdict original_words_call original_decode_verdict original_decoded original_counts original_decode_call
 rows_original =
     record {
       block = refl;

@@ -2,7 +2,7 @@
 -- redundancy is empty. Blocks are counted from 1, and block 0 is not sent.
 --   block_site          the site of a bit of a block
 --   row_of, rows        row a of the block that b blocks precede, and the rows of all blocks in the order of a round
---   rowSites, rowWords the same as words of the design's code
+--   row_sites, row_words the same as words of the design's code
 --   buffer_of           the frame that a buffer is
 --   encoded            the buffer with its parity
 -- Assumes nothing.

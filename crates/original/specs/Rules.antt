@@ -1,5 +1,5 @@
 -- Document 02, "Original staircase frames": the rules that are theirs.
---   rowLength s               2M
+--   row_length s               2M
 --   row_long_rule, thin_rule     rule 2 with 2M for n; rule 19
 --   original_rules             rules 1, 2 and 19, those of a design
 --   in_information, info_bits   the columns of the information, and rule 10 over them

@@ -5,6 +5,8 @@
 // The remainders of all rows are summed once, block by block, and kept in working bytes (crate `decoder_frame`). A round takes the blocks in order and
 // corrects the rows whose kept number is not 0 (crate `decoder_words`), which keeps all numbers right. The rows outside the code at the end are those
 // whose number is not 0. The bits that differ from those received are marked behind the numbers (crate `decoder_marks`).
+#![tactic(auto)]
+
 ghost use Rattle.std.specs.Prelude.{◌≡◌, ◌+◌, ◌*◌, ◌≤◌, length};
 ghost use Rattle.staircase.specs.Design.{most-rounds};
 ghost use Rattle.staircase.specs.Decoder.{run_each};

@@ -5,6 +5,8 @@
 // remainders of all its rows are taken at once (crate `words_lines`), and their digits written. The rows of a block share no bit, and a row has bits of
 // its own block and of the one before, whose parity is written by then. Where a frame has bits enough, tables of sums are made first, by which eight bits of
 // a row are added at once (crate `words_tables`).
+#![tactic(auto)]
+
 ghost use Rattle.std.specs.Prelude.{◌≡◌, false, ◌+◌, ◌-◌, ◌*◌, ◌≤◌, ◌<◌, length, get_or};
 ghost use Rattle.answers.specs.Answers.{verdict_of, written_of};
 ghost use Rattle.layout.specs.declared.Shape.TheVariants.{Original};

@@ -1,6 +1,8 @@
 // The word checker of original staircase frames: how many rows of a buffer are outside the code.
 //   check_buffer      rules 4 to 6 for a buffer of blocks
 //   check_words       the word checker: rules 1, 2, 19, 4, 6 and 10, then the count (crate `words_lines`)
+#![tactic(auto)]
+
 ghost use Rattle.std.specs.Prelude.{◌≡◌};
 ghost use Rattle.staircase.specs.Frame.{outside_each};
 ghost use Rattle.answers.specs.Answers.{verdict_of, counted_of};

@@ -9,6 +9,8 @@
 // Kit and text are scanned before anything is lent, since the design and the number of blocks say how much to lend: a kit text of at most 32,768
 // bytes has at most 181 rows, though its design may name 4,090. Then the readers and the call are lent parts of fixed arrays that fit. So every refusal
 // is known before the first byte of an answer, and the answer is written whole.
+#![tactic(auto)]
+
 ghost use Rattle.std.specs.Prelude.{◌≡◌, List, ℕ, ◌*◌, ◌≤◌, length};
 ghost use Rattle.staircase.specs.Design.{most-blocks};
 ghost use Rattle.text.specs.Programs.{refusal_text, most-input};
@@ -27,14 +29,14 @@ pub const MOST_INPUT: usize = 32768;
 pub const MOST_OUTPUT: usize = 262144;
 
 // The design of a program's kit and the number of blocks of its text, or the number and place of a refusal.
-#[derive(Drop)]
+#[derive(Clone, Copy)]
 pub enum Start {
     Go(Design, u64),
     Stop(u64, u64),
 }
 
 // M × r, and the bytes of a list, of the inverse, of the information and of the redundancy.
-#[derive(Drop)]
+#[derive(Clone, Copy)]
 pub struct Sizes {
     pub order: usize,
     pub list: usize,

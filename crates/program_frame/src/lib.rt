@@ -1,5 +1,7 @@
 // What `frame` prints, as bytes.
 //   frame_output(kit, text, out)   for the bytes of kit.txt and a block text
+#![tactic(auto)]
+
 ghost use Rattle.std.specs.Prelude.{false, ◌≤◌, length};
 ghost use Rattle.staircase.specs.Frame.{groups};
 ghost use Rattle.answers.specs.Answers.{verdict_of};

@@ -9,11 +9,13 @@
 // that cannot be written whole, are told on standard error, each with its name and the system's reason: the start of a text may be a text, so an input
 // that breaks off must not pass for a shorter one. A call that a signal interrupts before it moves a byte has not failed, and is made again. What is
 // read and written no contract can say.
+#![tactic(auto)]
+
 ghost use Rattle.std.specs.Prelude.{◌≡◌, length};
 ghost use Rattle.io.specs.Counts.{IsPrefixLen};
 
 // An input: whether it could be read, and how many bytes were.
-#[derive(Drop)]
+#[derive(Clone, Copy)]
 pub struct Input {
     pub readable: bool,
     pub count: usize,

@@ -3,6 +3,8 @@
 //
 // The text is judged first, then both lists are filled, and the length of the kit's text is found before anything is made: a text of at most 32,768
 // bytes has at most 181 rows, so the inverse and the maker's working bytes fit into fixed arrays. Nothing is printed before the maker has answered.
+#![tactic(auto)]
+
 ghost use Rattle.std.specs.Prelude.{◌≤◌, length};
 ghost use Rattle.answers.specs.Answers.{verdict_of};
 ghost use Rattle.text.specs.KitText.{kit_bytes};

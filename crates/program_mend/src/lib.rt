@@ -1,5 +1,7 @@
 // What `mend` prints, as bytes.
 //   mend_output(kit, text, out)   for the bytes of kit.txt and block text followed by group text
+#![tactic(auto)]
+
 ghost use Rattle.std.specs.Prelude.{true, ◌≤◌, length};
 ghost use Rattle.staircase.specs.Frame.{frame_of};
 ghost use Rattle.design.specs.Sizes.{order_of};

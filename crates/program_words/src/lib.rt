@@ -5,11 +5,13 @@
 //
 // The second word is the name of a kit or one too many, so that the others decide. The contract of `request_of` is for every list of words; what the words
 // are with which a program was started no contract can say.
+#![tactic(auto)]
+
 ghost use Rattle.std.specs.Prelude.{◌≡◌, List, ℕ};
 ghost use Rattle.program_words.specs.Words.{same_text, is_option, one_word, kit_words, request_of, Shows};
 
 // What is asked for: a run with the words of these numbers as names of the kit and of the text, 0 for kit.txt and for standard input.
-#[derive(Drop)]
+#[derive(Clone, Copy)]
 pub enum Request {
     Run(usize, usize),
     Help,

@@ -1,5 +1,5 @@
 -- Laws of rule 8: the spare bits of a row are the bits of its last byte that no column uses.
---   usedBits n               how many bits of a row's last byte are columns
+--   used_bits n               how many bits of a row's last byte are columns
 --   spare-none, spare-some   the rule's test by the size of the last byte
 --   empty-spare              an empty matrix has no spare bit of 1
 -- Assumes nothing.

@@ -1,7 +1,7 @@
 -- Rules 4 to 6, over the lengths of a call's slices.
 --   lengths_of                   the lengths of a call's slices
---   lengthsRule have due        rule 6
---   kitDue, makeDue, listsDue, decoderDue, frameDue, batchDue  what is due
+--   lengths_rule have due        rule 6
+--   kit_due, make_due, lists_due, decoder_due, frame_due, batch_due  what is due
 --   original_due, original_decoder_due, buffer_lengths   of an original frame: what is due, and what there is of a buffer and working bytes
 --   size_rules, batch_size_rules   rules 4 to 6; rules 4, 17 and 6
 --   frame_rules, batch_rules      the same for the frame or the frames of a design

@@ -40,7 +40,7 @@ pub const WORKING: u64 = 6;
 pub const TEXT: u64 = 7;
 
 // Lengths of the slices of a call, in bytes.
-#[derive(Drop)]
+#[derive(Clone, Copy)]
 pub struct Lengths {
     pub own: usize,
     pub parity: usize,

@@ -17,6 +17,8 @@
 //   all before it.
 // - Rule 8 reads the last byte of each row alone. Columns fill its low bits, so a spare bit is 1 exactly when the byte is 2^used or more, where
 //   `used` bits of it are columns.
+#![tactic(auto)]
+
 mod lengths;
 
 ghost use Rattle.std.specs.Prelude.{◌≡◌, ℕ, ◌+◌, ◌*◌, ◌^◌, ◌≤◌, ◌<◌, length, get_or, replicate};

@@ -3,6 +3,8 @@
 //   tell_place, tell_two, tell_four, tell_five   store a place and what else a call tells
 //
 // A slice of another length is left as it was. Each of the three answers the rule's number.
+#![tactic(auto)]
+
 ghost use Rattle.std.specs.Prelude.{◌≡◌, [], ◌∷◌};
 ghost use Rattle.answers.specs.Answers.{refusal_verdict, verdict_of};
 ghost use Rattle.rules_verdict.specs.Number.{judged_of, told};
@@ -10,7 +12,7 @@ ghost use Rattle.rules_verdict.specs.Number.{judged_of, told};
 use answers::{Check, Refusal};
 
 // The number of the rule that refuses and the refusal's place; 0 and 0 for accepted.
-#[derive(Drop)]
+#[derive(Clone, Copy)]
 pub struct Judged {
     pub rule: u64,
     pub place: u64,

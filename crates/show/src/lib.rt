@@ -5,6 +5,8 @@
 // Neither call has a `requires`: the rules are tested in the table's order, and a product is formed only once the factors are known to be small.
 // Blocks stand in the information and groups in the redundancy, one after another and all of one size, so a stretch starts at
 // (number - 1) × size. A frame whose lengths pass rule 6 has that stretch whole, and no byte is copied: the answer is a part of the slice lent.
+#![tactic(auto)]
+
 ghost use Rattle.std.specs.Prelude.{◌≡◌, cond, ◌-◌, ◌*◌, ◌≤◌, take, drop};
 ghost use Rattle.staircase.specs.Design.{most-blocks};
 ghost use Rattle.staircase.specs.Rules.{refuse, out_of_range, part_rule};
@@ -18,7 +20,7 @@ use answers::{Check, Refusal};
 use design::{Design, Designed};
 
 // What is shown: a block or a group, by its number from 1.
-#[derive(Drop)]
+#[derive(Clone, Copy)]
 pub enum Part {
     Block(u64),
     Group(u64),

@@ -8,7 +8,7 @@
 --   Decodes, decode-accepted     what the rules ask for
 --   decode-left, decode-received what it leaves: the frame that the rounds make, as long as the copy and of bits
 --   decode-again                 where no word is left outside, a second call makes one idle round
---   idle-stuck, early-stuck      countsOf-idle and countsOf-early of every call
+--   idle-stuck, early-stuck      counts_of-idle and counts_of-early of every call
 -- Assumes nothing.
 use mathlib.Core.Path.{◌≡◌, refl, ap, subst⁻¹, ◌∙◌}
 use mathlib.Core.Bool.{true}

@@ -4,7 +4,7 @@
 --   flips-once        positions that make the same word are the same
 --   errors            the positions at which two words differ; flipping them turns one into the other
 --   error_positions_found      where a codeword lies within t changes, the definition finds a choice that makes a codeword
---   errorPositions-positions  in each case it gives at most t positions of the word
+--   error_positions-positions  in each case it gives at most t positions of the word
 -- Assumes nothing.
 use mathlib.Core.Path.{◌≡◌, refl, sym, ap, ◌∙◌, subst}
 use mathlib.Core.Bool.{Bool, true, false, cond, true≢false}
@@ -65,6 +65,7 @@ flip_bits-here (j ∷ c) u d k (inl e) l =
     (get_or-set_same (flip_bits c u) j (1 - get_or (flip_bits c u) j 0) 0 (omega (arith, e, l, flip_bits-length c u)) ∙ ap (λ (z : ℕ). 1 - z) (flip_bits_other c u j d.0))
 flip_bits-here (j ∷ c) u d k (inr i) l =
     get_or-set_other (flip_bits c u) j k (1 - get_or (flip_bits c u) j 0) 0 (λ e. d.0 (subst (λ (z : ℕ). In z c) e i)) ∙ flip_bits-here c u d.1 k i l
+flip_bits-here [] u d k x3 l = elim x3 [ ]
 
 -- one changed entry is at most one more
 set-distance : (u v : List ℕ) (j b : ℕ) → distance u (set v j b) ≤ distance u v + 1
@@ -200,6 +201,8 @@ errors_at_out f (a ∷ u) (b ∷ v) x i = go (ℕ_discrete a b) (errors_at_out (
         → (k : ℕ) × (x ≡ f k) × (get_or (a ∷ u) k 0 ≢ get_or (b ∷ v) k 0)
     go (yes e) rest = later (rest (subst (λ (z : Bool). In x (cond z (errors_at (λ k. f (suc k)) u v) (f zero ∷ errors_at (λ k. f (suc k)) u v))) (eq-eqb a b e) i))
     go (no d) rest = here d (subst (λ (z : Bool). In x (cond z (errors_at (λ k. f (suc k)) u v) (f zero ∷ errors_at (λ k. f (suc k)) u v))) (ne_eqb a b d) i) rest
+errors_at_out f [] v x i = elim i [ ]
+errors_at_out f (a ∷ u) [] x i = elim i [ ]
 
 unfoldable pub errors : List ℕ → List ℕ → List ℕ
 errors u v = errors_at (λ j. j) u v
@@ -236,6 +239,7 @@ first_correcting_found s u (b ∷ cs) c i h =
         → In (first_correcting s u cs) (b ∷ cs) × (is_codeword s.g s.r (flip_bits (first_correcting s u cs) u) ≡ true)
     later e (inl k) rest = absurd (true≢false (sym h ∙ ap (λ (z : List ℕ). is_codeword s.g s.r (flip_bits z u)) k ∙ e))
     later e (inr k) rest = let r = rest k h in (inr r.0, r.1)
+first_correcting_found s u [] c i h = elim i [ ]
 
 -- where a choice of at most t positions makes a codeword, the definition finds such a choice
 pub error_positions_found : (s : Params) (u c : List ℕ) → Positions (length u) s.t c → is_codeword s.g s.r (flip_bits c u) ≡ true

@@ -37,6 +37,7 @@ all_sent_each (in_info k ∷ c) h y (inl e) = subst Sent (sym e) tt
 all_sent_each (in_info k ∷ c) h y (inr i) = all_sent_each c h y i
 all_sent_each (in_red k ∷ c) h y (inl e) = subst Sent (sym e) tt
 all_sent_each (in_red k ∷ c) h y (inr i) = all_sent_each c h y i
+all_sent_each [] h y i = elim i [ ]
 
 pub each_all_sent : (c : List Site) → ((y : Site) → In y c → Sent y) → all_sent c ≡ true
 each_all_sent [] h = refl
@@ -173,6 +174,7 @@ read_same (x ∷ w) a b h = ap₂ (λ (p : ℕ) (q : List ℕ). p ∷ q) (h x (i
 pub same_read : (w : List Site) (a b : Frame) → read a w ≡ read b w → (y : Site) → In y w → bit_at a y ≡ bit_at b y
 same_read (x ∷ w) a b h y (inl e) = subst (λ (z : Site). bit_at a z ≡ bit_at b z) (sym e) (cc)
 same_read (x ∷ w) a b h y (inr i) = same_read w a b (cc) y i
+same_read [] a b h y x'' = elim x'' [ ]
 
 -- no sent site stands twice in a word
 abbrev pub Distinct : List Site → Type 0

@@ -102,6 +102,7 @@ flipped_keeps {G} A f g k a p hk ha hp sent within kept kept' h number mark =
 pub position-of : (y : Site) (w : List Site) → In y w → (p : ℕ) × (p < length w) × (y ≡ get_or w p unsent)
 position-of y (x ∷ w) (inl e) = (zero, suc-le-suc zero-le, e)
 position-of y (x ∷ w) (inr i) = let t = position-of y w i in (suc t.0, suc-le-suc t.1, t.2)
+position-of y [] x' = elim x' [ ]
 
 module _ (c : Place) (w : ℕ) where
   pub met_here : c.word ≡ w → met_at (c ∷ []) w ≡ true

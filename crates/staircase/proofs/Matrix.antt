@@ -1,6 +1,6 @@
 -- Sums of bits, and matrices over the bits.
---   bitSum-comm .. bitSum-equal     the sum of two bits
---   sumBits-same .. sumBits-swap    sums of many
+--   bit_sum_comm .. bit_sum_equal     the sum of two bits
+--   sum_bits-same .. sum_bits_swap    sums of many
 --   apply-product, apply-identity   a matrix at a vector
 --   linear_units    a linear function of a vector, by its values at the unit vectors
 --   sum_of_units    a vector is the sum of unit vectors

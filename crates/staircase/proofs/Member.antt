@@ -21,6 +21,7 @@ module _ {A : Type 0} where
   pub in_left : (a : A) (l m : List A) → In a l → In a (l ++ m)
   in_left a (x ∷ l) m (inl e) = inl e
   in_left a (x ∷ l) m (inr h) = inr (in_left a l m h)
+  in_left a [] m x' = elim x' [ ]
 
   pub in_right : (a : A) (l m : List A) → In a m → In a (l ++ m)
   in_right a [] m h = h
@@ -51,6 +52,7 @@ module _ {A : Type 0} where
   unfolding tabulate
   tabulate_in (suc n) f a (inl e) = (zero, suc-le-suc zero-le, e)
   tabulate_in (suc n) f a (inr h) = let t = tabulate_in n (λ j. f (suc j)) a h in (suc t.0, suc-le-suc t.1, t.2)
+  tabulate_in zero f a x' = elim x' [ ]
 
   pub concat_in : (n : ℕ) (f : ℕ → List A) (a : A) → In a (concat n f) → (k : ℕ) × (k < n) × In a (f k)
   unfolding concat
@@ -60,6 +62,7 @@ module _ {A : Type 0} where
           → (k : ℕ) × (k < suc n) × In a (f k)
       go (inl i) rest = (zero, suc-le-suc zero-le, i)
       go (inr i) rest = let t = rest i in (suc t.0, suc-le-suc t.1, t.2)
+  concat_in zero f a h = elim h [ ]
 
   pub in? : ((x y : A) → (x ≡ y) ⊎ (x ≢ y)) → (a : A) (l : List A) → In a l ⊎ (¬ In a l)
   in? same a [] = inr (λ h. h)
@@ -88,15 +91,18 @@ module _ {A : Type 0} where
   sub_in a (skip s) h = inr (sub_in a s h)
   sub_in a (keep s) (inl e) = inl e
   sub_in a (keep s) (inr h) = inr (sub_in a s h)
+  sub_in a done h = elim h [ ]
 
 module _ {A B : Type 0} where
   pub map_in : (f : A → B) (l : List A) (b : B) → In b (map f l) → (a : A) × In a l × (b ≡ f a)
   map_in f (x ∷ l) b (inl e) = (x, inl refl, e)
   map_in f (x ∷ l) b (inr h) = let t = map_in f l b h in (t.0, inr t.1, t.2)
+  map_in f [] b x' = elim x' [ ]
 
   pub in_map : (f : A → B) (l : List A) (a : A) → In a l → In (f a) (map f l)
   in_map f (x ∷ l) a (inl e) = inl (ap f e)
   in_map f (x ∷ l) a (inr h) = inr (in_map f l a h)
+  in_map f [] a x' = elim x' [ ]
 
 -- the choices of at most t entries are the sublists of at most t entries
 module _ {A : Type 0} where
@@ -116,6 +122,8 @@ module _ {A : Type 0} where
             subst (λ (z : List A). Sub z (x ∷ l)) (sym m.2) (keep p.0),
             subst (λ (z : List A). length z ≤ suc t) (sym m.2) (suc-le-suc p.1),
           )
+  choices-sub l zero c (inr x'') = elim x'' [ ]
+  choices-sub [] (suc t) c (inr x4) = elim x4 [ ]
 
   pub sub-choices : {l c : List A} (t : ℕ) → Sub c l → length c ≤ t → In c (choices t l)
   unfolding choices
@@ -123,7 +131,7 @@ module _ {A : Type 0} where
   sub-choices (suc t) done h = inl refl
   sub-choices zero (skip {c = []} s) h = inl refl
   sub-choices zero (skip {c = y ∷ c} s) h = absurd (not-suc-le-zero h)
-  sub-choices (suc t) (skip {x = x} {c = c} {l = l} s) h = in_left c (choices (suc t) l) (map (λ d. x ∷ d) (choices t l)) (sub-choices (suc t) s h)
+  sub-choices (suc t) (skip {x = x} {c = c} {l = l} s) h = in_left c (choices (suc t) l) (map (λ d. x ∷ d) (choices t l)) (sub-choices {l = l} {c = c} (suc t) s h)
   sub-choices zero (keep s) h = absurd (not-suc-le-zero h)
   sub-choices (suc t) (keep {x = x} {c = c} {l = l} s) h =
       in_right (x ∷ c) (choices (suc t) l) (map (λ d. x ∷ d) (choices t l)) (in_map (λ d. x ∷ d) (choices t l) c (sub-choices t s (le_of_suc-le-suc h)))

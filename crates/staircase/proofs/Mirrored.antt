@@ -1,6 +1,6 @@
 -- Correcting a word in the mirrored code is correcting it, read backwards, in the other: the locator of the row code serves both.
 --   backwards-at, in_backwards, backwards-map, sub-backwards   lists read backwards
---   mirrorPositions n c        position j becomes n - 1 - j
+--   mirror_positions n c        position j becomes n - 1 - j
 --   mirrored-positions         the error positions of a word in the mirrored code
 --   mirrored-correction        the correction, for a word in which no sent bit stands twice
 --   mirrored-flips             and what it leaves
@@ -44,6 +44,7 @@ module _ {A : Type 0} where
   unfolding backwards
   in_backwards x (y ∷ w) (inl e) = in_right x (backwards w) (y ∷ []) (inl e)
   in_backwards x (y ∷ w) (inr i) = in_left x (backwards w) (y ∷ []) (in_backwards x w i)
+  in_backwards x [] x'' = elim x'' [ ]
 
   pub backwards_in : (x : A) (w : List A) → In x (backwards w) → In x w
   unfolding backwards
@@ -53,6 +54,7 @@ module _ {A : Type 0} where
       go : In x (backwards w) ⊎ In x (y ∷ []) → (In x (backwards w) → In x w) → In x (y ∷ w)
       go (inl j) rest = inr (rest j)
       go (inr (inl e)) rest = inl e
+      go (inr (inr x5)) rest = elim x5 [ ]
 
   pub backwards-at : (w : List A) (d : A) (j : ℕ) → j < length w → get_or (backwards w) j d ≡ get_or w (length w - 1 - j) d
   unfolding backwards

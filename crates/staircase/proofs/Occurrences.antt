@@ -67,6 +67,7 @@ occurrences_in x (y ∷ w) i = go (site? x y) i (λ j. occurrences_in x w j)
     go (inl e) i rest = omega (arith, occurrences-here x y w e)
     go (inr d) (inl e) rest = absurd (d e)
     go (inr d) (inr i) rest = omega (arith, occurrences_other x y w d, rest i)
+occurrences_in x [] i = elim i [ ]
 
 pub occurrences-none : (x : Site) (w : List Site) → ¬ In x w → occurrences x w ≡ 0
 unfolding occurrences
@@ -89,6 +90,7 @@ every_occurrence_each w c (y ∷ d) h x i = go (bool? (eqb (occurrences y c) (oc
     go (inr q) i rest = absurd (true≢false (sym h ∙ cond-false (eqb (occurrences y c) (occurrences y w)) _ _ q))
     go (inl q) (inl e) rest = subst (λ (z : Site). occurrences z c ≡ occurrences z w) (sym e) (eqb-true (occurrences y c) (occurrences y w) q)
     go (inl q) (inr j) rest = rest (sym (cond-true (eqb (occurrences y c) (occurrences y w)) _ _ q) ∙ h) j
+every_occurrence_each w c [] h x i = elim i [ ]
 
 -- ---- each site once
 
@@ -119,6 +121,7 @@ in_once (x ∷ c) y i = go (in? site? x c) i (λ j. in_once c y j)
     go (inl j) (inr k) rest = subst (λ (l : List Site). In y l) (sym (once-drop x c j)) (rest k)
     go (inr n) (inl e) rest = subst (λ (l : List Site). In y l) (sym (once-keep x c n)) (inl e)
     go (inr n) (inr k) rest = subst (λ (l : List Site). In y l) (sym (once-keep x c n)) (inr (rest k))
+in_once [] y i = elim i [ ]
 
 once_nil : once [] ≡ []
 unfolding once
@@ -180,6 +183,7 @@ flip_all-here (x ∷ c) (n, d) f a g y h (inl e) =
     ∙ ap (λ (z : ℕ). 1 - z) (flip_all_other c a y (λ i. n (subst (λ (z : Site). In z c) e i))))
 flip_all-here (x ∷ c) (n, d) f a g y h (inr i) =
     flip_other x y (flip_all c a) (λ e. n (subst (λ (z : Site). In z c) (sym e) i)) ∙ flip_all-here c d f a g y h i
+flip_all-here [] _ f a g y h x5 = elim x5 [ ]
 
 -- ---- the sites of a word at which two frames differ
 
@@ -241,6 +245,7 @@ module _ (a f : Frame) where
       go (yes e) (inr j) rest = subst (λ (l : List Site). In y l) (sym (skip_same x w e)) (rest j)
       go (no d) (inl q) rest = subst (λ (l : List Site). In y l) (sym (keep_other x w d)) (inl q)
       go (no d) (inr j) rest = subst (λ (l : List Site). In y l) (sym (keep_other x w d)) (inr (rest j))
+  in_differing [] y i n = elim i [ ]
 
   -- a wrong bit is wrong in all its places
   pub occurrences_differing : (w : List Site) (y : Site) → bit_at a y ≢ bit_at f y → occurrences y (differing a f w) ≡ occurrences y w

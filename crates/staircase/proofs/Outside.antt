@@ -44,6 +44,7 @@ module _ (f : Frame) where
       inside true d = refl
       inside false d = absurd (omega arith)
   each_inside (v ∷ ws) e w (inr h) = each_inside ws (omega (arith, e)) w h
+  each_inside [] e w x'' = elim x'' [ ]
 
   pub outside_each_inside : (ws : List Word) → ((w : Word) → In w ws → in_code w.code f w.sites ≡ true) → outside_each f ws ≡ 0
   unfolding outside_each

@@ -7,8 +7,8 @@ use mathlib.Core.List.{List, [], ◌∷◌}
 use Prim.Native.Nat.{ℕ, zero, suc, ◌<◌}
 use native.Mathlib.Omega.{arith}
 use lib.ListN.{get_or}
-use Rattle.bch.specs.Polynomial.{◌⊕◌, ◌⊗◌, timesX, iterate, poly_at_digits, poly_at, horner, remainder, bits_of}
-use Rattle.bch.specs.Field.{fieldPoly, value_at}
+use Rattle.bch.specs.Polynomial.{◌⊕◌, ◌⊗◌, times_x, iterate, poly_at_digits, poly_at, horner, remainder, bits_of}
+use Rattle.bch.specs.Field.{field_poly, value_at}
 use Rattle.bch.specs.Mirror.{mirror, reversed}
 use Rattle.bch.specs.Code.{least_from, minimal_poly, generator, parity}
 use Rattle.staircase.specs.Lists.{sum_bits, tabulate, first_where}
@@ -67,7 +67,7 @@ made_k-is a b c d =
     ∙ ap (made_by accepted old) (sym (made-only 4 1 1 0 self_k parity_k old 0 inverse_k bytes_k design_k fits_k passes_k))
 
 pub rows_maker : RowsMaker
-unfolding ◌⊕◌ ◌⊗◌ timesX iterate poly_at_digits poly_at horner remainder bits_of fieldPoly value_at least_from minimal_poly generator parity sum_bits tabulate first_where row_info column_info preimage column_parity column_generator row_parity residual system_entry refuse_first size_rule long_rule large_rule design_rules list_lengths kit_lengths entries bad_entry list_rule misses sends_to dependent make_work singular_rule make_verdict make_call mirror reversed
+unfolding ◌⊕◌ ◌⊗◌ times_x iterate poly_at_digits poly_at horner remainder bits_of field_poly value_at least_from minimal_poly generator parity sum_bits tabulate first_where row_info column_info preimage column_parity column_generator row_parity residual system_entry refuse_first size_rule long_rule large_rule design_rules list_lengths kit_lengths entries bad_entry list_rule misses sends_to dependent make_work singular_rule make_verdict make_call mirror reversed
 rows_maker =
     record {
       made = made_k-is 255 255 255 255;

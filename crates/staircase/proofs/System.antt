@@ -2,8 +2,8 @@
 --   Proper s                              sizes that are not 0, and generators of degree r
 --   order-positive .. column-of           places of Y and of P, their rows and their columns
 --   unstack-lt .. unstack-stack           the order of the stack
---   columnParity-lt .. constantEntry-lt   P, Q, A y + c, A and c have bits
---   columnParity-same .. residual-same    P, Q and A y + c by the entries that the words read
+--   column_parity-lt .. constant_entry-lt   P, Q, A y + c, A and c have bits
+--   column_parity-same .. residual-same    P, Q and A y + c by the entries that the words read
 --   residual-matrix                       A y + c is the matrix at the stacked Y, plus c
 -- Assumes nothing.
 use mathlib.Core.Path.{◌≡◌, refl, sym, ap, ap₂, ◌∙◌, subst, fun_ext}

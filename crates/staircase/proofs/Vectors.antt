@@ -2,7 +2,7 @@
 -- long, and go by laws: the product of the second kit, whose A is read from its rows, and the search for two errors, which ends at the codeword that is named here.
 --   rows_k       document 01's rows under kit K, and more of its refusals, of the word checker and of showing
 --   second_kit   the second kit
---   rowsSpread  rows of the call for spread lists
+--   rows_spread  rows of the call for spread lists
 --   rows_mixed   rows of the call for mixed lists
 -- Assumes nothing.
 use mathlib.Core.Path.{◌≡◌, refl, sym, ap, ap₂, ◌∙◌}
@@ -13,8 +13,8 @@ use native.Mathlib.Nat.{mod-lt, div-lt_iff_lt-mul}
 use native.Mathlib.Omega.{arith}
 use lib.Dec.{eqb}
 use lib.ListN.{length, get_or, replicate}
-use Rattle.bch.specs.Polynomial.{◌⊕◌, ◌⊗◌, timesX, iterate, poly_at_digits, poly_at, horner, remainder, bits_of}
-use Rattle.bch.specs.Field.{fieldPoly, value_at}
+use Rattle.bch.specs.Polynomial.{◌⊕◌, ◌⊗◌, times_x, iterate, poly_at_digits, poly_at, horner, remainder, bits_of}
+use Rattle.bch.specs.Field.{field_poly, value_at}
 use Rattle.bch.specs.Code.{least_from, minimal_poly, generator, is_codeword, parity, unlike, distance}
 use Rattle.staircase.specs.Lists.{sum_bits, tabulate, concat, first_where}
 use Rattle.staircase.specs.Design.{Interleavers, column_generator, Limits}
@@ -45,7 +45,7 @@ use Rattle.staircase.proofs.Correction.{nearest_errors}
 use Rattle.staircase.proofs.BchCode.{apart_of}
 
 pub rows_k : RowsK
-unfolding ◌⊕◌ ◌⊗◌ timesX iterate poly_at_digits poly_at horner remainder bits_of fieldPoly value_at least_from minimal_poly generator is_codeword parity sum_bits tabulate concat first_where row_info row_word column_info column_word preimage column_parity column_generator row_parity residual system_entry constant_entry inverse_entry product self_entry group_bits row_sites column_sites words outside_each outside_among outside group_redundancy redundancy choices flip_bits first_correcting error_positions occurrences every_occurrence once permitted correction flip_all correct_word correct_each correct_words round_of round run_each run_rounds decoded outcome stuck_each before_last last_stuck refuse_first size_rule long_rule large_rule design_rules count_rule rounds_rule list_lengths kit_lengths frame_lengths kit_work word_work kept_work decoder_work entries bad_entry list_rule spare_row spare_rule wrong_entry inverse_rule kit_rules content_rules bit_rule frame_bits kit_verdict encode_verdict encode_call words_verdict words_call decode_verdict unlike distance line_errors counts_of decode_call show_verdict show_call batch_rule batch_lengths batch_verdict batch_redundancy batch_call
+unfolding ◌⊕◌ ◌⊗◌ times_x iterate poly_at_digits poly_at horner remainder bits_of field_poly value_at least_from minimal_poly generator is_codeword parity sum_bits tabulate concat first_where row_info row_word column_info column_word preimage column_parity column_generator row_parity residual system_entry constant_entry inverse_entry product self_entry group_bits row_sites column_sites words outside_each outside_among outside group_redundancy redundancy choices flip_bits first_correcting error_positions occurrences every_occurrence once permitted correction flip_all correct_word correct_each correct_words round_of round run_each run_rounds decoded outcome stuck_each before_last last_stuck refuse_first size_rule long_rule large_rule design_rules count_rule rounds_rule list_lengths kit_lengths frame_lengths kit_work word_work kept_work decoder_work entries bad_entry list_rule spare_row spare_rule wrong_entry inverse_rule kit_rules content_rules bit_rule frame_bits kit_verdict encode_verdict encode_call words_verdict words_call decode_verdict unlike distance line_errors counts_of decode_call show_verdict show_call batch_rule batch_lengths batch_verdict batch_redundancy batch_call
 rows_k =
     record {
       x9 = refl;
@@ -118,7 +118,7 @@ abbrev rows_of_a : ℕ → ℕ → ℕ
 rows_of_a i j = get_or (get_or system_s i []) j 0
 
 system-rows : tabulate 8 (λ i. tabulate 8 (A i)) ≡ system_s
-unfolding ◌⊕◌ ◌⊗◌ timesX iterate poly_at_digits poly_at horner remainder bits_of fieldPoly value_at least_from minimal_poly generator parity tabulate first_where row_info column_info preimage column_parity column_generator row_parity residual system_entry entries
+unfolding ◌⊕◌ ◌⊗◌ times_x iterate poly_at_digits poly_at horner remainder bits_of field_poly value_at least_from minimal_poly generator parity tabulate first_where row_info column_info preimage column_parity column_generator row_parity residual system_entry entries
 system-rows = refl
 
 system-at : (i j : ℕ) → i < 8 → j < 8 → A i j ≡ rows_of_a i j
@@ -150,7 +150,7 @@ inverse-accepted =
 -- rule 9 apart
 encoded_but : encode_call 4 1 2 0 3 self_s parity_s inverse_s info_s (replicate (red_length params_s 3) 255) (kit_work params_s)
     ≡ encoded_by (inverse_rule params_s lists_s inverse_s) (replicate (red_length params_s 3) 255) red_s
-unfolding ◌⊕◌ ◌⊗◌ timesX iterate poly_at_digits poly_at horner remainder bits_of fieldPoly value_at least_from minimal_poly generator is_codeword parity sum_bits tabulate concat first_where row_info row_word column_info column_word preimage column_parity column_generator row_parity residual system_entry constant_entry inverse_entry product self_entry group_bits row_sites column_sites words outside_each outside_among outside group_redundancy redundancy choices flip_bits first_correcting error_positions occurrences every_occurrence once permitted correction flip_all correct_word correct_each correct_words round_of round run_each run_rounds decoded refuse_first size_rule long_rule large_rule design_rules count_rule rounds_rule list_lengths kit_lengths frame_lengths kit_work word_work kept_work decoder_work entries bad_entry list_rule spare_row spare_rule wrong_entry kit_rules content_rules bit_rule frame_bits kit_verdict encode_verdict encode_call decode_verdict decode_call
+unfolding ◌⊕◌ ◌⊗◌ times_x iterate poly_at_digits poly_at horner remainder bits_of field_poly value_at least_from minimal_poly generator is_codeword parity sum_bits tabulate concat first_where row_info row_word column_info column_word preimage column_parity column_generator row_parity residual system_entry constant_entry inverse_entry product self_entry group_bits row_sites column_sites words outside_each outside_among outside group_redundancy redundancy choices flip_bits first_correcting error_positions occurrences every_occurrence once permitted correction flip_all correct_word correct_each correct_words round_of round run_each run_rounds decoded refuse_first size_rule long_rule large_rule design_rules count_rule rounds_rule list_lengths kit_lengths frame_lengths kit_work word_work kept_work decoder_work entries bad_entry list_rule spare_row spare_rule wrong_entry kit_rules content_rules bit_rule frame_bits kit_verdict encode_verdict encode_call decode_verdict decode_call
 encoded_but = refl
 
 -- ---- two errors
@@ -174,11 +174,11 @@ errors_of : (u v : List ℕ) → length u ≡ 24 → length v ≡ 24 → bit_rul
 errors_of u v lu lv hu hv = nearest_errors params_t 24 (apart_of limits_t) u v lu lv (bytes_bits 0 u hu) (bytes_bits 0 v hv)
 
 positions0_t : error_positions params_t (word_t 0) ≡ 8 ∷ 17 ∷ []
-unfolding ◌⊕◌ ◌⊗◌ timesX iterate poly_at_digits poly_at horner remainder fieldPoly value_at least_from minimal_poly generator is_codeword unlike distance tabulate first_where refuse_first bit_rule row_info row_word row_sites errors_at errors
+unfolding ◌⊕◌ ◌⊗◌ times_x iterate poly_at_digits poly_at horner remainder field_poly value_at least_from minimal_poly generator is_codeword unlike distance tabulate first_where refuse_first bit_rule row_info row_word row_sites errors_at errors
 positions0_t = errors_of (word_t 0) code0_t refl refl refl refl refl (let e : distance (word_t 0) code0_t ≡ 2 = refl in omega arith)
 
 positions1_t : error_positions params_t (word_t 1) ≡ 1 ∷ 9 ∷ []
-unfolding ◌⊕◌ ◌⊗◌ timesX iterate poly_at_digits poly_at horner remainder fieldPoly value_at least_from minimal_poly generator is_codeword unlike distance tabulate first_where refuse_first bit_rule row_info row_word row_sites errors_at errors
+unfolding ◌⊕◌ ◌⊗◌ times_x iterate poly_at_digits poly_at horner remainder field_poly value_at least_from minimal_poly generator is_codeword unlike distance tabulate first_where refuse_first bit_rule row_info row_word row_sites errors_at errors
 positions1_t = errors_of (word_t 1) code1_t refl refl refl refl refl (let e : distance (word_t 1) code1_t ≡ 2 = refl in omega arith)
 
 -- the sites of a word at some positions, if all are sent
@@ -194,7 +194,7 @@ unfolding occurrences every_occurrence once permitted correction row_sites row_w
 needs-B0 = ap (sent_at (row_sites params_t lists_t 1 0 1)) positions1_t
 
 pub second_kit : SecondKit
-unfolding ◌⊕◌ ◌⊗◌ timesX iterate poly_at_digits poly_at horner remainder bits_of fieldPoly value_at least_from minimal_poly generator is_codeword parity sum_bits tabulate concat first_where row_info row_word column_info column_word preimage column_parity column_generator row_parity residual system_entry constant_entry inverse_entry product self_entry group_bits row_sites column_sites words outside_each outside_among outside group_redundancy redundancy choices flip_bits first_correcting error_positions occurrences every_occurrence once permitted correction flip_all correct_word correct_each correct_words round_of round run_each run_rounds decoded outcome stuck_each before_last last_stuck refuse_first size_rule long_rule large_rule design_rules count_rule rounds_rule list_lengths kit_lengths frame_lengths kit_work word_work kept_work decoder_work entries bad_entry list_rule spare_row spare_rule wrong_entry inverse_rule kit_rules content_rules bit_rule frame_bits kit_verdict encode_verdict encode_call decode_verdict unlike distance line_errors counts_of decode_call
+unfolding ◌⊕◌ ◌⊗◌ times_x iterate poly_at_digits poly_at horner remainder bits_of field_poly value_at least_from minimal_poly generator is_codeword parity sum_bits tabulate concat first_where row_info row_word column_info column_word preimage column_parity column_generator row_parity residual system_entry constant_entry inverse_entry product self_entry group_bits row_sites column_sites words outside_each outside_among outside group_redundancy redundancy choices flip_bits first_correcting error_positions occurrences every_occurrence once permitted correction flip_all correct_word correct_each correct_words round_of round run_each run_rounds decoded outcome stuck_each before_last last_stuck refuse_first size_rule long_rule large_rule design_rules count_rule rounds_rule list_lengths kit_lengths frame_lengths kit_work word_work kept_work decoder_work entries bad_entry list_rule spare_row spare_rule wrong_entry inverse_rule kit_rules content_rules bit_rule frame_bits kit_verdict encode_verdict encode_call decode_verdict unlike distance line_errors counts_of decode_call
 second_kit =
     record {
       system = system-rows;

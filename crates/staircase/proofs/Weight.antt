@@ -11,7 +11,7 @@ use Prim.Native.Nat.{ℕ, zero, suc, ◌-◌, ◌*◌, ◌<◌}
 use native.Mathlib.Nat.{mul-one, zero-mul, one-mul, le_of_suc-le-suc, not-suc-le-zero}
 use native.Mathlib.Omega.{arith}
 use lib.ListN.{length, get_or}
-use Rattle.bch.specs.Polynomial.{◌⊕◌, timesX, iterate, horner, remainder}
+use Rattle.bch.specs.Polynomial.{◌⊕◌, times_x, iterate, horner, remainder}
 use Rattle.bch.specs.Powers.{power_mod}
 use Rattle.bch.proofs.Sum.{bit_ind, ⊕_assoc, ⊕_comm, ⊕-self, ⊕-zero-left, ⊕-zero-right}
 use Rattle.bch.proofs.Polynomial.{linear_bit}
@@ -34,7 +34,7 @@ module _ (g r : ℕ) where
   remainder_cons : (b : ℕ) (u : List ℕ) → b < 2 → remainder g r (b ∷ u) ≡ b * power_mod g r (length u) ⊕ remainder g r u
   unfolding remainder power_mod
   remainder_cons b u h =
-      let T : ℕ → ℕ = timesX g r in
+      let T : ℕ → ℕ = times_x g r in
       horner_cons T (times_x_linear g r) b u
       ∙ ap (λ (z : ℕ). z ⊕ horner T 0 u)
       (ap (iterate T (length u)) (sym (mul-one b)) ∙ linear_bit (iterate T (length u)) (iterate-times_x_linear g r (length u)) b 1 h)

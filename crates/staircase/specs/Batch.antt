@@ -4,7 +4,7 @@
 --   batch_lengths     rule 6 for the joined buffers
 --   batch_verdict     rules 1 to 4, 17, 6, 7, 8, 10 and 9
 --   frame_at          the stretch of one frame
---   batchRedundancy  the redundancy of all frames
+--   batch_redundancy  the redundancy of all frames
 --   batch_call        the verdict, and the redundancy buffer
 -- Assumes nothing.
 use Rattle.std.specs.Prelude.{List, ℕ, ◌*◌, length, take, drop}

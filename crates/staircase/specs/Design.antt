@@ -2,7 +2,7 @@
 --   least-m .. most-rounds   the limits
 --   Params, params           what the words of a design need
 --   column_generator, column_code   the code of column words
---   wordLength s             n
+--   word_length s             n
 --   order s                  M × r: entries of a list, of Y and of P, rows of the system
 --   Limits m t M col         the design is an allowed one
 --   Interleavers             the two lists

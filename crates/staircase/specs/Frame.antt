@@ -3,7 +3,7 @@
 --   Frame, frame_of, Site      the buffers, and where a bit of a word stands in them
 --   bit_at, flip               the bit at a site, and the frame with it turned
 --   groups L                  G
---   block_at, yAt, p_at the sites of a block, of Y and of P
+--   block_at, y_at, p_at the sites of a block, of Y and of P
 --   block                     the bits of a block
 --   row_sites, column_sites     the sites of a row word and of a column word
 --   Word, word                a word with its code

@@ -1,5 +1,5 @@
 -- The line errors of a frame: the bits that the link turned, as a decoder counts them.
---   lineErrors f g   in how many sent bits two frames differ
+--   line_errors f g   in how many sent bits two frames differ
 -- Assumes nothing.
 use Rattle.std.specs.Prelude.{ℕ, ◌+◌}
 use Rattle.bch.specs.Code.{distance}

@@ -1,9 +1,9 @@
 -- Tables, sums of bits and first places.
---   bitSum a b       the sum of two bits
---   sumBits n f      the sum of the bits f 0, .., f (n - 1)
+--   bit_sum a b       the sum of two bits
+--   sum_bits n f      the sum of the bits f 0, .., f (n - 1)
 --   tabulate n f     the list f 0, .., f (n - 1)
 --   concat n f       the lists f 0, .., f (n - 1), one after the other
---   firstWhere n f   the first of 0, .., n - 1 that passes a test; n where none does
+--   first_where n f   the first of 0, .., n - 1 that passes a test; n where none does
 -- Assumes nothing.
 use Rattle.std.specs.Prelude.{Bool, cond, List, [], ◌∷◌, ◌++◌, ℕ, zero, suc, ◌+◌, ◌%◌}
 

@@ -2,11 +2,11 @@
 -- (docs/DECISIONS.md), whose sentences are quoted here; the generator is that of the test load.
 --   swapped l i j      the list l after its entries i and j changed places
 --   shuffled s i l     the list l after the draws for its entries i, .., 1 from state s
---   shuffleSteps s n   the generator's steps for n column words
---   rowsIn s seed c    π of column word c
---   columnTo s by p    the column word to which place p of X or of Q goes
---   mixedTo s by seed p   the place to which it goes
---   afterList s seed   the state after the draws for a list
+--   shuffle_steps s n   the generator's steps for n column words
+--   rows_in s seed c    π of column word c
+--   column_to s by p    the column word to which place p of X or of Q goes
+--   mixed_to s by seed p   the place to which it goes
+--   after_list s seed   the state after the draws for a list
 --   mixed s seed       the two lists
 --   mixed_call          the call's verdict, the lists' buffers and the last state
 --   MixedLeft          the claims about what an accepted call leaves

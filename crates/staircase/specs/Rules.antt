@@ -2,7 +2,7 @@
 --   Verdict               accepted, or refused with the table's number and place
 --   u then v              the first refusal of two
 --   refuse, refuse_first   refused where a test passes; at the first place where it passes
---   sizeRule .. bitRule   the rules
+--   size_rule .. bit_rule   the rules
 --   design_rules           rules 1 to 3
 --   kit_rules              rules 7 to 9 of a kit
 --   content_rules          rules 7, 8, 10 and 9 of a kit and the information under it

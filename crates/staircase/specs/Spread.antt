@@ -1,7 +1,7 @@
 -- Document 02, U3: spread lists, "the lists for low error floors".
---   turnedTo s by p      the place to which place p of X or of Q goes
+--   turned_to s by p      the place to which place p of X or of Q goes
 --   spread s             the two lists
---   listBytes n f        the bytes of the list with entries f 0, .., f (n - 1)
+--   list_bytes n f        the bytes of the list with entries f 0, .., f (n - 1)
 --   narrow_rule           rule 15
 --   spread_verdict        rules 1 to 3, 15 and 6
 --   spread_call           the call's verdict and the lists' buffers

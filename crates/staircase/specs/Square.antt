@@ -4,10 +4,10 @@
 --   Inverts n a w       the product of the n × n matrices a and w is the identity
 --   EitherOrder         A W is the identity exactly when W A is
 --   digit, number       bit k of a number, and the number of n bits
---   sendsTo n m a v x   the first m columns of a, of n rows, at the digits of x, are v
+--   sends_to n m a v x   the first m columns of a, of n rows, at the digits of x, are v
 --   dependent n a j     column j is a sum of earlier columns
---   inverseMatrix n a   the inverse, where there is one
---   packedMatrix n w    a matrix, packed row by row
+--   inverse_matrix n a   the inverse, where there is one
+--   packed_matrix n w    a matrix, packed row by row
 --   Reached, Units, Pivots   the state of elimination
 --   cleared_entry        an entry after columns are cleared
 -- Assumes nothing.

@@ -9,3 +9,4 @@
 //   BchCode, Demand2, Demand3                              the code of a design, and demands 2 and 3 over the calls
 //   Load                                                   the test load
 //   Vectors                                                document 01's rows under kit K, and a second kit
+#![tactic(auto)]

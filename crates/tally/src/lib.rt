@@ -9,6 +9,8 @@
 // `decode_tallied` is the thin function over a lent struct: it has no test, loop or sum of its own, and all is in `decode_counted` below it. Neither has
 // a `requires`. The decoder judges rule 16 with its own rules, as the last (`decoder::decode_with_col`), so that no frame is judged twice. A total is at
 // most 2^62 where a decode is accepted, and a decode adds at most 2^31 to it, so every sum fits into 64 bits.
+#![tactic(auto)]
+
 ghost use Rattle.std.specs.Prelude.{◌≡◌, ◌+◌, length};
 ghost use Rattle.staircase.specs.Frame.{frame_of};
 ghost use Rattle.staircase.specs.Tally.{decode_with, total_rule, full_rule, tally_call};
@@ -20,7 +22,7 @@ use answers::{Check, Decoding, Refusal};
 use rules::first;
 
 // "frames, sent bits, bits turned, rounds, words outside, stuck words"
-#[derive(Drop)]
+#[derive(Clone, Copy)]
 pub struct Tally {
     pub frames: u64,
     pub bits: u64,
@@ -31,14 +33,14 @@ pub struct Tally {
 }
 
 // A tally after a decode, and what the decode answers.
-#[derive(Drop)]
+#[derive(Clone, Copy)]
 pub struct Tallied {
     pub tally: Tally,
     pub decoding: Decoding,
 }
 
 // "each total, and the share of turned bits as two whole numbers with no common factor"
-#[derive(Drop)]
+#[derive(Clone, Copy)]
 pub struct TallyReport {
     pub totals: Tally,
     pub top: u64,

@@ -4,12 +4,14 @@
 //
 // Both numbers are divided by their greatest common divisor, which Euclid's divisions find: the common divisors of x and y are those of y and x mod y,
 // so at most about 90 divisions are made of numbers of 64 bits.
+#![tactic(auto)]
+
 ghost use Rattle.std.specs.Prelude.{◌≡◌, ◌<◌};
 ghost use Rattle.staircase.specs.Report.{greatest_common, share_of};
 ghost use Rattle.tally_share.specs.Answers.{share_in};
 
 // Two numbers with no common factor.
-#[derive(Drop)]
+#[derive(Clone, Copy)]
 pub struct Share {
     pub top: u64,
     pub bottom: u64,

@@ -1,8 +1,8 @@
 -- Kit texts that the scan takes and refuses, computed.
 --   kit_k-accepted, kit_k-numbers       kit K is accepted, with m = 4, t = 1, M = 1
---   kitK-self .. kitK-inverse         and shows the lists and the inverse of the rows under K
---   kitK-cut .. zero-first            texts that are refused, with their places
---   listsK-accepted .. listsK-parity  K's list text is accepted, and shows its lists
+--   kit_k-self .. kit_k-inverse         and shows the lists and the inverse of the rows under K
+--   kit_k-cut .. zero-first            texts that are refused, with their places
+--   lists_k-accepted .. lists_k-parity  K's list text is accepted, and shows its lists
 --   lists_k-cut, lists_k-whole          list texts that are refused: one cut short, and K's whole kit text
 -- Assumes nothing.
 use mathlib.Core.Path.{◌≡◌, refl}

@@ -1,6 +1,6 @@
 -- Document 01, "Programs": block text, group text, and frame text, which is block text followed by group text and which `mend` reads.
---   blockFormat area most          "`block bits`, then number and M × M bits, for 1 to 4,096 blocks numbered from 1 in order"
---   frameFormat area n most        block text "followed by group text in that form, with exactly G groups"
+--   block_format area most          "`block bits`, then number and M × M bits, for 1 to 4,096 blocks numbered from 1 in order"
+--   frame_format area n most        block text "followed by group text in that form, with exactly G groups"
 --   BlockText, FrameText           the same texts, said by the number of blocks
 --   block_text, group_text           the block text and the group text of given bits
 --   frame_bytes                     how many bytes a frame text has

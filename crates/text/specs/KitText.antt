@@ -2,8 +2,8 @@
 --   head_items, head_format    the line `m t M` and the line of the three numbers, "where any numbers of one to four digits will do"
 --   head_bytes                the two lines of a design, as bytes
 --   pair_line, pair_lines      the lines of the lists: `place`, an entry of the self list, an entry of the parity list
---   kitBody n                what follows the two lines, for n = M × r
---   restFormat n, kitFormat m t M   the same as a format, and the kit texts of a design; its two lines are fixed bytes
+--   kit_body n                what follows the two lines, for n = M × r
+--   rest_format n, kit_format m t M   the same as a format, and the kit texts of a design; its two lines are fixed bytes
 --   KitText D                the kit texts of the designs in D
 --   ShortNumbers             "any numbers of one to four digits"
 --   StartsKit m t M          the texts that start with the two lines of these numbers

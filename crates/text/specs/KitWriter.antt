@@ -2,7 +2,7 @@
 --   write_verdict    rules 1 to 3 and 6 to 8
 --   write_call       its verdict and the text's buffer
 --   text_length      how long the text of a kit is
---   measureVerdict  rules 1 to 3, and rule 6 for the two lists
+--   measure_verdict  rules 1 to 3, and rule 6 for the two lists
 --   measure_call     its verdict and the length
 --   HoldsBytes, WrittenReads   what the writer's call leaves, as the reader's call reads it; `write_then_read` in proofs/KitWritten.antt shows it
 -- Assumes nothing.

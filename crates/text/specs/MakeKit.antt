@@ -1,6 +1,6 @@
 -- What `makekit` prints, for every standard input: a list text, "the first part of a kit text (the lines up to and with the last list entry)", is made a
 -- whole kit text, or refused. Document 02 names no program; docs/DECISIONS.md says how limits and places were chosen.
---   listsItems n, listsFormat n      what follows the two lines in a list text, for n = M × r, and as a format
+--   lists_items n, lists_format n      what follows the two lines in a list text, for n = M × r, and as a format
 --   list_format, ListText             the list texts of a design, and those of some designs
 --   lists_scan, lists_rule             the scan of what follows the two lines, and rule 11 for it
 --   scan_lists                        the rules on a list text

@@ -3,3 +3,4 @@
 // text and frame text, FrameReader their readers, Programs what `frame` and `mend` print, MakeKit what `makekit` prints. FrameThenMend and
 // MendPrints are claims about the two programs. What holds of them, in proofs/: KitPromises, FramePromises, KitWritten, FrameThenMend and
 // MendPrints; the other files are laws on the way there. A text that is printed is `spell` of the items of the format that is read.
+#![tactic(auto)]

@@ -3,7 +3,7 @@
 --   walk-append                    lists of items one after the other
 --   walk-byte .. this-byte         a fixed byte at a position
 --   bit-none, walk-bit             a bit at a position
---   get_d_any, getD-there, head_at  a byte of a text by its position
+--   get_d_any, get_d_there, head_at  a byte of a text by its position
 -- Assumes nothing.
 use Prim.Native.Nat.{ℕ, zero, suc, ◌+◌, ◌-◌, ◌≤◌, ◌<◌}
 use mathlib.Core.Path.{◌≡◌, refl, sym, ap, ◌∙◌}

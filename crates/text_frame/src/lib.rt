@@ -12,6 +12,8 @@
 //
 // Contracts cite FrameReader in the crate `text`. FramePromises there says what its definitions mean: the accepted texts are exactly the texts of the
 // format with the bits that are read, and a refusal's place is the longest start that some text shares.
+#![tactic(auto)]
+
 ghost use Rattle.std.specs.Prelude.{◌≡◌, ◌*◌};
 ghost use Rattle.text.specs.Rules.{scan_rule, mark};
 ghost use Rattle.text_frame_scan.specs.Judged.{found_scan};
@@ -23,7 +25,7 @@ use design::Design;
 use text_frame_scan::Found;
 
 // The number of blocks of a text; or the refusal by rule 6; or the place of rule 12.
-#[derive(Drop)]
+#[derive(Clone, Copy)]
 pub enum Blocks {
     Read(u64),
     Refused(Refusal),

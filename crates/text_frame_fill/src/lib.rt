@@ -4,6 +4,8 @@
 //
 // The crate `text_frame_scan` judges a text. Each function reads at a position and answers the position after what it read; each goes once through
 // its lines. A contract says by the walk over the format's items what is written and where the walk ends.
+#![tactic(auto)]
+
 ghost use Rattle.std.specs.Prelude.{◌≡◌, ◌∷◌, ◌++◌, ◌+◌, ◌*◌, ◌≤◌, ◌<◌, length, take, drop};
 ghost use Rattle.staircase.specs.Design.{most-blocks};
 ghost use Rattle.text_formats.specs.Format.{byte};

@@ -5,6 +5,8 @@
 // A function that reads at a position answers the position after what it read, or the place where that goes wrong; each goes once through what it
 // reads. No argument of the two calls is required to be in any range. Contracts cite the formats of
 // FrameText in the crate `text`.
+#![tactic(auto)]
+
 ghost use Rattle.std.specs.Prelude.{◌≡◌, ◌++◌, ◌-◌, ◌≤◌, ◌<◌};
 ghost use Rattle.staircase.specs.Design.{most-blocks};
 ghost use Rattle.text_formats.specs.Format.{scan};
@@ -16,7 +18,7 @@ ghost use Rattle.text_frame_scan.specs.Judged.{found_scan};
 use text_items::Step;
 
 // What judging a text finds: its number of blocks, or the place where it goes wrong.
-#[derive(Drop)]
+#[derive(Clone, Copy)]
 pub enum Found {
     Count(usize),
     Wrong(usize),

@@ -1,7 +1,7 @@
 -- What the answers say.
 --   digit_at, num_at       the answers of `digit_at` and of `number`: the digit and the number at a position
 --   step_of               the answer to a walk, without its values
---   stepWalk, fieldWalk  the walk that an answer tells
+--   step_walk, field_walk  the walk that an answer tells
 -- Assumes nothing.
 use Rattle.std.specs.Prelude.{ℕ, zero, suc, ◌+◌, ◌-◌, cond, List, [], ◌∷◌, get_or, drop}
 use Rattle.text_formats.specs.Format.{num_len, value, is_digit}

@@ -6,27 +6,29 @@
 //
 // Each function reads at a position of the whole text s and answers the position after what it read, or the place where that goes wrong, counted
 // from the start of s. Contracts cite `walk` of the crate `text_formats`. No length is required of s: a position grows only where a byte was there.
+#![tactic(auto)]
+
 ghost use Rattle.std.specs.Prelude.{◌≡◌, [], ◌∷◌, ◌<◌};
 ghost use Rattle.text_formats.specs.Format.{byte, num, dec};
 ghost use Rattle.text_formats.specs.Items.{walk, lits, bits, bits_line};
 ghost use Rattle.text_items.specs.Answers.{digit_at, num_at, step_of, step_walk, field_walk};
 
 // The position after what was read, or the place where it goes wrong.
-#[derive(Drop)]
+#[derive(Clone, Copy)]
 pub enum Step {
     Next(usize),
     Refused(usize),
 }
 
 // A number and the position after it, or no number.
-#[derive(Drop)]
+#[derive(Clone, Copy)]
 pub enum Num {
     Value(usize, usize),
     Bad,
 }
 
 // A number that a byte follows, and the position after both, or the place where they go wrong.
-#[derive(Drop)]
+#[derive(Clone, Copy)]
 pub enum Field {
     Got(usize, usize),
     Stop(usize),

@@ -9,6 +9,8 @@
 // The rest is judged whole before a byte is written (the crate `text_kit_scan`). The filling then reads the same lines again, knows that they are
 // right, and needs no refusal (the crate `text_kit_fill`). Both go through the text once, so the work grows with the lengths of the text and of the
 // slices.
+#![tactic(auto)]
+
 ghost use Rattle.std.specs.Prelude.{◌≡◌};
 ghost use Rattle.text_kit.specs.Answers.{kit_scan_verdict, KitDesign};
 ghost use Rattle.text.specs.KitReader.{scan_kit, read_kit_call};
@@ -18,7 +20,7 @@ use design::Design;
 use text_kit_scan::{Front, Rest};
 
 // A kit text's design; or the refusal by one of the rules 1 to 3 and 6; or the place of rule 11.
-#[derive(Drop)]
+#[derive(Clone, Copy)]
 pub enum KitScan {
     Kit(Design),
     Refused(Refusal),

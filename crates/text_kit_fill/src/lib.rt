@@ -4,6 +4,8 @@
 //
 // The crate `text_kit_scan` judges a text and answers the positions of the lines. specs/Bytes.antt says what bytes the values of the lines make. Each
 // function goes once through its lines and writes each byte once.
+#![tactic(auto)]
+
 ghost use Rattle.std.specs.Prelude.{◌≡◌, [], ◌∷◌, ◌+◌, ◌*◌, ◌/◌, ◌%◌, ◌≤◌, ◌<◌, min, length, take, drop};
 ghost use Rattle.std.proofs.lemmas.List.Edits.{sets};
 ghost use Rattle.text_formats.specs.Items.{walk, values, Passes, bits_line, bits_lines};

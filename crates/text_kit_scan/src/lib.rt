@@ -6,6 +6,8 @@
 //
 // Each function reads at a position of the whole text and answers the position after what it read, or the place where that goes wrong. An answer is
 // an enum; specs/Answers.antt says what its cases mean by the format of KitText in the crate `text`. Each goes once through what it reads.
+#![tactic(auto)]
+
 ghost use Rattle.std.specs.Prelude.{◌≡◌, ◌≤◌, ◌<◌};
 ghost use Rattle.staircase.specs.Design.{most-order};
 ghost use Rattle.text_formats.specs.Items.{walk, bits_lines};
@@ -18,21 +20,21 @@ use design::{Design, Designed};
 use text_items::{Field, Step};
 
 // The three numbers of the two lines and the position after them, or the place where they go wrong.
-#[derive(Drop)]
+#[derive(Clone, Copy)]
 enum Head {
     Lines(usize, usize, usize, usize),
     NoLines(usize),
 }
 
 // The two entries of a line and the position after it, or the place where it goes wrong.
-#[derive(Drop)]
+#[derive(Clone, Copy)]
 pub enum Line {
     Pair(usize, usize, usize),
     NoPair(usize),
 }
 
 // The design of the two lines and the position after them; or the refusal by one of the rules 1 to 3; or the place of rule 11.
-#[derive(Drop)]
+#[derive(Clone, Copy)]
 pub enum Front {
     Starts(Design, usize),
     Ruled(Refusal),
@@ -40,7 +42,7 @@ pub enum Front {
 }
 
 // The positions of the lists' lines and of the inverse's lines, or the place of rule 11.
-#[derive(Drop)]
+#[derive(Clone, Copy)]
 pub enum Rest {
     Whole(usize, usize),
     NotWhole(usize),

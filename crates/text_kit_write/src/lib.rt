@@ -7,6 +7,8 @@
 // The first two have no `requires`. All rules are judged before the first byte is written, so a refused call leaves the buffer as it was. The length
 // of the text is judged before rule 7, so in it an entry counts with all its digits, even five. What is written reads back to the same kit
 // (KitWritten of the crate `text`). Module lengths has the length, and module lines writes.
+#![tactic(auto)]
+
 mod lengths;
 mod lines;
 
@@ -22,7 +24,7 @@ pub use lengths::kit_length;
 pub use lines::put_kit;
 
 // The answer of `text_length`: the length of the text, or a refusal.
-#[derive(Drop)]
+#[derive(Clone, Copy)]
 pub enum TextLength {
     Length(u64),
     Refused(Refusal),

@@ -12,6 +12,8 @@
 //   put_blocks, put_groups   block text and group text (module whole)
 //
 // The digits of a number of at least 10 are those of its tenth part and one more, so a number is written by writing its tenth part first.
+#![tactic(auto)]
+
 mod whole;
 
 ghost use Rattle.std.specs.Prelude.{◌≡◌, [], ◌∷◌, ◌++◌, ◌+◌, ◌≤◌, length};

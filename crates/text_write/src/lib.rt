@@ -8,6 +8,8 @@
 // They have no `requires`: the position may be any number and the slices of any length. They count the bytes of the text first, and compare them with
 // the bytes that follow the position part by part, so that no sum can be too large. Where there is no room, nothing is written and the answer is the
 // position itself. Where there is, the crate `text_lines` writes.
+#![tactic(auto)]
+
 ghost use Rattle.std.specs.Prelude.{◌≡◌, ◌+◌, leb};
 ghost use Rattle.text.specs.FrameText.{bits_text, group_line_text};
 ghost use Rattle.text.specs.Programs.{refusal_text, counts_text};

@@ -1,6 +1,8 @@
 // The word checker of feed-forward frames: how many words of a frame as it is received are outside the code.
 //   check_received    rules 4 to 7 and 10 for a frame and its lists
 //   check_words       the word checker: rules 1 to 4, 6, 7 and 10, then the count (crate `words_lines`)
+#![tactic(auto)]
+
 ghost use Rattle.std.specs.Prelude.{◌≡◌, length};
 ghost use Rattle.staircase.specs.Frame.{outside, frame_of};
 ghost use Rattle.staircase.specs.Calls.{words_call};
@@ -16,7 +18,7 @@ use layout::{Frames, Shape};
 use rules::Lengths;
 
 // What a call is asked for: a frame of so many blocks, so many rounds, and lists and working bytes of the lengths that are due.
-#[derive(Drop)]
+#[derive(Clone, Copy)]
 pub struct Asked {
     pub blocks: u64,
     pub rounds: u64,

@@ -1,7 +1,7 @@
 -- The blocks of a frame as parts of the information, and sums over them by the table of powers of x that the positions of a word carry: its first M
 -- entries are for the first block of a word, the next M for the second.
 --   sent L b                   block b of a frame of L blocks is sent
---   blockBytes L area info b   its bytes; none where it is not sent
+--   block_bytes L area info b   its bytes; none where it is not sent
 --   BlockLent                  what is asked of a block that is lent
 --   block_reads                 how many bits of it a word reads
 --   part_sum                    the sum of a part of the table at the ones of some bits

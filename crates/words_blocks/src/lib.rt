@@ -10,6 +10,8 @@
 // its first 2 × size positions. Words that have columns of a block run across its rows and are added row by row, words that have rows lie in a row each;
 // a block that is not sent is an empty slice, and adds nothing. Whoever lends tables of the sums of eight entries has eight bits added at once (crate `words_sums`). The bits that are
 // read of a word are counted where they are read, in the loops of `bch_remainders`, `words_packed` and `words_sums`.
+#![tactic(auto)]
+
 ghost use Rattle.std.specs.Prelude.{◌≡◌, ℕ, ◌+◌, ◌*◌, ◌≤◌, ◌<◌, length, get_or};
 ghost use Rattle.bch.specs.Polynomial.{◌⊕◌, Bits};
 ghost use Rattle.bch.specs.Powers.{xor_sum};

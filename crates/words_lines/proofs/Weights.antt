@@ -1,5 +1,5 @@
 -- The remainder of a word of a line, as it is read, by a table of words that are read so.
---   xorSum-backwards  a sum from the last to the first
+--   xor_sum-backwards  a sum from the last to the first
 --   word-remainder    the sum of the entries at the ones of the word as it is written
 -- Assumes nothing.
 use mathlib.Core.Path.{◌≡◌, refl, sym, ap, ap₂, ◌∙◌}

@@ -17,6 +17,8 @@
 // Each sent bit of a word is read once for its remainder and no other bit is. The reads are counted in the loops that make them: once a bit in
 // `bch_remainders::dot`, once a row in `bch_remainders::read_rows` and in `add_listed_rows`, where a row has one bit of each word, and in those of
 // `words_packed` and `words_sums`.
+#![tactic(auto)]
+
 ghost use Rattle.std.specs.Prelude.{◌≡◌, true, false, cond, ℕ, ◌+◌, ◌*◌, ◌/◌, ◌≤◌, ◌<◌, eqb, length, get_or};
 ghost use Rattle.bch.specs.Polynomial.{◌⊕◌, Bits};
 ghost use Rattle.bch.specs.Powers.{xor_sum};

@@ -3,6 +3,8 @@
 //
 // Bit i of byte k is bit k of row i; bits of rows that are not there are 0. Eight rows go in one pass, which the compiler makes of steps of 16 bytes, fewer
 // go row by row. Each bit of the rows is read once, and the reads of a row are counted where they are made.
+#![tactic(auto)]
+
 ghost use Rattle.std.specs.Prelude.{◌≡◌, ℕ, ◌+◌, ◌*◌, ◌/◌, ◌%◌, ◌^◌, ◌≤◌, ◌<◌, length, get_or};
 ghost use Rattle.bch.specs.Polynomial.{Bits};
 

@@ -5,6 +5,8 @@
 //
 // The remainder of a word is the sum of the entries at its ones. Whoever needs remainders makes the table once, in an array of its own; the laws
 // of proofs/ speak of such an array, lent in part.
+#![tactic(auto)]
+
 ghost use Rattle.std.specs.Prelude.{◌≡◌, ◌+◌, ◌*◌, ◌^◌, ◌≤◌, ◌<◌, length};
 ghost use Rattle.bch.specs.Code.{generator};
 ghost use Rattle.bch.specs.Powers.{PositionPowers};

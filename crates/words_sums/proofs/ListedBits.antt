@@ -3,7 +3,7 @@
 --   listed_below      there is such a bit
 --   listed_byte-none   the byte of no bits
 --   listed_byte-more   a bit before them: twice the byte, and the bit
---   listedByte-eight  eight bits, one after the other
+--   listed_byte_eight  eight bits, one after the other
 --   listed_byte_half   a byte of fewer than eight bits is below 128
 --   listed-group      one group more in the sum over a column, by the entry of the group's table that its byte names
 -- Assumes nothing.

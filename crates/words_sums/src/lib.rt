@@ -7,6 +7,8 @@
 // `words_packed`). The byte of a column names the sum of eight entries in a table (crate `words_tables`). For rows the packed bytes are turned, eight by
 // eight, so that a byte has eight bits of one row (crate `matrix`), and names a sum as well. So a sum takes one look for each eight bits, and the bits
 // are brought together by steps of 16 bytes.
+#![tactic(auto)]
+
 mod columns;
 mod listed;
 mod rows;

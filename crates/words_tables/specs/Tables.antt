@@ -1,10 +1,10 @@
 -- Tables of sums, by exclusive or: the 256 sums of eight entries of a list, for each eight of them.
 --   sum_at entries n v      the sum of those of the first n entries whose bit of v is one
---   tableEntry entries q   entry q of tables of 256 sums each, of eight entries after eight
+--   table_entry entries q   entry q of tables of 256 sums each, of eight entries after eight
 --   Sums part tables       the tables are those of the entries of `part`; behind its last entry they count as 0
 --   part_of l from n        n entries of a list, from entry `from` on
 --   MaySum, MayHalves      there are no tables, or they are those of a part; of two parts of equal length, one after the other
---   tableLength n          how long the tables of n entries are
+--   table_length n          how long the tables of n entries are
 --   MayParts               there are no tables, or they are those of the four parts of a word's positions
 -- Assumes nothing.
 use Rattle.std.specs.Prelude.{◌≡◌, List, ℕ, ◌+◌, ◌*◌, ◌/◌, ◌%◌, ◌^◌, ◌≤◌, ◌<◌, length, get_or, take, drop}

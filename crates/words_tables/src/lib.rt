@@ -9,6 +9,8 @@
 // A byte that holds eight bits of a word names the sum of their powers in a table of 256 (V. Arlazarov, E. Dinic, M. Kronrod, I. Faradzhev, 1970), so that a
 // remainder is one look for each eight bits. A table is made by doubling, each entry after the first giving as many sums more as there are. A list whose
 // length is not a multiple of eight counts as ending in zeros.
+#![tactic(auto)]
+
 ghost use Rattle.std.specs.Prelude.{◌≡◌, ℕ, ◌+◌, ◌*◌, ◌/◌, ◌≤◌, ◌<◌, length, get_or};
 ghost use Rattle.bch.specs.Polynomial.{◌⊕◌};
 ghost use Rattle.words_tables.specs.Tables.{sum_at, Sums, MayHalves, MayParts, table_length, part_of};

@@ -1,0 +1,7 @@
+-- A verdict's rule and place.
+use Rattle.bauchleton.proofs.Report.{judged-reported}
+use borrow.Author.Rules.{rules}
+use Rattle.bauchleton.proofs.reports.report_check.Goals as goal
+
+pub returns : goal.returns
+returns c = judged-reported c.args.report.now _ c.of_check-judged.ensures c.put_place.ensures

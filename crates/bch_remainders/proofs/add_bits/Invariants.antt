@@ -1,0 +1,14 @@
+-- The loop's invariant: the first `a` entries are added to, the others as they were. The measure is the number of entries left.
+use mathlib.Core.Path.{◌≡◌, refl}
+use Prim.Native.Nat.{◌-◌, ◌*◌, ◌≤◌}
+use native.Mathlib.Omega.{arith}
+use lib.ListN.{length, get_or, length-set}
+use Rattle.bch_remainders.proofs.Powers.{Added, added_more}
+use Rattle.bch_remainders.proofs.add_bits.Given as goal
+
+abbrev pub invariant-loop-a : goal.invariant-loop-a
+invariant-loop-a l =
+    (l.a-end ≡ length l.initial.acc) × (l.a ≤ length l.initial.acc) × (length l.acc ≡ length l.initial.acc) × Added l.initial.acc (λ k. get_or l.bits k 0 * l.x) l.a l.acc
+
+abbrev pub decreases-loop-a : goal.decreases-loop-a
+decreases-loop-a l = length l.initial.acc - l.a

@@ -1,0 +1,16 @@
+-- The loop's invariant: `acc` is the sum over the first `j` bits, and `reads` is `j`. The measure is the number of bits left.
+use mathlib.Core.Path.{◌≡◌, refl, ap, ◌∙◌}
+use Prim.Native.Nat.{ℕ, ◌-◌, ◌*◌, ◌≤◌}
+use native.Mathlib.Omega.{arith}
+use lib.Bits.{bit_xor}
+use lib.ListN.{length, get_or}
+use Rattle.bch.specs.Powers.{xor_sum}
+use Rattle.bch_remainders.proofs.Powers.{xor_sum-more}
+use Rattle.bch_remainders.proofs.dot.Given as goal
+
+abbrev pub invariant-loop-j : goal.invariant-loop-j
+invariant-loop-j l =
+    (l.j-end ≡ length l.bits) × (l.j ≤ length l.bits) × (l.reads ≡ l.j) × (l.acc ≡ xor_sum l.j (λ k. get_or l.bits k 0 * get_or l.part k 0))
+
+abbrev pub decreases-loop-j : goal.decreases-loop-j
+decreases-loop-j l = length l.bits - l.j

@@ -1,0 +1,19 @@
+-- The loop's invariant: the entries from `i` on are the powers of their positions, and `v` is the power that position `i - 1` carries.
+-- The measure is `i`.
+use mathlib.Core.Path.{◌≡◌, sym, ap, ◌∙◌}
+use Prim.Native.Nat.{ℕ, suc, ◌-◌, ◌≤◌, ◌<◌}
+use native.Mathlib.Omega.{arith}
+use lib.ListN.{length, get_or, length-set}
+use Rattle.bch.specs.Powers.{power_mod}
+use Rattle.bch.proofs.PowerSum.{power_mod-below}
+use Rattle.bch.proofs.Store.{set_each}
+use Rattle.bch_remainders.proofs.Powers.{power_mod-none, power_mod_next}
+use Rattle.bch_remainders.proofs.fill_positions.Given as goal
+
+abbrev pub invariant-loop-i : goal.invariant-loop-i
+invariant-loop-i l =
+    (l.i ≤ length l.initial.table) × (length l.table ≡ length l.initial.table) × (l.v ≡ power_mod l.g l.r (length l.initial.table - l.i))
+    × ((k : ℕ) → l.i ≤ k → k < length l.initial.table → get_or l.table k 0 ≡ power_mod l.g l.r (length l.initial.table - 1 - k))
+
+abbrev pub decreases-loop-i : goal.decreases-loop-i
+decreases-loop-i l = l.i

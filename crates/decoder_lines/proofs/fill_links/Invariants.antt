@@ -1,0 +1,16 @@
+-- The loop's invariant: the entries of places below `q` are filled, and those that name them. The measure is the number of places left.
+use mathlib.Core.Path.{◌≡◌, ap, ◌∙◌}
+use Prim.Native.Nat.{ℕ, ◌+◌, ◌-◌, ◌*◌, ◌≤◌, ◌<◌}
+use native.Mathlib.Omega.{arith}
+use lib.ListN.{length, set, length-set}
+use Rattle.design.specs.Sizes.{params_of, order_of, lists_of}
+use Rattle.decoder_lines.proofs.Links.{HalfFilled, half_next, half_all, lists-in, linked}
+use borrow.Author.Rules.{rules}
+use Rattle.decoder_lines.proofs.fill_links.Given as goal
+
+abbrev pub invariant-loop-q : goal.invariant-loop-q
+invariant-loop-q l =
+    (l.half ≡ 2 * order_of l.d) × (l.q ≤ l.half) × (length l.links ≡ 4 * order_of l.d) × HalfFilled (params_of l.d) (lists_of l.d l.own l.parity) l.links l.q
+
+abbrev pub decreases-loop-q : goal.decreases-loop-q
+decreases-loop-q l = l.half - l.q

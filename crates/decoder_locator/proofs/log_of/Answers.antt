@@ -1,0 +1,8 @@
+-- The logarithms are the second quarter of the tables.
+use Rattle.decoder_locator.proofs.Roots.{log-read}
+use borrow.Author.Rules.{rules}
+use Rattle.decoder_locator.proofs.log_of.Goals as goal
+
+pub returns : goal.returns
+returns c =
+    log-read c.requires.0 c.requires.1 c.wide.ensures

@@ -1,0 +1,16 @@
+-- The loop's invariant: no position before `j` is one of three. The measure is the number of positions left.
+use mathlib.Core.Path.{◌≡◌, subst}
+use Prim.Native.Nat.{◌-◌, ◌≤◌}
+use native.Mathlib.Omega.{arith}
+use lib.ListN.{length}
+use Rattle.decoder_locator.specs.declared.Triple.{Triple}
+use Rattle.decoder_locator.specs.Steps.{TripleIs, TripleWith}
+use Rattle.decoder_locator.proofs.Triples.{NotBefore, not-before-more, not_three}
+use borrow.Author.Rules.{rules}
+use Rattle.decoder_locator.proofs.three_by_trial.Given as goal
+
+abbrev pub invariant-loop-j : goal.invariant-loop-j
+invariant-loop-j l = (l.j-end ≡ length l.positions) × (l.j ≤ length l.positions) × NotBefore l.positions l.x l.j
+
+abbrev pub decreases-loop-j : goal.decreases-loop-j
+decreases-loop-j l = length l.positions - l.j

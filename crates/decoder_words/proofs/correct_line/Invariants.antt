@@ -1,0 +1,28 @@
+-- The loop's invariant: the words before `a` are corrected, `stuck` of them were stuck, and all kept numbers are right. The measure is the number of
+-- words left.
+use mathlib.Core.Path.{◌≡◌, ap, ◌∙◌}
+use Prim.Native.Nat.{ℕ, ◌+◌, ◌-◌, ◌<◌, ◌≤◌}
+use native.Mathlib.Omega.{arith}
+use Rattle.staircase.specs.Lists.{tabulate}
+use Rattle.staircase.specs.Frame.{frame_of}
+use Rattle.staircase.specs.Decoder.{Progress, round}
+use Rattle.staircase.specs.Outcomes.{stuck_among}
+use Rattle.design.specs.Sizes.{params_of}
+use Rattle.decoder_words.specs.Ready.{FrameKept, LineMarks}
+use Rattle.decoder_lines.specs.Layouts.{line_word}
+use Rattle.decoder_lines.proofs.Layouts.{size-high, t-high}
+use Rattle.decoder_flips.specs.Told.{outcome_of}
+use Rattle.decoder_flips.proofs.Passes.{flips-told, pass-none, pass-more, pass-few, stuck-none, stuck-more}
+use borrow.Author.Rules.{rules}
+use Rattle.decoder_words.proofs.correct_line.Given as goal
+
+abbrev pub invariant-loop-a : goal.invariant-loop-a
+invariant-loop-a l =
+    (l.size ≡ l.line.frames.d.size) × (l.a ≤ l.line.frames.d.size)
+    × (record { frame = frame_of l.info l.red; l.flips = l.flips } ≡ round (params_of l.line.frames.d) (tabulate l.a (line_word l.line l.links)) (frame_of l.initial.info l.initial.red))
+    × FrameKept l.line.frames l.links l.info l.red l.kept
+    × (l.stuck ≡ stuck_among (params_of l.line.frames.d) (frame_of l.initial.info l.initial.red) (tabulate l.a (line_word l.line l.links))) × (l.stuck ≤ l.a)
+    × LineMarks l.line.frames l.initial.info l.initial.red l.initial.kept l.info l.red l.kept
+
+abbrev pub decreases-loop-a : goal.decreases-loop-a
+decreases-loop-a l = l.line.frames.d.size - l.a

@@ -1,0 +1,11 @@
+-- By the test.
+use mathlib.Core.Path.{refl}
+use mathlib.Core.Logic.{inl, inr}
+use native.Mathlib.Omega.{arith}
+use Rattle.differences.proofs.shorter.Goals as goal
+
+pub returns-then-a-b : goal.returns-then-a-b
+returns-then-a-b c = (omega arith, omega arith, inl refl)
+
+pub returns : goal.returns
+returns c = (omega arith, omega arith, inr refl)

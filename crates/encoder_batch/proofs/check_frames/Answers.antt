@@ -1,0 +1,53 @@
+-- A refusal of rules 4, 17 and 6 is the answer; else that of the rules on what the kit and the information hold.
+use mathlib.Core.Path.{◌≡◌, refl, sym, ap, ◌∙◌}
+use Prim.Native.Nat.{ℕ, ◌≤◌}
+use lib.ListN.{length}
+use Rattle.staircase.specs.Design.{most-blocks}
+use Rattle.staircase.specs.Batch.{most-frames}
+use Rattle.staircase.specs.Rules.{Verdict}
+use Rattle.answers.proofs.Checks.{refused_then, passed_then, check_passed}
+use Rattle.design.specs.declared.Design.{Design}
+use Rattle.design.specs.Sizes.{params_of}
+use Rattle.rules.specs.declared.lengths.Lengths.{Lengths}
+use Rattle.rules.specs.Lengths.{lengths_of, kit_due, batch_due, batch_size_rules, batch_rules}
+use Rattle.rules.proofs.Chain.{batch_where}
+use Rattle.encoder_batch.specs.Checks.{frames_rules}
+use Rattle.encoder_batch.proofs.BatchCall.{frames-sized}
+use borrow.Author.Rules.{rules}
+use Rattle.encoder_batch.proofs.check_frames.Goals as goal
+
+-- by the lengths of a kit, and of the frames beside them
+numbers : (d : Design) (L n : ℕ) (have kit due : Lengths) {v : Verdict} → v ≡ batch_size_rules L n have due
+    → (L ≤ most-blocks → n ≤ most-frames → due ≡ batch_due (params_of d) L n kit) → kit ≡ kit_due (params_of d) → v ≡ batch_rules (params_of d) L n have (kit_due (params_of d))
+numbers d L n have kit due h frames e = h ∙ batch_where (params_of d) L n have kit frames ∙ ap (batch_rules (params_of d) L n have) e
+
+pub returns-in_default : goal.returns-in_default
+unfolding frames_rules
+returns-in_default c =
+    let a = c.args in
+    let have = lengths_of a.own.now a.parity.now a.inverse.now a.info.now a.red.now (length a.work.now) in
+    let kit = c.kit_due in
+    let due = c.batch_due-due in
+    let is = numbers a.d a.blocks a.frames have kit.result due.result c.check_batch-lengths.ensures due.ensures kit.ensures in
+    refused_then _ is c.in_default.is
+
+pub check_content-requires : goal.check_content-requires
+check_content-requires c =
+    let a = c.args in
+    let have = lengths_of a.own.now a.parity.now a.inverse.now a.info.now a.red.now (length a.work.now) in
+    let kit = c.kit_due in
+    let due = c.batch_due-due in
+    let is = numbers a.d a.blocks a.frames have kit.result due.result c.check_batch-lengths.ensures due.ensures kit.ensures in
+    let allowed = c.requires in
+    frames-sized a.d a.blocks a.frames a.own.now a.parity.now a.inverse.now a.info.now a.red.now (length a.work.now) allowed
+    a.work.now refl (sym is ∙ check_passed c.in-Passed.is)
+
+pub returns : goal.returns
+unfolding frames_rules
+returns c =
+    let a = c.args in
+    let have = lengths_of a.own.now a.parity.now a.inverse.now a.info.now a.red.now (length a.work.now) in
+    let kit = c.kit_due in
+    let due = c.batch_due-due in
+    let is = numbers a.d a.blocks a.frames have kit.result due.result c.check_batch-lengths.ensures due.ensures kit.ensures in
+    c.check_content.ensures ∙ passed_then _ is c.in-Passed.is

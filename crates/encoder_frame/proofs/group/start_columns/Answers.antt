@@ -1,0 +1,41 @@
+-- The remainders of the column words are a part of a local array, and their digits are P.
+use mathlib.Core.Path.{◌≡◌, ap, ◌∙◌, subst}
+use mathlib.Core.List.{List}
+use Prim.Native.Nat.{ℕ}
+use native.Mathlib.Omega.{arith}
+use borrow.Author.Rules.{rules}
+use lib.ListN.{length, get_or, replicate}
+use Rattle.staircase.specs.Lists.{tabulate}
+use Rattle.staircase.proofs.Tabulate.{tabulate-length}
+use Rattle.words_positions.proofs.Parts.{part-fits}
+use Rattle.words_blocks.specs.Blocks.{column_sum}
+use Rattle.words_blocks.proofs.Sums.{part_length, square}
+use Rattle.encoder_frame.proofs.Lending.{digits-made}
+use Rattle.encoder_frame.proofs.group.start_columns.Goals as goal
+
+pub column_sums-requires : goal.column_sums-requires
+column_sums-requires c =
+    let p = c.requires in
+    let n = c.args.size in
+    let zeros : List ℕ = replicate 512 0 in
+    let few = part_length zeros 0 n n (omega arith) (omega arith) in
+    ((λ e. square _ _ _ n (p.1.0 e) few few, p.1.1), (λ e. square _ _ _ n (p.2.0 e) few few, p.2.1), omega (arith, few, p.0.powers))
+
+pub slice_bounds-p_bits-end : goal.slice_bounds-p_bits-end
+slice_bounds-p_bits-end c =
+    let x = c.column_sums in
+    let n = c.args.size in
+    part-fits x.new.columns _ _ (ap length x.ensures ∙ tabulate-length _ _ ∙ part_length _ 0 n n (omega arith) (omega arith))
+
+pub returns : goal.returns
+returns c =
+    let at-column-sums = c.before.before.before.before.before.before.before in
+    let start = at-column-sums.before.before.before.before.before.before in
+    let a = start.args in
+    let n : ℕ = a.size in
+    let x = at-column-sums.column-sums in
+    let zeros : List ℕ = replicate 512 0 in
+    let few = part_length zeros 0 n n (omega arith) (omega arith) in
+    digits-made x.new.1.1.1.0 _ _ (column_sum a.positions.now n (λ k. get_or a.odd.now k 0) (λ k. get_or a.even.now k 0)) n a.r start.requires.0.some-columns
+    (subst (λ (k : ℕ). x.new.1.1.1.0 ≡ tabulate k (column_sum a.positions.now k (λ k. get_or a.odd.now k 0) (λ k. get_or a.even.now k 0))) few x.ensures)
+    c.p_bits.ensures

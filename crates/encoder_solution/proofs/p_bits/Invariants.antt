@@ -1,0 +1,18 @@
+-- The loop's invariant: the rows before `a` are filled. The measure is the number of rows left.
+use mathlib.Core.Path.{◌≡◌, sym, ap, ◌∙◌}
+use Prim.Native.Nat.{ℕ, ◌+◌, ◌-◌, ◌*◌, ◌/◌, ◌%◌, ◌≤◌}
+use native.Mathlib.Nat.{zero-mul, mul_comm, add-mul, one-mul}
+use native.Mathlib.Omega.{arith}
+use lib.ListN.{length, get_or}
+use Rattle.staircase.proofs.Fill.{filled, filled_none, filled-all, filled-stretch}
+use Rattle.bch_remainders.proofs.Rows.{row_end, row-length}
+use Rattle.encoder_solution.specs.Bits.{remainder_digit}
+use Rattle.encoder_solution.proofs.Stack.{digit_row}
+use Rattle.encoder_solution.proofs.p_bits.Given as goal
+
+abbrev pub invariant-loop-a : goal.invariant-loop-a
+invariant-loop-a l =
+    (l.a ≤ l.r) × (length l.out ≡ l.r * l.size) × (length l.initial.out ≡ l.r * l.size) × (l.out ≡ filled (λ q. remainder_digit (get_or l.columns (q % l.size) 0) l.r (q / l.size)) l.initial.out (l.a * l.size))
+
+abbrev pub decreases-loop-a : goal.decreases-loop-a
+decreases-loop-a l = l.r - l.a

@@ -1,0 +1,18 @@
+-- The loop's invariant: the words before `e` are added to, the others as they were. The measure is the number of words left.
+use mathlib.Core.Path.{◌≡◌, refl, ap, ◌∙◌}
+use Prim.Native.Nat.{ℕ, ◌+◌, ◌-◌, ◌*◌, ◌≤◌}
+use native.Mathlib.Omega.{arith}
+use lib.ListN.{length, get_or, take, drop, length-set}
+use Rattle.bch.specs.Powers.{xor_sum}
+use Rattle.bch.proofs.PowerSum.{xor_sum-same}
+use Rattle.bch_remainders.proofs.Powers.{Added, added_more}
+use Rattle.bch_remainders.proofs.Rows.{row_end, row-length, row_at}
+use Rattle.encoder_solution.proofs.product.add_columns.Given as goal
+
+abbrev pub invariant-loop-e : goal.invariant-loop-e
+invariant-loop-e l =
+    (l.e-end ≡ length l.initial.products) × (l.e ≤ length l.initial.products) × (length l.products ≡ length l.initial.products)
+    × Added l.initial.products (λ i. xor_sum l.c (λ j. get_or l.tables (256 * j + get_or l.inverse (i * l.w + l.b + j) 0) 0)) l.e l.products
+
+abbrev pub decreases-loop-e : goal.decreases-loop-e
+decreases-loop-e l = length l.initial.products - l.e

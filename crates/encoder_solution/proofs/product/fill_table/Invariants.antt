@@ -1,0 +1,18 @@
+-- The loop's invariant: the first w entries, w = 2^i, are the sums of the first i words. The measure is the number of words left.
+use mathlib.Core.Path.{◌≡◌, refl, sym, ap, ◌∙◌}
+use Prim.Native.Nat.{ℕ, ◌-◌, ◌*◌, ◌^◌, ◌≤◌, ◌<◌}
+use native.Mathlib.Numerals.{add-one}
+use native.Mathlib.Omega.{arith}
+use lib.Pow.{pow_mono}
+use lib.ListN.{length, get_or, length-set}
+use Rattle.words_tables.specs.Tables.{sum_at}
+use Rattle.words_tables.proofs.Tables.{sums_none, sums_doubled}
+use Rattle.encoder_solution.proofs.product.fill_table.Given as goal
+
+abbrev pub invariant-loop-i : goal.invariant-loop-i
+invariant-loop-i l =
+    (l.i-end ≡ length l.words) × (l.i ≤ length l.words) × (l.w ≡ 2 ^ l.i) × (length l.table ≡ 256)
+    × ((v : ℕ) → v < l.w → get_or l.table v 0 ≡ sum_at (λ k. get_or l.words k 0) l.i v)
+
+abbrev pub decreases-loop-i : goal.decreases-loop-i
+decreases-loop-i l = length l.words - l.i

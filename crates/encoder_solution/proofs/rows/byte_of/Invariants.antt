@@ -1,0 +1,14 @@
+-- The loop's invariant: the bits of the words before `i` are in `v`, whose other bits are 0. The measure is the number of words left.
+use mathlib.Core.Path.{◌≡◌, refl}
+use Prim.Native.Nat.{ℕ, ◌-◌, ◌≤◌}
+use native.Mathlib.Omega.{arith}
+use lib.ListN.{get_or}
+use Rattle.matrix.proofs.Bits.{bit, bit-lt, bit_added}
+use Rattle.encoder_solution.proofs.Gathered.{Gathered, gathered_none, gathered_more}
+use Rattle.encoder_solution.proofs.rows.byte_of.Given as goal
+
+abbrev pub invariant-loop-i : goal.invariant-loop-i
+invariant-loop-i l = (l.i-end ≡ 8) × (l.i ≤ 8) × Gathered (λ k. bit (get_or l.words k 0) l.g) l.v l.i
+
+abbrev pub decreases-loop-i : goal.decreases-loop-i
+decreases-loop-i l = 8 - l.i

@@ -1,0 +1,20 @@
+-- The loop's invariant: the bytes of the groups before `g` are packed. The measure is the number of groups left.
+use mathlib.Core.Path.{◌≡◌, sym, ◌∙◌}
+use Prim.Native.Nat.{ℕ, ◌+◌, ◌-◌, ◌*◌, ◌/◌, ◌%◌, ◌≤◌, ◌<◌}
+use native.Mathlib.Omega.{arith}
+use borrow.Rule.Slice.PartMut.{same_len_mid}
+use lib.ListN.{length, get_or}
+use Rattle.staircase.proofs.Bounds.{stretch-end}
+use Rattle.staircase.proofs.Fill.{each_part}
+use Rattle.bch_remainders.proofs.Rows.{row-length}
+use Rattle.matrix.proofs.Bits.{bit}
+use Rattle.encoder_solution.proofs.Masked.{group-byte}
+use Rattle.encoder_solution.proofs.rows.pack_groups.Given as goal
+
+abbrev pub invariant-loop-g : goal.invariant-loop-g
+invariant-loop-g l =
+    (l.g ≤ l.count) × (length l.packed ≡ l.count * l.p)
+    × ((q : ℕ) → q < l.g * l.p → (i : ℕ) → i < 8 → bit (get_or l.packed q 0) i ≡ bit (get_or l.words (8 * (q % l.p) + i) 0) (q / l.p))
+
+abbrev pub decreases-loop-g : goal.decreases-loop-g
+decreases-loop-g l = l.count - l.g

@@ -1,0 +1,23 @@
+use mathlib.Core.Path.{◌≡◌, ◌∙◌}
+use Prim.Native.Nat.{◌-◌, ◌/◌, ◌%◌, ◌^◌, ◌≤◌}
+use native.Mathlib.Omega.{arith}
+use lib.ListN.{length, get_or, length-set}
+use Rattle.staircase.proofs.Fill.{filled, filled_none, filled_more, filled-all}
+use Rattle.encoder_solution.proofs.y_bits.Goals as goal
+
+pub loop-q-init : goal.loop-q-init
+loop-q-init c = (omega arith, omega arith, omega arith, omega arith, filled_none _ _)
+
+pub loop-q-preserved : goal.loop-q-preserved
+loop-q-preserved c =
+    let l = c.loop-q in
+    (omega arith, omega arith, simp length-set (omega arith), omega arith, rw l.invariant.4 (filled_more _ _ _ (omega arith)))
+
+pub returns : goal.returns
+returns c =
+    let l = c.loop-q in
+    l.invariant.4 ∙ filled-all _ _ _ _ (omega arith) l.invariant.3
+
+pub overflow_step-q : goal.overflow_step-q
+overflow_step-q c = omega
+    arith

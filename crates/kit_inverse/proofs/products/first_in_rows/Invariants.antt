@@ -1,0 +1,27 @@
+-- The loop's invariant: the rows before `e` have no wrong entry. The measure is the number of rows left.
+use native.Mathlib.Omega.{arith}
+use borrow.Author.Rules.{rules}
+use mathlib.Core.Path.{◌≡◌, ap, ◌∙◌, subst}
+use mathlib.Core.Bool.{Bool, false}
+use mathlib.Core.List.{List}
+use Prim.Native.Nat.{ℕ, ◌*◌, ◌-◌, ◌/◌, ◌%◌, ◌≤◌, ◌<◌}
+use native.Mathlib.Nat.{zero-mul}
+use lib.ListN.{length, get_or}
+use Rattle.staircase.specs.Lists.{first_where}
+use Rattle.staircase.specs.Rules.{entries}
+use Rattle.staircase.proofs.Bounds.{stretch-end}
+use Rattle.kit_system.specs.Rows.{unstack_of, row_entry}
+use Rattle.kit_inverse.specs.Products.{wrong_in}
+use Rattle.kit_inverse.proofs.RowSearch.{row_found, row_clean, rows_none}
+use Rattle.kit_inverse.proofs.RowSizes.{square_small}
+use Rattle.kit_inverse.proofs.products.first_in_rows.Given as goal
+
+-- entry x of row e is wrong
+abbrev pub wrong : (own : List ℕ) (n : ℕ) (columns part : List ℕ) (size : ℕ) (t preimages : List ℕ) → ℕ → ℕ → Bool
+wrong own n columns part size t preimages e = wrong_in (row_entry columns part (entries n own) size (get_or preimages (unstack_of size (length part) e) 0) e) t n e
+
+abbrev pub invariant-loop-e : goal.invariant-loop-e
+invariant-loop-e l = (l.e ≤ l.n) × ((i : ℕ) → i < l.e * l.n → wrong l.own l.n l.columns l.part l.size l.t l.preimages (i / l.n) (i % l.n) ≡ false)
+
+abbrev pub decreases-loop-e : goal.decreases-loop-e
+decreases-loop-e l = l.n - l.e

@@ -1,0 +1,20 @@
+-- The loop's invariant: the left halves of the first `e` rows hold rows of A. The measure is the number of rows left.
+use mathlib.Core.Path.{◌≡◌, refl, ap, ◌∙◌, subst}
+use Prim.Native.Nat.{ℕ, ◌+◌, ◌-◌, ◌*◌, ◌≤◌, ◌<◌}
+use native.Mathlib.Omega.{arith}
+use borrow.Rule.Slice.PartMut.{mid_len, same_len_mid}
+use lib.ListN.{length, get_or}
+use Rattle.staircase.specs.System.{row_bytes}
+use Rattle.staircase.specs.Rules.{entries}
+use Rattle.matrix_elimination.specs.Steps.{row_width, left}
+use Rattle.kit_system.specs.Rows.{row_entry}
+use Rattle.kit_maker.specs.Making.{sent_row}
+use Rattle.kit_maker.proofs.Halves.{left_place, rows_none, rows_more}
+use Rattle.kit_maker.proofs.fill_rows.Given as goal
+
+abbrev pub invariant-loop-e : goal.invariant-loop-e
+invariant-loop-e l = (l.e ≤ l.n) × (length l.m ≡ length l.initial.m)
+    × ((i k : ℕ) → i < l.e → k < l.n → left l.n l.m i k ≡ sent_row l.columns l.part (entries l.n l.own) l.size l.preimages i k)
+
+abbrev pub decreases-loop-e : goal.decreases-loop-e
+decreases-loop-e l = l.n - l.e

@@ -1,0 +1,14 @@
+-- After j turns the first j rows are numbered.
+use mathlib.Core.Path.{◌≡◌, refl, ap, ◌∙◌}
+use mathlib.Core.List.{List}
+use Prim.Native.Nat.{ℕ, ◌-◌, ◌≤◌}
+use native.Mathlib.Omega.{arith}
+use lib.ListN.{length, set, length-set}
+use Rattle.staircase.proofs.Fill.{filled, filled_none, filled_more, filled-all}
+use Rattle.kit_spread.proofs.mixing.number_rows.Given as goal
+
+abbrev pub invariant-loop-j : goal.invariant-loop-j
+invariant-loop-j l = (l.j-end ≡ length l.initial.rows) × (l.j ≤ length l.initial.rows) × (length l.rows ≡ length l.initial.rows) × (length l.initial.rows ≤ 256) × (l.rows ≡ filled (λ k. k) l.initial.rows l.j)
+
+abbrev pub decreases-loop-j : goal.decreases-loop-j
+decreases-loop-j l = length l.initial.rows - l.j

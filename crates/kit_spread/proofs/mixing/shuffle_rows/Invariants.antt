@@ -1,0 +1,20 @@
+-- The shuffle of what is left, from the state that was reached, is the shuffle of the whole.
+use mathlib.Core.Path.{◌≡◌, refl, sym, ap, ap₂, ◌∙◌}
+use mathlib.Core.List.{List}
+use Prim.Native.Nat.{ℕ, ◌+◌, ◌-◌, ◌*◌, ◌%◌, ◌≤◌, ◌<◌}
+use native.Mathlib.Nat.{mod-lt}
+use native.Mathlib.Omega.{arith}
+use borrow.Author.Rules.{rules}
+use lib.ListN.{length, length-set}
+use Rattle.staircase.specs.Load.{state_after}
+use Rattle.staircase.specs.Mixed.{swapped, shuffled}
+use Rattle.kit_spread.proofs.MixedEntries.{shuffle_none, shuffle_draw, draw_none-left, draw_steps}
+use Rattle.kit_spread.proofs.mixing.shuffle_rows.Given as goal
+
+abbrev pub invariant-loop-i : goal.invariant-loop-i
+invariant-loop-i l =
+    (l.i ≤ length l.initial.rows) × (length l.rows ≡ length l.initial.rows) × (shuffled l.s (l.i - 1) l.rows ≡ shuffled l.seed (length l.initial.rows - 1) l.initial.rows)
+    × (state_after l.s (16 * (l.i - 1)) ≡ state_after l.seed (16 * (length l.initial.rows - 1)))
+
+abbrev pub decreases-loop-i : goal.decreases-loop-i
+decreases-loop-i l = l.i

@@ -1,0 +1,48 @@
+-- The call ends at a design that is refused, with its lists' lengths, or with both lists filled.
+use borrow.Author.Rules.{rules}
+use mathlib.Core.Path.{◌≡◌, refl, ap, ◌∙◌}
+use Prim.Native.Nat.{ℕ}
+use native.Mathlib.Omega.{arith}
+use Rattle.staircase.specs.Spread.{turned_to, list_bytes, SpreadLists}
+use Rattle.answers.proofs.Checks.{check_passed}
+use Rattle.design.specs.Sizes.{params_of, order_of}
+use Rattle.design.proofs.Answers.{made-allowed}
+use Rattle.kit_spread.proofs.SpreadCall.{list_refuses, list_passes, lists-sized, spread-refused, spread-filled}
+use Rattle.kit_spread.proofs.spread_lists_col.Goals as goal
+
+fields : {x y : SpreadLists} → x ≡ y → (x.verdict ≡ y.verdict) × (x.self ≡ y.self) × (x.parity ≡ y.parity)
+fields e = (ap (λ (z : SpreadLists). z.verdict) e, ap (λ (z : SpreadLists). z.self) e, ap (λ (z : SpreadLists). z.parity) e)
+
+pub returns-in_default : goal.returns-in_default
+returns-in_default c =
+    let a = c.args in
+    let n = c.list_design-designed in
+    fields (spread-refused a.own.now a.parity.now a.m a.t a.size a.col
+    (list_refuses a.own.now a.parity.now a.m a.t a.size a.col n.ensures.0 c.in_default.is c.design_check.ensures))
+
+pub fill_turned-requires : goal.fill_turned-requires
+fill_turned-requires c =
+    let a = c.args in
+    let n = c.list_design-designed in
+    let g = c.in-Made.is in
+    (made-allowed g n.ensures.2, omega arith, (lists-sized a.own.now a.parity.now a.m a.t a.size a.col n.ensures.0 g n.ensures.1).0)
+
+pub fill_turned-requires-2 : goal.fill_turned-requires-2
+fill_turned-requires-2 c =
+    let a = c.args in
+    let n = c.list_design-designed in
+    let g = c.in-Made.is in (
+      made-allowed g n.ensures.2,
+      c.r.ensures.1,
+      (lists-sized a.own.now a.parity.now a.m a.t a.size a.col n.ensures.0 g n.ensures.1).1,
+    )
+
+pub returns : goal.returns
+returns c =
+    let a = c.args in
+    let n = c.list_design-designed in
+    let g = c.designed-1.given in
+    let v = list_passes a.own.now a.parity.now a.m a.t a.size a.col n.ensures.0 g.1 n.ensures.1 in
+    let e = fields (spread-filled a.own.now a.parity.now a.m a.t a.size a.col _ _ v c.fill_turned.ensures
+    (c.fill_turned-2.ensures ∙ ap (λ (by : ℕ). list_bytes (order_of g.0.0) (turned_to (params_of g.0.0) by)) c.r.ensures.0)) in
+    (check_passed refl ∙ e.0, e.1, e.2)

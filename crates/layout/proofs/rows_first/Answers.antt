@@ -1,0 +1,14 @@
+-- A case for each kind.
+use mathlib.Core.Path.{sym, ap}
+use Rattle.layout.specs.declared.Shape.{Shape}
+use Rattle.layout.specs.Layouts.{rows_first}
+use borrow.Author.Rules.{rules}
+use Rattle.layout.proofs.rows_first.Goals as goal
+
+pub returns-in-FeedForward : goal.returns-in-FeedForward
+unfolding rows_first
+returns-in-FeedForward c = ap (λ (z : Shape). rows_first z c.args.line.k) (sym c.in-FeedForward.is)
+
+pub returns-in-Original : goal.returns-in-Original
+unfolding rows_first
+returns-in-Original c = ap (λ (z : Shape). rows_first z c.args.line.k) (sym c.in-Original.is)

@@ -1,0 +1,19 @@
+-- The loop's invariant: the bits before `k` are turned. The measure is the number of bits left.
+use native.Mathlib.Omega.{arith}
+use mathlib.Core.Path.{◌≡◌, ap, ap₂, ◌∙◌}
+use mathlib.Core.Bool.{cond}
+use mathlib.Core.List.{List}
+use Prim.Native.Nat.{ℕ, ◌-◌, ◌≤◌}
+use lib.Dec.{eqb}
+use lib.ListN.{length, get_or, set, length-set}
+use Rattle.staircase.proofs.Fill.{filled, filled_none, filled_more, filled-all, filled_next}
+use Rattle.loopback.specs.Link.{turned}
+use Rattle.loopback.proofs.turn_bits.Given as goal
+
+abbrev pub invariant-loop-k : goal.invariant-loop-k
+invariant-loop-k l =
+    (l.k-end ≡ length l.initial.bits) × (l.k ≤ length l.initial.bits) × (length l.bits ≡ length l.initial.bits) × (l.bits ≡ filled (λ j. cond (eqb (get_or l.errors j 0) 0) (get_or l.initial.bits j 0) (1 - get_or l.initial.bits j 0)) l.initial.bits l.k)
+
+abbrev pub decreases-loop-k : goal.decreases-loop-k
+decreases-loop-k l =
+    length l.initial.bits - l.k

@@ -1,0 +1,11 @@
+-- Where no entry is wrong the search would find none.
+use mathlib.Core.Path.{sym, ◌∙◌}
+use lib.ListN.{length}
+use borrow.Author.Rules.{rules}
+use Rattle.matrix.proofs.Wrong.{wrong_at, some-none}
+use Rattle.matrix.proofs.first_wrong.Goals as goal
+
+pub returns : goal.returns
+returns c =
+    let a = c.args in
+    some-none (length a.acc.now) (wrong_at a.acc.now a.e) (sym c.some_wrong.ensures ∙ c.if-some_wrong.false)

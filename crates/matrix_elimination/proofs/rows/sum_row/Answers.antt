@@ -1,0 +1,70 @@
+use mathlib.Core.Path.{◌≡◌, ap₂, subst}
+use mathlib.Core.Logic.{◌⊎◌}
+use Prim.Native.Nat.{ℕ, ◌+◌, ◌-◌, ◌*◌, ◌≤◌}
+use native.Mathlib.Omega.{arith}
+use lib.Bits.{bit_xor}
+use lib.ListN.{length, get_or}
+use Rattle.staircase.proofs.Bounds.{small_product, stretch-end}
+use Rattle.matrix_elimination.proofs.RowLoop.{Written, written_none, written_next, written-rows, other_byte, rows_apart}
+use Rattle.matrix_elimination.proofs.rows.sum_row.Goals as goal
+
+pub overflow_mul-t : goal.overflow_mul-t
+overflow_mul-t c = omega (arith, small_product c.args.to c.args.w 4352 1024 (omega arith) (omega arith))
+
+pub overflow_mul-p : goal.overflow_mul-p
+overflow_mul-p c = omega (arith, small_product c.args.x c.args.w 4352 1024 (omega arith) (omega arith))
+
+pub overflow_mul-q : goal.overflow_mul-q
+overflow_mul-q c = omega (arith, small_product c.args.y c.args.w 4352 1024 (omega arith) (omega arith))
+
+pub loop-c-init : goal.loop-c-init
+loop-c-init c =
+    let a = c.args in (
+      omega arith,
+      omega (arith, small_product a.k a.w 4352 1024 (omega arith) (omega arith)),
+      omega (arith, stretch-end a.to a.k a.w (omega arith)),
+      omega (arith, stretch-end a.x a.k a.w (omega arith)),
+      omega (arith, stretch-end a.y a.k a.w (omega arith)),
+      rows_apart a.to a.x a.w c.requires.6,
+      rows_apart a.to a.y a.w c.requires.7,
+      written_none _ _ _,
+    )
+
+pub bounds-m-p : goal.bounds-m-p
+bounds-m-p c = omega (arith, c.loop-c.invariant.7.long)
+
+pub bounds-m-q : goal.bounds-m-q
+bounds-m-q c = omega (arith, c.loop-c.invariant.7.long)
+
+pub bounds-m-t : goal.bounds-m-t
+bounds-m-t c = omega (arith, c.loop-c.invariant.7.long)
+
+pub loop-c-preserved : goal.loop-c-preserved
+loop-c-preserved c =
+    let a = c.args in
+    let l = c.loop-c in
+    let h = l.invariant.7 in (
+      omega arith,
+      l.invariant.1,
+      l.invariant.2,
+      l.invariant.3,
+      l.invariant.4,
+      l.invariant.5,
+      l.invariant.6,
+      written_next _ _ _ _ _ _ (omega arith)
+          (ap₂ bit_xor (other_byte _ _ _ _ a.w _ _ h (omega arith) l.invariant.5) (other_byte _ _ _ _ a.w _ _ h (omega arith) l.invariant.6)) h,
+    )
+
+pub shape_of-m : goal.shape_of-m
+shape_of-m c = omega (arith, c.loop-c.invariant.7.long)
+
+pub returns : goal.returns
+returns c =
+    let a = c.args in
+    let l = c.loop-c in
+    let e : l.c ≡ a.w = omega arith in
+    let f : ℕ → ℕ = λ j. bit_xor (get_or a.m.now (a.x * a.w + j) 0) (get_or a.m.now (a.y * a.w + j) 0) in (
+      l.invariant.7.long,
+      λ i x h.
+          written-rows a.m.now a.w a.to f l.m (subst (λ (z : ℕ). Written a.m.now (a.to * a.w) z f l.m) e l.invariant.7) i x,
+    )

@@ -1,0 +1,25 @@
+-- A refusal shows nothing; past the checks the part is there, and is shown.
+use Rattle.show.proofs.Shown.{design-empty, frame-empty, passed-part, passed_shown}
+use borrow.Author.Rules.{rules}
+use Rattle.show.proofs.show_col.Goals as goal
+
+pub returns-in_default : goal.returns-in_default
+returns-in_default c = design-empty _ _ _ _ _ _ _ _ c.new_col-designed.ensures.0 c.in_default.is
+
+pub returns-in_default-frame : goal.returns-in_default-frame
+returns-in_default-frame c =
+    let n = c.new_col-designed.ensures in
+    frame-empty _ _ _ _ _ _ _ _ n.0 n.1 c.in-Made.is _ c.check_frame-frame.ensures
+    c.in_default-frame.is
+
+pub shown_part-requires : goal.shown_part-requires
+shown_part-requires c =
+    let n = c.new_col-designed.ensures in
+    passed-part _ _ _ _ _ _ _ _ n.0 n.1 c.in-Made.is _ c.check_frame-frame.ensures
+    c.in-Passed.is
+
+pub returns : goal.returns
+returns c =
+    let n = c.new_col-designed.ensures in
+    passed_shown _ _ _ _ _ _ _ _ n.0 n.1 c.in-Made.is _ c.check_frame-frame.ensures
+    c.in-Passed.is c.shown_part.ensures

@@ -1,0 +1,15 @@
+-- The loop's invariant: the bits of i lines are written, and the walk of all lines goes on behind them. The measure is the number of lines left.
+use Rattle.text_frame_fill.proofs.Filling.{none_filled, all-filled, row_passes, row_filled}
+use Rattle.text_formats.specs.Items.{bits_line, bits_lines, prep, walk}
+use Rattle.staircase.proofs.Bounds.{stretch-end}
+use native.Mathlib.Omega.{arith}
+use mathlib.Core.Path.{◌≡◌}
+use lib.ListN.{length, take}
+use Prim.Native.Nat.{◌+◌, ◌-◌, ◌*◌, ◌≤◌}
+use Rattle.text_frame_fill.proofs.fill_lines.Given as goal
+
+abbrev pub invariant-loop-i : goal.invariant-loop-i
+invariant-loop-i l = (l.i ≤ l.n) × (length l.out ≡ l.n * l.area) × (walk (bits_lines l.area 1 l.n) l.s l.at ≡ prep (take (l.i * l.area) l.out) (walk (bits_lines l.area (l.i + 1) (l.n - l.i)) l.s l.q))
+
+abbrev pub decreases-loop-i : goal.decreases-loop-i
+decreases-loop-i l = l.n - l.i

@@ -1,0 +1,14 @@
+-- After i bits: what the others say at q is what all of them say.
+use Rattle.text_items.proofs.Lines.{bits-done, bits-end, bits-low, bits-high, bits-step, bits-all}
+use Rattle.text_items.specs.Answers.{step_of}
+use Rattle.text_formats.specs.Items.{bits, walk}
+use native.Mathlib.Omega.{arith}
+use mathlib.Core.Path.{◌≡◌, sym, ap, ◌∙◌}
+use Prim.Native.Nat.{◌≤◌, ◌-◌}
+use Rattle.text_items.proofs.bit_run.Given as goal
+
+abbrev pub invariant-loop-i : goal.invariant-loop-i
+invariant-loop-i l = (l.i ≤ l.n) × (step_of (walk (bits l.n) l.s l.at) ≡ step_of (walk (bits (l.n - l.i)) l.s l.q))
+
+abbrev pub decreases-loop-i : goal.decreases-loop-i
+decreases-loop-i l = l.n - l.i

@@ -1,0 +1,13 @@
+-- `Copied` of proofs/Storing.antt.
+use native.Mathlib.Omega.{arith}
+use mathlib.Core.Path.{◌≡◌, refl}
+use Prim.Native.Nat.{◌-◌, ◌≤◌}
+use lib.ListN.{length}
+use Rattle.text_lines.proofs.Storing.{Copied, copied_none, copied_more, copied_all}
+use Rattle.text_lines.proofs.put_bytes.Given as goal
+
+abbrev pub invariant-loop-i : goal.invariant-loop-i
+invariant-loop-i l = (l.i-end ≡ length l.text) × (l.i ≤ length l.text) × Copied l.initial.out l.text l.at l.out l.i
+
+abbrev pub decreases-loop-i : goal.decreases-loop-i
+decreases-loop-i l = length l.text - l.i

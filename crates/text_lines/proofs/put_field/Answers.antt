@@ -1,0 +1,16 @@
+-- The digits, and the byte behind them.
+use mathlib.Core.Path.{refl}
+use lib.ListN.{length}
+use Rattle.text_lines.proofs.Placing.{put_snoc}
+use native.Mathlib.Omega.{arith}
+use Rattle.text_formats.specs.Format.{dec}
+use borrow.Author.Rules.{rules}
+use Rattle.text_lines.proofs.put_field.Goals as goal
+
+pub put_byte-requires : goal.put_byte-requires
+put_byte-requires c = omega (arith, c.put_digits-i.ensures.value)
+
+pub returns : goal.returns
+returns c =
+    let a = c.args in let t = put_snoc a.out.now (dec a.v) a.end a.at (length (dec a.v)) refl
+    (c.put_digits-i.ensures.value, c.put_digits-i.ensures.out_after) (c.put_byte.ensures.value, c.put_byte.ensures.out_after) in record { value = t.0; out_after = t.1 }

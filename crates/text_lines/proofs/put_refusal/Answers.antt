@@ -1,0 +1,17 @@
+-- The line of names, the number with the space behind it, the place with the line feed behind it.
+use native.Mathlib.Omega.{arith}
+use Rattle.text_lines.proofs.Placing.{refusal_put}
+use borrow.Author.Rules.{rules}
+use Rattle.text_lines.proofs.put_refusal.Goals as goal
+
+pub put_field-j-requires : goal.put_field-j-requires
+put_field-j-requires c = omega (arith, c.put_bytes-i.ensures.value)
+
+pub put_field-requires : goal.put_field-requires
+put_field-requires c = omega (arith, c.put_bytes-i.ensures.value, c.put_field-j.ensures.value)
+
+pub returns : goal.returns
+returns c =
+    let a = c.args in let t = refusal_put a.out.now a.at a.rule a.place
+    (c.put_bytes-i.ensures.value, c.put_bytes-i.ensures.out_after)
+    (c.put_field-j.ensures.value, c.put_field-j.ensures.out_after) (c.put_field.ensures.value, c.put_field.ensures.out_after) in record { value = t.0; out_after = t.1 }

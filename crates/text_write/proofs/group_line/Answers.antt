@@ -1,0 +1,33 @@
+-- The test is that of the room for the line: digits, Y, P, two spaces and the line feed.
+use Rattle.text_lines.proofs.Placing.{group-length}
+use Rattle.text_write.proofs.Room.{told-room, told-put, told-kept}
+use native.Mathlib.Omega.{arith}
+use Rattle.text_lines.proofs.Decimal.{dec-short}
+use Rattle.text.specs.FrameText.{group_line_text}
+use borrow.Author.Rules.{rules}
+use Rattle.text_write.proofs.group_line.Goals as goal
+
+pub overflow_add-n : goal.overflow_add-n
+overflow_add-n c = omega (arith, dec-short c.args.number, c.digits-n.ensures)
+
+pub put_group-requires : goal.put_group-requires
+put_group-requires c =
+    let a = c.args in
+    let d = c.digits-n in
+    let room = told-room a.out.now a.at _ c.has_room-room.ensures c.if-room.true in
+    omega (arith, room, d.ensures)
+
+pub returns-then-room : goal.returns-then-room
+returns-then-room c =
+    let a = c.args in
+    let d = c.digits-n in let t = told-put a.out.now a.at (group_line_text a.number a.own.now a.parity.now) c.has_room-room.ensures
+    c.if-room.true
+    (omega (arith, group-length a.number a.own.now a.parity.now, d.ensures))
+    (c.put_group.ensures.value, c.put_group.ensures.out_after) in record { value = t.0; out_after = t.1 }
+
+pub returns : goal.returns
+returns c =
+    let a = c.args in
+    let d = c.digits-n in let t = told-kept a.out.now a.at (group_line_text a.number a.own.now a.parity.now) c.has_room-room.ensures
+    c.if-room.false
+    (omega (arith, group-length a.number a.own.now a.parity.now, d.ensures)) in record { value = t.0; out_after = t.1 }

@@ -1,0 +1,24 @@
+-- The loop's invariant: each entry has the sum over the first `g` groups of eight of its column added, where entries behind the end of `part` count as 0, and
+-- `reads` is the number of bits in these groups. The measure is the number of groups left.
+use mathlib.Core.Path.{◌≡◌, sym, ap, ◌∙◌}
+use Prim.Native.Nat.{ℕ, ◌+◌, ◌-◌, ◌*◌, ◌/◌, ◌≤◌, ◌<◌, min}
+use native.Mathlib.Omega.{arith}
+use lib.ListN.{length, get_or}
+use Rattle.bch.specs.Polynomial.{◌⊕◌}
+use Rattle.bch.specs.Powers.{xor_sum}
+use Rattle.bch.proofs.Sum.{⊕-zero-right}
+use Rattle.bch_remainders.proofs.Rows.{row-length}
+use Rattle.words_tables.proofs.Tables.{sum_of_eights}
+use Rattle.words_sums.specs.Listed.{listed_bit}
+use Rattle.words_sums.proofs.Groups.{sum_padded, part-behind, rows-read, rows_end}
+use Rattle.words_sums.proofs.ListedBits.{listed-group}
+use Rattle.words_sums.proofs.listed.add_listed.Given as goal
+
+abbrev pub invariant-loop-g : goal.invariant-loop-g
+invariant-loop-g l =
+    (l.g ≤ (length l.part + 7) / 8) × (l.reads ≡ min (8 * l.g) (length l.part)) × (length l.acc ≡ length l.initial.acc)
+    × ((a : ℕ) → a < length l.initial.acc
+    → get_or l.acc a 0 ≡ get_or l.initial.acc a 0 ⊕ xor_sum l.g (λ j. xor_sum 8 (λ i. listed_bit l.list l.bits ((8 * j + i) * length l.initial.acc + a) * get_or l.part (8 * j + i) 0)))
+
+abbrev pub decreases-loop-g : goal.decreases-loop-g
+decreases-loop-g l = (length l.part + 7) / 8 - l.g

@@ -1,0 +1,29 @@
+use mathlib.Core.Path.{◌≡◌, refl}
+use Prim.Native.Nat.{◌+◌, ◌-◌, ◌≤◌}
+use native.Mathlib.Omega.{arith}
+use lib.ListN.{length, get_or, length-set}
+use Rattle.bch_remainders.proofs.Powers.{Added, added_more}
+use Rattle.words_sums.specs.Listed.{listed_byte}
+use Rattle.words_sums.proofs.listed.look_few.Goals as goal
+
+pub loop-a-init : goal.loop-a-init
+loop-a-init c = (omega arith, omega arith, λ k. (λ l. absurd (omega arith), λ l. refl))
+
+pub overflow_add-p : goal.overflow_add-p
+overflow_add-p c = omega (arith, c.requires.3)
+
+pub few_bits-v-requires : goal.few_bits-v-requires
+few_bits-v-requires c = let p = c.requires in (p.0, p.1, p.2, omega (arith, p.3))
+
+pub loop-a-preserved : goal.loop-a-preserved
+loop-a-preserved c =
+    let l = c.loop-a in
+    let a = c.args in (
+      omega arith,
+      simp length-set (omega arith),
+      added_more a.acc.now l.acc (λ k. get_or a.table.now (listed_byte a.list.now a.bits.now (a.p + k) (length a.acc.now) a.count) 0)
+          l.a _ (omega arith) l.invariant.2 (rw c.few_bits-v.ensures at c.entry.ensures),
+    )
+
+pub returns : goal.returns
+returns c = let i = c.loop-a.invariant in (i.1, λ a h. (i.2 a).0 (omega arith))

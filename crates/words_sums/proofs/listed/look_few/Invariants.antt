@@ -1,0 +1,15 @@
+-- The loop's invariant: the first `a` entries are added to, the others as they were. The measure is the number of entries left.
+use mathlib.Core.Path.{◌≡◌, refl}
+use Prim.Native.Nat.{◌+◌, ◌-◌, ◌≤◌}
+use native.Mathlib.Omega.{arith}
+use lib.ListN.{length, get_or, length-set}
+use Rattle.bch_remainders.proofs.Powers.{Added, added_more}
+use Rattle.words_sums.specs.Listed.{listed_byte}
+use Rattle.words_sums.proofs.listed.look_few.Given as goal
+
+abbrev pub invariant-loop-a : goal.invariant-loop-a
+invariant-loop-a l =
+    (l.a ≤ length l.initial.acc) × (length l.acc ≡ length l.initial.acc) × Added l.initial.acc (λ k. get_or l.table (listed_byte l.list l.bits (l.p + k) (length l.initial.acc) l.count) 0) l.a l.acc
+
+abbrev pub decreases-loop-a : goal.decreases-loop-a
+decreases-loop-a l = length l.initial.acc - l.a
