@@ -44,7 +44,7 @@ correct_frame-requires c =
     let received = decoder_received _ a.call.blocks a.call.rounds a.own.now a.parity.now a.info.now a.red.now (length a.work.now) allowed e in
     let w = c.window_of-window in (
       received,
-      c.work-1.given ∙ decoder-work _ a.call.blocks a.call.rounds a.own.now a.parity.now a.info.now a.red.now (length a.work.now) allowed e,
+      omega (arith, decoder-work _ a.call.blocks a.call.rounds a.own.now a.parity.now a.info.now a.red.now (length a.work.now) allowed e),
       window-fits a.call.blocks a.call.rounds a.call.window w.result w.ensures.0 received.some-blocks
           (c.requires all.0 received.some-blocks) w.ensures.1 w.ensures.2,
     )

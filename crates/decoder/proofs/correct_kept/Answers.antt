@@ -50,18 +50,16 @@ idle_counts-requires c =
 
 pub returns-then-wrong-eq0 : goal.returns-then-wrong-eq0
 returns-then-wrong-eq0 c =
-    let at-fill-kept = c.before.before.before.before.before.before.before in
-    let start = at-fill-kept.before.before.before.before.before.before.before.before.before in
-    let p = start.requires in
-    let a = start.args in
+    let p = c.requires in
+    let a = c.args in
     let d = a.frames.d in
     let L = a.frames.blocks in
     let l = lists_of d a.own.now a.parity.now in
     let f = frame_of a.info.now a.red.now in
     let n = c.number_bytes-n in
     let all : n.result / 4 ≡ lines_in FeedForward L * d.size = omega (arith, feed_bytes d L p.1 n.ensures.0, feed_total d L) in
-    let kept = at-fill-kept.fill-kept.new.1.1.1.1.1.0 in
-    let filled = subst (λ (g : Frames). Filled g a.own.now a.parity.now f kept) p.1 at-fill-kept.fill-kept.ensures.1 in
+    let kept = c.fill_kept.new.kept in
+    let filled = subst (λ (g : Frames). Filled g a.own.now a.parity.now f kept) p.1 c.fill_kept.ensures.1 in
     let out = ap (nonzero_numbers kept) all ∙ filled-outside (received_lent p.0) kept filled ∙ ap (outside_among (params_of d) f) (feed_sites (params_of d) l L) in
     let itself : Received f f = record { info_length = refl; red_length = refl; binary = bit_at-bits f p.0.frame.info_bits p.0.frame.red_bits } in
     corrected-idle d L a.window.groups a.window.limit l p.0.allowed p.0.lists.own_permutes p.0.lists.parity_permutes f itself _
@@ -69,6 +67,4 @@ returns-then-wrong-eq0 c =
 
 pub correct_words-requires : goal.correct_words-requires
 correct_words-requires c =
-    let at-fill-kept = c.before.before.before.before.before.before.before.before.before in
-    let start = at-fill-kept.before.before.before.before.before.before.before.before.before in
-    let p = start.requires in (p.0, p.1, p.2, at-fill-kept.fill-kept.ensures.0 ∙ p.3, at-fill-kept.fill-kept.ensures.1)
+    let p = c.requires in (p.0, p.1, p.2, c.fill_kept.ensures.0 ∙ p.3, c.fill_kept.ensures.1)

@@ -33,65 +33,47 @@ slice_bounds-clear-start c =
 
 pub run_window-made-requires : goal.run_window-made-requires
 run_window-made-requires c =
-    let at-number-bytes = c.before.before.before.before.before.before.before in
-    let start = at-number-bytes.before.before.before.before.before.before.before in
-    let p = start.requires in
-    let a = start.args in
-    let n = at-number-bytes.number-bytes in
+    let p = c.requires in
+    let a = c.args in
+    let n = c.number_bytes-n in
     let y = c.clear in
     (p.0, p.1, (cleared-marks a.frames.d a.frames.blocks p.0.fits p.2 n.result (feed_bytes a.frames.d a.frames.blocks p.3 n.ensures.0) y.new.marks y.ensures).0, p.3)
 
 pub slice_bounds-count-count : goal.slice_bounds-count-count
 slice_bounds-count-count c =
-    let at-number-bytes = c.before.before.before.before.before.before.before.before.before.before.before.before.before.before in
-    let start = at-number-bytes.before.before.before.before.before.before.before in
-    omega (arith, feed_bytes start.args.frames.d start.args.frames.blocks start.requires.3 at-number-bytes.number-bytes.ensures.0, numbers-within start.requires.2, feed_total start.args.frames.d start.args.frames.blocks)
+    omega (arith, feed_bytes c.args.frames.d c.args.frames.blocks c.requires.3 c.number_bytes-n.ensures.0, numbers-within c.requires.2, feed_total c.args.frames.d c.args.frames.blocks)
 
 pub slice_bounds-count-start : goal.slice_bounds-count-start
 slice_bounds-count-start c =
-    let at-number-bytes = c.before.before.before.before.before.before.before.before.before.before.before.before.before.before.before in
-    let start = at-number-bytes.before.before.before.before.before.before.before in
-    omega (arith, feed_bytes start.args.frames.d start.args.frames.blocks start.requires.3 at-number-bytes.number-bytes.ensures.0, numbers-within start.requires.2, feed_total start.args.frames.d start.args.frames.blocks)
+    omega (arith, feed_bytes c.args.frames.d c.args.frames.blocks c.requires.3 c.number_bytes-n.ensures.0, numbers-within c.requires.2, feed_total c.args.frames.d c.args.frames.blocks)
 
 pub slice_bounds-count-end : goal.slice_bounds-count-end
 slice_bounds-count-end c =
-    let at-run-window = c.before.before.before.before.before.before.before in
-    let start = at-run-window.before.before.before.before.before.before.before.before.before.before.before.before.before.before.before in
-    omega (arith, start.requires.2.long, at-run-window.run-window.ensures.2.long)
+    omega (arith, c.requires.2.long, c.run_window-made.ensures.2.long)
 
 pub count-turned-requires : goal.count-turned-requires
 count-turned-requires c =
-    let at-run-window = c.before.before.before.before.before.before.before.before in
-    let at-number-bytes = at-run-window.before.before.before.before.before.before.before.before in
-    let start = at-number-bytes.before.before.before.before.before.before.before in
-    let p = start.requires in
-    let a = start.args in
-    let n = at-number-bytes.number-bytes in
-    let v = at-run-window.run-window in
-    let long : length a.kept.now ≡ length v.new.1.1.1.1.1.1.1.0 = p.2.long ∙ sym v.ensures.2.long in
+    let p = c.requires in
+    let a = c.args in
+    let n = c.number_bytes-n in
+    let v = c.run_window-made in
+    let long : length a.kept.now ≡ length v.new.kept = p.2.long ∙ sym v.ensures.2.long in
     rw long (marks-few a.frames.d a.frames.blocks p.0.fits v.ensures.2 n.result (feed_bytes a.frames.d a.frames.blocks p.3 n.ensures.0))
 
 pub count-outside-requires : goal.count-outside-requires
 count-outside-requires c =
-    let at-run-window = c.before.before.before.before.before.before.before.before.before.before in
-    let at-number-bytes = at-run-window.before.before.before.before.before.before.before.before in
-    let start = at-number-bytes.before.before.before.before.before.before.before in
-    omega (arith, feed_bytes start.args.frames.d start.args.frames.blocks start.requires.3 at-number-bytes.number-bytes.ensures.0, numbers-within at-run-window.run-window.ensures.2, feed_total start.args.frames.d start.args.frames.blocks)
+    omega (arith, feed_bytes c.args.frames.d c.args.frames.blocks c.requires.3 c.number_bytes-n.ensures.0, numbers-within c.run_window-made.ensures.2, feed_total c.args.frames.d c.args.frames.blocks)
 
 pub returns : goal.returns
 returns c =
-    let at-run-window = c.before.before.before.before.before.before.before.before.before.before.before in
-    let at_clear = at-run-window.before.before.before.before.before.before in
-    let at-number-bytes = at_clear.before.before in
-    let start = at-number-bytes.before.before.before.before.before.before.before in
-    let p = start.requires in
-    let a = start.args in
-    let n = at-number-bytes.number-bytes in
-    let y = at_clear.clear in
-    let v = at-run-window.run-window in
-    let kept = v.new.1.1.1.1.1.1.1.0 in
+    let p = c.requires in
+    let a = c.args in
+    let n = c.number_bytes-n in
+    let y = c.clear in
+    let v = c.run_window-made in
+    let kept = v.new.kept in
     let f = frame_of a.info.now a.red.now in
-    let first = cleared-marks a.frames.d a.frames.blocks p.0.fits p.2 n.result (feed_bytes a.frames.d a.frames.blocks p.3 n.ensures.0) y.new.0 y.ensures in
+    let first = cleared-marks a.frames.d a.frames.blocks p.0.fits p.2 n.result (feed_bytes a.frames.d a.frames.blocks p.3 n.ensures.0) y.new.marks y.ensures in
     let long : length a.kept.now ≡ length kept = p.2.long ∙ sym v.ensures.2.long in
     let set = c.count-turned.ensures.0 ∙ ap (λ (z : ℕ). set_marks (take (z - n.result) (drop n.result kept))) long in
     let turned = marks-errors a.frames.d a.frames.blocks p.0.fits v.ensures.2 n.result (feed_bytes a.frames.d a.frames.blocks p.3 n.ensures.0) f set (v.ensures.3 f first.1) in
@@ -100,4 +82,4 @@ returns c =
     corrected-made a.frames.d a.frames.blocks a.window.groups a.window.limit (lists_in a.frames.d a.links.now) A.0 A.1.self A.1.parity f
     (fits_received p.2.frame) _ _ _ (fits_received v.ensures.2.frame) p.1.some-rounds v.ensures.0 turned
     (c.count-outside.ensures ∙ ap (nonzero_numbers kept) all ∙ kept-outside v.ensures.2
-    ∙ ap (outside_among (params_of a.frames.d) (frame_of v.new.1.1.1.1.1.0 v.new.1.1.1.1.1.1.0)) (feed_sites (params_of a.frames.d) (lists_in a.frames.d a.links.now) a.frames.blocks)) v.ensures.1
+    ∙ ap (outside_among (params_of a.frames.d) (frame_of v.new.info v.new.red)) (feed_sites (params_of a.frames.d) (lists_in a.frames.d a.links.now) a.frames.blocks)) v.ensures.1

@@ -50,119 +50,86 @@ fill_tables-requires c =
 
 pub overflow_mul-n : goal.overflow_mul-n
 overflow_mul-n c =
-    let at-order = c.before.before.before.before.before.before.before.before.before.before in
-    let start = at-order.before.before.before.before.before.before.before in
-    omega (arith, links_room start.args.frames.d start.requires.0.allowed at-order.order.result at-order.order.ensures.0)
+    omega (arith, links_room c.args.frames.d c.requires.0.allowed c.order-n.result c.order-n.ensures.0)
 
 pub slice_bounds-links-end : goal.slice_bounds-links-end
 slice_bounds-links-end c =
-    let at-order = c.before.before.before.before.before.before.before.before.before.before in
-    let start = at-order.before.before.before.before.before.before.before in
-    omega (arith, c.link_entries-links.ensures, links_room start.args.frames.d start.requires.0.allowed at-order.order.result at-order.order.ensures.0)
+    omega (arith, c.link_entries-links.ensures, links_room c.args.frames.d c.requires.0.allowed c.order-n.result c.order-n.ensures.0)
 
 pub fill_links-requires : goal.fill_links-requires
 fill_links-requires c =
-    let at-order = c.before.before.before.before.before.before.before.before.before.before.before in
-    let start = at-order.before.before.before.before.before.before.before in
-    let p = start.requires in
-    let a = start.args in
-    let ll = length-take-le (4 * at-order.order.result - 0) c.link_entries-links.result (omega (arith, c.link_entries-links.ensures, links_room a.frames.d p.0.allowed at-order.order.result at-order.order.ensures.0)) in
-    (p.0.allowed, p.0.lists, omega (arith, ll, at-order.order.ensures.0))
+    let p = c.requires in
+    let a = c.args in
+    let ll = length-take-le (4 * c.order-n.result - 0) c.link_entries-links.result (omega (arith, c.link_entries-links.ensures, links_room a.frames.d p.0.allowed c.order-n.result c.order-n.ensures.0)) in
+    (p.0.allowed, p.0.lists, omega (arith, ll, c.order-n.ensures.0))
 
 pub overflow_mul-n-2 : goal.overflow_mul-n-2
 overflow_mul-n-2 c =
-    let at-order = c.before.before.before.before.before.before.before.before.before.before.before.before.before in
-    let start = at-order.before.before.before.before.before.before.before in
-    omega (arith, links_room start.args.frames.d start.requires.0.allowed at-order.order.result at-order.order.ensures.0)
+    omega (arith, links_room c.args.frames.d c.requires.0.allowed c.order-n.result c.order-n.ensures.0)
 
 pub slice_bounds-correct_lines-end : goal.slice_bounds-correct_lines-end
 slice_bounds-correct_lines-end c =
-    let at-order = c.before.before.before.before.before.before.before.before.before.before.before.before.before.before in
-    let start = at-order.before.before.before.before.before.before.before in
-    let p = start.requires in
-    let a = start.args in
-    part-fits c.fill_links.new.links _ _ (links_long c.fill_links.ensures.0 ∙ omega (arith, at-order.order.ensures.0))
+    let p = c.requires in
+    let a = c.args in
+    part-fits c.fill_links.new.links _ _ (links_long c.fill_links.ensures.0 ∙ omega (arith, c.order-n.ensures.0))
 
 pub slice_bounds-correct_lines-end-2 : goal.slice_bounds-correct_lines-end-2
 slice_bounds-correct_lines-end-2 c =
-    let at-fill-tables = c.before.before.before.before.before.before.before.before in
-    let at_n = at-fill-tables.before.before.before.before.before.before.before in
-    let start = at_n.before.before.before.before.before.before.before.before in
-    let p = start.requires in
-    let a = start.args in
-    let due = 2 * at_n.n.result + 128 in
-    let T = at-fill-tables.fill-tables.new.1.0 in
-    let l_t : length T ≡ due = (subst (λ (f : Frames). WordTables f T at-fill-tables.fill-tables.new.1.1.0) p.1 at-fill-tables.fill-tables.ensures).long
-    ∙ omega (arith, at_n.n.ensures.0, feed_bits (params_of a.frames.d)) in
+    let p = c.requires in
+    let a = c.args in
+    let due = 2 * c.n.result + 128 in
+    let T = c.fill_tables.new.tables in
+    let l_t : length T ≡ due = (subst (λ (f : Frames). WordTables f T c.fill_tables.new.field) p.1 c.fill_tables.ensures).long
+    ∙ omega (arith, c.n.ensures.0, feed_bits (params_of a.frames.d)) in
     part-fits T _ _ l_t
 
 pub overflow_mul-powers-2 : goal.overflow_mul-powers-2
 overflow_mul-powers-2 c =
-    let at-m = c.before.before.before.before.before.before.before.before.before.before.before.before.before.before.before in
-    let start = at-m.before.before.before.before.before.before.before.before.before in
-    omega (arith, field_room start.args.frames.d start.requires.0.allowed at-m.m.result at-m.m.ensures)
+    omega (arith, field_room c.args.frames.d c.requires.0.allowed c.m-powers.result c.m-powers.ensures)
 
 pub slice_bounds-correct_lines-end-3 : goal.slice_bounds-correct_lines-end-3
 slice_bounds-correct_lines-end-3 c =
-    let at-fill-tables = at_field.before.before in
-    let at-field-entries = at-fill-tables.before.before.before.before in
-    let at-m = at-field-entries.before.before in
-    let start = at-m.before.before.before.before.before.before.before.before.before in
-    let p = start.requires in
-    let a = start.args in
-    let lf = length-take-le (4 * ((1 * 2 ^ at-m.m.result) % 2 ^ 64) - 0) at-field-entries.field-entries.result (omega (arith, at-field-entries.field-entries.ensures, field_room a.frames.d p.0.allowed at-m.m.result at-m.m.ensures)) in
-    part-fits at-fill-tables.fill-tables.new.1.1.0 _ _ (c.field-2-1.given ∙ lf ∙ omega arith)
+    let p = c.requires in
+    let a = c.args in
+    let lf = length-take-le (4 * ((1 * 2 ^ c.m-powers.result) % 2 ^ 64) - 0) c.field_entries-field.result (omega (arith, c.field_entries-field.ensures, field_room a.frames.d p.0.allowed c.m-powers.result c.m-powers.ensures)) in
+    part-fits c.fill_tables.new.field _ _ (omega (arith, lf))
 
 pub correct_lines-requires : goal.correct_lines-requires
 correct_lines-requires c =
-    let at-fill-links = c.before.before.before.before.before.before.before.before.before.before in
-    let at_field = at-fill-links.before.before in
-    let at-fill-tables = at_field.before.before in
-    let at-link-entries = at-fill-tables.before.before.before in
-    let at-field-entries = at-link-entries.before in
-    let at-table-entries = at-field-entries.before in
-    let at-m = at-table-entries.before in
-    let at_n = at-m.before in
-    let at-order = at_n.before in
-    let start = at-order.before.before.before.before.before.before.before in
-    let p = start.requires in
-    let a = start.args in
-    let due = 2 * at_n.n.result + 128 in
-    let T = at-fill-tables.fill-tables.new.1.0 in
-    let l_t : length T ≡ due = (subst (λ (f : Frames). WordTables f T at-fill-tables.fill-tables.new.1.1.0) p.1 at-fill-tables.fill-tables.ensures).long
-    ∙ omega (arith, at_n.n.ensures.0, feed_bits (params_of a.frames.d)) in
-    let lf = length-take-le (4 * ((1 * 2 ^ at-m.m.result) % 2 ^ 64) - 0) at-field-entries.field-entries.result (omega (arith, at-field-entries.field-entries.ensures, field_room a.frames.d p.0.allowed at-m.m.result at-m.m.ensures)) in
-    let F = at-fill-tables.fill-tables.new.1.1.0 in
-    let K = at-fill-links.fill-links.new.1.1.1.0 in
-    let f = 4 * ((1 * 2 ^ at-m.m.result) % 2 ^ 64) in
-    let k = 4 * at-order.order.result in
-    let l_f : length F ≡ f = at_field.field2.given ∙ lf ∙ omega arith in
-    let l_k : length K ≡ k = links_long at-fill-links.fill-links.ensures.0 ∙ omega (arith, at-order.order.ensures.0) in
+    let p = c.requires in
+    let a = c.args in
+    let due = 2 * c.n.result + 128 in
+    let T = c.fill_tables.new.tables in
+    let l_t : length T ≡ due = (subst (λ (f : Frames). WordTables f T c.fill_tables.new.field) p.1 c.fill_tables.ensures).long
+    ∙ omega (arith, c.n.ensures.0, feed_bits (params_of a.frames.d)) in
+    let lf = length-take-le (4 * ((1 * 2 ^ c.m-powers.result) % 2 ^ 64) - 0) c.field_entries-field.result (omega (arith, c.field_entries-field.ensures, field_room a.frames.d p.0.allowed c.m-powers.result c.m-powers.ensures)) in
+    let F = c.fill_tables.new.field in
+    let K = c.fill_links.new.links in
+    let f = 4 * ((1 * 2 ^ c.m-powers.result) % 2 ^ 64) in
+    let k = 4 * c.order-n.result in
+    let l_f : length F ≡ f = omega (arith, lf) in
+    let l_k : length K ≡ k = links_long c.fill_links.ensures.0 ∙ omega (arith, c.order-n.ensures.0) in
     let R : FramesReady (feed_frames a.frames.d a.frames.blocks) K T F =
     record {
-      fits = feed_fits a.frames.d p.0.few-blocks p.0.allowed at-fill-links.fill-links.ensures.0;
-      word-tables = subst (λ (f : Frames). WordTables f T F) p.1 at-fill-tables.fill-tables.ensures;
+      fits = feed_fits a.frames.d p.0.few-blocks p.0.allowed c.fill_links.ensures.0;
+      word-tables = subst (λ (f : Frames). WordTables f T F) p.1 c.fill_tables.ensures;
     } in
-    let K' = drop (k - 0) at-link-entries.link-entries.result in (
-      ready_lent (feed_frames a.frames.d a.frames.blocks) K K' T (drop (due - 0) at-table-entries.table-entries.result) F (drop (f - 0) at-field-entries.field-entries.result) k due f l_k l_t l_f R,
+    let K' = drop (k - 0) c.link_entries-links.result in (
+      ready_lent (feed_frames a.frames.d a.frames.blocks) K K' T (drop (due - 0) c.table_entries-tables.result) F (drop (f - 0) c.field_entries-field.result) k due f l_k l_t l_f R,
       p.2,
-      kept_lent a.frames.d a.frames.blocks a.own.now a.parity.now K K' k l_k p.0 at-fill-links.fill-links.ensures.1 p.3
+      kept_lent a.frames.d a.frames.blocks a.own.now a.parity.now K K' k l_k p.0 c.fill_links.ensures.1 p.3
           (subst (λ (g : Frames). Filled g a.own.now a.parity.now (frame_of a.info.now a.red.now) a.kept.now) p.1 p.4),
       p.1,
     )
 
 pub returns : goal.returns
 returns c =
-    let at-fill-links = c.before.before.before.before.before.before.before.before.before.before.before.before.before.before.before.before.before in
-    let at-link-entries = at-fill-links.before.before.before.before.before.before.before in
-    let at-order = at-link-entries.before.before.before.before.before in
-    let start = at-order.before.before.before.before.before.before.before in
-    let a = start.args in
-    let K = at-fill-links.fill-links.new.1.1.1.0 in
-    let k = 4 * at-order.order.result in
-    let l_k : length K ≡ k = links_long at-fill-links.fill-links.ensures.0 ∙ omega (arith, at-order.order.ensures.0) in
-    let K' = drop (k - 0) at-link-entries.link-entries.result in
+    let a = c.args in
+    let K = c.fill_links.new.links in
+    let k = 4 * c.order-n.result in
+    let l_k : length K ≡ k = links_long c.fill_links.ensures.0 ∙ omega (arith, c.order-n.ensures.0) in
+    let K' = drop (k - 0) c.link_entries-links.result in
     let v = c.correct_lines in
     let x = corrected_of (decoding.Decoded v.result) (frame_of v.new.info v.new.red) in
     corrected_in (params_of a.frames.d) (lists_of a.frames.d a.own.now a.parity.now) (lists_in a.frames.d (take (k - 0) (drop 0 (K ++ K')))) a.frames.blocks
-    a.window.groups a.window.limit (frame_of a.info.now a.red.now) x (ap (lists_in a.frames.d) (part-is K K' k l_k) ∙ at-fill-links.fill-links.ensures.1) v.ensures
+    a.window.groups a.window.limit (frame_of a.info.now a.red.now) x (ap (lists_in a.frames.d) (part-is K K' k l_k) ∙ c.fill_links.ensures.1) v.ensures

@@ -37,18 +37,16 @@ slice_bounds-fill_pass-end c =
 
 pub fill_pass-requires : goal.fill_pass-requires
 fill_pass-requires c =
-    let at-turn-tables = c.before.before.before.before.before.before.before in
-    let start = at-turn-tables.before.before.before.before.before.before.before.before.before.before in
-    let a = start.args in
-    let p = start.requires in
+    let a = c.args in
+    let p = c.requires in
     let g = a.frames in
-    let x = at-turn-tables.turn-tables in
+    let x = c.turn_tables in
     let n = length a.positions.now in
     let small = bits_highest g.shape g.d p.0.tail.allowed in
-    let all : length x.new.1.1.0 ≡ n = x.ensures.2 ∙ part_length _ 0 n n (omega arith) (omega (arith, p.1.long, small)) in
-    let same = part-is x.new.1.1.0 _ n all in (
+    let all : length x.new.back ≡ n = x.ensures.2 ∙ part_length _ 0 n n (omega arith) (omega (arith, p.1.long, small)) in
+    let same = part-is x.new.back _ n all in (
       p.0,
       subst⁻¹ (ReadTable g.shape (params_of g.d) true) same x.ensures.0,
       p.2,
-      subst⁻¹ (λ (t : List ℕ). MayParts t g.d.size (tail_in g.shape (params_of g.d)) x.new.1.1.1.0) same x.ensures.1,
+      subst⁻¹ (λ (t : List ℕ). MayParts t g.d.size (tail_in g.shape (params_of g.d)) x.new.tables) same x.ensures.1,
     )

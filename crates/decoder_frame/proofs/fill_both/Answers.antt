@@ -25,13 +25,11 @@ fill_back-requires c =
 
 pub returns : goal.returns
 returns c =
-    let at-fill-pass = c.before.before.before.before.before.before.before.before.before.before.before in
-    let start = at-fill-pass.before.before.before.before.before.before.before.before.before.before in
-    let a = start.args in
+    let a = c.args in
     let g = a.frames in
-    let one = at-fill-pass.fill-pass in
+    let one = c.fill_pass in
     let two = c.fill_back in (
       two.ensures.0 ∙ one.ensures.0,
       both-filled g a.own.now a.parity.now (frame_of a.info.now a.red.now) a.numbers.now
-          one.new.1.1.1.1.1.1.1.0 two.new.numbers one.ensures.1 two.ensures.1,
+          one.new.numbers two.new.numbers one.ensures.1 two.ensures.1,
     )

@@ -33,9 +33,8 @@ fill_code-requires c =
 
 pub slice_bounds-fill_numbers-end : goal.slice_bounds-fill_numbers-end
 slice_bounds-fill_numbers-end c =
-    let at-word-bits = c.before.before.before.before.before.before.before in
     let x = c.fill_code in
-    let all : length x.new.positions ≡ at-word-bits.word-bits.result = omega arith in
+    let all : length x.new.positions ≡ c.word_bits-bits.result = omega arith in
     part-fits x.new.positions _ _ all
 
 pub slice_bounds-fill_numbers-end-2 : goal.slice_bounds-fill_numbers-end-2
@@ -44,29 +43,23 @@ slice_bounds-fill_numbers-end-2 c =
 
 pub fill_numbers-requires : goal.fill_numbers-requires
 fill_numbers-requires c =
-    let at-t = c.before.before.before.before.before.before.before in
-    let at-m = at-t.before in
-    let at-word-bits = at-m.before in
-    let start = at-word-bits.before.before.before.before.before.before in
-    let g = start.args.frames in
+    let g = c.args.frames in
     let d = g.d in
     let x = c.fill_code in
-    let n = at-word-bits.word-bits in
+    let n = c.word_bits-bits in
     let N = c.number_bytes-n in
-    let small = bits_highest g.shape d start.requires.0.tail.allowed in
+    let small = bits_highest g.shape d c.requires.0.tail.allowed in
     let all = x.ensures.1 ∙ part_length _ 0 n.result n.result (omega arith) (omega (arith, n.ensures.0, small)) in
-    let made = subst₂ (λ (m t : ℕ). PositionPowers (generator m t) (m * t) x.new.positions) at-m.m.ensures at-t.t.ensures x.ensures.0 in (
-      start.requires.0,
+    let made = subst₂ (λ (m t : ℕ). PositionPowers (generator m t) (m * t) x.new.positions) c.m-m.ensures c.t-t.ensures x.ensures.0 in (
+      c.requires.0,
       subst⁻¹ (ReadTable g.shape (params_of d) false) (part-is x.new.positions _ _ all) (ahead_table g.shape (params_of d) _ made (all ∙ n.ensures.0)),
-      part_length start.args.kept.now 0 N.result N.result (omega arith) (omega (arith, N.ensures.0, start.requires.1)) ∙ N.ensures.0,
+      part_length c.args.kept.now 0 N.result N.result (omega arith) (omega (arith, N.ensures.0, c.requires.1)) ∙ N.ensures.0,
     )
 
 pub returns : goal.returns
 returns c =
-    let at-number-bytes = c.before.before.before.before.before.before.before.before.before in
-    let start = at-number-bytes.before.before.before.before.before.before.before.before.before in
-    let a = start.args in
-    let N = at-number-bytes.number-bytes in
+    let a = c.args in
+    let N = c.number_bytes-n in
     let made = c.fill_numbers in
     filled-front a.frames a.own.now a.parity.now _ a.kept.now made.new.numbers N.result N.ensures.0
-    (omega (arith, N.ensures.0, start.requires.1)) made.ensures.0 made.ensures.1
+    (omega (arith, N.ensures.0, c.requires.1)) made.ensures.0 made.ensures.1

@@ -60,19 +60,16 @@ line_remainders-requires c =
 
 pub slice_bounds-put_numbers-end : goal.slice_bounds-put_numbers-end
 slice_bounds-put_numbers-end c =
-    let at-line-at = c.before.before.before.before.before.before.before in
     let made = c.line_remainders in
     let S = made.new.sums in
     let long : length S ≡ c.size-size.result =
-    ap length made.ensures.0 ∙ tabulate-length _ _ ∙ ap (λ (z : Line). z.frames.d.size) at-line-at.line_at_lem.ensures ∙ sym c.size-size.ensures in
+    ap length made.ensures.0 ∙ tabulate-length _ _ ∙ ap (λ (z : Line). z.frames.d.size) c.line_at-line.ensures ∙ sym c.size-size.ensures in
     part-fits S _ _ long
 
 pub put_numbers-requires : goal.put_numbers-requires
 put_numbers-requires c =
-    let at-line-at = at_size.before in
-    let start = at-line-at.before.before.before.before.before.before.before.before.before.before in
-    let p = start.requires in
-    let a = start.args in
+    let p = c.requires in
+    let a = c.args in
     let g = a.at.pass.frames in
     let M = g.d.size in
     let made = c.line_remainders in
@@ -80,7 +77,7 @@ put_numbers-requires c =
     let n = c.size-size.result in
     let E = drop (n - 0) c.sum_entries-sums.result in
     let long : length S ≡ n =
-    ap length made.ensures.0 ∙ tabulate-length _ _ ∙ ap (λ (z : Line). z.frames.d.size) at-line-at.line_at_lem.ensures ∙ sym c.size-size.ensures in
+    ap length made.ensures.0 ∙ tabulate-length _ _ ∙ ap (λ (z : Line). z.frames.d.size) c.line_at-line.ensures ∙ sym c.size-size.ensures in
     let lent = ap length (part-is S E n long) ∙ long ∙ c.size-size.ensures in
     let e = stretch-end a.at.k (lines_in g.shape g.blocks) M p.1 in
     let high = size_highest g.shape g.d p.0.tail.allowed in
@@ -90,24 +87,17 @@ put_numbers-requires c =
 
 pub returns : goal.returns
 returns c =
-    let at-line-remainders = c.before.before.before.before.before.before.before in
-    let at-sum-entries = at-line-remainders.before.before in
-    let at_size = at-sum-entries.before.before in
-    let at-line-at = at_size.before in
-    let at-if = at-line-at.before in
-    let at-taken = at-if.before in
-    let start = at-taken.before.before.before.before.before.before.before.before in
-    let a = start.args in
+    let a = c.args in
     let g = a.at.pass.frames in
     let f = frame_of a.info.now a.red.now in
-    let made = at-line-remainders.line-remainders in
-    let S = made.new.1.1.1.1.1.1.1.0 in
-    let size = at_size.size in
+    let made = c.line_remainders in
+    let S = made.new.sums in
+    let size = c.size-size in
     let put = c.put_numbers in
     let is : S ≡ line_remainders (layout_with g a.own.now a.parity.now) f a.at.k =
-    subst (λ (z : Line). S ≡ line_remainders (layout_with z.frames a.own.now a.parity.now) f z.k) at-line-at.line_at_lem.ensures made.ensures.0 in (
+    subst (λ (z : Line). S ≡ line_remainders (layout_with z.frames a.own.now a.parity.now) f z.k) c.line_at-line.ensures made.ensures.0 in (
       put.ensures.long,
-      line_stored a.at a.own.now a.parity.now f S (drop (size.result - 0) at-sum-entries.sum-entries.result) a.numbers.now put.new.numbers size.result
+      line_stored a.at a.own.now a.parity.now f S (drop (size.result - 0) c.sum_entries-sums.result) a.numbers.now put.new.numbers size.result
           (a.at.k * size.result) size.ensures (ap (λ (z : ℕ). a.at.k * z) size.ensures)
-          (sym at-taken.taken.ensures ∙ not-false at-taken.taken.result at-if.if1.false) is put.ensures,
+          (sym c.taken.ensures ∙ not-false c.taken.result c.if-not-taken.false) is put.ensures,
     )

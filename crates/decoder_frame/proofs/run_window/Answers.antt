@@ -68,48 +68,33 @@ stretch_of-requires c =
 
 pub overflow_add-rounds : goal.overflow_add-rounds
 overflow_add-rounds c =
-    let at-run-rounds = c.before.before.before.before.before.before.before in
-    let at-loop-test = at-run-rounds.before.before.before.before.before.before in
-    let at-loop = at-loop-test.before in
-    omega (arith, at-run-rounds.run-rounds.ensures.3, at-loop.loop.invariant.4, at-loop.loop.invariant.1, at-loop-test.loop-test.true)
+    omega (arith, c.run_rounds-made.ensures.3, c.loop-p.invariant.4, c.loop-p.invariant.1, c.loop-p-test.true)
 
 pub overflow_add-flips : goal.overflow_add-flips
 overflow_add-flips c =
-    let at-run-rounds = c.before.before.before.before.before.before.before.before in
-    let at-loop-test = at-run-rounds.before.before.before.before.before.before in
-    let at-loop = at-loop-test.before in
-    omega (arith, at-run-rounds.run-rounds.ensures.4, at-loop.loop.invariant.5, at-loop.loop.invariant.1, at-loop-test.loop-test.true)
+    omega (arith, c.run_rounds-made.ensures.4, c.loop-p.invariant.5, c.loop-p.invariant.1, c.loop-p-test.true)
 
 pub overflow_step-p : goal.overflow_step-p
 overflow_step-p c =
-    let at-loop-test = c.before.before.before.before.before.before.before.before.before.before.before.before.before.before in
-    let at-loop = at-loop-test.before in
-    omega (arith, at-loop-test.loop-test.true, at-loop.loop.invariant.1)
+    omega (arith, c.loop-p-test.true, c.loop-p.invariant.1)
 
 pub loop-p-smaller : goal.loop-p-smaller
 loop-p-smaller c =
-    let at-loop-test = c.before.before.before.before.before.before.before.before.before.before.before.before.before.before in
-    omega (arith, at-loop-test.loop-test.true)
+    omega (arith, c.loop-p-test.true)
 
 pub loop-p-preserved : goal.loop-p-preserved
 loop-p-preserved c =
-    let at-run-rounds = c.before.before.before.before.before.before.before.before in
-    let at-stretch-of = at-run-rounds.before.before.before.before in
-    let at-line-at = at-stretch-of.before in
-    let at-loop-test = at-line-at.before in
-    let at-loop = at-loop-test.before in
-    let start = at-loop.before.before.before.before.before.before.before.before in
-    let p = start.requires in
-    let a = start.args in
-    let l = at-loop.loop in
+    let p = c.requires in
+    let a = c.args in
+    let l = c.loop-p in
     let L = a.links.now in
     let g = a.window.groups in
     let K = a.window.limit in
     let W : ℕ → List Word = read_window (params_of a.frames.d) (lists_in a.frames.d L) a.frames.blocks g in
     let f = frame_of a.info.now a.red.now in
-    let r = at-run-rounds.run-rounds.result in
-    let v = at-run-rounds.run-rounds.ensures in
-    let m = at-run-rounds.run-rounds.new in
+    let r = c.run_rounds-made.result in
+    let v = c.run_rounds-made.ensures in
+    let m = c.run_rounds-made.new in
     let x : Decoded = record { frame = frame_of l.info l.red; rounds = l.rounds; flips = l.flips } in
     let Q : Line → Stretch → Type 0 = λ z y. (record { frame = frame_of m.1.1.1.1.1.0 m.1.1.1.1.1.1.0; rounds = r.rounds; flips = r.flips }
     ≡ run_each (stretch_words z L y.lines) y.limit (frame_of l.info l.red))
@@ -117,12 +102,12 @@ loop-p-preserved c =
     × FrameKept z.frames L m.1.1.1.1.1.0 m.1.1.1.1.1.1.0 m.1.1.1.1.1.1.1.0
     × LineMarks z.frames l.info l.red l.auto m.1.1.1.1.1.0 m.1.1.1.1.1.1.0 m.1.1.1.1.1.1.1.0 in
     let y : Stretch = record { lines = 2 * g; limit = K } in
-    let at = at-line-at.line_at_lem.ensures ∙ ap (λ (f : Frames). record { frames = f; k = 2 * l.p }) p.3 in
-    let here = subst (λ (z : Line). Q z y) at (subst (Q at-line-at.line_at_lem.result) at-stretch-of.stretch-of.ensures (v.0, v.1, v.2, v.5)) in
+    let at = c.line_at-here.ensures ∙ ap (λ (f : Frames). record { frames = f; k = 2 * l.p }) p.3 in
+    let here = subst (λ (z : Line). Q z y) at (subst (Q c.line_at-here.result) c.stretch_of.ensures (v.0, v.1, v.2, v.5)) in
     let same = window-at a.frames.d a.frames.blocks L l.p g p.1.all-groups in (
       l.invariant.0,
       l.invariant.1,
-      omega (arith, at-loop-test.loop-test.true),
+      omega (arith, c.loop-p-test.true),
       here.2,
       omega (arith, l.invariant.4, v.3),
       omega (arith, l.invariant.5, v.4),

@@ -65,12 +65,11 @@ pub returns-in-Absent : goal.returns-in-Absent
 unfolding SingleIs PairIs TripleIs
 returns-in-Absent c =
     let one = c.one-single in
-    let enum-told2 = c.enum_told-in_default-pair-1 in
     let two = c.two-pair in
     let three = c.three-triple in
     let if1 = c.if-remainder-eq0 in
     let u = subst (λ (z : Single). SingleIs c.args.positions.now c.args.remainder z) c.in_default.is one.ensures in
-    let v = subst (λ (z : Pair). PairIs c.args.positions.now c.args.remainder z) enum-told2.given.1 two.ensures in
+    let v = subst (λ (z : Pair). PairIs c.args.positions.now c.args.remainder z) c.in_default-pair.is two.ensures in
     let w = subst (λ (z : Triple). TripleIs c.args.positions.now c.args.remainder z) c.in-Absent.is three.ensures in
     answer_none c.requires.0.words c.args.remainder if1.false u (λ h. v) (λ h. w)
 

@@ -16,27 +16,25 @@ multiply-requires c =
     let p = c.requires in
     let n = a.size * a.r in
     let y = c.transpose in
-    let long : length y.new.constants ≡ n - 0 = ap length y.ensures ∙ tabulate-length n _ ∙ omega arith in (
+    let long : length y.new.to ≡ n - 0 = ap length y.ensures ∙ tabulate-length n _ ∙ omega arith in (
       p.0,
       p.7,
       omega (arith, mul-pos p.2 p.3),
       p.4,
-      front_length y.new.constants a.constants.now (n - 0) long (omega arith) ∙ p.5,
-      stack-spare a.words.now a.constants.now y.new.constants a.size a.r a.count p.3 p.6 y.ensures,
-      stack-few a.words.now a.constants.now y.new.constants a.size a.r a.count p.3 p.6 y.ensures p.9,
+      front_length y.new.to a.constants.now (n - 0) long (omega arith) ∙ p.5,
+      stack-spare a.words.now a.constants.now y.new.to a.size a.r a.count p.3 p.6 y.ensures,
+      stack-few a.words.now a.constants.now y.new.to a.size a.r a.count p.3 p.6 y.ensures p.9,
     )
 
 pub returns : goal.returns
 returns c =
-    let s =
-    c.before.before.before.before.before.before.before.before.before.before.before.before.before.before.before.before.before.before.before in
-    let a = s.args in
+    let a = c.args in
     let y = c.transpose in
     let m = c.multiply in
     let z = c.transpose-2 in
-    solution_made a.inverse.now a.words.now a.constants.now y.new.constants a.products.now m.new.products
-    z.new.constants a.size a.r a.count
-    s.pre.2 s.pre.3 s.pre.6 s.pre.8 y.ensures m.ensures.1 z.ensures
+    solution_made a.inverse.now a.words.now a.constants.now y.new.to a.products.now m.new.products
+    z.new.to a.size a.r a.count
+    c.requires.2 c.requires.3 c.requires.6 c.requires.8 y.ensures m.ensures.1 z.ensures
 
 pub transpose-requires-2 : goal.transpose-requires-2
 transpose-requires-2 c =

@@ -44,6 +44,6 @@ judge-requires c =
     let columns = take-append-le (r.result - 0) g.new.positions _ (omega arith) ∙ ap (λ (k : ℕ). take k g.new.positions) d in
     let rows = take-append-le (r.result - 0) f.new.positions _ (omega arith) ∙ ap (λ (k : ℕ). take k f.new.positions) d in (
       h,
-      part_of (column_code (params_of a.d)) g.new.positions _ g.ensures.0 v columns (c.judge-arg-1.given.2 ∙ d),
-      part_of (params_of a.d) f.new.positions _ f.ensures.0 w rows (c.judge-arg-2-1.given.2 ∙ d),
+      part_of (column_code (params_of a.d)) g.new.positions _ g.ensures.0 v columns (omega arith),
+      part_of (params_of a.d) f.new.positions _ f.ensures.0 w rows (omega arith),
     )

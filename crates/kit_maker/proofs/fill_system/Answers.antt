@@ -50,6 +50,6 @@ fill_left-requires c =
         own_permutes = search rules;
         parity_permutes = search rules;
       },
-      part_of (column_code (params_of a.d)) g.new.positions _ g.ensures.0 v columns (c.fill_left-arg-1.given.2 ∙ d),
-      part_of (params_of a.d) f.new.positions _ f.ensures.0 w rows (c.fill_left-arg-2-1.given.2 ∙ d),
+      part_of (column_code (params_of a.d)) g.new.positions _ g.ensures.0 v columns (omega arith),
+      part_of (params_of a.d) f.new.positions _ f.ensures.0 w rows (omega arith),
     )

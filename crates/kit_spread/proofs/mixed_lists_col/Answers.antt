@@ -50,10 +50,9 @@ unfolding load_verdict load_state
 returns c =
     let a = c.args in
     let n = c.list_design-designed in
-    let g = c.designed-1.given in
-    let v = list_passes a.own.now a.parity.now a.m a.t a.size a.col n.ensures.0 g.1 n.ensures.1 in
+    let v = list_passes a.own.now a.parity.now a.m a.t a.size a.col n.ensures.0 c.in-Made.is n.ensures.1 in
     let first = c.mix_list-between in
     let second = c.mix_list in
-    let by = ap (λ (by : ℕ). list_bytes (order_of g.0.0) (mixed_to (params_of g.0.0) by first.result)) c.r.ensures.0 in
+    let by = ap (λ (by : ℕ). list_bytes (order_of c.in-Made.d) (mixed_to (params_of c.in-Made.d) by first.result)) c.r.ensures.0 in
     fields (mixed-filled a.own.now a.parity.now a.m a.t a.size a.col a.seed _ _ first.result second.result v first.ensures
     (second.ensures.0 ∙ by, second.ensures.1))

@@ -41,8 +41,7 @@ pub returns : goal.returns
 returns c =
     let a = c.args in
     let n = c.list_design-designed in
-    let g = c.designed-1.given in
-    let v = list_passes a.own.now a.parity.now a.m a.t a.size a.col n.ensures.0 g.1 n.ensures.1 in
+    let v = list_passes a.own.now a.parity.now a.m a.t a.size a.col n.ensures.0 c.in-Made.is n.ensures.1 in
     let e = fields (spread-filled a.own.now a.parity.now a.m a.t a.size a.col _ _ v c.fill_turned.ensures
-    (c.fill_turned-2.ensures ∙ ap (λ (by : ℕ). list_bytes (order_of g.0.0) (turned_to (params_of g.0.0) by)) c.r.ensures.0)) in
+    (c.fill_turned-2.ensures ∙ ap (λ (by : ℕ). list_bytes (order_of c.in-Made.d) (turned_to (params_of c.in-Made.d) by)) c.r.ensures.0)) in
     (check_passed refl ∙ e.0, e.1, e.2)

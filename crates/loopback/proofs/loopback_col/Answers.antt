@@ -87,7 +87,7 @@ slice_bounds-decode_col-end c =
       own-length a.m a.t a.size a.col a.blocks a.rounds a.own.now a.parity.now a.inverse.now a.info-errors.now a.red-errors.now
           a.info.now a.red.now (length a.work.now) ok v,
     ) in
-    let long : length (W ++ drop (front - 0) a.work.now) ≡ length a.work.now = c.work-1.given.1 in
+    let long : length (W ++ drop (front - 0) a.work.now) ≡ length a.work.now = omega arith in
     let fits : n ≤ length (W ++ drop (front - 0) a.work.now) = omega (
       arith,
       q,
@@ -119,7 +119,7 @@ returns c =
       own-length a.m a.t a.size a.col a.blocks a.rounds a.own.now a.parity.now a.inverse.now a.info-errors.now a.red-errors.now
           a.info.now a.red.now (length a.work.now) ok v,
     ) in
-    let long : length (W ++ drop (front - 0) a.work.now) ≡ length a.work.now = c.work-1.given.1 in
+    let long : length (W ++ drop (front - 0) a.work.now) ≡ length a.work.now = omega arith in
     let fits : n ≤ length (W ++ drop (front - 0) a.work.now) = omega (
       arith,
       q,

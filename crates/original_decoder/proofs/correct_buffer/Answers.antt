@@ -47,7 +47,5 @@ returns-then-wrong-eq0 c =
 
 pub correct_outside-requires : goal.correct_outside-requires
 correct_outside-requires c =
-    let at-fill-kept = c.before.before.before.before.before.before.before.before in
-    let start = at-fill-kept.before.before.before.before.before.before.before.before.before in
-    let kept = at-fill-kept.fill-kept in
-    (filled-kept start.requires.0 kept.new.1.1.1.1.1.0 (kept.ensures.0 ∙ start.requires.1) kept.ensures.1, start.requires.2, start.requires.3)
+    let kept = c.fill_kept in
+    (filled-kept c.requires.0 kept.new.kept (kept.ensures.0 ∙ c.requires.1) kept.ensures.1, c.requires.2, c.requires.3)

@@ -33,47 +33,34 @@ fill_tables-requires c =
 
 pub slice_bounds-correct_rows-end : goal.slice_bounds-correct_rows-end
 slice_bounds-correct_rows-end c =
-    let at-row-bits = c.before.before.before.before.before.before.before.before.before in
-    let start = at-row-bits.before.before.before in
     let T = c.fill_tables.new.tables in
     let W = c.fill_tables.ensures in
-    part-fits T _ _ (W.long ∙ omega (arith, at-row-bits.row-bits.ensures.0, row-bits (params_of start.args.d)))
+    part-fits T _ _ (W.long ∙ omega (arith, c.row_bits.ensures.0, row-bits (params_of c.args.d)))
 
 pub overflow_mul-powers-2 : goal.overflow_mul-powers-2
 overflow_mul-powers-2 c =
-    let at-m = c.before.before.before.before.before.before.before.before.before in
-    let start = at-m.before.before.before.before in
-    omega (arith, field_room start.args.d start.requires.0.frame.allowed at-m.m.result at-m.m.ensures)
+    omega (arith, field_room c.args.d c.requires.0.frame.allowed c.m-powers.result c.m-powers.ensures)
 
 pub slice_bounds-correct_rows-end-2 : goal.slice_bounds-correct_rows-end-2
 slice_bounds-correct_rows-end-2 c =
-    let at-field-entries = c.before.before.before.before.before.before.before.before in
-    let at-m = at-field-entries.before.before in
-    let start = at-m.before.before.before.before in
-    let d = start.args.d in
-    let h = start.requires.0.frame.allowed in
-    let m = at-m.m in
-    let lf = length-take-le (4 * ((1 * 2 ^ m.result) % 2 ^ 64) - 0) at-field-entries.field-entries.result (omega (arith, at-field-entries.field-entries.ensures, field_room d h m.result m.ensures)) in
-    part-fits c.fill_tables.new.field _ _ (c.field-2-1.given ∙ lf ∙ omega arith)
+    let d = c.args.d in
+    let h = c.requires.0.frame.allowed in
+    let m = c.m-powers in
+    let lf = length-take-le (4 * ((1 * 2 ^ m.result) % 2 ^ 64) - 0) c.field_entries-field.result (omega (arith, c.field_entries-field.ensures, field_room d h m.result m.ensures)) in
+    part-fits c.fill_tables.new.field _ _ (omega (arith, lf))
 
 pub correct_rows-requires : goal.correct_rows-requires
 correct_rows-requires c =
-    let at-fill-tables = c.before.before.before.before.before.before.before.before in
-    let at-field-entries = at-fill-tables.before.before.before in
-    let at-table-entries = at-field-entries.before in
-    let at-m = at-table-entries.before in
-    let at-row-bits = at-m.before in
-    let start = at-row-bits.before.before.before in
-    let a = start.args in
-    let p = start.requires in
+    let a = c.args in
+    let p = c.requires in
     let h = p.0.frame.allowed in
-    let n = at-row-bits.row-bits in
-    let m = at-m.m in
-    let fill = at-fill-tables.fill-tables in
+    let n = c.row_bits in
+    let m = c.m-powers in
+    let fill = c.fill_tables in
     let t = 2 * n.result + 128 in
     let f = 4 * ((1 * 2 ^ m.result) % 2 ^ 64) in
     let W = fill.ensures in
-    let lt : length fill.new.1.0 ≡ t = W.long ∙ omega (arith, n.ensures.0, row-bits (params_of a.d)) in
-    let lf = length-take-le (f - 0) at-field-entries.field-entries.result (omega (arith, at-field-entries.field-entries.ensures, field_room a.d h m.result m.ensures)) in
-    let l_f : length fill.new.1.1.0 ≡ f = c.field-2-1.given ∙ lf ∙ omega arith in
-    (tables_lent (row_frames a.d a.blocks) fill.new.1.0 (drop (t - 0) at-table-entries.table-entries.result) fill.new.1.1.0 (drop (f - 0) at-field-entries.field-entries.result) t f lt l_f W, p.0, p.1, p.2)
+    let lt : length fill.new.tables ≡ t = W.long ∙ omega (arith, n.ensures.0, row-bits (params_of a.d)) in
+    let lf = length-take-le (f - 0) c.field_entries-field.result (omega (arith, c.field_entries-field.ensures, field_room a.d h m.result m.ensures)) in
+    let l_f : length fill.new.field ≡ f = omega (arith, lf) in
+    (tables_lent (row_frames a.d a.blocks) fill.new.tables (drop (t - 0) c.table_entries-tables.result) fill.new.field (drop (f - 0) c.field_entries-field.result) t f lt l_f W, p.0, p.1, p.2)

@@ -19,41 +19,32 @@ line_remainders-requires c =
 
 pub overflow_mul-b : goal.overflow_mul-b
 overflow_mul-b c =
-    let at-area = c.before.before.before.before.before.before.before.before.before.before in
-    let start = at-area.before.before.before.before.before in
-    let a = start.args in
-    let F = start.requires.0 in
-    let e : a.b * at-area.area.result ≡ a.b * (a.d.size * a.d.size) = ap (λ (z : ℕ). a.b * z) at-area.area.ensures.0 in
-    omega (arith, stretch-end a.b a.blocks (a.d.size * a.d.size) start.requires.1, buffer-small a.d F.allowed a.blocks F.few-blocks, e)
+    let a = c.args in
+    let F = c.requires.0 in
+    let e : a.b * c.area-area.result ≡ a.b * (a.d.size * a.d.size) = ap (λ (z : ℕ). a.b * z) c.area-area.ensures.0 in
+    omega (arith, stretch-end a.b a.blocks (a.d.size * a.d.size) c.requires.1, buffer-small a.d F.allowed a.blocks F.few-blocks, e)
 
 pub put_rows-requires : goal.put_rows-requires
 put_rows-requires c =
-    let at-r = c.before.before.before.before.before.before.before.before.before.before in
-    let at-area = at-r.before in
-    let start = at-area.before.before.before.before.before in
-    let a = start.args in
-    let F = start.requires.0 in
+    let a = c.args in
+    let F = c.requires.0 in
     let M = a.d.size in
     let rows = c.line_remainders in
     let n : length rows.new.sums ≡ M = ap length (rows.ensures.0 ∙ rows_are a.d a.blocks a.buffer.now a.b) ∙ remainders_long (params_of a.d) a.buffer.now a.b in
-    let e : a.b * at-area.area.result ≡ a.b * (M * M) = ap (λ (z : ℕ). a.b * z) at-area.area.ensures.0 in
+    let e : a.b * c.area-area.result ≡ a.b * (M * M) = ap (λ (z : ℕ). a.b * z) c.area-area.ensures.0 in
     let q : length rows.new.sums * length rows.new.sums ≡ M * M = ap (λ (z : ℕ). z * z) n in
     let r : a.d.m * a.d.t ≤ 30 = small_product a.d.m a.d.t 10 3 F.allowed.m-high F.allowed.t-high in (
-      omega (arith, r, at-r.r.ensures.0),
-      omega (arith, at-r.r.ensures.0, n, F.allowed.thin),
+      omega (arith, r, c.r-r.ensures.0),
+      omega (arith, c.r-r.ensures.0, n, F.allowed.thin),
       omega (arith, n, F.allowed.M-high),
-      omega (arith, stretch-end a.b a.blocks (M * M) start.requires.1, F.long, e, q),
+      omega (arith, stretch-end a.b a.blocks (M * M) c.requires.1, F.long, e, q),
     )
 
 pub returns : goal.returns
 returns c =
-    let at-line-remainders = c.before.before.before.before.before.before.before in
-    let at-r = at-line-remainders.before.before.before.before.before.before in
-    let at-area = at-r.before in
-    let start = at-area.before.before.before.before.before in
-    let a = start.args in
-    let rows = at-line-remainders.line-remainders in
-    let n : length rows.new.1.1.1.1.1.1.1.0 ≡ a.d.size = ap length (rows.ensures.0 ∙ rows_are a.d a.blocks a.buffer.now a.b) ∙ remainders_long (params_of a.d) a.buffer.now a.b in (
-      rows_named n at-r.r.ensures.0 (ap (λ (z : ℕ). a.b * z) at-area.area.ensures.0) (ap {B = ℕ → ℕ} (λ (l : List ℕ) (i : ℕ). get_or l i 0) (rows.ensures.0 ∙ rows_are a.d a.blocks a.buffer.now a.b)) c.put_rows.ensures,
-      omega (arith, n, start.requires.3),
+    let a = c.args in
+    let rows = c.line_remainders in
+    let n : length rows.new.sums ≡ a.d.size = ap length (rows.ensures.0 ∙ rows_are a.d a.blocks a.buffer.now a.b) ∙ remainders_long (params_of a.d) a.buffer.now a.b in (
+      rows_named n c.r-r.ensures.0 (ap (λ (z : ℕ). a.b * z) c.area-area.ensures.0) (ap {B = ℕ → ℕ} (λ (l : List ℕ) (i : ℕ). get_or l i 0) (rows.ensures.0 ∙ rows_are a.d a.blocks a.buffer.now a.b)) c.put_rows.ensures,
+      omega (arith, n, c.requires.3),
     )

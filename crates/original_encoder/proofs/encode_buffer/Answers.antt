@@ -52,30 +52,22 @@ clear_parity-requires c =
 
 pub slice_bounds-encode_cleared-end : goal.slice_bounds-encode_cleared-end
 slice_bounds-encode_cleared-end c =
-    let at-row-bits = c.before.before.before.before.before.before.before.before.before.before.before in
     let x = c.fill_code in
-    let e : length x.new.positions ≡ at-row-bits.row-bits.result = omega arith in
+    let e : length x.new.positions ≡ c.row_bits-bits.result = omega arith in
     part-fits x.new.positions _ _ e
 
 pub encode_cleared-requires : goal.encode_cleared-requires
 encode_cleared-requires c =
-    let at-fill-code = c.before.before.before.before.before.before.before.before in
-    let at-t = at-fill-code.before.before in
-    let at-m = at-t.before in
-    let at-r = at-m.before in
-    let at-row-bits = at-r.before in
-    let at_size = at-row-bits.before in
-    let start = at_size.before.before in
-    let a = start.args in
-    let p = start.requires in
+    let a = c.args in
+    let p = c.requires in
     let F = p.0 in
     let s = params_of a.d in
-    let x = at-fill-code.fill-code in
-    let n = at-row-bits.row-bits in
-    let m = at-m.m in
-    let t = at-t.t in
-    let size = at_size.size in
-    let r = at-r.r in
+    let x = c.fill_code in
+    let n = c.row_bits-bits in
+    let m = c.m-m in
+    let t = c.t-t in
+    let size = c.size-size in
+    let r = c.r-r in
     let clear = c.clear_parity in
     let same : clear.new.buffer ≡ cleared s a.buffer.now =
     rows-cleared s (let t = F.allowed.thin in omega (arith, t)) (let t = F.allowed.thin in omega (arith, t)) (a.blocks * size.result) a.buffer.now
@@ -83,34 +75,30 @@ encode_cleared-requires c =
     (subst₂ (λ (n r : ℕ). RowsAt (a.blocks * size.result) n r 0 (λ i. 0) a.buffer.now clear.new.buffer) size.ensures
     r.ensures.0 clear.ensures) in
     let all = x.ensures.1 ∙ part_length _ 0 n.result n.result (omega arith) (omega (arith, n.ensures.0, F.allowed.M-high)) in
-    let positions = part-is x.new.1.1.0 _ _ all in (
+    let positions = part-is x.new.positions _ _ all in (
       record {
         allowed = F.allowed;
         few-blocks = F.few-blocks;
         long = ap length same ∙ cleared-length s a.buffer.now ∙ F.long;
         bits = subst⁻¹ (λ (l : List ℕ). (k : ℕ) → get_or l k 0 < 2) same (cleared-bits s a.buffer.now p.1);
       },
-      subst⁻¹ (ReadTable Original s false) positions (ahead_table Original s x.new.1.1.0
-          (subst₂ (λ (m t : ℕ). PositionPowers (generator m t) (m * t) x.new.1.1.0) m.ensures t.ensures x.ensures.0) (all ∙ n.ensures.0 ∙ row-bits s)),
+      subst⁻¹ (ReadTable Original s false) positions (ahead_table Original s x.new.positions
+          (subst₂ (λ (m t : ℕ). PositionPowers (generator m t) (m * t) x.new.positions) m.ensures t.ensures x.ensures.0) (all ∙ n.ensures.0 ∙ row-bits s)),
       λ k h. ap (λ (l : List ℕ). get_or l k 0) same ∙ cleared-zero s a.buffer.now k h,
     )
 
 pub returns : goal.returns
 returns c =
-    let at-clear-parity = c.before.before.before.before.before.before.before.before in
-    let at-r = at-clear-parity.before.before.before.before.before.before.before in
-    let at_size = at-r.before.before in
-    let start = at_size.before.before in
-    let a = start.args in
-    let F = start.requires.0 in
+    let a = c.args in
+    let F = c.requires.0 in
     let s = params_of a.d in
-    let size = at_size.size in
-    let r = at-r.r in
-    let clear = at-clear-parity.clear-parity in
-    let same : clear.new.1.1.1.0 ≡ cleared s a.buffer.now =
+    let size = c.size-size in
+    let r = c.r-r in
+    let clear = c.clear_parity in
+    let same : clear.new.buffer ≡ cleared s a.buffer.now =
     rows-cleared s (let t = F.allowed.thin in omega (arith, t)) (let t = F.allowed.thin in omega (arith, t)) (a.blocks * size.result) a.buffer.now
-    clear.new.1.1.1.0 (mul_assoc a.blocks size.result a.d.size ∙ ap (λ (z : ℕ). a.blocks * (z * a.d.size)) size.ensures ∙ sym F.long)
-    (subst₂ (λ (n r : ℕ). RowsAt (a.blocks * size.result) n r 0 (λ i. 0) a.buffer.now clear.new.1.1.1.0) size.ensures
+    clear.new.buffer (mul_assoc a.blocks size.result a.d.size ∙ ap (λ (z : ℕ). a.blocks * (z * a.d.size)) size.ensures ∙ sym F.long)
+    (subst₂ (λ (n r : ℕ). RowsAt (a.blocks * size.result) n r 0 (λ i. 0) a.buffer.now clear.new.buffer) size.ensures
     r.ensures.0 clear.ensures) in
     c.encode_cleared.ensures ∙ ap (encoded s a.blocks) same
     ∙ sym (encoded-cleared s (degree_some F.allowed) F.allowed.thin (degree_of F.allowed) a.blocks a.buffer.now F.long)

@@ -29,15 +29,12 @@ slice_bounds-encode_blocks-end c =
 
 pub encode_blocks-requires : goal.encode_blocks-requires
 encode_blocks-requires c =
-    let at-entries = c.before.before.before.before.before.before.before.before in
-    let at_size = at-entries.before in
-    let start = at_size.before.before.before in
-    let a = start.args in
-    let p = start.requires in
+    let a = c.args in
+    let p = c.requires in
     let x = c.fill_parts in
-    let entries = at-entries.entries in
+    let entries = c.entries-tables in
     let all = x.ensures.1 ∙ part_length entries.result 0 a.due a.due (omega arith) (omega (arith, entries.ensures, p.3)) in
-    let size = at_size.size in
+    let size = c.size-size in
     let made = parts_of Original a.d a.positions.now x.new.tables size.ensures (no_tail (params_of a.d)) x.ensures.0 in (
       p.0,
       p.1,

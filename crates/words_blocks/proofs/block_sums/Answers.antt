@@ -13,7 +13,7 @@ add_block-one-requires c =
     let a = c.args in
     let p = c.requires in
     let n = length a.sums.now in
-    let wide : length c.clear.new.acc ≡ n = omega (arith, c.sums-1.given) in (
+    let wide : length c.clear.new.acc ≡ n = omega arith in (
       (λ some. square _ _ _ n (p.0.0 some) wide wide, p.0.1),
       omega (arith, wide, p.2),
       first_half a.positions.now n _ a.tables.now wide p.3,
@@ -21,12 +21,10 @@ add_block-one-requires c =
 
 pub add_block-two-requires : goal.add_block-two-requires
 add_block-two-requires c =
-    let at-sums = c.before.before.before.before.before.before.before.before in
-    let start = at-sums.before.before.before.before.before.before.before.before in
-    let a = start.args in
-    let p = start.requires in
+    let a = c.args in
+    let p = c.requires in
     let n = length a.sums.now in
-    let wide : length c.add_block-one.new.sums ≡ n = omega (arith, at-sums.sums.given, c.sums-2-1.given) in (
+    let wide : length c.add_block-one.new.sums ≡ n = omega arith in (
       (λ some. square _ _ _ n (p.1.0 some) wide wide, p.1.1),
       omega (arith, wide, p.2),
       second_half a.positions.now n _ a.tables.now wide p.3,
@@ -34,35 +32,27 @@ add_block-two-requires c =
 
 pub overflow_add-result : goal.overflow_add-result
 overflow_add-result c =
-    let at-sums = c.before.before.before.before.before.before.before.before.before.before.before in
-    let at_clear = at-sums.before in
-    let start = at_clear.before.before.before.before.before.before.before in
-    let a = start.args in
+    let a = c.args in
     let one = c.add_block-one in
     omega (
       arith,
-      start.requires.2,
+      c.requires.2,
       one.ensures.1,
       c.add_block-two.ensures.1,
-      read-few a.first.now (length at_clear.clear.new.0),
+      read-few a.first.now (length c.clear.new.acc),
       read-few a.second.now (length one.new.sums),
-      at-sums.sums.given,
-      c.sums-2-1.given,
     )
 
 pub returns : goal.returns
 returns c =
-    let at-sums = c.before.before.before.before.before.before.before.before.before.before.before in
-    let at_clear = at-sums.before in
-    let start = at_clear.before.before.before.before.before.before.before in
-    let a = start.args in
-    let cleared = at_clear.clear in
+    let a = c.args in
+    let cleared = c.clear in
     let one = c.add_block-one in
     let two = c.add_block-two in
     let n = length a.sums.now in
-    let wide : length cleared.new.0 ≡ n = omega (arith, at-sums.sums.given) in
-    let wide-2 : length one.new.sums ≡ n = omega (arith, wide, c.sums-2-1.given) in (
+    let wide : length cleared.new.acc ≡ n = omega arith in
+    let wide-2 : length one.new.sums ≡ n = omega (arith, wide) in (
       blocks_added a.first-columns a.second-columns a.positions.now n (λ k. get_or a.first.now k 0) (λ k. get_or a.second.now k 0)
-          cleared.new.0 one.new.sums two.new.sums cleared.ensures one.ensures.0 two.ensures.0,
+          cleared.new.acc one.new.sums two.new.sums cleared.ensures one.ensures.0 two.ensures.0,
       ap₂ ◌+◌ (one.ensures.1 ∙ ap (block_reads a.first.now) wide) (two.ensures.1 ∙ ap (block_reads a.second.now) wide-2),
     )

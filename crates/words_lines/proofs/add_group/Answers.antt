@@ -23,15 +23,10 @@ slice_bounds-add_ends-end-2 c =
 
 pub add_ends-requires : goal.add_ends-requires
 add_ends-requires c =
-    let at-r = c.before.before.before.before.before.before.before in
-    let start = at-r.before.before.before.before.before.before.before.before in
-    ends_lent start.requires c.size-x.ensures at-r.r.ensures.0 c.order-n.ensures.0
+    ends_lent c.requires c.size-x.ensures c.r-r.ensures.0 c.order-n.ensures.0
 
 pub returns : goal.returns
 returns c =
-    let at-order = at_size.before.before in
-    let at-r = at-order.before in
-    let start = at-r.before.before.before.before.before.before.before.before in
     let ends = c.add_ends in
-    tail-made start.requires c.size-x.ensures at-r.r.ensures.0 at-order.order.ensures.0 start.args.sums.now ends.new.sums refl ends.ensures.0
+    tail-made c.requires c.size-x.ensures c.r-r.ensures.0 c.order-n.ensures.0 c.args.sums.now ends.new.sums refl ends.ensures.0
     ends.ensures.1

@@ -56,12 +56,8 @@ slice_bounds-count_nonzero-end c =
 
 pub returns : goal.returns
 returns c =
-    let at-line-at = at_size.before in
-    let at-if = at-line-at.before in
-    let at-taken = at-if.before in
-    let start = at-taken.before.before.before.before.before.before.before in
-    let a = start.args in
-    let p = start.requires in
+    let a = c.args in
+    let p = c.requires in
     let g = a.at.pass.frames in
     let f = frame_of a.info.now a.red.now in
     let G = layout_with g a.own.now a.parity.now in
@@ -70,12 +66,12 @@ returns c =
     let n = c.size-size.result in
     let E = drop (n - 0) c.sum_entries-sums.result in
     let is : S ≡ line_remainders G f a.at.k =
-    subst (λ (z : Line). S ≡ line_remainders (layout_with z.frames a.own.now a.parity.now) f z.k) at-line-at.line_at_lem.ensures made.ensures.0 in
+    subst (λ (z : Line). S ≡ line_remainders (layout_with z.frames a.own.now a.parity.now) f z.k) c.line_at-line.ensures made.ensures.0 in
     let long : length S ≡ n = ap length is ∙ tabulate-length g.d.size _ ∙ sym c.size-size.ensures in
     let same = part-is S E n long in
     let count = c.count_nonzero in
     let high = size_highest g.shape g.d p.0.tail.allowed in (
       count.ensures.0 ∙ ap nonzeros (same ∙ is) ∙ remainders_outside (params_of g.d) f g.d.size (G.sites a.at.k)
-          ∙ line_taken g.shape G f a.at.pass.back a.at.k (sym at-taken.taken.ensures ∙ not-false at-taken.taken.result at-if.if1.false),
+          ∙ line_taken g.shape G f a.at.pass.back a.at.k (sym c.taken.ensures ∙ not-false c.taken.result c.if-not-taken.false),
       omega (arith, count.ensures.1, ap length same, long, c.size-size.ensures, high),
     )

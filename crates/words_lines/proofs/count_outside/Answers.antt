@@ -32,12 +32,10 @@ slice_bounds-count_filled-end c =
 
 pub count_filled-requires : goal.count_filled-requires
 count_filled-requires c =
-    let at-word-bits = c.before.before.before.before.before.before.before in
-    let start = at-word-bits.before.before.before.before.before in
-    let g = start.args.frames in
+    let g = c.args.frames in
     let d = g.d in
     let x = c.fill_code in
-    let n = at-word-bits.word-bits in
+    let n = c.word_bits-bits in
     let all : length x.new.positions ≡ n.result = omega arith in
     let made = subst₂ (λ (m t : ℕ). PositionPowers (generator m t) (m * t) x.new.positions) c.m-m.ensures c.t-t.ensures x.ensures.0 in
-    (start.requires, subst⁻¹ (ReadTable g.shape (params_of d) false) (part-is x.new.positions _ _ all) (ahead_table g.shape (params_of d) _ made (all ∙ n.ensures.0)))
+    (c.requires, subst⁻¹ (ReadTable g.shape (params_of d) false) (part-is x.new.positions _ _ all) (ahead_table g.shape (params_of d) _ made (all ∙ n.ensures.0)))

@@ -32,12 +32,10 @@ block_sums-requires c =
 
 pub returns : goal.returns
 returns c =
-    let at-block-of = c.before.before.before.before.before.before.before.before in
-    let start = at-block-of.before.before.before.before.before in
-    let a = start.args in
+    let a = c.args in
     let f = a.line.frames in
     let n = length a.sums.now in
-    let x = at-block-of.block_of in
+    let x = c.block_of-first in
     let y = c.block_of-second in
     let made = c.block_sums in (
       made.ensures.0 ∙ blocks_of_line f.shape a.positions.now n f.blocks a.info.now a.line.k x.result.now y.result.now

@@ -32,15 +32,10 @@ line_blocks-blocks-requires c =
 
 pub add_tail-behind-requires : goal.add_tail-behind-requires
 add_tail-behind-requires c =
-    let at-table-length-2 = c.before.before.before.before.before.before.before in
-    let at-table-length = at-table-length-2.before in
-    let at-tail-bits = at-table-length.before in
-    let at_size = at-tail-bits.before in
-    let start = at_size.before.before.before.before.before.before.before.before in
-    let a = start.args in
+    let a = c.args in
     let f = a.line.frames in
     let made = c.line_blocks-blocks in
-    tail_asked start.requires at_size.size.ensures at-tail-bits.tail-bits.ensures.0 at-table-length.table-length.ensures.0 at-table-length-2.table-length2.ensures.0 made.new.sums c.part-ends.result.now
+    tail_asked c.requires c.size-size.ensures c.tail_bits-tail.ensures.0 c.table_length-b.ensures.0 c.table_length-e.ensures.0 made.new.sums c.part-ends.result.now
     (line_blocks f.shape a.positions.now (length a.sums.now) f.blocks a.info.now a.line.k) made.ensures.0 c.part-ends.ensures
 
 pub overflow_add-result : goal.overflow_add-result

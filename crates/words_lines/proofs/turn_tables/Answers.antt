@@ -17,20 +17,16 @@ returns-then-tables-eq0 c =
 
 pub fill_parts-requires : goal.fill_parts-requires
 fill_parts-requires c =
-    let at-fill-backwards = c.before.before.before.before.before.before.before in
-    let start = at-fill-backwards.before.before.before.before.before in
-    let a = start.args in
-    let p = start.requires in
-    parts_asked a.frames.shape a.frames.d at-fill-backwards.fill-backwards.new.1.0 p.0 (at-fill-backwards.fill-backwards.ensures.0 ∙ p.1.long) c.size-size.ensures c.tail_bits-tail.ensures.0
+    let a = c.args in
+    let p = c.requires in
+    parts_asked a.frames.shape a.frames.d c.fill_backwards.new.out p.0 (c.fill_backwards.ensures.0 ∙ p.1.long) c.size-size.ensures c.tail_bits-tail.ensures.0
     (p.3 (omega (arith, c.if-tables-eq0.false))) refl
 
 pub returns : goal.returns
 returns c =
-    let at-fill-backwards = c.before.before.before.before.before.before.before.before.before.before in
-    let start = at-fill-backwards.before.before.before.before.before in
-    let a = start.args in
-    let p = start.requires in
+    let a = c.args in
+    let p = c.requires in
     let z = a.frames.shape in
-    let made = at-fill-backwards.fill-backwards in
+    let made = c.fill_backwards in
     let sums = c.fill_parts in
-    (back_table z (params_of a.frames.d) p.1 made.ensures.0 made.ensures.1, parts_of z a.frames.d made.new.1.0 sums.new.tables c.size-size.ensures c.tail_bits-tail.ensures.0 sums.ensures.0, made.ensures.0 ∙ sym p.2, sums.ensures.1)
+    (back_table z (params_of a.frames.d) p.1 made.ensures.0 made.ensures.1, parts_of z a.frames.d made.new.out sums.new.tables c.size-size.ensures c.tail_bits-tail.ensures.0 sums.ensures.0, made.ensures.0 ∙ sym p.2, sums.ensures.1)

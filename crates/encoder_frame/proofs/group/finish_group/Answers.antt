@@ -38,10 +38,8 @@ slice_bounds-add_bits-end c =
 
 pub add_bits-requires : goal.add_bits-requires
 add_bits-requires c =
-    let s =
-    c.before.before.before.before.before.before.before.before.before.before.before.before.before.before.before.before.before.before.before.before in
-    let a = s.args in
-    let p = s.pre in
+    let a = c.args in
+    let p = c.pre in
     let n = a.size * a.r in
     let y = c.y_bits in
     let x = c.p_bits in
@@ -58,10 +56,8 @@ add_bits-requires c =
 
 pub returns : goal.returns
 returns c =
-    let s =
-    c.before.before.before.before.before.before.before.before.before.before.before.before.before.before.before.before.before.before.before.before.before.before.before in
-    let a = s.args in
-    let p = s.pre in
+    let a = c.args in
+    let p = c.pre in
     let n = a.size * a.r in
     let y =
     c.y_bits in

@@ -29,13 +29,11 @@ slice_bounds-p_bits-end c =
 
 pub returns : goal.returns
 returns c =
-    let at-column-sums = c.before.before.before.before.before.before.before in
-    let start = at-column-sums.before.before.before.before.before.before in
-    let a = start.args in
+    let a = c.args in
     let n : ℕ = a.size in
-    let x = at-column-sums.column-sums in
+    let x = c.column_sums in
     let zeros : List ℕ = replicate 512 0 in
     let few = part_length zeros 0 n n (omega arith) (omega arith) in
-    digits-made x.new.1.1.1.0 _ _ (column_sum a.positions.now n (λ k. get_or a.odd.now k 0) (λ k. get_or a.even.now k 0)) n a.r start.requires.0.some-columns
-    (subst (λ (k : ℕ). x.new.1.1.1.0 ≡ tabulate k (column_sum a.positions.now k (λ k. get_or a.odd.now k 0) (λ k. get_or a.even.now k 0))) few x.ensures)
+    digits-made x.new.columns _ _ (column_sum a.positions.now n (λ k. get_or a.odd.now k 0) (λ k. get_or a.even.now k 0)) n a.r c.requires.0.some-columns
+    (subst (λ (k : ℕ). x.new.columns ≡ tabulate k (column_sum a.positions.now k (λ k. get_or a.odd.now k 0) (λ k. get_or a.even.now k 0))) few x.ensures)
     c.p_bits.ensures

@@ -44,16 +44,12 @@ start_columns-requires c =
 
 pub returns : goal.returns
 returns c =
-    let at-block-of-3 = c.before.before.before.before.before.before.before.before in
-    let at-block-of-2 = at-block-of-3.before in
-    let at-block-of = at-block-of-2.before in
-    let start = at-block-of.before.before.before.before.before.before in
-    let a = start.args in
+    let a = c.args in
     let z = a.sizes in
-    let odd = at-block-of-2.block-of2 in
-    let even = at-block-of-3.block-of3 in
-    let before = at-block-of.block_of in
+    let odd = c.block_of-odd in
+    let even = c.block_of-even in
+    let before = c.block_of-before in
     let x = c.start_rows in
     let y = c.start_columns in
     start_made z.blocks z.size z.r a.info.now a.columns.now a.positions.now a.i odd.result.now even.result.now before.result.now
-    a.out.now x.new.out y.new.out odd.ensures even.ensures before.ensures start.requires.2 x.ensures y.ensures
+    a.out.now x.new.out y.new.out odd.ensures even.ensures before.ensures c.requires.2 x.ensures y.ensures

@@ -29,13 +29,11 @@ slice_bounds-p_bits-end c =
 
 pub returns : goal.returns
 returns c =
-    let at-row-sums = c.before.before.before.before.before.before.before in
-    let start = at-row-sums.before.before.before.before.before.before in
-    let a = start.args in
+    let a = c.args in
     let n : ℕ = a.size in
-    let x = at-row-sums.row-sums in
+    let x = c.row_sums in
     let zeros : List ℕ = replicate 512 0 in
     let few = part_length zeros 0 n n (omega arith) (omega arith) in
-    digits-made x.new.1.1.1.0 _ _ (row_sum a.positions.now n (λ k. get_or a.before.now k 0) (λ k. get_or a.odd.now k 0)) n a.r start.requires.0.some-columns
-    (subst (λ (k : ℕ). x.new.1.1.1.0 ≡ tabulate k (row_sum a.positions.now k (λ k. get_or a.before.now k 0) (λ k. get_or a.odd.now k 0))) few x.ensures)
+    digits-made x.new.rows _ _ (row_sum a.positions.now n (λ k. get_or a.before.now k 0) (λ k. get_or a.odd.now k 0)) n a.r c.requires.0.some-columns
+    (subst (λ (k : ℕ). x.new.rows ≡ tabulate k (row_sum a.positions.now k (λ k. get_or a.before.now k 0) (λ k. get_or a.odd.now k 0))) few x.ensures)
     c.p_bits.ensures

@@ -51,10 +51,8 @@ finish_groups-requires c =
 
 pub returns : goal.returns
 returns c =
-    let s =
-    c.before.before.before.before.before.before.before.before.before.before.before.before.before.before.before.before.before.before.before.before in
-    let a = s.args in
-    let p = s.pre in
+    let a = c.args in
+    let p = c.pre in
     let z = a.sizes in
     let x = c.add_constants in
     let y = c.solve in

@@ -23,7 +23,7 @@ first_in_rows-requires c =
     let h = c.requires in
     let f = c.fill_preimages in (
       h.0,
-      omega (arith, c.first_in_rows-arg-1.given.2),
+      omega arith,
       sent-below a.n (entries a.n a.parity.now) h.1.permutes f.new.columns _ f.ensures.1 (part-is _ _ _ f.ensures.0),
     )
 
