@@ -8,7 +8,7 @@
 -- Assumes nothing.
 use mathlib.Core.Path.{◌≡◌, sym, ap, ap₂, ◌∙◌}
 use mathlib.Core.List.{List, [], ◌∷◌}
-use Prim.Native.Nat.{ℕ, suc, ◌+◌, ◌-◌, ◌*◌, ◌/◌, ◌%◌, ◌≤◌, ◌<◌}
+use Prim.Native.Nat.{ℕ, zero, suc, ◌+◌, ◌-◌, ◌*◌, ◌/◌, ◌%◌, ◌≤◌, ◌<◌}
 use native.Mathlib.Nat.{mul-suc, add-sub_cancel_left}
 use native.Mathlib.Numerals.{add-one}
 use native.Mathlib.Omega.{arith}
@@ -38,6 +38,7 @@ draw_none-left s i e = after_none s ∙ ap (λ (k : ℕ). state_after s (16 * k)
 pub shuffle_draw : (s i : ℕ) (l : List ℕ) → 0 < i → shuffled s i l ≡ shuffled (state_after s 16) (i - 1) (swapped l i (drawn s % (i + 1)))
 unfolding shuffled
 shuffle_draw s (suc i) l h = ap (λ (k : ℕ). shuffled (state_after s 16) k (swapped l (suc i) (drawn s % (suc i + 1)))) (let e : i ≡ suc i - 1 = omega arith in e)
+shuffle_draw s zero l h = absurd (omega (arith, h))
 
 pub draw_steps : (s i : ℕ) → 0 < i → state_after s (16 * i) ≡ state_after (state_after s 16) (16 * (i - 1))
 draw_steps s i h = sym (after-add s 16 (16 * (i - 1)) ∙ ap (state_after s) (let e : 16 + 16 * (i - 1) ≡ 16 * i = omega arith in e))

@@ -15,7 +15,7 @@ returns-then-not-turns c =
     let one = c.fill_pass in (
       one.ensures.0,
       one_filled g a.own.now a.parity.now (frame_of a.info.now a.red.now) a.numbers.now one.new.numbers
-          (turned_none g.shape (params_of g.d) (sym c.turns-turns.ensures ∙ not-true c.turns-turns.result c.if-not-turns.true)) one.ensures.1,
+          (turned_none g.shape (params_of g.d) (sym c.turns-turns.ensures ∙ c.if-not-turns.true)) one.ensures.1,
     )
 
 pub fill_back-requires : goal.fill_back-requires

@@ -25,7 +25,7 @@ returns-then-not-taken c =
     let a = c.args in (
       refl,
       line-passed a.at a.own.now a.parity.now (frame_of a.info.now a.red.now) a.numbers.now
-          (sym c.taken.ensures ∙ not-true c.taken.result c.if-not-taken.true),
+          (sym c.taken.ensures ∙ c.if-not-taken.true),
     )
 
 pub overflow_mul-from : goal.overflow_mul-from
@@ -53,7 +53,7 @@ line_remainders-requires c =
     let entries = c.sum_entries-sums in
     let high = size_highest g.shape g.d p.0.tail.allowed in
     let long = length-take-le (size.result - 0) entries.result (omega (arith, size.ensures, entries.ensures, high)) in
-    let is = taken_turned g.shape (params_of g.d) a.at.pass.back a.at.k (sym c.taken.ensures ∙ not-false c.taken.result c.if-not-taken.false) in
+    let is = taken_turned g.shape (params_of g.d) a.at.pass.back a.at.k (sym c.taken.ensures ∙ c.if-not-taken.false) in
     subst (λ (z : Line). LineLent z a.own.now a.parity.now a.info.now a.red.now a.positions.now a.tables.now
     (length (take (size.result - 0) entries.result))) (sym c.line_at-line.ensures)
     (p.0, p.1, subst (λ (b : Bool). ReadTable g.shape (params_of g.d) b a.positions.now) is p.2, omega (arith, long, size.ensures), p.4)
@@ -99,5 +99,5 @@ returns c =
       put.ensures.long,
       line_stored a.at a.own.now a.parity.now f S (drop (size.result - 0) c.sum_entries-sums.result) a.numbers.now put.new.numbers size.result
           (a.at.k * size.result) size.ensures (ap (λ (z : ℕ). a.at.k * z) size.ensures)
-          (sym c.taken.ensures ∙ not-false c.taken.result c.if-not-taken.false) is put.ensures,
+          (sym c.taken.ensures ∙ c.if-not-taken.false) is put.ensures,
     )

@@ -42,7 +42,7 @@ returns-then-not-all_sent c =
     let n = number_is a.kept.now _ (word_kept p.0.fits a.a p.1 p.2) x in
     let z = c.locate_errors-found in
     let y = c.all_sent in
-    let f = none_found p.0 p.2.frame a.a p.1 n z.result z.ensures c.sites_of-spots.ensures.0 (sym y.ensures ∙ not-true y.result c.if-not-all_sent.true) in
+    let f = none_found p.0 p.2.frame a.a p.1 n z.result z.ensures c.sites_of-spots.ensures.0 (sym y.ensures ∙ c.if-not-all_sent.true) in
     (f.0, f.1, f.2, p.2, λ g M. M)
 
 pub number_bytes-n-requires : goal.number_bytes-n-requires
@@ -71,7 +71,7 @@ returns c =
     let y = c.all_sent in
     let b = c.number_bytes-n in
     let v = c.flip_all in
-    let f = all_found p.0 p.2.frame a.a p.1 n z.result z.ensures c.sites_of-spots.ensures.0 (sym y.ensures ∙ not-false y.result c.if-not-all_sent.false) v.ensures.0 in
+    let f = all_found p.0 p.2.frame a.a p.1 n z.result z.ensures c.sites_of-spots.ensures.0 (sym y.ensures ∙ c.if-not-all_sent.false) v.ensures.0 in
     let m = v.new.marks in (
       f.0,
       f.1,

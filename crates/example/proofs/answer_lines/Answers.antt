@@ -5,4 +5,4 @@ use borrow.Author.Rules.{rules}
 use Rattle.example.proofs.answer_lines.Goals as goal
 
 pub returns-in-Refused : goal.returns-in-Refused
-returns-in-Refused c = after-counts _ _ _ c.refusal_lines.ensures.0 c.refusal_lines.ensures.1 (omega arith)
+returns-in-Refused c = after-counts _ _ _ c.refusal_lines.ensures.value c.refusal_lines.ensures.out_after (omega arith)

@@ -8,5 +8,5 @@ pub returns : goal.returns
 returns c =
     let a = c.args in
     let first = c.group_line-first in
-    let n = after-counts a.line.now 0 _ first.ensures.0 first.ensures.1 (omega arith) in
-    after-counts _ _ _ c.group_line.ensures.0 c.group_line.ensures.1 n.0
+    let n = after-counts a.line.now 0 _ first.ensures.value first.ensures.out_after (omega arith) in
+    after-counts _ _ _ c.group_line.ensures.value c.group_line.ensures.out_after n.0

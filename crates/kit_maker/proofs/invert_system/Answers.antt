@@ -31,7 +31,7 @@ returns-then-column-n c =
     let f = c.fill_system in
     let i = c.invert-column in
     let l = lists_of a.d a.own.now a.parity.now in
-    (singular-at a.d l o.result o.ensures.0 f.new.work f.ensures.1 i.result i.ensures.0 (omega arith), refl)
+    (singular-at a.d l o.result o.ensures.0 f.new.work f.ensures.1 i.result i.ensures.value (omega arith), refl)
 
 pub copy_right-requires : goal.copy_right-requires
 copy_right-requires c =
@@ -40,7 +40,7 @@ copy_right-requires c =
     let e = c.order-n.ensures.0 in (
       omega (arith, e, order-positive a.d h.0.allowed),
       omega (arith, e, h.0.allowed.order-high),
-      c.invert-column.ensures.1.1 ∙ c.fill_system.ensures.0 ∙ matrix-long h.0 e,
+      c.invert-column.ensures.m_len_unchanged ∙ c.fill_system.ensures.0 ∙ matrix-long h.0 e,
       h.1 ∙ ap (λ (k : ℕ). k * row_bytes k) (sym e),
     )
 
@@ -59,7 +59,7 @@ returns c =
     let small : o.result ≤ 4096 = omega (arith, e, h.allowed.order-high) in
     let past : o.result ≤ i.result = omega arith in
     let none : i.result ≡ o.result =
-    omega (arith, past, i.ensures.0, first_where-le o.result (dependent o.result (left o.result m))) in (
-      singular-past a.d l o.result e m f.ensures.1 i.result i.ensures.0 past,
-      c.copy_right.ensures ∙ copied_is a.d l o.result e m f.ensures.1 small pos i.new.m (i.ensures.1.0 none),
+    omega (arith, past, i.ensures.value, first_where-le o.result (dependent o.result (left o.result m))) in (
+      singular-past a.d l o.result e m f.ensures.1 i.result i.ensures.value past,
+      c.copy_right.ensures ∙ copied_is a.d l o.result e m f.ensures.1 small pos i.new.m (i.ensures.c_after none),
     )

@@ -24,8 +24,8 @@ returns-then-h-lt8 c =
     let l = c.loop-lo in
     let r = c.clear_byte-h in
     let e = r.ensures in record {
-      upper_bound = (e.0.0, e.0.2, e.0.3 c.if-h-lt8.true);
-      row_steps = steps_then a.n a.m.now l.m r.new.m l.invariant.4 e.1;
+      upper_bound = (e.result_bound.0, e.result_bound.2, e.result_bound.3 c.if-h-lt8.true);
+      row_steps = steps_then a.n a.m.now l.m r.new.m l.invariant.4 e.row_steps;
     }
 
 pub loop-lo-preserved : goal.loop-lo-preserved
@@ -34,12 +34,12 @@ loop-lo-preserved c =
     let l = c.loop-lo in
     let r = c.clear_byte-h in
     let e = r.ensures in
-    let all : r.result ≡ 8 = omega (arith, e.0.1) in (
-      omega (arith, e.0.0, all),
+    let all : r.result ≡ 8 = omega (arith, e.result_bound.1) in (
+      omega (arith, e.result_bound.0, all),
       omega arith,
-      e.1.long ∙ l.invariant.2,
-      subst (λ (z : ℕ). Units a.n (l.lo + z) (left a.n r.new.m)) all e.0.2,
-      steps_then a.n a.m.now l.m r.new.m l.invariant.4 e.1,
+      e.row_steps.long ∙ l.invariant.2,
+      subst (λ (z : ℕ). Units a.n (l.lo + z) (left a.n r.new.m)) all e.result_bound.2,
+      steps_then a.n a.m.now l.m r.new.m l.invariant.4 e.row_steps,
     )
 
 pub returns : goal.returns

@@ -11,8 +11,8 @@ returns c =
     let f = c.fill_identity in
     let r = c.eliminate in
     let e = r.ensures in record {
-      value = inversion_first a.n a.m.now f.new.m r.new.m f.ensures.1 f.ensures.2 e.1 r.result e.0.0 e.0.1 e.0.2;
-      c_after = inversion_made a.n a.m.now f.new.m r.new.m f.ensures.1 f.ensures.2 e.1 r.result e.0.0 e.0.1 e.0.2
+      value = inversion_first a.n a.m.now f.new.m r.new.m f.ensures.1 f.ensures.2 e.row_steps r.result e.upper_bound.0 e.upper_bound.1 e.upper_bound.2;
+      c_after = inversion_made a.n a.m.now f.new.m r.new.m f.ensures.1 f.ensures.2 e.row_steps r.result e.upper_bound.0 e.upper_bound.1 e.upper_bound.2
             p.0 (λ k. (c.type_inv.m k).fits);
-      m_len_unchanged = e.1.long ∙ f.ensures.0;
+      m_len_unchanged = e.row_steps.long ∙ f.ensures.0;
     }

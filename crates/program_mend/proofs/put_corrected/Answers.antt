@@ -15,7 +15,7 @@ pub put_groups-j-requires : goal.put_groups-j-requires
 put_groups-j-requires c = record {
       red_len = group-bits _ _ c.args.info.now c.args.red.now c.requires.frame_sized _ _ c.group_count-groups.ensures c.order.ensures.0;
       count_bound = few-groups _ _ c.args.info.now c.args.red.now c.requires.frame_sized _ _ c.group_count-groups.ensures c.order.ensures.0;
-      red_in_bounds = groups-room _ _ c.args.info.now c.args.red.now c.requires.frame_sized _ _ c.group_count-groups.ensures c.order.ensures.0 _ _ c.area.ensures.0 c.put_blocks-i.ensures.value _ (omega (arith, c.requires.most_output_in_bounds, c.put_blocks-i.auto.0));
+      red_in_bounds = groups-room _ _ c.args.info.now c.args.red.now c.requires.frame_sized _ _ c.group_count-groups.ensures c.order.ensures.0 _ _ c.area.ensures.0 c.put_blocks-i.ensures.value _ (omega (arith, c.requires.most_output_in_bounds));
     }
 
 pub returns : goal.returns

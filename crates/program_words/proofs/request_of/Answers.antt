@@ -12,15 +12,15 @@ pub returns-then-count-eq1 : goal.returns-then-count-eq1
 returns-then-count-eq1 c = rw c.one_word.ensures (words_one _ _ _ _ c.if-count-eq1.true)
 
 pub returns-then-not-kit : goal.returns-then-not-kit
-returns-then-not-kit c = words_no_kit _ _ _ _ c.if-count-eq0.false c.if-count-eq1.false (not-true _ c.if-not-kit.true)
+returns-then-not-kit c = words_no_kit _ _ _ _ c.if-count-eq0.false c.if-count-eq1.false c.if-not-kit.true
 
 pub returns-then-same : goal.returns-then-same
 returns-then-same c =
     rw c.kit_words.ensures
     (words-kit _ _ _ _ c.if-count-eq0.false c.if-count-eq1.false
-    (not-false _ c.if-not-kit.false) (sym c.if-same.true ∙ c.same.ensures))
+    c.if-not-kit.false (sym c.if-same.true ∙ c.same.ensures))
 
 pub returns : goal.returns
 returns c =
     words_other _ _ _ _ c.if-count-eq0.false c.if-count-eq1.false
-    (not-false _ c.if-not-kit.false) (sym c.if-same.false ∙ c.same.ensures)
+    c.if-not-kit.false (sym c.if-same.false ∙ c.same.ensures)

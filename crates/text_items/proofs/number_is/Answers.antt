@@ -11,10 +11,10 @@ use borrow.Author.Rules.{rules}
 use Rattle.text_items.proofs.number_is.Goals as goal
 
 pub slice_bounds-text-end : goal.slice_bounds-text-end
-slice_bounds-text-end c = omega (arith, c.put_number-n.ensures.0, c.put_number-n.auto.0, dec-short c.args.p)
+slice_bounds-text-end c = omega (arith, c.put_number-n.ensures.value, dec-short c.args.p)
 
 pub slice_bounds-literal-end : goal.slice_bounds-literal-end
-slice_bounds-literal-end c = sym (length-take-le _ _ (omega (arith, c.put_number-n.ensures.0, c.put_number-n.auto.0, dec-short c.args.p)))
+slice_bounds-literal-end c = sym (length-take-le _ _ (omega (arith, c.put_number-n.ensures.value, dec-short c.args.p)))
 
 pub returns : goal.returns
-returns c = c.literal.ensures ∙ ap (λ (l : List ℕ). walk (lits l) c.args.s.now c.args.at) (written-front _ _ _ c.args.p c.put_number-n.ensures.0 c.put_number-n.ensures.1 (omega arith))
+returns c = c.literal.ensures ∙ ap (λ (l : List ℕ). walk (lits l) c.args.s.now c.args.at) (written-front _ _ _ c.args.p c.put_number-n.ensures.value c.put_number-n.ensures.out_after (omega arith))

@@ -13,7 +13,7 @@ loop-p-init c = packed_start _ _ _ _
 
 pub overflow_mul-p : goal.overflow_mul-p
 overflow_mul-p c =
-    omega (arith, stretch-end _ _ (row_bytes c.args.n) c.loop-p-test.true, c.requires.inverse_len, c.type_inv.)
+    omega (arith, stretch-end _ _ (row_bytes c.args.n) c.loop-p-test.true, c.requires.inverse_len)
 
 pub fill_row-q-requires : goal.fill_row-q-requires
 fill_row-q-requires c =

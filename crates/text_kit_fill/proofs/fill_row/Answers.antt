@@ -10,7 +10,7 @@ returns-in_default c = let t = absurd (row_not _ _ _ _ _ c.number_is-number.ensu
 pub overflow_add-first : goal.overflow_add-first
 overflow_add-first c =
     let P = row_parts _ _ _ _ _ c.number_is-number.ensures _ c.in-Next.is c.requires.passes in
-    omega (arith, P.room, c.type_inv.)
+    omega (arith, P.room)
 
 pub pack_row-requires : goal.pack_row-requires
 pack_row-requires c =
@@ -22,12 +22,12 @@ pack_row-requires c =
 pub overflow_add-result : goal.overflow_add-result
 overflow_add-result c =
     let P = row_parts _ _ _ _ _ c.number_is-number.ensures _ c.in-Next.is c.requires.passes in
-    omega (arith, P.room, c.type_inv.)
+    omega (arith, P.room)
 
 pub overflow_add-result-2 : goal.overflow_add-result-2
 overflow_add-result-2 c =
     let P = row_parts _ _ _ _ _ c.number_is-number.ensures _ c.in-Next.is c.requires.passes in
-    omega (arith, P.room, c.type_inv.)
+    omega (arith, P.room)
 
 pub returns : goal.returns
 returns c =

@@ -11,7 +11,7 @@ use Rattle.text_kit_fill.proofs.Packing.{pack-none, pack-more}
 use Rattle.text_kit_fill.proofs.pack_row.Goals as goal
 
 pub overflow_add-w : goal.overflow_add-w
-overflow_add-w c = omega (arith, c.type_inv.)
+overflow_add-w c = omega (arith)
 
 pub loop-b-init : goal.loop-b-init
 loop-b-init c = (omega arith, refl, refl, pack-none _ _ _)

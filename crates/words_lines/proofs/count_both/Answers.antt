@@ -15,7 +15,7 @@ returns-then-not-turns c =
     let a = c.args in
     let g = a.frames in
     one_pass g.shape (layout_with g a.own.now a.parity.now) (frame_of a.info.now a.red.now)
-    (turned_none g.shape (params_of g.d) (sym c.turns-turns.ensures ∙ not-true c.turns-turns.result c.if-not-turns.true)) c.count_pass-ahead.ensures.0
+    (turned_none g.shape (params_of g.d) (sym c.turns-turns.ensures ∙ c.if-not-turns.true)) c.count_pass-ahead.ensures.0
 
 pub overflow_add-result : goal.overflow_add-result
 overflow_add-result c = omega (arith, c.count_pass-ahead.ensures.1, c.count_back.ensures.1)

@@ -23,7 +23,7 @@ returns-then-not-taken c =
     let a = c.args in
     let g = a.at.pass.frames in (
       not_taken g.shape (layout_with g a.own.now a.parity.now) (frame_of a.info.now a.red.now) a.at.pass.back a.at.k
-          (sym c.taken.ensures ∙ not-true c.taken.result c.if-not-taken.true),
+          (sym c.taken.ensures ∙ c.if-not-taken.true),
       omega arith,
     )
 
@@ -41,7 +41,7 @@ line_remainders-requires c =
     let entries = c.sum_entries-sums in
     let high = size_highest g.shape g.d p.0.tail.allowed in
     let long = length-take-le (size.result - 0) entries.result (omega (arith, size.ensures, entries.ensures, high)) in
-    let is = taken_turned g.shape (params_of g.d) a.at.pass.back a.at.k (sym c.taken.ensures ∙ not-false c.taken.result c.if-not-taken.false) in
+    let is = taken_turned g.shape (params_of g.d) a.at.pass.back a.at.k (sym c.taken.ensures ∙ c.if-not-taken.false) in
     subst (λ (z : Line). LineLent z a.own.now a.parity.now a.info.now a.red.now a.positions.now a.tables.now (length (take (size.result - 0) entries.result))) (sym c.line_at-line.ensures)
     (p.0, p.1, subst (λ (b : Bool). ReadTable g.shape (params_of g.d) b a.positions.now) is p.2, omega (arith, long, size.ensures), p.3)
 
@@ -72,6 +72,6 @@ returns c =
     let count = c.count_nonzero in
     let high = size_highest g.shape g.d p.0.tail.allowed in (
       count.ensures.0 ∙ ap nonzeros (same ∙ is) ∙ remainders_outside (params_of g.d) f g.d.size (G.sites a.at.k)
-          ∙ line_taken g.shape G f a.at.pass.back a.at.k (sym c.taken.ensures ∙ not-false c.taken.result c.if-not-taken.false),
+          ∙ line_taken g.shape G f a.at.pass.back a.at.k (sym c.taken.ensures ∙ c.if-not-taken.false),
       omega (arith, count.ensures.1, ap length same, long, c.size-size.ensures, high),
     )

@@ -15,7 +15,7 @@ use Rattle.kit_inverse.proofs.products.first_wrong.Goals as goal
 pub slice_bounds-first_in_rows-end : goal.slice_bounds-first_in_rows-end
 slice_bounds-first_in_rows-end c =
     let f = c.fill_preimages in
-    part-fits f.new.columns _ _ f.ensures.0
+    part-fits f.new.out _ _ f.ensures.0
 
 pub first_in_rows-requires : goal.first_in_rows-requires
 first_in_rows-requires c =
@@ -24,7 +24,7 @@ first_in_rows-requires c =
     let f = c.fill_preimages in (
       h.0,
       omega arith,
-      sent-below a.n (entries a.n a.parity.now) h.1.permutes f.new.columns _ f.ensures.1 (part-is _ _ _ f.ensures.0),
+      sent-below a.n (entries a.n a.parity.now) h.1.permutes f.new.out _ f.ensures.1 (part-is _ _ _ f.ensures.0),
     )
 
 pub returns : goal.returns
@@ -34,6 +34,6 @@ returns c =
     let h = c.requires in
     let f = c.fill_preimages in
     c.first_in_rows.ensures
-    ∙ sent_found a.n (entries a.n a.parity.now) h.1.permutes f.new.columns _ f.ensures.1 (part-is _ _ _ f.ensures.0)
+    ∙ sent_found a.n (entries a.n a.parity.now) h.1.permutes f.new.out _ f.ensures.1 (part-is _ _ _ f.ensures.0)
     a.size (length a.part.now) h.1.order h.1.positive
     (λ p i. wrong_in (row_entry a.columns.now a.part.now (entries a.n a.own.now) a.size p (i / a.n)) a.t.now a.n (i / a.n) (i % a.n))

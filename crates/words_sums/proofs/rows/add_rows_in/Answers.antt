@@ -55,7 +55,7 @@ pub turn-requires : goal.turn-requires
 turn-requires c =
     let l = c.loop-g in
     let w : ℕ = length c.args.part.now in
-    (omega (arith, same_len_mid 0 (w - 0) l.packed c.pack-reads.new.turned c.pack-reads.ensures.0), omega arith)
+    (omega (arith, same_len_mid 0 (w - 0) l.packed c.pack-reads.new.packed c.pack-reads.ensures.0), omega arith)
 
 pub add_tiles-requires : goal.add_tiles-requires
 add_tiles-requires c =
@@ -82,15 +82,15 @@ loop-g-preserved c =
     let few : length (take (8 * g + r - 8 * g) (drop (8 * g) l.acc)) ≡ r = row-length l.acc (8 * g) r (omega arith) in (
       omega arith,
       same_len_mid (8 * g) (8 * g + r - 8 * g) l.acc added.new.acc added.ensures.0 ∙ l.invariant.1,
-      same_len_mid 0 (w - 0) l.packed bytes.new.turned bytes.ensures.0 ∙ l.invariant.2,
+      same_len_mid 0 (w - 0) l.packed bytes.new.packed bytes.ensures.0 ∙ l.invariant.2,
       tiles.ensures.0 ∙ l.invariant.3,
       added_group a.acc.now l.acc added.new.acc (λ k. xor_sum w (λ j. get_or a.block.now (k * w + j) 0 * get_or a.part.now j 0))
           (λ i. xor_sum ((w + 7) / 8) (λ t. get_or a.tables.now (256 * t + get_or tiles.new.turned (8 * t + i) 0) 0)) g r
           l.invariant.1 (omega arith) n.ensures.2 (λ h. n.ensures.3 h ∙ l.invariant.1) (added.ensures.0 ∙ few) l.invariant.4
           (λ i h. added.ensures.1 i (omega (arith, few)))
-          (λ i h. tiles_row a.part.now a.tables.now (bytes.new.turned ++ drop (w - 0) l.packed) tiles.new.turned i c.requires.2
-          (λ k. (c.type_inv.turned k).fits) (λ t q m o. tiles.ensures.1 t i q m (omega arith) o)
-          a.block.now bytes.new.turned (drop (w - 0) l.packed) g r h refl (bytes.ensures.0 ∙ wide)
+          (λ i h. tiles_row a.part.now a.tables.now (bytes.new.packed ++ drop (w - 0) l.packed) tiles.new.turned i c.requires.2
+          (λ k. (c.slice_known-in-loop-g-2-1.given k).fits) (λ t q m o. tiles.ensures.1 t i q m (omega arith) o)
+          a.block.now bytes.new.packed (drop (w - 0) l.packed) g r h refl (bytes.ensures.0 ∙ wide)
           (λ k m. bytes.ensures.1 k i (omega (arith, wide)) (omega arith)
           ∙ ap (λ (z : ℕ). get_or (take (from + r * w - from) (drop from a.block.now)) (i * z + k) 0) wide)),
       λ h. bytes.ensures.2 ∙ wide,
