@@ -16,7 +16,7 @@ pub returns-in_default : goal.returns-in_default
 returns-in_default c =
     let a = c.args in
     c.refused_frame.ensures _
-    ∙ loopback_numbers a.m a.t a.size a.col a.blocks a.rounds a.own.now a.parity.now a.inverse.now a.info-errors.now a.red-errors.now
+    ∙ loopback_numbers a.m a.t a.size a.col a.blocks a.rounds a.own.now a.parity.now a.inverse.now a.info_errors.now a.red_errors.now
     a.info.now a.red.now (length a.work.now) _
     c.check_numbers-numbers.ensures c.in_default.is
 
@@ -24,7 +24,7 @@ pub kept_bytes-kept-requires : goal.kept_bytes-kept-requires
 kept_bytes-kept-requires c =
     let a = c.args in
     let ok = sym c.check_numbers-numbers.ensures ∙ check_passed c.in-Passed.is in
-    let h = small-frame a.m a.t a.size a.col a.blocks a.rounds a.own.now a.parity.now a.inverse.now a.info-errors.now a.red-errors.now
+    let h = small-frame a.m a.t a.size a.col a.blocks a.rounds a.own.now a.parity.now a.inverse.now a.info_errors.now a.red_errors.now
     a.info.now a.red.now (length a.work.now) ok in (h.0, h.1)
 
 pub returns-in_default-encoded : goal.returns-in_default-encoded
@@ -40,7 +40,7 @@ returns-in_default-encoded c =
     let verdict = c.encode_col-encoded.ensures.0 ∙ ap (λ (n : ℕ). (call n).verdict) lent in
     let after = c.encode_col-encoded.ensures.1 ∙ ap (λ (n : ℕ). (call n).red) lent in
     c.refused_frame-in_default-encoded.ensures _
-    ∙ loopback_encoder a.m a.t a.size a.col a.blocks a.rounds a.own.now a.parity.now a.inverse.now a.info-errors.now a.red-errors.now
+    ∙ loopback_encoder a.m a.t a.size a.col a.blocks a.rounds a.own.now a.parity.now a.inverse.now a.info_errors.now a.red_errors.now
     a.info.now a.red.now (length a.work.now) ok _ _
     verdict after c.in_default-encoded.is
 
@@ -60,9 +60,9 @@ overflow_add-n c =
     omega (
       arith,
       c.kept_bytes-kept.ensures.1,
-      own-length a.m a.t a.size a.col a.blocks a.rounds a.own.now a.parity.now a.inverse.now a.info-errors.now a.red-errors.now
+      own-length a.m a.t a.size a.col a.blocks a.rounds a.own.now a.parity.now a.inverse.now a.info_errors.now a.red_errors.now
           a.info.now a.red.now (length a.work.now) ok v,
-      (small-frame a.m a.t a.size a.col a.blocks a.rounds a.own.now a.parity.now a.inverse.now a.info-errors.now a.red-errors.now
+      (small-frame a.m a.t a.size a.col a.blocks a.rounds a.own.now a.parity.now a.inverse.now a.info_errors.now a.red_errors.now
           a.info.now a.red.now (length a.work.now) ok).2,
     )
 
@@ -84,7 +84,7 @@ slice_bounds-decode_col-end c =
     let q : n ≡ order s + kept_work s a.blocks = omega (
       arith,
       c.kept_bytes-kept.ensures.0,
-      own-length a.m a.t a.size a.col a.blocks a.rounds a.own.now a.parity.now a.inverse.now a.info-errors.now a.red-errors.now
+      own-length a.m a.t a.size a.col a.blocks a.rounds a.own.now a.parity.now a.inverse.now a.info_errors.now a.red_errors.now
           a.info.now a.red.now (length a.work.now) ok v,
     ) in
     let long : length (W ++ drop (front - 0) a.work.now) ≡ length a.work.now = omega arith in
@@ -92,7 +92,7 @@ slice_bounds-decode_col-end c =
       arith,
       q,
       long,
-      working_fits a.m a.t a.size a.col a.blocks a.rounds a.own.now a.parity.now a.inverse.now a.info-errors.now a.red-errors.now
+      working_fits a.m a.t a.size a.col a.blocks a.rounds a.own.now a.parity.now a.inverse.now a.info_errors.now a.red_errors.now
           a.info.now a.red.now (length a.work.now) ok v,
     ) in
     fits
@@ -116,7 +116,7 @@ returns c =
     let q : n ≡ order s + kept_work s a.blocks = omega (
       arith,
       c.kept_bytes-kept.ensures.0,
-      own-length a.m a.t a.size a.col a.blocks a.rounds a.own.now a.parity.now a.inverse.now a.info-errors.now a.red-errors.now
+      own-length a.m a.t a.size a.col a.blocks a.rounds a.own.now a.parity.now a.inverse.now a.info_errors.now a.red_errors.now
           a.info.now a.red.now (length a.work.now) ok v,
     ) in
     let long : length (W ++ drop (front - 0) a.work.now) ≡ length a.work.now = omega arith in
@@ -124,11 +124,11 @@ returns c =
       arith,
       q,
       long,
-      working_fits a.m a.t a.size a.col a.blocks a.rounds a.own.now a.parity.now a.inverse.now a.info-errors.now a.red-errors.now
+      working_fits a.m a.t a.size a.col a.blocks a.rounds a.own.now a.parity.now a.inverse.now a.info_errors.now a.red_errors.now
           a.info.now a.red.now (length a.work.now) ok v,
     ) in
     let lent_again = part_length (W ++ drop (front - 0) a.work.now) n fits in
-    loopback_decoded a.m a.t a.size a.col a.blocks a.rounds a.own.now a.parity.now a.inverse.now a.info-errors.now a.red-errors.now
+    loopback_decoded a.m a.t a.size a.col a.blocks a.rounds a.own.now a.parity.now a.inverse.now a.info_errors.now a.red_errors.now
     a.info.now a.red.now (length a.work.now) ok v _ _ n
     after q
     (c.decode_col.ensures

@@ -52,7 +52,7 @@ returns c =
     let n = length a.sums.now in
     let wide : length cleared.new.acc ≡ n = omega arith in
     let wide-2 : length one.new.sums ≡ n = omega (arith, wide) in (
-      blocks_added a.first-columns a.second-columns a.positions.now n (λ k. get_or a.first.now k 0) (λ k. get_or a.second.now k 0)
+      blocks_added a.first_columns a.second_columns a.positions.now n (λ k. get_or a.first.now k 0) (λ k. get_or a.second.now k 0)
           cleared.new.acc one.new.sums two.new.sums cleared.ensures one.ensures.0 two.ensures.0,
       ap₂ ◌+◌ (one.ensures.1 ∙ ap (block_reads a.first.now) wide) (two.ensures.1 ∙ ap (block_reads a.second.now) wide-2),
     )

@@ -39,7 +39,7 @@ slice_bounds-add_bits-end c =
 pub add_bits-requires : goal.add_bits-requires
 add_bits-requires c =
     let a = c.args in
-    let p = c.pre in
+    let p = c.requires in
     let n = a.size * a.r in
     let y = c.y_bits in
     let x = c.p_bits in
@@ -57,7 +57,7 @@ add_bits-requires c =
 pub returns : goal.returns
 returns c =
     let a = c.args in
-    let p = c.pre in
+    let p = c.requires in
     let n = a.size * a.r in
     let y =
     c.y_bits in
@@ -67,7 +67,7 @@ returns c =
     let few = part_length (replicate 512 0) 0 a.size a.size (omega arith) (omega arith) in
     let many = x.ensures.0 ∙ few in
     let long = ap length d.ensures ∙ tabulate-length n _ in
-    finished_made a.words.now a.part.now a.out.now y.last.1.1.0 a.g a.size a.r p.5 p.2 p.0 p.3 y.ensures
+    finished_made a.words.now a.part.now a.out.now y.new.out a.g a.size a.r p.5 p.2 p.0 p.3 y.ensures
     (take (a.size - 0) (drop 0 (replicate 512 0))) x.new.acc _ d.new.out _ b.new.out few (λ k. zeros-part 512 (a.size - 0) k) x.ensures.1
     (part-is x.new.acc (drop (a.size - 0) (replicate 512 0)) a.size many) d.ensures (part-is d.new.out (drop (n - 0) (replicate
     4096 0)) n long) b.ensures

@@ -52,7 +52,7 @@ finish_groups-requires c =
 pub returns : goal.returns
 returns c =
     let a = c.args in
-    let p = c.pre in
+    let p = c.requires in
     let z = a.sizes in
     let x = c.add_constants in
     let y = c.solve in
