@@ -28,7 +28,7 @@ abbrev pub invariant-loop-p : goal.invariant-loop-p
 invariant-loop-p l =
     (l.count ≡ groups l.frames.blocks - l.window.groups + 1) × (l.count ≤ 2049) × (l.p ≤ l.count) × FrameKept (feed_frames l.frames.d l.frames.blocks) l.links l.info l.red l.kept
     × (l.rounds ≤ l.p * 64) × (l.flips ≤ l.p * 393408000)
-    × (record { frame = frame_of l.info l.red; l.rounds = l.rounds; l.flips = l.flips }
+    × (record { frame = frame_of l.info l.red; rounds = l.rounds; flips = l.flips }
     ≡ slide (read_window (params_of l.frames.d) (lists_in l.frames.d l.links) l.frames.blocks l.window.groups) l.p l.window.limit (frame_of l.initial.info l.initial.red))
     × ((q : ℕ) → l.p ≡ q + 1
     → l.stuck ≡ slide_stuck (read_window (params_of l.frames.d) (lists_in l.frames.d l.links) l.frames.blocks l.window.groups) q l.window.limit (frame_of l.initial.info l.initial.red))

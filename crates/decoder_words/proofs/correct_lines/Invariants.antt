@@ -22,7 +22,7 @@ use Rattle.decoder_words.proofs.correct_lines.Given as goal
 abbrev pub invariant-loop-i : goal.invariant-loop-i
 invariant-loop-i l =
     (l.i ≤ l.count)
-    × (record { frame = frame_of l.info l.red; l.flips = l.flips } ≡ round (params_of l.line.frames.d)
+    × (record { frame = frame_of l.info l.red; flips = l.flips } ≡ round (params_of l.line.frames.d)
     (concat l.i (λ j. tabulate l.line.frames.d.size ((layout_of l.line.frames l.links).sites (l.line.k + j)))) (frame_of l.initial.info l.initial.red))
     × FrameKept l.line.frames l.links l.info l.red l.kept × (l.flips ≤ 1500 * l.i)
     × (l.stuck ≡ stuck_among (params_of l.line.frames.d) (frame_of l.initial.info l.initial.red)

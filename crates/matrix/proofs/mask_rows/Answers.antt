@@ -63,10 +63,10 @@ loop-b-preserved c =
       omega arith,
       elim c.if-v-ne0.branch [ then-v-ne0 w ↦ rw w.acc-is (w.mask_in.ensures.0 ∙ l.invariant.2) | else-v-ne0 w ↦ rw w.acc-is l.invariant.2 ],
       elim c.if-v-ne0.branch [
-      | then-v-ne0 w ↦
-          rw w.acc-is
-          (masked_more a.row.now a.t.now a.n l.acc l.b l.invariant.3 _ (c.type_inv.row l.b).fits (λ x h. w.mask_in.ensures.1 x (omega arith)))
-      | else-v-ne0 w ↦ rw w.acc-is (masked_skip a.row.now a.t.now a.n l.acc l.b l.invariant.3 w.if-v-ne0.false)
+        | then-v-ne0 w ↦
+            rw w.acc-is
+            (masked_more a.row.now a.t.now a.n l.acc l.b l.invariant.3 _ (c.type_inv.row l.b).fits (λ x h. w.mask_in.ensures.1 x (omega arith)))
+        | else-v-ne0 w ↦ rw w.acc-is (masked_skip a.row.now a.t.now a.n l.acc l.b l.invariant.3 w.if-v-ne0.false)
       ],
     )
 

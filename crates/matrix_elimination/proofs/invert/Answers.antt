@@ -13,6 +13,6 @@ returns c =
     let e = r.ensures in record {
       value = inversion_first a.n a.m.now f.new.m r.new.m f.ensures.1 f.ensures.2 e.row_steps r.result e.upper_bound.0 e.upper_bound.1 e.upper_bound.2;
       c_after = inversion_made a.n a.m.now f.new.m r.new.m f.ensures.1 f.ensures.2 e.row_steps r.result e.upper_bound.0 e.upper_bound.1 e.upper_bound.2
-            p.0 (λ k. (c.type_inv.m k).fits);
+          p.0 (λ k. (c.type_inv.m k).fits);
       m_len_unchanged = e.row_steps.long ∙ f.ensures.0;
     }

@@ -63,6 +63,6 @@ slice_bounds-frame_call-end-6 c = c.matrix_bytes-work.ensures.1
 
 pub frame_call-requires : goal.frame_call-requires
 frame_call-requires c = let z = c.sizes_of-s.ensures in record {
-      frame_ready = ready _ _ _ _ _ c.requires.scanned _ z _ _ _ _ _ _ _ c.list_bytes-own.ensures.1 c.list_bytes-parity.ensures.1 c.matrix_bytes-inverse.ensures.1 c.text_bits-info.ensures.1 c.group_bits-red.ensures.1 (sym c.matrix_bytes-work.ensures.1 ∙ z.inverse-is);
-      most_output_in_bounds = c.requires.most_output_in_bounds;
-    }
+  frame_ready = ready _ _ _ _ _ c.requires.scanned _ z _ _ _ _ _ _ _ c.list_bytes-own.ensures.1 c.list_bytes-parity.ensures.1 c.matrix_bytes-inverse.ensures.1 c.text_bits-info.ensures.1 c.group_bits-red.ensures.1 (sym c.matrix_bytes-work.ensures.1 ∙ z.inverse-is);
+  most_output_in_bounds = c.requires.most_output_in_bounds;
+}

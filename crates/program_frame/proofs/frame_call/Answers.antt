@@ -6,9 +6,9 @@ use Rattle.program_frame.proofs.frame_call.Goals as goal
 
 pub put_encoded-requires : goal.put_encoded-requires
 put_encoded-requires c = record {
-      groups_fit = groups-fit _ _ _ _ _ _ _ _ _ _ c.requires.frame_ready _ c.encode-made.auto.1.1.1.1.1.1.1.1.0;
-      most_output_in_bounds = c.requires.most_output_in_bounds;
-    }
+  groups_fit = groups-fit _ _ _ _ _ _ _ _ _ _ c.requires.frame_ready _ c.encode-made.auto.1.1.1.1.1.1.1.1.0;
+  most_output_in_bounds = c.requires.most_output_in_bounds;
+}
 
 pub shape_of-own : goal.shape_of-own
 shape_of-own c = search (rules, c.read_kit.auto)

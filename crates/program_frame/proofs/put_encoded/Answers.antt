@@ -6,10 +6,10 @@ use Rattle.program_frame.proofs.put_encoded.Goals as goal
 
 pub put_groups-requires : goal.put_groups-requires
 put_groups-requires c = let F = c.requires.groups_fit in let r = c.args.red.now in let g = c.group_count-groups.ensures in let e = c.order.ensures.0 in record {
-      red_len = group-bits _ _ r F _ _ g e;
-      count_bound = few-groups _ _ r F _ _ g e;
-      red_in_bounds = groups-room _ _ r F _ _ g e _ c.requires.most_output_in_bounds;
-    }
+  red_len = group-bits _ _ r F _ _ g e;
+  count_bound = few-groups _ _ r F _ _ g e;
+  red_in_bounds = groups-room _ _ r F _ _ g e _ c.requires.most_output_in_bounds;
+}
 
 pub returns-in-Refused : goal.returns-in-Refused
 returns-in-Refused c = refused-prints _ _ _ c.in-Refused.is c.of_refusal-judged.ensures _ _ _ _ c.put_refusal.ensures

@@ -7,9 +7,9 @@ use Rattle.program_mend.proofs.mend_call.Goals as goal
 
 pub put_decoded-requires : goal.put_decoded-requires
 put_decoded-requires c = record {
-      frame_sized = frame-fits _ _ _ _ _ _ _ _ _ _ c.requires.mend_ready _ _ (c.decode-made.auto.1.1.1.1.1.1.1.0 ∙ c.read_frame.auto.1.1.0) (c.decode-made.auto.1.1.1.1.1.1.1.1.0 ∙ c.read_frame.auto.1.1.1.0);
-      most_output_in_bounds = c.requires.most_output_in_bounds;
-    }
+  frame_sized = frame-fits _ _ _ _ _ _ _ _ _ _ c.requires.mend_ready _ _ (c.decode-made.auto.1.1.1.1.1.1.1.0 ∙ c.read_frame.auto.1.1.0) (c.decode-made.auto.1.1.1.1.1.1.1.1.0 ∙ c.read_frame.auto.1.1.1.0);
+  most_output_in_bounds = c.requires.most_output_in_bounds;
+}
 
 pub shape_of-own : goal.shape_of-own
 shape_of-own c = search (rules, c.read_kit.auto)

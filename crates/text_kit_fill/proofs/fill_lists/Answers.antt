@@ -48,6 +48,6 @@ shape_of-parity c = filled-right _ _ _ _ _ c.requires.own_len c.requires.parity_
 
 pub returns : goal.returns
 returns c = record {
-      own_after = filled-own _ _ _ _ _ c.requires.own_len c.requires.parity_len _ _ _ _ c.loop-p.invariant c.loop-p-test.false;
-      parity_after = filled-parity _ _ _ _ _ c.requires.own_len c.requires.parity_len _ _ _ _ c.loop-p.invariant c.loop-p-test.false;
-    }
+  own_after = filled-own _ _ _ _ _ c.requires.own_len c.requires.parity_len _ _ _ _ c.loop-p.invariant c.loop-p-test.false;
+  parity_after = filled-parity _ _ _ _ _ c.requires.own_len c.requires.parity_len _ _ _ _ c.loop-p.invariant c.loop-p-test.false;
+}

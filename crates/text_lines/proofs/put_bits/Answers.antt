@@ -43,6 +43,6 @@ shape_of-out c = c.loop-i.invariant.2.same
 
 pub returns : goal.returns
 returns c = record {
-      value = refl;
-      out_after = copied_all _ _ _ _ _ c.loop-i.invariant.2 (omega (arith, length-chars c.args.bits.now));
-    }
+  value = refl;
+  out_after = copied_all _ _ _ _ _ c.loop-i.invariant.2 (omega (arith, length-chars c.args.bits.now));
+}

@@ -27,8 +27,7 @@ fill_positions-requires c =
 
 pub returns : goal.returns
 returns c =
-    let f = c.fill_positions in
-    (
+    let f = c.fill_positions in (
       subst₂ (λ (g r : ℕ). PositionPowers g r f.new.table) c.column_generator-g.ensures c.r-r.ensures.0 f.ensures.0,
       f.ensures.1,
     )
