@@ -23,7 +23,7 @@ pub shape_of-parity-in_default : goal.shape_of-parity-in_default
 shape_of-parity-in_default c = filled-right _ _ _ _ _ c.requires.own_len c.requires.parity_len _ _ _ _ c.loop-p.invariant
 
 pub returns-in_default : goal.returns-in_default
-returns-in_default c = let t = absurd (filled_wrong _ _ _ _ _ c.requires.own_len c.requires.parity_len _ _ _ _ c.loop-p.invariant c.loop-p-test.true _ c.pair_line-line.ensures _ c.in_default.is c.requires.passes) in record { own_after = t.0; parity_after = t.1 }
+returns-in_default c = absurd (filled_wrong _ _ _ _ _ c.requires.own_len c.requires.parity_len _ _ _ _ c.loop-p.invariant c.loop-p-test.true _ c.pair_line-line.ensures _ c.in_default.is c.requires.passes)
 
 pub put_entry-requires : goal.put_entry-requires
 put_entry-requires c = omega (arith, filled-left _ _ _ _ _ c.requires.own_len c.requires.parity_len _ _ _ _ c.loop-p.invariant, c.requires.own_len, c.loop-p-test.true)

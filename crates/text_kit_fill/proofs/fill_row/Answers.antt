@@ -5,7 +5,7 @@ use borrow.Author.Rules.{rules}
 use Rattle.text_kit_fill.proofs.fill_row.Goals as goal
 
 pub returns-in_default : goal.returns-in_default
-returns-in_default c = let t = absurd (row_not _ _ _ _ _ c.number_is-number.ensures _ c.in_default.is c.requires.passes) in record { result_value = t.0; out_after = t.1 }
+returns-in_default c = absurd (row_not _ _ _ _ _ c.number_is-number.ensures _ c.in_default.is c.requires.passes)
 
 pub overflow_add-first : goal.overflow_add-first
 overflow_add-first c =

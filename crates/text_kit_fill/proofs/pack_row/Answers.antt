@@ -32,7 +32,7 @@ pub overflow_add-at : goal.overflow_add-at
 overflow_add-at c = omega arith
 
 pub gather-v-requires : goal.gather-v-requires
-gather-v-requires c = let t = omega arith in record { c_bound = t.0; c_in_bounds = t.1 }
+gather-v-requires c = record { c_bound = omega arith; c_in_bounds = omega arith }
 
 pub overflow_cast-out : goal.overflow_cast-out
 overflow_cast-out c = omega arith

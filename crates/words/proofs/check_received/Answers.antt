@@ -50,7 +50,7 @@ check_bytes-requires c =
       own_length = n.3.0 ∙ lists.0;
       parity_length = n.3.1 ∙ lists.1;
       inverse_length = λ l. absurd (omega arith);
-      frame_small_here = frame_small a.d a.asked.blocks (length a.info.now) (length a.red.now) pre.0 n.1 n.3.3 n.3.4;
+      frame_small = frame_small a.d a.asked.blocks (length a.info.now) (length a.red.now) pre.0 n.1 n.3.3 n.3.4;
       marks_length = marks ∙ omega (arith, order.ensures.0);
     }
 
