@@ -56,7 +56,7 @@ run_rounds-made-requires c =
     let y : Stretch = record { lines = 2 * a.window.groups; limit = a.window.limit } in
     let P : Line → Stretch → Type 0 = λ z y. FramesReady z.frames a.links.now a.tables.now a.field.now
     × (z.k + y.lines ≤ lines_in z.frames.shape z.frames.blocks)
-    × (1 ≤ y.limit) × (y.limit ≤ most-rounds) × FrameKept z.frames a.links.now l.info l.red l.auto in
+    × (1 ≤ y.limit) × (y.limit ≤ most-rounds) × FrameKept z.frames a.links.now l.info l.red l.kept in
     let at = c.line_at-here.ensures ∙ ap (λ (f : Frames). record { frames = f; k = 2 * l.p }) p.3 in
     subst⁻¹ (P c.line_at-here.result) c.stretch_of.ensures
     (subst⁻¹ (λ (z : Line). P z y) at
@@ -96,11 +96,11 @@ loop-p-preserved c =
     let v = c.run_rounds-made.ensures in
     let m = c.run_rounds-made.new in
     let x : Decoded = record { frame = frame_of l.info l.red; rounds = l.rounds; flips = l.flips } in
-    let Q : Line → Stretch → Type 0 = λ z y. (record { frame = frame_of m.1.1.1.1.1.0 m.1.1.1.1.1.1.0; rounds = r.rounds; flips = r.flips }
+    let Q : Line → Stretch → Type 0 = λ z y. (record { frame = frame_of m.info m.red; rounds = r.rounds; flips = r.flips }
     ≡ run_each (stretch_words z L y.lines) y.limit (frame_of l.info l.red))
     × (r.stuck ≡ last_stuck (stretch_words z L y.lines) y.limit (frame_of l.info l.red))
-    × FrameKept z.frames L m.1.1.1.1.1.0 m.1.1.1.1.1.1.0 m.1.1.1.1.1.1.1.0
-    × LineMarks z.frames l.info l.red l.auto m.1.1.1.1.1.0 m.1.1.1.1.1.1.0 m.1.1.1.1.1.1.1.0 in
+    × FrameKept z.frames L m.info m.red m.kept
+    × LineMarks z.frames l.info l.red l.kept m.info m.red m.kept in
     let y : Stretch = record { lines = 2 * g; limit = K } in
     let at = c.line_at-here.ensures ∙ ap (λ (f : Frames). record { frames = f; k = 2 * l.p }) p.3 in
     let here = subst (λ (z : Line). Q z y) at (subst (Q c.line_at-here.result) c.stretch_of.ensures (v.0, v.1, v.2, v.5)) in

@@ -36,7 +36,7 @@ correct_line-more-requires c =
     let l = c.loop-i in
     let k : ℕ = a.line.k + l.i in
     let hk : k < lines_in a.line.frames.shape a.line.frames.blocks = omega (arith, c.loop-i-test.true, p.1) in
-    subst (λ (z : Line). LineReady z a.links.now a.tables.now a.field.now × FrameKept z.frames a.links.now l.info l.red l.auto)
+    subst (λ (z : Line). LineReady z a.links.now a.tables.now a.field.now × FrameKept z.frames a.links.now l.info l.red l.kept)
     (sym c.line_at-here.ensures) (ready_at k p.0 hk, l.invariant.2)
 
 pub overflow_add-flips : goal.overflow_add-flips
@@ -79,11 +79,11 @@ loop-i-preserved c =
     let v = c.correct_line-more.ensures in
     let x : Progress = record { frame = frame_of l.info l.red; flips = l.flips } in
     let m = c.correct_line-more.new in
-    let here = subst (λ (z : Line). (record { frame = frame_of m.1.1.1.1.0 m.1.1.1.1.1.0; flips = r.flips }
+    let here = subst (λ (z : Line). (record { frame = frame_of m.info m.red; flips = r.flips }
     ≡ round (params_of z.frames.d) (tabulate z.frames.d.size (line_word z a.links.now)) (frame_of l.info l.red))
-    × FrameKept z.frames a.links.now m.1.1.1.1.0 m.1.1.1.1.1.0 m.1.1.1.1.1.1.0
+    × FrameKept z.frames a.links.now m.info m.red m.kept
     × (r.stuck ≡ stuck_among (params_of z.frames.d) (frame_of l.info l.red) (tabulate z.frames.d.size (line_word z a.links.now)))
-    × LineMarks z.frames l.info l.red l.auto m.1.1.1.1.0 m.1.1.1.1.1.0 m.1.1.1.1.1.1.0)
+    × LineMarks z.frames l.info l.red l.kept m.info m.red m.kept)
     c.line_at-here.ensures (v.0, v.1, v.3, v.5) in (
       omega (arith, c.loop-i-test.true),
       lines_next s W f l.i x _ l.invariant.1 here.0,
