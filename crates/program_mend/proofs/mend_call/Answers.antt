@@ -2,23 +2,24 @@
 use mathlib.Core.Path.{◌∙◌}
 use Rattle.program.proofs.Printing.{printed_as}
 use Rattle.program_mend.proofs.Mending.{frame-fits, mend_printed}
+use native.Mathlib.Omega.{arith}
 use borrow.Author.Rules.{rules}
 use Rattle.program_mend.proofs.mend_call.Goals as goal
 
 pub put_decoded-requires : goal.put_decoded-requires
 put_decoded-requires c = record {
-  frame_sized = frame-fits _ _ _ _ _ _ _ _ _ _ c.requires.mend_ready _ _ (c.decode-made.auto.1.1.1.1.1.1.1.0 ∙ c.read_frame.auto.1.1.0) (c.decode-made.auto.1.1.1.1.1.1.1.1.0 ∙ c.read_frame.auto.1.1.1.0);
+  frame_sized = frame-fits _ _ _ _ _ _ _ _ _ _ c.requires.mend_ready _ _ (c.decode-made.auto.info ∙ c.read_frame.auto.info) (c.decode-made.auto.red ∙ c.read_frame.auto.red);
   most_output_in_bounds = c.requires.most_output_in_bounds;
 }
 
 pub shape_of-own : goal.shape_of-own
-shape_of-own c = search (rules, c.read_kit.auto)
+shape_of-own c = omega arith
 
 pub shape_of-parity : goal.shape_of-parity
-shape_of-parity c = search (rules, c.read_kit.auto)
+shape_of-parity c = omega arith
 
 pub shape_of-inverse : goal.shape_of-inverse
-shape_of-inverse c = search (rules, c.read_kit.auto)
+shape_of-inverse c = omega arith
 
 pub returns : goal.returns
-returns c = let k = c.read_kit.ensures.1.1 in let b = c.read_frame.ensures.1.1 in let e = rw (c.m.ensures, c.t.ensures, c.size.ensures) at c.decode-made.ensures in printed_as _ _ _ _ _ (mend_printed _ _ _ _ _ _ _ _ _ _ c.requires.mend_ready _ _ _ _ k.0 k.1.0 b.0 b.1 _ _ _ e) c.put_decoded.ensures
+returns c = let k = c.read_kit.ensures in let b = c.read_frame.ensures in let e = rw (c.m.ensures, c.t.ensures, c.size.ensures) at c.decode-made.ensures in printed_as _ _ _ _ _ (mend_printed _ _ _ _ _ _ _ _ _ _ c.requires.mend_ready _ _ _ _ k.own_after k.parity_after b.info_after b.red_after _ _ _ e) c.put_decoded.ensures
