@@ -1,4 +1,5 @@
 -- The call ends at a refused design, at a refused frame, or after the rounds of its window.
+use native.Mathlib.Omega.{arith}
 use mathlib.Core.Path.{◌∙◌}
 use lib.ListN.{length}
 use Rattle.design.proofs.Answers.{made-allowed}
