@@ -22,5 +22,5 @@ returns c =
     let made = c.run_rounds in
     let v = made.ensures in
     let m = made.new in
-    rounds_back a.d a.blocks a.limit links a.buffer.now a.kept.now m.1.1.1.1.1.0 m.1.1.1.1.1.1.0 m.1.1.1.1.1.1.1.0
+    rounds_back a.d a.blocks a.limit links a.buffer.now a.kept.now m.info m.red m.kept
     made.result B.allowed B.few-blocks v.0 v.1 v.2 v.5
