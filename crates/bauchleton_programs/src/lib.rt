@@ -1,4 +1,4 @@
-// The programs for a `main` in C, which returns what they answer: a `main` of this language has no exit status.
+// The programs that are installed, each for a `main` that passes the runtime and ends with the exit status that is answered.
 //   bauchleton_program_frame, bauchleton_program_mend     bauchleton-frame, bauchleton-mend [-k KIT] [FILE]
 //   bauchleton_program_makekit                            bauchleton-makekit [FILE]
 //
@@ -17,6 +17,8 @@ ghost use Rattle.bauchleton_programs.specs.Exit.{failed, OrFailed, Exits};
 
 use program_io::Input;
 use program_words::Request;
+use std::io;
+use std::rt::{Env, Files};
 
 const PRINTED: u32 = 0;
 
@@ -38,10 +40,10 @@ fn output_status(out: &[u8]) -> u32
 }
 
 // Prints an output and answers the exit status.
-fn print_output(out: &[u8]) -> u32
+fn print_output<R: Print + Files + Eprint>(rt: &R, out: &[u8]) -> u32
     ensures { OrFailed (output_status out.now) result }
 {
-    let taken = program_io::write_output(out);
+    let taken = program_io::write_output(rt, out);
     if taken {
         return output_status(out);
     }
@@ -49,163 +51,178 @@ fn print_output(out: &[u8]) -> u32
 }
 
 // Prints what `frame` prints for these inputs.
-fn print_frame(kit: &[u8], text: &[u8]) -> u32
+fn print_frame<R: Print + Files + Eprint>(rt: &R, kit: &[u8], text: &[u8]) -> u32
     ensures { Exits (frame_verdict kit.now text.now) result }
 {
     let mut out = program_io::output_bytes();
     let n = program_frame::frame_output(kit, text, &mut out);
-    print_output(&out[..n])
+    print_output(rt, &out[..n])
 }
 
 // Prints what `mend` prints for these inputs.
-fn print_mend(kit: &[u8], text: &[u8]) -> u32
+fn print_mend<R: Print + Files + Eprint>(rt: &R, kit: &[u8], text: &[u8]) -> u32
     ensures { Exits (mend_verdict kit.now text.now) result }
 {
     let mut out = program_io::output_bytes();
     let n = program_mend::mend_output(kit, text, &mut out);
-    print_output(&out[..n])
+    print_output(rt, &out[..n])
 }
 
 // Prints what `makekit` prints for this input.
-fn print_makekit(text: &[u8]) -> u32
+fn print_makekit<R: Print + Files + Eprint>(rt: &R, text: &[u8]) -> u32
     ensures { Exits (make_kit_verdict text.now) result }
 {
     let mut out = program_io::output_bytes();
     let n = program_makekit::makekit_output(text, &mut out);
-    print_output(&out[..n])
+    print_output(rt, &out[..n])
 }
 
 // Reads the text: standard input, or the file that the word of this number names.
-fn read_text(word: usize, bytes: &mut [u8]) -> Input
+fn read_text<R: io::Input + Env + Files + Eprint>(rt: &R, word: usize, bytes: &mut [u8]) -> Input
     ensures { IsPrefixLen result.count bytes.new }
 {
     if word == 0 {
-        return program_io::read_text(bytes);
+        return program_io::read_text(rt, bytes);
     }
-    program_io::read_named(word, bytes)
+    program_io::read_named(rt, word, bytes)
 }
 
 // Reads the kit: kit.txt, or the file that the word of this number names.
-fn read_kit(word: usize, bytes: &mut [u8]) -> Input
+fn read_kit<R: Env + Files + Eprint>(rt: &R, word: usize, bytes: &mut [u8]) -> Input
     ensures { IsPrefixLen result.count bytes.new }
 {
     if word == 0 {
-        return program_io::read_kit(bytes);
+        return program_io::read_kit(rt, bytes);
     }
-    program_io::read_named(word, bytes)
+    program_io::read_named(rt, word, bytes)
 }
 
 // Reads the text and prints under a kit that was read: mends it, or encodes it.
-fn run_text(kit: &[u8], text_word: usize, mends: bool) -> u32
+fn run_text<R: io::Input + Env + Files + Print + Eprint>(
+    rt: &R,
+    kit: &[u8],
+    text_word: usize,
+    mends: bool,
+) -> u32
     ensures { result ≤ failed }
 {
     let mut text = program_io::input_bytes();
-    let read = read_text(text_word, &mut text);
+    let read = read_text(rt, text_word, &mut text);
     if !read.readable {
         return FAILED;
     }
     let n = read.count;
     if mends {
-        return print_mend(kit, &text[..n]);
+        return print_mend(rt, kit, &text[..n]);
     }
-    print_frame(kit, &text[..n])
+    print_frame(rt, kit, &text[..n])
 }
 
 // Reads both inputs, kit before text, and prints.
-fn run_kit(kit_word: usize, text_word: usize, mends: bool) -> u32
+fn run_kit<R: io::Input + Env + Files + Print + Eprint>(
+    rt: &R,
+    kit_word: usize,
+    text_word: usize,
+    mends: bool,
+) -> u32
     ensures { result ≤ failed }
 {
     let mut kit = program_io::input_bytes();
-    let read = read_kit(kit_word, &mut kit);
+    let read = read_kit(rt, kit_word, &mut kit);
     if !read.readable {
         return FAILED;
     }
     let n = read.count;
-    run_text(&kit[..n], text_word, mends)
+    run_text(rt, &kit[..n], text_word, mends)
 }
 
-fn run_makekit(text_word: usize) -> u32
+fn run_makekit<R: io::Input + Env + Files + Print + Eprint>(rt: &R, text_word: usize) -> u32
     ensures { result ≤ failed }
 {
     let mut text = program_io::input_bytes();
-    let read = read_text(text_word, &mut text);
+    let read = read_text(rt, text_word, &mut text);
     if !read.readable {
         return FAILED;
     }
     let n = read.count;
-    print_makekit(&text[..n])
+    print_makekit(rt, &text[..n])
 }
 
 // Prints a text that was asked for.
-fn print_text(text: &[u8]) -> u32
+fn print_text<R: Print + Files + Eprint>(rt: &R, text: &[u8]) -> u32
     ensures { result ≤ failed }
 {
-    if program_io::write_output(text) {
+    if program_io::write_output(rt, text) {
         return PRINTED;
     }
     FAILED
 }
 
 // Reports on standard error how a program is called.
-fn report_usage(usage: &[u8]) -> u32
+fn report_usage<R: Eprint>(rt: &R, usage: &str) -> u32
     ensures { result ≤ failed }
 {
-    io::write_all(libc::STDERR_FILENO, usage);
+    let _ = rt.eprint(usage);
     FAILED
 }
 
 // The release that these programs are of: the header's BAUCHLETON_VERSION_TEXT.
-fn print_version() -> u32
+fn print_version<R: Print + Files + Eprint>(rt: &R) -> u32
     ensures { result ≤ failed }
 {
-    print_text(b"Bauchleton 4.2\n")
+    print_text(rt, b"Bauchleton 4.2\n")
 }
 
-#[unsafe(no_mangle)]
-pub extern "C" fn bauchleton_program_frame() -> u32
+pub fn bauchleton_program_frame<R: io::Input + Env + Files + Print + Eprint>(rt: &R) -> u32
     ensures { result ≤ failed }
 {
-    let request = program_words::read_request(true);
+    let request = program_words::read_request(rt, true);
     match request {
-        Request::Run(kit, text) => run_kit(kit, text, false),
+        Request::Run(kit, text) => run_kit(rt, kit, text, false),
         Request::Help => print_text(
+            rt,
             b"usage: bauchleton-frame [-k KIT] [FILE]\nEncodes the block text of FILE or standard input under the kit text of KIT or kit.txt, and prints its group text.\n",
         ),
-        Request::Version => print_version(),
+        Request::Version => print_version(rt),
         Request::Wrong => report_usage(
-            b"usage: bauchleton-frame [-k KIT] [FILE] | --help | --version\n",
+            rt,
+            "usage: bauchleton-frame [-k KIT] [FILE] | --help | --version\n",
         ),
     }
 }
 
-#[unsafe(no_mangle)]
-pub extern "C" fn bauchleton_program_mend() -> u32
+pub fn bauchleton_program_mend<R: io::Input + Env + Files + Print + Eprint>(rt: &R) -> u32
     ensures { result ≤ failed }
 {
-    let request = program_words::read_request(true);
+    let request = program_words::read_request(rt, true);
     match request {
-        Request::Run(kit, text) => run_kit(kit, text, true),
+        Request::Run(kit, text) => run_kit(rt, kit, text, true),
         Request::Help => print_text(
+            rt,
             b"usage: bauchleton-mend [-k KIT] [FILE]\nCorrects the frame text of FILE or standard input under the kit text of KIT or kit.txt, and prints it with its counts.\n",
         ),
-        Request::Version => print_version(),
+        Request::Version => print_version(rt),
         Request::Wrong => report_usage(
-            b"usage: bauchleton-mend [-k KIT] [FILE] | --help | --version\n",
+            rt,
+            "usage: bauchleton-mend [-k KIT] [FILE] | --help | --version\n",
         ),
     }
 }
 
-#[unsafe(no_mangle)]
-pub extern "C" fn bauchleton_program_makekit() -> u32
+pub fn bauchleton_program_makekit<R: io::Input + Env + Files + Print + Eprint>(rt: &R) -> u32
     ensures { result ≤ failed }
 {
-    let request = program_words::read_request(false);
+    let request = program_words::read_request(rt, false);
     match request {
-        Request::Run(kit, text) => run_makekit(text),
+        Request::Run(kit, text) => run_makekit(rt, text),
         Request::Help => print_text(
+            rt,
             b"usage: bauchleton-makekit [FILE]\nMakes the inverse for the lists of FILE or standard input, the first part of a kit text, and prints the whole kit text.\n",
         ),
-        Request::Version => print_version(),
-        Request::Wrong => report_usage(b"usage: bauchleton-makekit [FILE] | --help | --version\n"),
+        Request::Version => print_version(rt),
+        Request::Wrong => report_usage(
+            rt,
+            "usage: bauchleton-makekit [FILE] | --help | --version\n",
+        ),
     }
 }

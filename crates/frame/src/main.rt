@@ -3,14 +3,14 @@
 // Everything that is decided is in the crate `program_frame`.
 #![tactic(auto)]
 
-fn main() {
+fn main(rt: HostRuntime) {
     let mut kit = program_io::input_bytes();
-    let kit_read = program_io::read_kit(&mut kit);
+    let kit_read = program_io::read_kit(&rt, &mut kit);
     if !kit_read.readable {
         return;
     }
     let mut text = program_io::input_bytes();
-    let text_read = program_io::read_text(&mut text);
+    let text_read = program_io::read_text(&rt, &mut text);
     if !text_read.readable {
         return;
     }
@@ -18,5 +18,5 @@ fn main() {
     let n = text_read.count;
     let mut out = program_io::output_bytes();
     let m = program_frame::frame_output(&kit[..k], &text[..n], &mut out);
-    program_io::write_output(&out[..m]);
+    program_io::write_output(&rt, &out[..m]);
 }

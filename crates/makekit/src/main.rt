@@ -3,14 +3,14 @@
 // Everything that is decided is in the crate `program_makekit`.
 #![tactic(auto)]
 
-fn main() {
+fn main(rt: HostRuntime) {
     let mut text = program_io::input_bytes();
-    let text_read = program_io::read_text(&mut text);
+    let text_read = program_io::read_text(&rt, &mut text);
     if !text_read.readable {
         return;
     }
     let n = text_read.count;
     let mut out = program_io::output_bytes();
     let m = program_makekit::makekit_output(&text[..n], &mut out);
-    program_io::write_output(&out[..m]);
+    program_io::write_output(&rt, &out[..m]);
 }

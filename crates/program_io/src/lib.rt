@@ -12,7 +12,15 @@
 #![tactic(auto)]
 
 ghost use Rattle.std.specs.Prelude.{◌≡◌, length};
+ghost use Rattle.std.specs.Io.{ReadsAtMost, WritesAtMost};
 ghost use Rattle.io.specs.Counts.{IsPrefixLen};
+
+use std::env::FillError;
+use std::fmt::InlineText;
+use std::fs::{File, OpenFile};
+use std::io::{ErrorKind, Read};
+use std::rt::{Env, Files};
+use std::{fs, io, str};
 
 // An input: whether it could be read, and how many bytes were.
 #[derive(Clone, Copy)]
@@ -37,43 +45,69 @@ pub fn output_bytes() -> [u8; 262144]
 // The most calls in a row that a signal may interrupt. If the last is interrupted too, that is told as a failure.
 const MOST_TRIES: usize = 1000;
 
+// The system's numbers for what is wrong with a name, and for no failure.
+const NO_SUCH_WORD: i32 = 22;
+
+const TOO_LONG: i32 = 36;
+
+const NOT_TEXT: i32 = 84;
+
+const NO_FAILURE: i32 = 0;
+
+// Tells on standard error what failed and why. The library adds the error's number to the system's reason, which is left out.
+fn tell<R: Eprint>(rt: &R, name: &str, error: io::Error) {
+    let told = InlineText::<256>::of(error);
+    let text = told.as_str();
+    let reason = match text.split_once(" (os error ") {
+        Some((reason, _)) => reason,
+        None => text,
+    };
+    let _ = rt.eprintln(format_args!("{name}: {reason}"));
+}
+
 // Whether a signal interrupted the read or the write that answered `moved`, before it moved a byte.
-fn interrupted(moved: isize) -> bool {
-    moved < 0 && os::errno() == libc::EINTR
+fn interrupted(moved: &io::Result<usize>) -> bool {
+    match moved {
+        Ok(_) => false,
+        Err(e) => e.kind() == ErrorKind::Interrupted,
+    }
 }
 
 // What one read into the start of `bytes` answers; it is made again where a signal interrupts it.
-fn read_once(fd: i32, bytes: &mut [u8]) -> isize {
+fn read_once<F: Read>(from: &mut F, bytes: &mut [u8]) -> io::Result<usize>
+    ensures { ReadsAtMost result bytes.new }
+{
     for _ in 1..MOST_TRIES {
-        let got = libc::read(fd, bytes);
-        if !interrupted(got) {
+        let got = from.read(bytes);
+        if !interrupted(&got) {
             return got;
         }
     }
-    libc::read(fd, bytes)
+    from.read(bytes)
 }
 
 // Whether a read that got no byte met the input's end. If not, it failed, which is told.
-fn ended(got: isize, name: &[u8]) -> bool {
-    if got < 0 {
-        os::fail(name);
-        return false;
+fn ended<R: Eprint>(rt: &R, got: io::Result<usize>, name: &str) -> bool {
+    match got {
+        Ok(_) => true,
+        Err(e) => {
+            tell(rt, name, e);
+            false
+        }
     }
-    true
 }
 
 // Reads an input into the start of `bytes`, to its end or until they are full.
-fn read_input(fd: i32, name: &[u8], bytes: &mut [u8]) -> Input
+fn read_input<R: Eprint, F: Read>(rt: &R, from: &mut F, name: &str, bytes: &mut [u8]) -> Input
     ensures { IsPrefixLen result.count bytes.new }
 {
     let mut count = 0;
     while count < bytes.len() {
-        let rest = &mut bytes[count..];
-        let got = read_once(fd, rest);
-        let more = io::count(got, rest);
+        let got = read_once(from, &mut bytes[count..]);
+        let more = got.unwrap_or(0);
         if more == 0 {
             return Input {
-                readable: ended(got, name),
+                readable: ended(rt, got, name),
                 count: count,
             };
         }
@@ -86,84 +120,124 @@ fn read_input(fd: i32, name: &[u8], bytes: &mut [u8]) -> Input
 }
 
 // Reads the file at `path` into the start of `bytes`.
-fn read_file(path: &[u8], bytes: &mut [u8]) -> Input
+fn read_file<R: Files + Eprint>(rt: &R, path: &str, bytes: &mut [u8]) -> Input
     ensures { IsPrefixLen result.count bytes.new }
 {
-    let fd = os::open_read(path);
-    if fd < 0 {
-        os::fail(path);
-        return Input {
-            readable: false,
-            count: 0,
-        };
+    match fs::open(rt, path) {
+        Ok(mut file) => read_input(rt, &mut file, path, bytes),
+        Err(e) => {
+            tell(rt, path, e);
+            Input {
+                readable: false,
+                count: 0,
+            }
+        }
     }
-    let input = read_input(fd, path, bytes);
-    libc::close(fd);
-    input
 }
 
 // Reads kit.txt into the start of `bytes`.
-pub fn read_kit(bytes: &mut [u8]) -> Input
+pub fn read_kit<R: Files + Eprint>(rt: &R, bytes: &mut [u8]) -> Input
     ensures { IsPrefixLen result.count bytes.new }
 {
-    read_file(b"kit.txt", bytes)
+    read_file(rt, "kit.txt", bytes)
 }
 
-// Reads the file that the word of number `word` names, the first after the program's name being 1, into the start of `bytes`. A word that is missing, or
-// longer than a path can be, is told as a failure: what is there of it must not pass for a shorter name, or for an empty one.
-pub fn read_named(word: usize, bytes: &mut [u8]) -> Input
-    ensures { IsPrefixLen result.count bytes.new }
-{
-    let mut path = io::buffer();
-    let n = os::arg(word, &mut path);
-    if os::errno() == 0 {
-        return read_file(&path[..n], bytes);
+// The text of the word of number `word`, at the start of `name`, or the number of what is wrong with it.
+fn name_of<'a, R: Env>(rt: &R, word: usize, name: &'a mut [u8]) -> Result<&'a str, i32> {
+    match rt.arg(word, name) {
+        Ok(n) => str::from_utf8(&name[..n]).map_err(|_| NOT_TEXT),
+        Err(FillError::TooLong) => Err(TOO_LONG),
+        Err(FillError::NotPresent) => Err(NO_SUCH_WORD),
     }
-    os::fail(b"name of a file");
+}
+
+// What is read where a word names no file, for the reason of this number, which is told.
+fn unnamed<R: Eprint>(rt: &R, number: i32) -> Input
+    ensures { result.count ≡ 0 }
+{
+    tell(rt, "name of a file", io::Error::from_raw_os_error(number));
     Input {
         readable: false,
         count: 0,
     }
 }
 
-// Reads standard input into the start of `bytes`.
-pub fn read_text(bytes: &mut [u8]) -> Input
+// Reads the file that the word of number `word` names, the first after the program's name being 1, into the start of `bytes`. A word that is missing, or
+// longer than a path can be, is told as a failure: what is there of it must not pass for a shorter name, or for an empty one. So is one that is no text:
+// the library opens no file of such a name.
+pub fn read_named<R: Env + Files + Eprint>(rt: &R, word: usize, bytes: &mut [u8]) -> Input
     ensures { IsPrefixLen result.count bytes.new }
 {
-    read_input(libc::STDIN_FILENO, b"standard input", bytes)
+    let mut name = [0; 4096];
+    match name_of(rt, word, &mut name) {
+        Ok(path) => read_file(rt, path, bytes),
+        Err(number) => unnamed(rt, number),
+    }
+}
+
+// Reads standard input into the start of `bytes`.
+pub fn read_text<R: io::Input + Eprint>(rt: &R, bytes: &mut [u8]) -> Input
+    ensures { IsPrefixLen result.count bytes.new }
+{
+    let mut from = rt.reader();
+    read_input(rt, &mut from, "standard input", bytes)
 }
 
 // What one write of `bytes` to standard output answers; it is made again where a signal interrupts it.
-fn write_once(bytes: &[u8]) -> isize {
+fn write_once<R: Print>(rt: &R, bytes: &[u8]) -> io::Result<usize>
+    ensures { WritesAtMost result bytes.now }
+{
     for _ in 1..MOST_TRIES {
-        let put = libc::write(libc::STDOUT_FILENO, bytes);
-        if !interrupted(put) {
+        let put = rt.write_some(bytes);
+        if !interrupted(&put) {
             return put;
         }
     }
-    libc::write(libc::STDOUT_FILENO, bytes)
+    rt.write_some(bytes)
 }
 
-// Writes `bytes` to standard output, and answers whether it took them all. A write that takes nothing has failed.
-fn written(bytes: &[u8]) -> bool {
+// Writes `bytes` to standard output whole. A write that takes nothing has failed.
+fn written<R: Print>(rt: &R, bytes: &[u8]) -> io::Result<()> {
     let mut done = 0;
     while done < bytes.len() {
-        let rest = &bytes[done..];
-        let taken = io::count(write_once(rest), rest);
+        let taken = write_once(rt, &bytes[done..])?;
         if taken == 0 {
-            return false;
+            return Err(io::Error::from_raw_os_error(NO_FAILURE));
         }
         done += taken;
     }
-    true
+    Ok(())
 }
 
-// Writes `bytes` to standard output and closes it: some file systems tell only then that what they took is lost. A failure is told. Answers whether all
-// was taken.
-pub fn write_output(bytes: &[u8]) -> bool {
-    if !written(bytes) || libc::close(libc::STDOUT_FILENO) < 0 {
-        os::fail(b"standard output");
-        return false;
+// Standard output once more, where it is a file: a pipe or a terminal has nothing to store.
+fn output_file<R: Files>(rt: &R) -> Option<R::File> {
+    let path = "/dev/stdout";
+    let found = fs::metadata(rt, path).ok()?;
+    if !found.is_file() {
+        return None;
     }
-    true
+    File::options().write(true).open(rt, path).ok()
+}
+
+// Has what was written stored, where standard output is a file that can be asked for it.
+fn stored<R: Files>(rt: &R) -> io::Result<()> {
+    let Some(file) = output_file(rt) else {
+        return Ok(());
+    };
+    match file.sync_all() {
+        Err(e) if e.kind() == ErrorKind::InvalidInput => Ok(()),
+        answer => answer,
+    }
+}
+
+// Writes `bytes` to standard output and has a file store them: some file systems tell only then that what they took is lost. A failure is told. Answers
+// whether all was taken.
+pub fn write_output<R: Print + Files + Eprint>(rt: &R, bytes: &[u8]) -> bool {
+    match written(rt, bytes).and_then(|_| stored(rt)) {
+        Ok(()) => true,
+        Err(e) => {
+            tell(rt, "standard output", e);
+            false
+        }
+    }
 }

@@ -1,14 +1,17 @@
 // The words after a program's name: what is asked for, and which files.
 //   Request                                what is asked for
 //   request_of(kit, count, first, third)   by the number of words, and by the first and the third, for a program that takes a kit or none
-//   read_request(kit)                      by the words with which the program was started
+//   read_request(rt, kit)                  by the words with which the program was started
 //
 // The second word is the name of a kit or one too many, so that the others decide. The contract of `request_of` is for every list of words; what the words
 // are with which a program was started no contract can say.
 #![tactic(auto)]
 
-ghost use Rattle.std.specs.Prelude.{◌≡◌, List, ℕ};
+ghost use Rattle.std.specs.Prelude.{◌≡◌, ◌≤◌, length, List, ℕ};
 ghost use Rattle.program_words.specs.Words.{same_text, is_option, one_word, kit_words, request_of, Shows};
+
+use std::env::FillError;
+use std::rt::Env;
 
 // What is asked for: a run with the words of these numbers as names of the kit and of the text, 0 for kit.txt and for standard input.
 #[derive(Clone, Copy)]
@@ -96,19 +99,27 @@ pub fn request_of(kit: bool, count: usize, first: &[u8], third: &[u8]) -> Reques
 }
 
 // How many words there are after the program's name.
-fn word_count() -> usize {
-    let count = os::arg_count();
-    if count == 0 {
-        return 0;
+fn word_count<R: Env>(rt: &R) -> usize {
+    for number in 1..usize::MAX {
+        if let Err(FillError::NotPresent) = rt.arg(number, &mut []) {
+            return number - 1;
+        }
     }
-    count - 1
+    usize::MAX
+}
+
+// Puts the word of this number at the start of `word`, and answers how many bytes it has. A word that is missing, or longer, is read as an empty one.
+fn read_word<R: Env>(rt: &R, number: usize, word: &mut [u8]) -> usize
+    ensures { result ≤ length word.new }
+{
+    rt.arg(number, word).unwrap_or(0)
 }
 
 // What the words ask for with which the program was started. A word that is longer than a path can be is read as an empty one: it is no option.
-pub fn read_request(kit: bool) -> Request {
-    let mut first = io::buffer();
-    let n = os::arg(1, &mut first);
-    let mut third = io::buffer();
-    let k = os::arg(3, &mut third);
-    request_of(kit, word_count(), &first[..n], &third[..k])
+pub fn read_request<R: Env>(rt: &R, kit: bool) -> Request {
+    let mut first = [0; 4096];
+    let n = read_word(rt, 1, &mut first);
+    let mut third = [0; 4096];
+    let k = read_word(rt, 3, &mut third);
+    request_of(kit, word_count(rt), &first[..n], &third[..k])
 }

@@ -1,7 +1,6 @@
 -- Either answer's lines stay within the lent line.
 use native.Mathlib.Omega.{arith}
 use Rattle.text_write.proofs.Room.{after-counts}
-use borrow.Author.Rules.{rules}
 use Rattle.example.proofs.answer_lines.Goals as goal
 
 pub returns-in-Refused : goal.returns-in-Refused

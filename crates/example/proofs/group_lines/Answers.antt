@@ -1,7 +1,6 @@
 -- What is written stays within the lent line.
 use native.Mathlib.Omega.{arith}
 use Rattle.text_write.proofs.Room.{after-counts}
-use borrow.Author.Rules.{rules}
 use Rattle.example.proofs.group_lines.Goals as goal
 
 pub returns : goal.returns

@@ -1,6 +1,5 @@
 -- An empty word has no first letter.
 use mathlib.Core.Path.{refl}
-use borrow.Author.Rules.{rules}
 use Rattle.program_words.specs.Words.{is_option}
 use Rattle.program_words.proofs.Words.{option_none}
 use Rattle.program_words.proofs.is_option.Goals as goal

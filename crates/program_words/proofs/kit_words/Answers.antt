@@ -1,6 +1,5 @@
 -- Each answer by the number of words, and by the third.
 use mathlib.Core.Path.{sym, ◌∙◌}
-use borrow.Author.Rules.{rules}
 use Rattle.program_words.proofs.Words.{kit-alone, kit_many, kit_option, kit_file}
 use Rattle.program_words.proofs.kit_words.Goals as goal
 

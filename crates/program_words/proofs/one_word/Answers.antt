@@ -1,6 +1,5 @@
 -- Each answer by the comparisons before it.
 use mathlib.Core.Path.{sym, ◌∙◌}
-use borrow.Author.Rules.{rules}
 use Rattle.program_words.proofs.Words.{word_help, word-version, word_option, word_file}
 use Rattle.program_words.proofs.one_word.Goals as goal
 

@@ -1,7 +1,5 @@
 -- Each answer by the number of words, and by the first.
 use mathlib.Core.Path.{sym, ◌∙◌}
-use borrow.Author.Tests.{not-true, not-false}
-use borrow.Author.Rules.{rules}
 use Rattle.program_words.proofs.Words.{words-none, words_one, words_no_kit, words-kit, words_other}
 use Rattle.program_words.proofs.request_of.Goals as goal
 

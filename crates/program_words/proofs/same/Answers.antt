@@ -1,8 +1,7 @@
 use mathlib.Core.Path.{◌≡◌, refl, ◌∙◌, sym}
-use Prim.Native.Nat.{◌+◌, ◌-◌, ◌≤◌, ◌<◌}
-use lib.ListN.{length, drop}
+use Prim.Native.Nat.{◌+◌, ◌<◌}
+use lib.ListN.{length}
 use native.Mathlib.Omega.{arith}
-use Rattle.program_words.specs.Words.{same_text}
 use Rattle.program_words.proofs.Words.{same_lengths, same_next, same-differ, same_end}
 use Rattle.program_words.proofs.same.Goals as goal
 

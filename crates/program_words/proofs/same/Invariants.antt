@@ -1,10 +1,8 @@
 -- The texts are the same where what is left of them is. The measure is the number of bytes that are left.
-use mathlib.Core.Path.{◌≡◌, refl, ◌∙◌, sym}
-use Prim.Native.Nat.{◌+◌, ◌-◌, ◌≤◌, ◌<◌}
+use mathlib.Core.Path.{◌≡◌}
+use Prim.Native.Nat.{◌-◌, ◌≤◌}
 use lib.ListN.{length, drop}
-use native.Mathlib.Omega.{arith}
 use Rattle.program_words.specs.Words.{same_text}
-use Rattle.program_words.proofs.Words.{same_lengths, same_next, same-differ, same_end}
 use Rattle.program_words.proofs.same.Given as goal
 
 abbrev pub invariant-loop-i : goal.invariant-loop-i
