@@ -7,7 +7,7 @@
 #   make dist         bauchleton-VERSION.tar.gz: the sources of HEAD
 #   make dist-bin     bauchleton-VERSION-linux-x86_64.tar.gz: what install writes, for machines without rt; works wherever it is unpacked
 #   make deb          three Debian packages
-#   make clean        removes target/release; the rest of target/ is rt's
+#   make clean        removes target/release; what rt keeps is in the folders crates/*/out
 #
 # Needs rt, a C compiler with its binutils, and python3; dist needs git, deb dpkg-deb. What is missing is told. The same sources give the same bytes.
 # rt proves whatever it builds and is not proved yet. The gate is .ci/run.
@@ -37,9 +37,8 @@ INSTALL ?= install
 RT ?= rt
 PYTHON ?= python3
 OUT := target/release
-BUILT := target/staticlib
 
-# In Rattle but for a main of one line; and tools in C over the library.
+# In Rattle; and tools in C over the library.
 PROVED := bauchleton-frame bauchleton-mend bauchleton-makekit
 TOOLS := bauchleton-kit bauchleton-waterfall
 PROGRAMS := $(PROVED) $(TOOLS)
@@ -55,19 +54,32 @@ needs = @command -v $(firstword $(1)) > /dev/null || { echo 'make: $(firstword $
 .PHONY: all check install uninstall dist dist-bin deb clean
 all: $(OUT)/libbauchleton.a $(OUT)/$(SHARED) $(addprefix $(OUT)/,$(PROGRAMS)) $(OUT)/man/made
 
-# ---- what rt proves and compiles; two rt at once in one repository disturb each other, so that one archive waits for the other
+# ---- what rt proves and compiles, in the folder out/ of each crate; one waits for the other, since they stand on the same crates
 
-SOURCES := crates.txt $(shell find crates -name '*.rt' -o -name '*.antt')
-$(BUILT)/libbauchleton_text.a: | $(BUILT)/libbauchleton.a
-$(BUILT)/libbauchleton_programs.a: | $(BUILT)/libbauchleton_text.a
-$(BUILT)/lib%.a: $(SOURCES)
-	$(call needs,$(RT),the Rattle toolchain; machines without it take what dist-bin packs)
-	$(RT) staticlib $*
+SOURCES := crates.txt $(shell find crates -name out -prune -o \( -name '*.rt' -o -name '*.antt' \) -print)
+ARCHIVES := crates/bauchleton/out/libbauchleton.a crates/bauchleton_text/out/libbauchleton_text.a
+BUILT := $(foreach name,frame mend makekit,crates/bauchleton_$(name)/out/bauchleton_$(name))
+NEEDS_RT = $(call needs,$(RT),the Rattle toolchain; machines without it take what dist-bin packs)
+
+$(ARCHIVES): $(SOURCES)
+	$(NEEDS_RT)
+	cd $(dir $(@D)) && $(RT) lib
+
+# rt runs what it has built, which then prints its version.
+$(BUILT): $(SOURCES)
+	$(NEEDS_RT)
+	cd $(dir $(@D)) && $(RT) run -- --version
+	touch $@
+
+$(lastword $(ARCHIVES)): | $(firstword $(ARCHIVES))
+$(firstword $(BUILT)): | $(ARCHIVES)
+$(word 2,$(BUILT)): | $(firstword $(BUILT))
+$(word 3,$(BUILT)): | $(word 2,$(BUILT))
 
 # ---- the library
 
 # rt's archives have an object each, whose only global names are the exported calls: both objects side by side are the library.
-$(OUT)/libbauchleton.a: $(BUILT)/libbauchleton.a $(BUILT)/libbauchleton_text.a
+$(OUT)/libbauchleton.a: $(ARCHIVES)
 	$(call needs,$(AR),of the binutils)
 	rm -rf $@ $(OUT)/objects
 	mkdir -p $(OUT)/objects
@@ -84,16 +96,18 @@ $(OUT)/$(SHARED): $(OUT)/libbauchleton.a $(OUT)/bauchleton.map
 	$(call needs,$(CC),for the shared library)
 	$(CC) -shared -o $@ -Wl,-soname,$(SONAME) -Wl,--version-script,$(OUT)/bauchleton.map -Wl,-z,defs -Wl,-z,text -Wl,-z,relro -Wl,-z,now \
 	    -Wl,--whole-archive $< -Wl,--no-whole-archive $(LDFLAGS)
-	ln -sf $(SHARED) $(OUT)/$(SONAME)
-	ln -sf $(SONAME) $(OUT)/libbauchleton.so
+	# (no symbolic links in the repository, where rt ci takes none)
+	ln -f $@ $(OUT)/$(SONAME)
+	ln -f $@ $(OUT)/libbauchleton.so
 
-# ---- the programs: a main of one line over the program in Rattle; the C below the toolchain's crate `os` stands beside rt
+# ---- the programs, as rt has built them
 
-OS_C ?= $(dir $(realpath $(shell command -v $(RT))))../lib/libos_c.a
-$(addprefix $(OUT)/,$(PROVED)): $(OUT)/bauchleton-%: tools/main.c $(BUILT)/libbauchleton_programs.a
-	$(call needs,$(CC),for the programs)
+$(OUT)/bauchleton-frame: crates/bauchleton_frame/out/bauchleton_frame
+$(OUT)/bauchleton-mend: crates/bauchleton_mend/out/bauchleton_mend
+$(OUT)/bauchleton-makekit: crates/bauchleton_makekit/out/bauchleton_makekit
+$(addprefix $(OUT)/,$(PROVED)):
 	mkdir -p $(OUT)
-	$(CC) $(CFLAGS) $(CPPFLAGS) -DPROGRAM=bauchleton_program_$* -o $@ $^ $(OS_C) $(LDFLAGS)
+	cp $< $@
 
 # ---- the tools: C over the library's calls, tested and not proved
 
@@ -161,6 +175,7 @@ dist-bin: all
 	rm -rf $(OUT)/root
 	$(MAKE) install DESTDIR=$(CURDIR)/$(OUT)/root/$(NAME) PREFIX= PC_PREFIX='$$$${pcfiledir}/../..'
 	$(TAR) -C $(OUT)/root -c $(NAME) | gzip -9n > $(OUT)/$(NAME)-linux-x86_64.tar.gz
+	rm -rf $(OUT)/root
 
 deb: all
 	$(call needs,dpkg-deb,for Debian packages)

@@ -3,7 +3,7 @@
    comes back through bauchleton_decode with 12 rounds; so do 20,000 frames, where nothing else is said, under a kit of each kind. Prints how many did not come
    back as they were sent. The draws are those of a generator of 64 bits from fixed seeds, so that two runs print the same.
 
-       gcc -O2 -Iinclude -o target/floor bench/floor.c target/staticlib/libbauchleton.a -lm && target/floor */
+       gcc -O2 -Iinclude -o target/floor bench/floor.c crates/bauchleton/out/libbauchleton.a -lm && target/floor */
 #include "bauchleton.h"
 
 #include <inttypes.h>

@@ -1,7 +1,7 @@
 /* A bench of a link at m 8, t 3, M 72, whole: makes a kit from mixed lists, encodes frames in one call, turns bits as a link would, corrects the frames
    and prints what was counted. Whoever runs it sees the same numbers, examples/bench.txt.
 
-       gcc -std=c99 -O2 -Iinclude examples/bench.c target/staticlib/libbauchleton.a -o bench && ./bench
+       gcc -std=c99 -O2 -Iinclude examples/bench.c crates/bauchleton/out/libbauchleton.a -o bench && ./bench
 
    Exit status 0 if every frame came back as it was sent, 1 otherwise, also where a call is refused. */
 

@@ -9,7 +9,7 @@
 - README.md, NEWS.md, CONTRIBUTING.md, docs/: no line of prose is longer than 120 characters, and no link leads nowhere.
 - crates.txt: a crate stands below those that it knows, each of which its files name, and the crates of a family, FAMILY and FAMILY_PART, stand together;
   theory, which has no functions, stands below them.
-- crates/*/must-fail/*.edit, more-fail/*.edit: the lines that it changes stand in its file, once, and each line of it has its word.
+- crates/*/must-fail/*.edit, more-fail/*.edit: the lines that it changes stand in its file, once, and each line behind the first has its word.
 - `use` lines of .rt and .antt files: a module is named once, and what is named is used.
 
     python3 tests/check/named.py
@@ -80,17 +80,17 @@ def listed():
     for line in (ROOT / "crates.txt").read_text().splitlines():
         name, colon, deps = line.split("#")[0].partition(":")
         if colon:
-            yield name.strip(), deps.split()
+            yield name.split()[0], deps.split()
 
 
 def layers():
     seen, families = [], []
     for name, deps in listed():
-        text = "".join(file.read_text() for file in (CRATES / name).glob("*/**/*") if file.suffix in (".rt", ".antt"))
+        text = "".join(file.read_text() for file in (CRATES / name).glob("[sp]*/**/*") if file.suffix in (".rt", ".antt"))
         for dep in (dep for dep in deps if (CRATES / dep).is_dir()):
             if dep not in seen:
                 yield f"crates.txt: {name} knows {dep}, which does not stand above it"
-            if not re.search(rf"(?<!\w){dep}::|Rattle·{dep}\.", text):
+            if not re.search(rf"(?<!\w){dep}::|Rattle\.{dep}\.", text):
                 yield f"crates.txt: {name} knows {dep}, and names nothing of it"
         seen.append(name)
         if not re.search(r"\bfn ", "".join(file.read_text() for file in (CRATES / name / "src").rglob("*.rt"))):
@@ -106,9 +106,9 @@ def layers():
 
 
 def uses():
-    """Names in `use` lines. An operator `_+_` is used where its signs stand."""
+    """Names in `use` lines. An operator `◌+◌` is used where its signs stand."""
     named = re.compile(r"^(?:ghost )?use ([^{;\s]+?)(?:\.\{(.*)\})?(?: as (\S+?))?;?$")
-    for file in sorted(CRATES.glob("*/*/**/*")):
+    for file in sorted(file for part in ("src", "specs", "proofs") for file in CRATES.glob(f"*/{part}/**/*")):
         if file.suffix not in (".rt", ".antt"):
             continue
         lines = file.read_text().splitlines()
@@ -121,8 +121,8 @@ def uses():
         for match in found:
             names = match[2].split(", ") if match[2] else [match[3] or match[1].split("::")[-1]]
             for name in names:
-                signs = [sign for sign in name.split("_") if sign] if name[:1] == "_" or name[-1:] == "_" else [name.split(" as ")[-1]]
-                if not all(sign in body if not sign[0].isalnum() else re.search(rf"(?<![\w·′-]){re.escape(sign)}(?![\w·′-])", body) for sign in signs):
+                signs = [sign.strip() for sign in name.split(" as ")[-1].split("◌") if sign.strip()]
+                if not all(sign in body if not sign[0].isalnum() else re.search(rf"(?<![\w'-]){re.escape(sign)}(?![\w'-])", body) for sign in signs):
                     yield f"{file.relative_to(ROOT)}: {name} is not used"
 
 
@@ -157,15 +157,25 @@ def prose():
 
 
 def edits():
+    """Each `old:` text stands once in its file, as what the pairs before it made of that file."""
     for edit in sorted(CRATES.glob("*/m*-fail/*.edit")):
-        file = None
-        if any(not re.match(r"(file|old|new): ", line) for line in edit.read_text().splitlines()[1:]):
-            yield f"{edit.relative_to(ROOT)}: a line that begins with none of file:, old:, new:"
-        for key, value in re.findall(r"^(file|old): ?((?:.*\n?)(?:(?!file:|old:|new:).*\n?)*)", edit.read_text(), re.M):
-            if key == "file":
+        made, file, old, is_well = {}, None, None, True
+        for line in edit.read_text().splitlines()[1:]:
+            key, colon, value = line.partition(":")
+            value = value.removeprefix(" ")
+            if not colon or key not in ("file", "old", "new"):
+                yield f"{edit.relative_to(ROOT)}: a line that begins with none of file:, old:, new:"
+            elif key == "file":
                 file = edit.parent.parent / value.strip()
-            elif file is None or file.read_text().count(value.removesuffix("\n")) != 1:
+            elif key == "old":
+                old = value
+            elif file is None or not old or not file.is_file() or made.setdefault(file, file.read_text()).count(old) != 1:
+                is_well = False
                 yield f"{edit.relative_to(ROOT)}: what it changes does not stand once in its file"
+            else:
+                made[file] = made[file].replace(old, value)
+        if is_well and all(text == file.read_text() for file, text in made.items()):
+            yield f"{edit.relative_to(ROOT)}: it changes nothing"
 
 
 missing = [line for check in (promises, calls, decisions, layers, example, prose, uses, edits) for line in check()]

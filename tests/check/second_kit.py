@@ -325,27 +325,27 @@ def second_kit():
     A = system(design, lists)
     W = inverse(A)
     assert multiply(A, W) == multiply(W, A) == identity(8)
-    yield "selfS", two_bytes(lists[0])
-    yield "parityS", two_bytes(lists[1])
-    yield "inverseS", packed(W)
-    yield "systemS", cons(f"({cons(row)})" for row in A)
+    yield "self_s", two_bytes(lists[0])
+    yield "parity_s", two_bytes(lists[1])
+    yield "inverse_s", packed(W)
+    yield "system_s", cons(f"({cons(row)})" for row in A)
 
     # Rule 9, with one bit of W turned.
     W_wrong = W[:5] + [turn(W[5], [3])] + W[6:]
     differences = [bit for row in add(multiply(A, W_wrong), identity(8)) for bit in row]
-    yield "wrongS", packed(W_wrong)
-    yield "wrongPlaceS", differences.index(1)
+    yield "wrong_s", packed(W_wrong)
+    yield "wrong_place_s", differences.index(1)
 
     # Row word 0 of group 1 would need a bit of B0 and stays, so column word 0 turns a right bit, which is turned back in round 2.
     frame = Frame(design, lists, 3)
     frame.load([1, 0, 1, 0] + [0, 0, 1, 0] + [1, 1, 0, 0] + frame.redundancy())
     encode(frame, W)
     sent = frame.information() + frame.redundancy()
-    yield "infoS", cons(frame.information())
-    yield "redS", cons(frame.redundancy())
+    yield "info_s", cons(frame.information())
+    yield "red_s", cons(frame.redundancy())
     frame.load(turn(sent, [0, 6, 27]))
-    yield "receivedS", frame_of(frame)
-    yield "countsS", counts_of(decode(frame, 0))
+    yield "received_s", frame_of(frame)
+    yield "counts_s", counts_of(decode(frame, 0))
     assert frame.information() + frame.redundancy() == sent
 
     # In round 1 row word 0 would need a bit of B0 and column word 0 one of the block after the last, and both stay. From round 2 on column
@@ -354,10 +354,10 @@ def second_kit():
     frame.load([1, 0, 1, 0] + frame.redundancy())
     encode(frame, W)
     frame.load(turn(frame.information() + frame.redundancy(), [0, 11, 14]))
-    yield "unsettledS", frame_of(frame)
+    yield "unsettled_s", frame_of(frame)
     result = decode(frame, 0)
-    yield "unsettledLeftS", frame_of(frame)
-    yield "unsettledCountsS", counts_of(result)
+    yield "unsettled_left_s", frame_of(frame)
+    yield "unsettled_counts_s", counts_of(result)
 
 
 def site(frame, i, a, j):
@@ -367,7 +367,7 @@ def site(frame, i, a, j):
     frame.set_rows(i, with_word(rows, a, turn(word(rows, a), [j])))
     after = frame.information(), frame.redundancy()
     frame.set_rows(i, rows)
-    [found] = [f"{name} {k}" for name, u, v in zip(("inInfo", "inRed"), before, after) for k in range(len(u)) if u[k] != v[k]]
+    [found] = [f"{name} {k}" for name, u, v in zip(("in_info", "in_red"), before, after) for k in range(len(u)) if u[k] != v[k]]
     return found
 
 
@@ -375,7 +375,7 @@ def two_errors():
     design = Design(5, 2, 2)
     lists = (permutation(13, 7, 16, 2, 11, 0, 18, 5, 9, 14, 1, 19, 4, 10, 15, 6, 3, 17, 12, 8),
              permutation(6, 12, 1, 17, 3, 8, 14, 0, 19, 10, 5, 15, 2, 11, 7, 18, 9, 4, 16, 13))
-    yield "listsT", "record {{ self = {}; parity = {} }}".format(*map(cons, lists))
+    yield "lists_t", "record {{ self = {}; parity = {} }}".format(*map(cons, lists))
 
     # Row word 0 is a codeword but for a bit of X and one of Q, row word 1 but for a bit of B0 and one of X.
     frame = Frame(design, lists, 1)
@@ -384,10 +384,10 @@ def two_errors():
         codeword = information + design.parity(information)
         frame.set_rows(1, with_word(frame.rows(1), a, turn(codeword, wrong)))
         assert design.changes(word(frame.rows(1), a)) == wrong
-    yield "receivedT", frame_of(frame)
+    yield "received_t", frame_of(frame)
     for a in range(2):
         positions = correction(design, word(frame.rows(1), a), frame.unsent_in_rows(1))
-        yield f"correction{a}T", cons(site(frame, 1, a, j) for j in positions)
+        yield f"correction{a}_t", cons(site(frame, 1, a, j) for j in positions)
 
 
 def main(arguments):
