@@ -4,7 +4,6 @@ use Rattle.staircase.specs.Frame.{Frame}
 use Rattle.staircase.specs.Rules.{Verdict}
 use Rattle.answers.specs.Answers.{verdict_of, corrected_of, refused_frame}
 use Rattle.answers.proofs.Checks.{check_passed}
-use borrow.Author.Rules.{rules}
 use Rattle.answers.proofs.refused_frame.Goals as goal
 
 pub returns-in-Passed : goal.returns-in-Passed

@@ -1,5 +1,4 @@
 -- Each answer by the first letter.
-use borrow.Author.Rules.{rules}
 use Rattle.bauchleton_programs.proofs.Exit.{status_none, status_refused, status_other}
 use Rattle.bauchleton_programs.proofs.output_status.Goals as goal
 

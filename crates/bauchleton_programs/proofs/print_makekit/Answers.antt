@@ -2,7 +2,6 @@
 use Prim.Native.Nat.{◌≤◌}
 use lib.ListN.{length}
 use native.Mathlib.Omega.{arith}
-use borrow.Author.Rules.{rules}
 use Rattle.text.proofs.ExitStatus.{makekit_status}
 use Rattle.program.specs.Output.{most-output}
 use Rattle.bauchleton_programs.proofs.Exit.{exits}

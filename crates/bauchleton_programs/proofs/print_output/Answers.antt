@@ -1,7 +1,6 @@
 -- The output's own status, or that of a failure.
 use mathlib.Core.Path.{refl}
 use mathlib.Core.Logic.{inl, inr}
-use borrow.Author.Rules.{rules}
 use Rattle.bauchleton_programs.proofs.print_output.Goals as goal
 
 pub returns-then-taken : goal.returns-then-taken

@@ -1,5 +1,4 @@
 -- The status of what was printed is 0, 1 or 2.
-use borrow.Author.Rules.{rules}
 use Rattle.bauchleton_programs.proofs.Exit.{exits_most}
 use Rattle.bauchleton_programs.proofs.run_makekit.Goals as goal
 

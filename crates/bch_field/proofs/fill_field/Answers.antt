@@ -1,6 +1,5 @@
 -- The parts of the local arrays are as long as the tables.
 use native.Mathlib.Omega.{arith}
-use borrow.Author.Rules.{rules}
 use Rattle.bch_field.proofs.Solved.{sizes}
 use Rattle.bch_field.proofs.fill_field.Goals as goal
 

@@ -2,7 +2,6 @@
 use mathlib.Core.Path.{sym, ◌∙◌, subst⁻¹}
 use Prim.Native.Nat.{◌-◌, ◌*◌}
 use native.Mathlib.Omega.{arith}
-use borrow.Author.Rules.{rules}
 use lib.ListN.{length}
 use Rattle.bch.specs.Locator.{LogTable}
 use Rattle.bch.proofs.Powers.{powers-length}

@@ -1,5 +1,4 @@
 -- The powers are the first quarter of the tables.
-use borrow.Author.Rules.{rules}
 use Rattle.bch.proofs.Locator.{quarter_powers}
 use Rattle.bch_field.proofs.fill_syndromes.Goals as goal
 

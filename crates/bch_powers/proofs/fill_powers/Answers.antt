@@ -4,7 +4,6 @@ use mathlib.Core.Path.{◌≡◌}
 use mathlib.Core.List.{List}
 use Prim.Native.Nat.{ℕ, ◌-◌, ◌^◌}
 use native.Mathlib.Omega.{arith}
-use borrow.Author.Rules.{rules}
 use Rattle.bch.specs.Polynomial.{◌⊕◌, times_x}
 use Rattle.bch.specs.Field.{field_poly, powers_from, power_table}
 use Rattle.bch_powers.proofs.fill_powers.Goals as goal

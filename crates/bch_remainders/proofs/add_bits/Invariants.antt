@@ -1,9 +1,8 @@
 -- The loop's invariant: the first `a` entries are added to, the others as they were. The measure is the number of entries left.
-use mathlib.Core.Path.{◌≡◌, refl}
+use mathlib.Core.Path.{◌≡◌}
 use Prim.Native.Nat.{◌-◌, ◌*◌, ◌≤◌}
-use native.Mathlib.Omega.{arith}
-use lib.ListN.{length, get_or, length-set}
-use Rattle.bch_remainders.proofs.Powers.{Added, added_more}
+use lib.ListN.{length, get_or}
+use Rattle.bch_remainders.proofs.Powers.{Added}
 use Rattle.bch_remainders.proofs.add_bits.Given as goal
 
 abbrev pub invariant-loop-a : goal.invariant-loop-a

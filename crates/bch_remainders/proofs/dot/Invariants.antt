@@ -1,11 +1,8 @@
 -- The loop's invariant: `acc` is the sum over the first `j` bits, and `reads` is `j`. The measure is the number of bits left.
-use mathlib.Core.Path.{◌≡◌, refl, ap, ◌∙◌}
-use Prim.Native.Nat.{ℕ, ◌-◌, ◌*◌, ◌≤◌}
-use native.Mathlib.Omega.{arith}
-use lib.Bits.{bit_xor}
+use mathlib.Core.Path.{◌≡◌}
+use Prim.Native.Nat.{◌-◌, ◌*◌, ◌≤◌}
 use lib.ListN.{length, get_or}
 use Rattle.bch.specs.Powers.{xor_sum}
-use Rattle.bch_remainders.proofs.Powers.{xor_sum-more}
 use Rattle.bch_remainders.proofs.dot.Given as goal
 
 abbrev pub invariant-loop-j : goal.invariant-loop-j

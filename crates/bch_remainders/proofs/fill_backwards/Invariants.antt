@@ -1,9 +1,7 @@
 -- The loop's invariant: the first `j` entries are the last ones of the table. The measure is the number of entries left.
-use mathlib.Core.Path.{◌≡◌, refl}
-use Prim.Native.Nat.{ℕ, ◌+◌, ◌-◌, ◌≤◌, ◌<◌}
-use native.Mathlib.Omega.{arith}
-use lib.ListN.{length, get_or, length-set}
-use Rattle.bch.proofs.Store.{set_each}
+use mathlib.Core.Path.{◌≡◌}
+use Prim.Native.Nat.{ℕ, ◌-◌, ◌≤◌, ◌<◌}
+use lib.ListN.{length, get_or}
 use Rattle.bch_remainders.proofs.fill_backwards.Given as goal
 
 abbrev pub invariant-loop-j : goal.invariant-loop-j

@@ -1,13 +1,9 @@
 -- The loop's invariant: the entries from `i` on are the powers of their positions, and `v` is the power that position `i - 1` carries.
 -- The measure is `i`.
-use mathlib.Core.Path.{◌≡◌, sym, ap, ◌∙◌}
-use Prim.Native.Nat.{ℕ, suc, ◌-◌, ◌≤◌, ◌<◌}
-use native.Mathlib.Omega.{arith}
-use lib.ListN.{length, get_or, length-set}
+use mathlib.Core.Path.{◌≡◌}
+use Prim.Native.Nat.{ℕ, ◌-◌, ◌≤◌, ◌<◌}
+use lib.ListN.{length, get_or}
 use Rattle.bch.specs.Powers.{power_mod}
-use Rattle.bch.proofs.PowerSum.{power_mod-below}
-use Rattle.bch.proofs.Store.{set_each}
-use Rattle.bch_remainders.proofs.Powers.{power_mod-none, power_mod_next}
 use Rattle.bch_remainders.proofs.fill_positions.Given as goal
 
 abbrev pub invariant-loop-i : goal.invariant-loop-i

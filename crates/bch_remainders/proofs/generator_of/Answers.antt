@@ -1,5 +1,4 @@
 -- The check computes the list of products `generators` and compares the constant table with it: that the table is right is that test.
-use borrow.Author.Rules.{rules}
 use Rattle.bch.specs.Polynomial.{◌⊕◌, ◌⊗◌, poly_at, poly_at_digits}
 use Rattle.bch.proofs.Minimal.{minimals}
 use Rattle.bch_remainders.proofs.Generators.{product_at, entries_from, generators, generator-at, generator-below}

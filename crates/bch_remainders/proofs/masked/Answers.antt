@@ -1,6 +1,5 @@
 -- The mask leaves x or nothing of it.
 use native.Mathlib.Omega.{arith}
-use borrow.Author.Rules.{rules}
 use Rattle.bch_remainders.proofs.Powers.{spread-bit}
 use Rattle.bch_remainders.proofs.masked.Goals as goal
 

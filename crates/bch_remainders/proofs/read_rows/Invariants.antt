@@ -1,12 +1,9 @@
 -- The loop's invariant: each entry has the sum over the first `j` rows of its column added, and `reads` is `j`. The measure is the number of rows left.
-use mathlib.Core.Path.{◌≡◌, sym, ap, ◌∙◌}
+use mathlib.Core.Path.{◌≡◌}
 use Prim.Native.Nat.{ℕ, ◌+◌, ◌-◌, ◌*◌, ◌≤◌, ◌<◌}
-use native.Mathlib.Omega.{arith}
 use lib.ListN.{length, get_or}
 use Rattle.bch.specs.Polynomial.{◌⊕◌}
 use Rattle.bch.specs.Powers.{xor_sum}
-use Rattle.bch.proofs.Sum.{⊕-zero-right}
-use Rattle.bch_remainders.proofs.Rows.{row_end, row-length, row_at, row-bits, column-more}
 use Rattle.bch_remainders.proofs.read_rows.Given as goal
 
 abbrev pub invariant-loop-j : goal.invariant-loop-j

@@ -1,13 +1,11 @@
 -- The call ends at a refused design, at a refused frame, or after the rounds of its window.
 use native.Mathlib.Omega.{arith}
-use mathlib.Core.Path.{◌∙◌}
 use lib.ListN.{length}
 use Rattle.design.proofs.Answers.{made-allowed}
 use Rattle.rules.proofs.Accepted.{decoder_received, decoder-work, decoder_rounds}
 use Rattle.words.specs.Checks.{received_rules}
 use Rattle.decoder.specs.Answers.{copy_rules}
 use Rattle.decoder.proofs.DecodeCall.{answer_design, answer_frame, answer_done, judged_call, call_accepted, window-fits}
-use borrow.Author.Rules.{rules}
 use Rattle.decoder.proofs.answer_call.Goals as goal
 
 pub returns-in_default : goal.returns-in_default

@@ -6,7 +6,6 @@ use Rattle.design.specs.Sizes.{params_of}
 use Rattle.rules.specs.Lengths.{decoder_due}
 use Rattle.words.proofs.WordsCall.{lists_asked, received_due}
 use Rattle.decoder.specs.Answers.{copy_rules}
-use borrow.Author.Rules.{rules}
 use Rattle.decoder.proofs.check_copy.Goals as goal
 
 pub check_received-requires : goal.check_received-requires

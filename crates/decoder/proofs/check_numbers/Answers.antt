@@ -1,7 +1,6 @@
 -- The first refusal of the three rules.
 use Rattle.rules.proofs.Chain.{both_then}
 use Rattle.decoder.specs.Answers.{window_numbers}
-use borrow.Author.Rules.{rules}
 use Rattle.decoder.proofs.check_numbers.Goals as goal
 
 pub returns : goal.returns

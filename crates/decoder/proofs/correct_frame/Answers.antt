@@ -4,7 +4,6 @@ use native.Mathlib.Omega.{arith}
 use Rattle.staircase.specs.Rules.{kept_work}
 use Rattle.design.specs.Sizes.{params_of, order_of}
 use Rattle.decoder.proofs.Rounds.{kept-length}
-use borrow.Author.Rules.{rules}
 use Rattle.decoder.proofs.correct_frame.Goals as goal
 
 pub slice_bounds-correct_kept-count : goal.slice_bounds-correct_kept-count

@@ -18,7 +18,6 @@ use Rattle.decoder_frame.proofs.Feed.{feed_total, feed_bytes}
 use Rattle.decoder_frame.proofs.Numbers.{kept-split, filled-outside}
 use Rattle.decoder.proofs.Keeping.{corrected-idle}
 use Rattle.decoder.proofs.Rounds.{feed_kept}
-use borrow.Author.Rules.{rules}
 use Rattle.decoder.proofs.correct_kept.Goals as goal
 
 pub fill_kept-requires : goal.fill_kept-requires

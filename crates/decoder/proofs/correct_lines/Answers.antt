@@ -17,7 +17,6 @@ use Rattle.decoder_lines.specs.Links.{lists_in}
 use Rattle.decoder_frame.proofs.Feed.{feed_total, feed_allowed, feed_bytes}
 use Rattle.decoder_frame.proofs.Numbers.{kept-outside}
 use Rattle.decoder.proofs.Keeping.{cleared-marks, marks-few, marks-errors, corrected-made}
-use borrow.Author.Rules.{rules}
 use Rattle.decoder.proofs.correct_lines.Goals as goal
 
 pub number_bytes-n-requires : goal.number_bytes-n-requires

@@ -21,7 +21,6 @@ use Rattle.answers.specs.declared.Decoding.TheVariants as decoding
 use Rattle.answers.specs.Answers.{corrected_of}
 use Rattle.decoder.proofs.Room.{tables-room, field_is, field_room, links_room}
 use Rattle.decoder.proofs.Rounds.{ready_lent, kept_lent, corrected_in}
-use borrow.Author.Rules.{rules}
 use Rattle.decoder.proofs.correct_words.Goals as goal
 
 pub slice_bounds-tables-end : goal.slice_bounds-tables-end

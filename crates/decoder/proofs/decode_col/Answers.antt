@@ -5,7 +5,6 @@ use Rattle.staircase.specs.Rules.Verdict.{accepted}
 use lib.ListN.{length}
 use Rattle.answers.specs.Answers.{verdict_of}
 use Rattle.staircase.proofs.Tally.{further_none}
-use borrow.Author.Rules.{rules}
 use Rattle.decoder.proofs.decode_col.Goals as goal
 
 pub returns : goal.returns

@@ -2,7 +2,6 @@
 use mathlib.Core.Path.{sym, ◌∙◌}
 use lib.ListN.{length}
 use Rattle.decoder.proofs.DecodeCall.{answered-window, numbers-some}
-use borrow.Author.Rules.{rules}
 use Rattle.decoder.proofs.decode_window_col.Goals as goal
 
 pub answer_call-requires : goal.answer_call-requires

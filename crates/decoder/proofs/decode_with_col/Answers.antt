@@ -2,7 +2,6 @@
 use mathlib.Core.Path.{◌∙◌}
 use lib.ListN.{length}
 use Rattle.decoder.proofs.DecodeCall.{answered_with}
-use borrow.Author.Rules.{rules}
 use Rattle.decoder.proofs.decode_with_col.Goals as goal
 
 pub returns : goal.returns

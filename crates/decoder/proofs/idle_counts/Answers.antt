@@ -2,7 +2,6 @@
 use mathlib.Core.Path.{ap}
 use Prim.Native.Nat.{ℕ}
 use Rattle.answers.specs.declared.Counts.{Counts}
-use borrow.Author.Rules.{rules}
 use Rattle.decoder.proofs.idle_counts.Goals as goal
 
 pub returns : goal.returns

@@ -5,7 +5,6 @@ use native.Mathlib.Omega.{arith}
 use Rattle.staircase.specs.Frame.{groups}
 use Rattle.staircase.specs.Window.{window_groups}
 use Rattle.decoder_frame.specs.declared.Window.{Window}
-use borrow.Author.Rules.{rules}
 use Rattle.decoder.proofs.window_of.Goals as goal
 
 pub returns-then-window-count : goal.returns-then-window-count

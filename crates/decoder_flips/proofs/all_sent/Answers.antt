@@ -1,8 +1,6 @@
 -- Each of the bits is tested, if there is need to.
 use mathlib.Core.Path.{refl, sym, ◌∙◌}
-use borrow.Author.Tests.{not-true, not-false}
 use Rattle.decoder_flips.proofs.Flips.{listed-sent}
-use borrow.Author.Rules.{rules}
 use Rattle.decoder_flips.proofs.all_sent.Goals as goal
 
 pub returns-then-not-is_sent : goal.returns-then-not-is_sent

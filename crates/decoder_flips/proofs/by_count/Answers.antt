@@ -1,7 +1,6 @@
 -- Of no flipped bits, and of some.
 use native.Mathlib.Omega.{arith}
 use Rattle.decoder_flips.proofs.Passes.{some-corrected}
-use borrow.Author.Rules.{rules}
 use Rattle.decoder_flips.proofs.by_count.Goals as goal
 
 pub returns-in_default : goal.returns-in_default

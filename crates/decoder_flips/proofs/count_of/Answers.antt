@@ -4,7 +4,6 @@ use native.Mathlib.Omega.{arith}
 use lib.ListN.{length}
 use Rattle.decoder_locator.specs.declared.Located.{Located}
 use Rattle.decoder_locator.specs.Located.{positions_of}
-use borrow.Author.Rules.{rules}
 use Rattle.decoder_flips.proofs.count_of.Goals as goal
 
 pub returns-in-Nowhere : goal.returns-in-Nowhere

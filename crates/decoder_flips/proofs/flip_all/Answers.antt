@@ -1,6 +1,5 @@
 -- A flip leaves bits and lengths for the next.
 use Rattle.decoder_flips.proofs.Flips.{flip_ready, listed-flips}
-use borrow.Author.Rules.{rules}
 use Rattle.decoder_flips.proofs.flip_all.Goals as goal
 
 pub flip_at-requires-2 : goal.flip_at-requires-2

@@ -1,7 +1,6 @@
 -- Each arm is given which bit it is.
 use native.Mathlib.Omega.{arith}
 use Rattle.decoder_flips.proofs.Flips.{info-below, red-below, absent_flips, unsent-flips, info-flips, red-flips}
-use borrow.Author.Rules.{rules}
 use Rattle.decoder_flips.proofs.flip_at.Goals as goal
 
 pub flip_bit-requires : goal.flip_bit-requires

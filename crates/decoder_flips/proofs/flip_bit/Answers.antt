@@ -1,6 +1,5 @@
 -- The buffer holds bits.
 use native.Mathlib.Nat.{le_of_suc-le-suc}
-use borrow.Author.Rules.{rules}
 use Rattle.decoder_flips.proofs.flip_bit.Goals as goal
 
 pub overflow_sub-bits : goal.overflow_sub-bits

@@ -3,7 +3,6 @@ use mathlib.Core.Path.{sym, ap}
 use Rattle.staircase.specs.Decoder.{all_sent}
 use Rattle.decoder_flips.specs.declared.BitSite.{BitSite}
 use Rattle.decoder_flips.specs.Sites.{sites_of}
-use borrow.Author.Rules.{rules}
 use Rattle.decoder_flips.proofs.is_sent.Goals as goal
 
 pub returns-in-Absent : goal.returns-in-Absent

@@ -1,11 +1,9 @@
 -- Where no line is read backwards, the first pass takes them all.
 use mathlib.Core.Path.{sym, ◌∙◌}
-use borrow.Author.Tests.{not-true}
 use Rattle.staircase.specs.Frame.{frame_of}
 use Rattle.design.specs.Sizes.{params_of}
 use Rattle.layout.proofs.Layouts.{turned_none}
 use Rattle.decoder_frame.proofs.Filling.{one_filled, both-filled}
-use borrow.Author.Rules.{rules}
 use Rattle.decoder_frame.proofs.fill_both.Goals as goal
 
 pub returns-then-not-turns : goal.returns-then-not-turns

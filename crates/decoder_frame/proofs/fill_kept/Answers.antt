@@ -13,7 +13,6 @@ use Rattle.words_blocks.proofs.Sums.{part_length}
 use Rattle.words_lines.specs.Words.{ReadTable}
 use Rattle.words_lines.proofs.Tables.{ahead_table}
 use Rattle.decoder_frame.proofs.Filling.{filled-front}
-use borrow.Author.Rules.{rules}
 use Rattle.decoder_frame.proofs.fill_kept.Goals as goal
 
 pub number_bytes-n-requires : goal.number_bytes-n-requires

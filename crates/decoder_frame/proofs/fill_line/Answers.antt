@@ -5,7 +5,6 @@ use mathlib.Core.Bool.{Bool}
 use Prim.Native.Nat.{ℕ, ◌-◌, ◌*◌}
 use lib.ListN.{length, take, drop}
 use lib.Seq.{length-take-le}
-use borrow.Author.Tests.{not-true, not-false}
 use Rattle.staircase.specs.Frame.{frame_of}
 use Rattle.staircase.proofs.Bounds.{small_product, stretch-end}
 use Rattle.staircase.proofs.Tabulate.{tabulate-length}
@@ -17,7 +16,6 @@ use Rattle.words_positions.proofs.Parts.{part-fits, part-is}
 use Rattle.words_lines.specs.Words.{layout_with, line_remainders, ReadTable}
 use Rattle.words_lines.proofs.Lines.{LineLent}
 use Rattle.decoder_frame.proofs.Filling.{line-passed, line_stored}
-use borrow.Author.Rules.{rules}
 use Rattle.decoder_frame.proofs.fill_line.Goals as goal
 
 pub returns-then-not-taken : goal.returns-then-not-taken

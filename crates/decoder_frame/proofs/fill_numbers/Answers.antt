@@ -6,7 +6,6 @@ use Rattle.design.specs.Sizes.{params_of}
 use Rattle.layout.proofs.Layouts.{size_highest, r_highest, tail-most}
 use Rattle.words_tables.specs.Tables.{table_length}
 use Rattle.words_tables.proofs.Tables.{no_parts}
-use borrow.Author.Rules.{rules}
 use Rattle.decoder_frame.proofs.fill_numbers.Goals as goal
 
 pub parts_due-due-requires : goal.parts_due-due-requires

@@ -1,7 +1,6 @@
 use native.Mathlib.Omega.{arith}
 use mathlib.Core.Path.{◌≡◌, refl, ◌∙◌, subst}
-use Prim.Native.Nat.{ℕ, ◌-◌, ◌≤◌}
-use lib.ListN.{length}
+use Prim.Native.Nat.{ℕ, ◌-◌}
 use Rattle.staircase.specs.Frame.{frame_of}
 use Rattle.layout.specs.Layouts.{lines_in}
 use Rattle.layout.proofs.Layouts.{lines-most}

@@ -1,13 +1,10 @@
 -- The loop's invariant: the numbers of the lines before line k that the pass takes are filled, and all others are as they were. The measure is the number of lines left.
-use native.Mathlib.Omega.{arith}
-use mathlib.Core.Path.{◌≡◌, refl, ◌∙◌, subst}
-use Prim.Native.Nat.{ℕ, ◌-◌, ◌≤◌}
+use mathlib.Core.Path.{◌≡◌}
+use Prim.Native.Nat.{◌-◌, ◌≤◌}
 use lib.ListN.{length}
 use Rattle.staircase.specs.Frame.{frame_of}
 use Rattle.layout.specs.Layouts.{lines_in}
-use Rattle.layout.proofs.Layouts.{lines-most}
 use Rattle.decoder_frame.specs.Filled.{PassFilled}
-use Rattle.decoder_frame.proofs.Filling.{pass-none, pass_next}
 use Rattle.decoder_frame.proofs.fill_pass.Given as goal
 
 abbrev pub invariant-loop-k : goal.invariant-loop-k

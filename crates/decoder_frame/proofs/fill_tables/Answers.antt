@@ -1,6 +1,5 @@
 -- The tables are those of the code of the design, for words of its kind.
 use mathlib.Core.Path.{◌∙◌}
-use borrow.Author.Rules.{rules}
 use Rattle.decoder_frame.proofs.fill_tables.Goals as goal
 
 pub fill_tables-requires : goal.fill_tables-requires

@@ -1,7 +1,6 @@
 -- `decoder_frame::rounds_allowed` meets its contract. Assumes nothing.
 use native.Mathlib.Omega.{arith}
 use Rattle.decoder_frame.proofs.Limit.{allowed_itself}
-use borrow.Author.Rules.{rules}
 use Rattle.decoder_frame.proofs.rounds_allowed.Goals as goal
 
 pub returns : goal.returns

@@ -1,14 +1,13 @@
 use mathlib.Core.Path.{◌≡◌, sym, ◌∙◌}
-use Prim.Native.Nat.{◌-◌, ◌*◌, ◌≤◌, ◌<◌}
+use Prim.Native.Nat.{◌-◌, ◌<◌}
 use native.Mathlib.Omega.{arith}
 use Rattle.staircase.specs.Frame.{frame_of}
 use Rattle.staircase.specs.Decoder.{run_each}
 use Rattle.staircase.specs.Outcomes.{last_stuck}
 use Rattle.design.specs.Sizes.{params_of}
 use Rattle.decoder_lines.proofs.Layouts.{lines-few}
-use Rattle.decoder_words.specs.Ready.{FrameKept, LineMarks}
 use Rattle.decoder_frame.specs.Stretch.{stretch_sites, stretch_words}
-use Rattle.decoder_frame.proofs.Limit.{round_each, stuck-each, after, rounds_start, rounds-more, rounds-idle, rounds-end, Last, last_start, last_more, last_idle}
+use Rattle.decoder_frame.proofs.Limit.{round_each, stuck-each, rounds_start, rounds-more, rounds-idle, rounds-end, last_start, last_more, last_idle}
 use Rattle.decoder_frame.proofs.run_rounds.Goals as goal
 
 pub loop-k-init : goal.loop-k-init

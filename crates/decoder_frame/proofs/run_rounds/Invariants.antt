@@ -1,16 +1,13 @@
 -- The loop's invariant: the rounds before `k` are made, and those that are left end as all do; the stuck words of the last round made are those of the
 -- last round of these, or `stuck` where all are made. The measure is the number of rounds left.
-use mathlib.Core.Path.{◌≡◌, sym, ◌∙◌}
-use Prim.Native.Nat.{◌-◌, ◌*◌, ◌≤◌, ◌<◌}
-use native.Mathlib.Omega.{arith}
+use mathlib.Core.Path.{◌≡◌}
+use Prim.Native.Nat.{◌-◌, ◌*◌, ◌≤◌}
 use Rattle.staircase.specs.Frame.{frame_of}
 use Rattle.staircase.specs.Decoder.{run_each}
 use Rattle.staircase.specs.Outcomes.{last_stuck}
-use Rattle.design.specs.Sizes.{params_of}
-use Rattle.decoder_lines.proofs.Layouts.{lines-few}
 use Rattle.decoder_words.specs.Ready.{FrameKept, LineMarks}
-use Rattle.decoder_frame.specs.Stretch.{stretch_sites, stretch_words}
-use Rattle.decoder_frame.proofs.Limit.{round_each, stuck-each, after, rounds_start, rounds-more, rounds-idle, rounds-end, Last, last_start, last_more, last_idle}
+use Rattle.decoder_frame.specs.Stretch.{stretch_words}
+use Rattle.decoder_frame.proofs.Limit.{after, Last}
 use Rattle.decoder_frame.proofs.run_rounds.Given as goal
 
 abbrev pub invariant-loop-k : goal.invariant-loop-k

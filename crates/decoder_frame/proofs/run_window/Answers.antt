@@ -7,19 +7,18 @@ use Rattle.staircase.specs.Design.{most-rounds}
 use Rattle.staircase.specs.Frame.{Word, frame_of, groups}
 use Rattle.staircase.specs.Decoder.{Decoded, run_each}
 use Rattle.staircase.specs.Outcomes.{last_stuck}
-use Rattle.staircase.specs.Window.{slide, slide_stuck}
+use Rattle.staircase.specs.Window.{slide}
 use Rattle.design.specs.Sizes.{params_of}
 use Rattle.layout.specs.declared.Shape.TheVariants.{FeedForward}
 use Rattle.layout.specs.declared.Frames.{Frames}
 use Rattle.layout.specs.declared.Line.{Line}
-use Rattle.layout.specs.Layouts.{lines_in, feed_frames}
+use Rattle.layout.specs.Layouts.{lines_in}
 use Rattle.decoder_frame.specs.declared.Stretch.{Stretch}
 use Rattle.decoder_lines.specs.Links.{lists_in}
 use Rattle.decoder_words.specs.Ready.{FramesReady, FrameKept, LineMarks}
 use Rattle.decoder_frame.specs.Stretch.{stretch_words, read_window}
 use Rattle.decoder_frame.proofs.Positions.{window-at, slide_none, slide_next, stuck_next}
 use Rattle.decoder_frame.proofs.Feed.{feed_lines}
-use borrow.Author.Rules.{rules}
 use Rattle.decoder_frame.proofs.run_window.Goals as goal
 
 pub position_count-count-requires : goal.position_count-count-requires

@@ -1,27 +1,14 @@
 -- The loop's invariant: the positions before `p` are made, and `stuck` are the stuck words of the last of their rounds. The measure is the number of
 -- positions left.
-use mathlib.Core.Path.{◌≡◌, ap, ◌∙◌, subst, subst⁻¹}
-use mathlib.Core.List.{List}
+use mathlib.Core.Path.{◌≡◌}
 use Prim.Native.Nat.{ℕ, ◌+◌, ◌-◌, ◌*◌, ◌≤◌}
-use native.Mathlib.Numerals.{add-one}
-use native.Mathlib.Omega.{arith}
-use Rattle.staircase.specs.Design.{most-rounds}
-use Rattle.staircase.specs.Frame.{Word, frame_of, groups}
-use Rattle.staircase.specs.Decoder.{Decoded, run_each}
-use Rattle.staircase.specs.Outcomes.{last_stuck}
+use Rattle.staircase.specs.Frame.{frame_of, groups}
 use Rattle.staircase.specs.Window.{slide, slide_stuck}
 use Rattle.design.specs.Sizes.{params_of}
-use Rattle.layout.specs.declared.Shape.TheVariants.{FeedForward}
-use Rattle.layout.specs.declared.Frames.{Frames}
-use Rattle.layout.specs.declared.Line.{Line}
-use Rattle.layout.specs.Layouts.{lines_in, feed_frames}
-use Rattle.decoder_frame.specs.declared.Stretch.{Stretch}
+use Rattle.layout.specs.Layouts.{feed_frames}
 use Rattle.decoder_lines.specs.Links.{lists_in}
-use Rattle.decoder_words.specs.Ready.{FramesReady, FrameKept, LineMarks}
-use Rattle.decoder_frame.specs.Stretch.{stretch_words, read_window}
-use Rattle.decoder_frame.proofs.Positions.{window-at, slide_none, slide_next, stuck_next}
-use Rattle.decoder_frame.proofs.Feed.{feed_lines}
-use borrow.Author.Rules.{rules}
+use Rattle.decoder_words.specs.Ready.{FrameKept, LineMarks}
+use Rattle.decoder_frame.specs.Stretch.{read_window}
 use Rattle.decoder_frame.proofs.run_window.Given as goal
 
 abbrev pub invariant-loop-p : goal.invariant-loop-p

@@ -3,7 +3,6 @@ use Prim.Native.Nat.{ℕ, ◌%◌}
 use lib.Bits.{bit_xor}
 use Rattle.bch.specs.Polynomial.{◌⊕◌}
 use Rattle.decoder_kept.specs.Numbers.{OnlyAt}
-use borrow.Author.Rules.{rules}
 use Rattle.decoder_kept.proofs.add.Goals as goal
 
 pub returns : goal.returns

@@ -1,10 +1,9 @@
 use mathlib.Core.Path.{◌≡◌, ap, ◌∙◌}
 use mathlib.Core.Bool.{cond}
-use Prim.Native.Nat.{ℕ, ◌-◌, ◌%◌, ◌≤◌}
+use Prim.Native.Nat.{ℕ, ◌-◌, ◌%◌}
 use native.Mathlib.Omega.{arith}
 use lib.Dec.{eqb}
 use Rattle.decoder_kept.specs.Numbers.{nonzero_numbers}
-use borrow.Author.Rules.{rules}
 use Rattle.decoder_kept.proofs.Numbers.{nonzero_none, nonzero_more}
 use Rattle.decoder_kept.proofs.count.Goals as goal
 

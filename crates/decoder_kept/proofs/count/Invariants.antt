@@ -1,12 +1,7 @@
 -- The loop's invariant: the numbers before `k` are counted. The measure is the number of numbers left.
-use mathlib.Core.Path.{◌≡◌, ap, ◌∙◌}
-use mathlib.Core.Bool.{cond}
-use Prim.Native.Nat.{ℕ, ◌-◌, ◌%◌, ◌≤◌}
-use native.Mathlib.Omega.{arith}
-use lib.Dec.{eqb}
+use mathlib.Core.Path.{◌≡◌}
+use Prim.Native.Nat.{◌-◌, ◌≤◌}
 use Rattle.decoder_kept.specs.Numbers.{nonzero_numbers}
-use borrow.Author.Rules.{rules}
-use Rattle.decoder_kept.proofs.Numbers.{nonzero_none, nonzero_more}
 use Rattle.decoder_kept.proofs.count.Given as goal
 
 abbrev pub invariant-loop-k : goal.invariant-loop-k

@@ -1,6 +1,5 @@
 use native.Mathlib.Omega.{arith}
 use Rattle.decoder_kept.specs.Numbers.{kept_at}
-use borrow.Author.Rules.{rules}
 use Rattle.decoder_kept.proofs.get.Goals as goal
 
 pub returns : goal.returns

@@ -1,7 +1,6 @@
 use native.Mathlib.Omega.{arith}
 use lib.ListN.{length-set}
 use Rattle.decoder_kept.proofs.Numbers.{stored_only}
-use borrow.Author.Rules.{rules}
 use Rattle.decoder_kept.proofs.put.Goals as goal
 
 pub bounds-kept-at-2 : goal.bounds-kept-at-2

@@ -1,8 +1,7 @@
 use mathlib.Core.Path.{◌≡◌, refl, ◌∙◌}
-use Prim.Native.Nat.{ℕ, ◌+◌, ◌-◌, ◌<◌, ◌≤◌}
+use Prim.Native.Nat.{◌-◌, ◌<◌}
 use native.Mathlib.Omega.{arith}
-use lib.ListN.{length, get_or}
-use Rattle.decoder_kept.specs.Numbers.{kept_at}
+use lib.ListN.{length}
 use Rattle.decoder_kept.proofs.Numbers.{put-more}
 use Rattle.decoder_kept.proofs.put_numbers.Goals as goal
 

@@ -1,10 +1,8 @@
 -- The loop's invariant: the numbers before `from + a` are put. The measure is the number of entries left.
-use mathlib.Core.Path.{◌≡◌, refl, ◌∙◌}
+use mathlib.Core.Path.{◌≡◌}
 use Prim.Native.Nat.{ℕ, ◌+◌, ◌-◌, ◌<◌, ◌≤◌}
-use native.Mathlib.Omega.{arith}
 use lib.ListN.{length, get_or}
 use Rattle.decoder_kept.specs.Numbers.{kept_at}
-use Rattle.decoder_kept.proofs.Numbers.{put-more}
 use Rattle.decoder_kept.proofs.put_numbers.Given as goal
 
 abbrev pub invariant-loop-a : goal.invariant-loop-a

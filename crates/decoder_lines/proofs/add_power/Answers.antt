@@ -6,7 +6,6 @@ use Rattle.staircase.proofs.Bounds.{stretch-end}
 use Rattle.layout.specs.Layouts.{lines_in}
 use Rattle.decoder_lines.proofs.Layouts.{size-high, bits-high}
 use Rattle.decoder_lines.proofs.CrossingWord.{crossing-word, crossing-position, power_added, none_added}
-use borrow.Author.Rules.{rules}
 use Rattle.decoder_lines.proofs.add_power.Goals as goal
 
 pub crossing_word-c-requires : goal.crossing_word-c-requires

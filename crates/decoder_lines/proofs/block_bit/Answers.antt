@@ -3,7 +3,6 @@ use mathlib.Core.Path.{sym, ◌∙◌}
 use native.Mathlib.Omega.{arith}
 use Rattle.staircase.proofs.Bounds.{place_below}
 use Rattle.staircase.proofs.Search.{cond-true, cond-false}
-use borrow.Author.Rules.{rules}
 use Rattle.decoder_lines.proofs.block_bit.Goals as goal
 
 pub returns-then-rows : goal.returns-then-rows

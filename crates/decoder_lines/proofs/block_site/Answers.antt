@@ -10,7 +10,6 @@ use Rattle.staircase.proofs.Bounds.{small_product}
 use Rattle.design.specs.Sizes.{params_of}
 use Rattle.decoder_flips.specs.Sites.{sites_of, Inside}
 use Rattle.decoder_lines.proofs.Places.{block_none, block-past, block_one}
-use borrow.Author.Rules.{rules}
 use Rattle.decoder_lines.proofs.block_site.Goals as goal
 
 pub returns-then-b-lt1 : goal.returns-then-b-lt1

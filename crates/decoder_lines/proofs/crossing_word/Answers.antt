@@ -5,7 +5,6 @@ use Rattle.design.specs.Sizes.{params_of}
 use Rattle.decoder_lines.specs.Links.{lists_in}
 use Rattle.layout.specs.Layouts.{bits_in, across_in}
 use Rattle.decoder_lines.proofs.CrossingWord.{not_first, crossed_position, crossed_read}
-use borrow.Author.Rules.{rules}
 use Rattle.decoder_lines.proofs.crossing_word.Goals as goal
 
 pub straight_crossing-c-requires : goal.straight_crossing-c-requires

@@ -1,10 +1,9 @@
 use mathlib.Core.Path.{◌≡◌, ap, ◌∙◌}
-use Prim.Native.Nat.{ℕ, ◌+◌, ◌-◌, ◌*◌, ◌≤◌, ◌<◌}
+use Prim.Native.Nat.{ℕ, ◌+◌, ◌-◌, ◌*◌, ◌<◌}
 use native.Mathlib.Omega.{arith}
 use lib.ListN.{length, set, length-set}
 use Rattle.design.specs.Sizes.{params_of, order_of, lists_of}
-use Rattle.decoder_lines.proofs.Links.{HalfFilled, half_next, half_all, lists-in, linked}
-use borrow.Author.Rules.{rules}
+use Rattle.decoder_lines.proofs.Links.{half_next, half_all, lists-in, linked}
 use Rattle.decoder_lines.proofs.fill_links.Goals as goal
 
 pub loop-q-init : goal.loop-q-init

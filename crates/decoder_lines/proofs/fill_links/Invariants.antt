@@ -1,11 +1,9 @@
 -- The loop's invariant: the entries of places below `q` are filled, and those that name them. The measure is the number of places left.
-use mathlib.Core.Path.{◌≡◌, ap, ◌∙◌}
-use Prim.Native.Nat.{ℕ, ◌+◌, ◌-◌, ◌*◌, ◌≤◌, ◌<◌}
-use native.Mathlib.Omega.{arith}
-use lib.ListN.{length, set, length-set}
+use mathlib.Core.Path.{◌≡◌}
+use Prim.Native.Nat.{◌-◌, ◌*◌, ◌≤◌}
+use lib.ListN.{length}
 use Rattle.design.specs.Sizes.{params_of, order_of, lists_of}
-use Rattle.decoder_lines.proofs.Links.{HalfFilled, half_next, half_all, lists-in, linked}
-use borrow.Author.Rules.{rules}
+use Rattle.decoder_lines.proofs.Links.{HalfFilled}
 use Rattle.decoder_lines.proofs.fill_links.Given as goal
 
 abbrev pub invariant-loop-q : goal.invariant-loop-q

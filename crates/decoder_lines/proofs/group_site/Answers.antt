@@ -9,7 +9,6 @@ use lib.Arith.{digits_lt}
 use Rattle.staircase.proofs.Bounds.{small_product}
 use Rattle.design.specs.Sizes.{order_of}
 use Rattle.decoder_flips.specs.Sites.{sites_of, Inside}
-use borrow.Author.Rules.{rules}
 use Rattle.decoder_lines.proofs.group_site.Goals as goal
 
 pub overflow_mul-result-2 : goal.overflow_mul-result-2

@@ -1,7 +1,6 @@
 -- A quotient is at most the number.
 use native.Mathlib.Nat.{div-le_self}
 use native.Mathlib.Omega.{arith}
-use borrow.Author.Rules.{rules}
 use Rattle.decoder_lines.proofs.red_bit.Goals as goal
 
 pub overflow_add-result : goal.overflow_add-result

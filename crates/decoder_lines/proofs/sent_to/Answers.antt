@@ -6,7 +6,6 @@ use native.Mathlib.Omega.{arith}
 use Rattle.design.specs.Sizes.{params_of, order_of, lists_of}
 use Rattle.rules.proofs.Entries.{entry-at}
 use Rattle.decoder_lines.proofs.Links.{partner-first, partner-second}
-use borrow.Author.Rules.{rules}
 use Rattle.decoder_lines.proofs.sent_to.Goals as goal
 
 pub entry-requires : goal.entry-requires

@@ -7,7 +7,6 @@ use Rattle.staircase.specs.Frame.{Site}
 use Rattle.staircase.specs.Frame.Site.{unsent}
 use Rattle.decoder_lines.specs.Layouts.{straight_word}
 use Rattle.decoder_lines.proofs.Layouts.{site_read}
-use borrow.Author.Rules.{rules}
 use Rattle.decoder_lines.proofs.site_at.Goals as goal
 
 pub returns : goal.returns

@@ -10,7 +10,6 @@ use Rattle.decoder_lines.proofs.Links.{links_long}
 use Rattle.layout.proofs.Layouts.{crossing-first, crossing-second}
 use Rattle.decoder_lines.proofs.Layouts.{size-high, bits-high, lines-few, lawful_of, tail-allowed, tail-bits, tail-crossing}
 use Rattle.decoder_lines.proofs.CrossingWord.{red-place, at_row, at-column}
-use borrow.Author.Rules.{rules}
 use Rattle.decoder_lines.proofs.straight_crossing.Goals as goal
 
 pub overflow_sub-result : goal.overflow_sub-result

@@ -12,7 +12,6 @@ use Rattle.decoder_flips.specs.Sites.{Inside}
 use Rattle.decoder_lines.specs.Links.{lists_in}
 use Rattle.decoder_lines.proofs.Places.{red-below}
 use Rattle.decoder_lines.proofs.Layouts.{size-high, bits-high, lines-few, site_first, site_second, tail-allowed, tail-bits, tail-red, tail-lines, tail_site}
-use borrow.Author.Rules.{rules}
 use Rattle.decoder_lines.proofs.straight_site.Goals as goal
 
 pub block_bit-requires : goal.block_bit-requires

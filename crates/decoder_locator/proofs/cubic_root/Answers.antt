@@ -6,7 +6,6 @@ use Rattle.bch.specs.Polynomial.{◌⊕◌}
 use Rattle.bch.proofs.Sum.{⊕-below}
 use Rattle.decoder_locator.proofs.Roots.{count-is, count-size}
 use Rattle.decoder_locator.proofs.Cubics.{within, cubic_root_is}
-use borrow.Author.Rules.{rules}
 use Rattle.decoder_locator.proofs.cubic_root.Goals as goal
 
 pub half_exponent-h-requires : goal.half_exponent-h-requires

@@ -3,7 +3,6 @@ use Rattle.bch.specs.Polynomial.{◌⊕◌}
 use Rattle.bch.proofs.Sum.{⊕-below}
 use Rattle.decoder_locator.specs.Steps.{ExponentsAre}
 use Rattle.decoder_locator.proofs.Roots.{exponents_zero, exponents_none, exponents_are}
-use borrow.Author.Rules.{rules}
 use Rattle.decoder_locator.proofs.exponents.Goals as goal
 
 pub returns-then-sum-eq0 : goal.returns-then-sum-eq0

@@ -1,15 +1,8 @@
 -- The loop's invariant: `acc` is the sum of the values of the first `k` bits, and power e is that of 5 k. The measure is the number of bits left.
-use mathlib.Core.Path.{◌≡◌, refl, sym, ap, ap₂, ◌∙◌}
-use Prim.Native.Nat.{ℕ, ◌-◌, ◌*◌, ◌/◌, ◌%◌, ◌^◌, ◌≤◌, ◌<◌}
-use native.Mathlib.Nat.{mul-le-mul, le_refl}
-use native.Mathlib.Numerals.{add-one}
-use native.Mathlib.Omega.{arith}
-use Rattle.bch.specs.Polynomial.{◌⊕◌}
+use mathlib.Core.Path.{◌≡◌}
+use Prim.Native.Nat.{◌-◌, ◌*◌, ◌/◌, ◌%◌, ◌^◌, ◌≤◌, ◌<◌}
 use Rattle.bch.specs.Field.{power}
 use Rattle.bch.specs.Powers.{xor_sum}
-use Rattle.bch.proofs.Syndromes.{value-bits}
-use Rattle.decoder_locator.proofs.Roots.{count-is, count-size}
-use Rattle.decoder_locator.proofs.Cubics.{fifth_next}
 use Rattle.decoder_locator.proofs.fifth_of.Given as goal
 
 abbrev pub invariant-loop-k : goal.invariant-loop-k

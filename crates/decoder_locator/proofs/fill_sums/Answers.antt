@@ -1,10 +1,10 @@
 use mathlib.Core.Path.{◌≡◌, refl, ap, ◌∙◌, subst⁻¹}
-use Prim.Native.Nat.{ℕ, ◌+◌, ◌-◌, ◌*◌, ◌/◌, ◌%◌, ◌≤◌}
+use Prim.Native.Nat.{ℕ, ◌+◌, ◌-◌, ◌*◌, ◌/◌, ◌%◌}
 use native.Mathlib.Omega.{arith}
-use lib.ListN.{length, take, length-set}
+use lib.ListN.{take, length-set}
 use lib.Seq.{length-take-le, take-set-le}
 use Rattle.bch.specs.Locator.{SyndromeTable, syndromes}
-use Rattle.decoder_locator.proofs.Fours.{four_fits, Filled, filled_more, filled-all}
+use Rattle.decoder_locator.proofs.Fours.{four_fits, filled_more, filled-all}
 use Rattle.decoder_locator.proofs.fill_sums.Goals as goal
 
 pub overflow_add-count : goal.overflow_add-count

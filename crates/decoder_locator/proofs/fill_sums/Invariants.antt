@@ -1,11 +1,8 @@
 -- The loop's invariant: the entries before `p` are filled, those of the positions are as they were. The measure is the number of entries left.
-use mathlib.Core.Path.{◌≡◌, refl, ap, ◌∙◌, subst⁻¹}
-use Prim.Native.Nat.{ℕ, ◌+◌, ◌-◌, ◌*◌, ◌/◌, ◌%◌, ◌≤◌}
-use native.Mathlib.Omega.{arith}
-use lib.ListN.{length, take, length-set}
-use lib.Seq.{length-take-le, take-set-le}
-use Rattle.bch.specs.Locator.{SyndromeTable, syndromes}
-use Rattle.decoder_locator.proofs.Fours.{four_fits, Filled, filled_more, filled-all}
+use mathlib.Core.Path.{◌≡◌}
+use Prim.Native.Nat.{◌-◌, ◌≤◌}
+use lib.ListN.{length, take}
+use Rattle.decoder_locator.proofs.Fours.{Filled}
 use Rattle.decoder_locator.proofs.fill_sums.Given as goal
 
 abbrev pub invariant-loop-p : goal.invariant-loop-p

@@ -1,7 +1,6 @@
 -- Half of an even exponent, or of one that is even after n more.
 use mathlib.Core.Logic.{inl, inr}
 use native.Mathlib.Omega.{arith}
-use borrow.Author.Rules.{rules}
 use Rattle.decoder_locator.proofs.half_exponent.Goals as goal
 
 pub returns-then-w-eq0 : goal.returns-then-w-eq0

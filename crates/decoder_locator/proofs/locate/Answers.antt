@@ -7,7 +7,6 @@ use Rattle.decoder_locator.specs.declared.Triple.{Triple}
 use Rattle.decoder_locator.specs.Steps.{SingleIs, PairIs, TripleIs}
 use Rattle.decoder_locator.proofs.Values.{degree_small}
 use Rattle.decoder_locator.proofs.Answers.{sums_of, answer_zero, answer_one, answer_two, answer_three, answer_none}
-use borrow.Author.Rules.{rules}
 use Rattle.decoder_locator.proofs.locate.Goals as goal
 
 pub returns-then-remainder-eq0 : goal.returns-then-remainder-eq0

@@ -1,6 +1,5 @@
 -- The logarithms are the second quarter of the tables.
 use Rattle.decoder_locator.proofs.Roots.{log-read}
-use borrow.Author.Rules.{rules}
 use Rattle.decoder_locator.proofs.log_of.Goals as goal
 
 pub returns : goal.returns

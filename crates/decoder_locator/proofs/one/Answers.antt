@@ -5,7 +5,6 @@ use native.Mathlib.Omega.{arith}
 use lib.ListN.{length, get_or}
 use Rattle.decoder_locator.specs.Steps.{SingleIs}
 use Rattle.decoder_locator.proofs.Values.{field_of, low_below, single_value, single_exponent}
-use borrow.Author.Rules.{rules}
 use Rattle.decoder_locator.proofs.one.Goals as goal
 
 pub returns-then-low-eq0 : goal.returns-then-low-eq0

@@ -1,6 +1,5 @@
 -- The powers are the first quarter of the tables.
 use Rattle.decoder_locator.proofs.Roots.{power-read}
-use borrow.Author.Rules.{rules}
 use Rattle.decoder_locator.proofs.power_at.Goals as goal
 
 pub returns : goal.returns

@@ -4,7 +4,6 @@ use native.Mathlib.Nat.{mul-le-mul, le_refl}
 use native.Mathlib.Omega.{arith}
 use Rattle.decoder_locator.proofs.Roots.{count-is, count-size}
 use Rattle.decoder_locator.proofs.Cubics.{within, power_of_zero, power_of_is}
-use borrow.Author.Rules.{rules}
 use Rattle.decoder_locator.proofs.power_of.Goals as goal
 
 pub returns-then-x-eq0 : goal.returns-then-x-eq0

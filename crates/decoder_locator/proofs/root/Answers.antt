@@ -3,7 +3,6 @@ use native.Mathlib.Omega.{arith}
 use Rattle.bch.specs.Polynomial.{◌⊕◌}
 use Rattle.bch.proofs.Sum.{⊕-below}
 use Rattle.decoder_locator.proofs.Roots.{root_none, root_is}
-use borrow.Author.Rules.{rules}
 use Rattle.decoder_locator.proofs.root.Goals as goal
 
 pub returns-then-d-eq0 : goal.returns-then-d-eq0

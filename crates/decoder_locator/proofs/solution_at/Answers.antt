@@ -4,7 +4,6 @@ use native.Mathlib.Nat.{mul-le-mul, le_refl}
 use native.Mathlib.Omega.{arith}
 use lib.ListN.{length}
 use Rattle.decoder_locator.proofs.Roots.{count-size, solution_read}
-use borrow.Author.Rules.{rules}
 use Rattle.decoder_locator.proofs.solution_at.Goals as goal
 
 pub overflow_mul-start : goal.overflow_mul-start

@@ -10,7 +10,6 @@ use Rattle.decoder_locator.specs.Steps.{TripleIs, CubicRootOf}
 use Rattle.decoder_locator.proofs.Values.{field_of, degree_small, low_below, high-below}
 use Rattle.decoder_locator.proofs.Triples.{with_one}
 use Rattle.decoder_locator.proofs.Answers.{no_defect, one_of_three, beyond}
-use borrow.Author.Rules.{rules}
 use Rattle.decoder_locator.proofs.three.Goals as goal
 
 pub power_of-requires : goal.power_of-requires

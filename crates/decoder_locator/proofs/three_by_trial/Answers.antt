@@ -1,10 +1,9 @@
-use mathlib.Core.Path.{◌≡◌, subst}
-use Prim.Native.Nat.{◌-◌, ◌≤◌}
+use mathlib.Core.Path.{subst}
+use Prim.Native.Nat.{◌-◌}
 use native.Mathlib.Omega.{arith}
-use lib.ListN.{length}
 use Rattle.decoder_locator.specs.declared.Triple.{Triple}
 use Rattle.decoder_locator.specs.Steps.{TripleIs, TripleWith}
-use Rattle.decoder_locator.proofs.Triples.{NotBefore, not-before-more, not_three}
+use Rattle.decoder_locator.proofs.Triples.{not-before-more, not_three}
 use borrow.Author.Rules.{rules}
 use Rattle.decoder_locator.proofs.three_by_trial.Goals as goal
 

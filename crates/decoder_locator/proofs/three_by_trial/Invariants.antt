@@ -1,12 +1,8 @@
 -- The loop's invariant: no position before `j` is one of three. The measure is the number of positions left.
-use mathlib.Core.Path.{◌≡◌, subst}
+use mathlib.Core.Path.{◌≡◌}
 use Prim.Native.Nat.{◌-◌, ◌≤◌}
-use native.Mathlib.Omega.{arith}
 use lib.ListN.{length}
-use Rattle.decoder_locator.specs.declared.Triple.{Triple}
-use Rattle.decoder_locator.specs.Steps.{TripleIs, TripleWith}
-use Rattle.decoder_locator.proofs.Triples.{NotBefore, not-before-more, not_three}
-use borrow.Author.Rules.{rules}
+use Rattle.decoder_locator.proofs.Triples.{NotBefore}
 use Rattle.decoder_locator.proofs.three_by_trial.Given as goal
 
 abbrev pub invariant-loop-j : goal.invariant-loop-j

@@ -7,7 +7,6 @@ use Rattle.decoder_locator.specs.declared.Pair.{Pair}
 use Rattle.decoder_locator.specs.Steps.{PairIs, TripleWith}
 use Rattle.decoder_locator.proofs.Values.{left-values}
 use Rattle.decoder_locator.proofs.Triples.{with_first, with_middle, with_last}
-use borrow.Author.Rules.{rules}
 use Rattle.decoder_locator.proofs.three_with.Goals as goal
 
 pub two-rest-requires : goal.two-rest-requires

@@ -4,7 +4,6 @@ use Prim.Native.Nat.{◌/◌, ◌%◌}
 use Rattle.decoder_locator.specs.declared.Pair.{Pair}
 use Rattle.decoder_locator.specs.Steps.{PairIs, ExponentsAre}
 use Rattle.decoder_locator.proofs.Values.{field_of, low_below, high-below, not-zero, two_absent, two_carry}
-use borrow.Author.Rules.{rules}
 use Rattle.decoder_locator.proofs.two.Goals as goal
 
 pub exponents-roots-requires : goal.exponents-roots-requires

@@ -1,14 +1,8 @@
 -- The loop's invariant: `acc` is the sum of the values of the first `k` bits. The measure is the number of bits left.
-use mathlib.Core.Path.{◌≡◌, refl, sym, ap, ap₂, ◌∙◌}
-use Prim.Native.Nat.{ℕ, ◌+◌, ◌-◌, ◌*◌, ◌/◌, ◌%◌, ◌^◌, ◌≤◌}
-use native.Mathlib.Nat.{mul-le-mul, le_refl}
-use native.Mathlib.Numerals.{add-one}
-use native.Mathlib.Omega.{arith}
-use lib.ListN.{length, get_or}
-use Rattle.bch.specs.Polynomial.{◌⊕◌}
+use mathlib.Core.Path.{◌≡◌}
+use Prim.Native.Nat.{◌+◌, ◌-◌, ◌*◌, ◌/◌, ◌%◌, ◌^◌, ◌≤◌}
 use Rattle.bch.specs.Field.{power}
 use Rattle.bch.specs.Powers.{xor_sum}
-use Rattle.bch.proofs.Syndromes.{syndromes-bits}
 use Rattle.decoder_locator.proofs.values_by_bits.Given as goal
 
 abbrev pub invariant-loop-k : goal.invariant-loop-k

@@ -1,8 +1,7 @@
-use mathlib.Core.Path.{◌≡◌, ◌∙◌}
-use Prim.Native.Nat.{◌+◌, ◌-◌, ◌*◌, ◌/◌, ◌%◌, ◌^◌, ◌≤◌}
+use mathlib.Core.Path.{◌∙◌}
+use Prim.Native.Nat.{◌-◌, ◌*◌, ◌/◌, ◌%◌, ◌^◌}
 use native.Mathlib.Omega.{arith}
 use Rattle.bch.specs.Polynomial.{◌⊕◌}
-use Rattle.bch.specs.Locator.{syndromes}
 use Rattle.decoder_locator.proofs.Fours.{values-none, values-more, values-all}
 use Rattle.decoder_locator.proofs.values_of.Goals as goal
 

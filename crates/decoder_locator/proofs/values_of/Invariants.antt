@@ -1,10 +1,7 @@
 -- The loop's invariant: `acc` has the values of the lowest 4 k bits. The measure is the number of entries left to read.
-use mathlib.Core.Path.{◌≡◌, ◌∙◌}
+use mathlib.Core.Path.{◌≡◌}
 use Prim.Native.Nat.{◌+◌, ◌-◌, ◌*◌, ◌/◌, ◌%◌, ◌^◌, ◌≤◌}
-use native.Mathlib.Omega.{arith}
-use Rattle.bch.specs.Polynomial.{◌⊕◌}
 use Rattle.bch.specs.Locator.{syndromes}
-use Rattle.decoder_locator.proofs.Fours.{values-none, values-more, values-all}
 use Rattle.decoder_locator.proofs.values_of.Given as goal
 
 abbrev pub invariant-loop-k : goal.invariant-loop-k

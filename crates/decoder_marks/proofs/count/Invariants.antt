@@ -1,10 +1,8 @@
 -- The loop's invariant: the marks in the first `i` stretches are counted. The measure is the number of stretches left.
-use mathlib.Core.Path.{◌≡◌, sym, ap, ap₂, ◌∙◌}
-use Prim.Native.Nat.{ℕ, ◌+◌, ◌-◌, ◌*◌, ◌/◌, ◌≤◌}
-use native.Mathlib.Omega.{arith}
+use mathlib.Core.Path.{◌≡◌}
+use Prim.Native.Nat.{◌-◌, ◌*◌, ◌/◌, ◌≤◌}
 use lib.ListN.{length, take}
 use Rattle.decoder_marks.specs.Marks.{set_marks}
-use Rattle.decoder_marks.proofs.Counted.{set_marks-none, set_marks-stretch, set_marks-rest, part_length}
 use Rattle.decoder_marks.proofs.count.Given as goal
 
 abbrev pub invariant-loop-i : goal.invariant-loop-i

@@ -1,12 +1,11 @@
-use mathlib.Core.Path.{◌≡◌, sym, ap, ap₂, ◌∙◌}
-use Prim.Native.Nat.{◌+◌, ◌-◌, ◌*◌, ◌≤◌, ◌<◌}
+use mathlib.Core.Path.{sym, ap, ap₂, ◌∙◌}
+use Prim.Native.Nat.{◌+◌, ◌-◌, ◌≤◌, ◌<◌}
 use native.Mathlib.Omega.{arith}
 use lib.Count.{ones-le}
-use lib.ListN.{length, take}
+use lib.ListN.{length}
 use lib.Seq.{take_all}
 use Rattle.decoder_marks.specs.Marks.{set_marks}
 use Rattle.decoder_marks.proofs.Counted.{set_marks-none, set_marks-more, ones_eight}
-use borrow.Author.Rules.{rules}
 use Rattle.decoder_marks.proofs.count_stretch.Goals as goal
 
 pub loop-k-init : goal.loop-k-init

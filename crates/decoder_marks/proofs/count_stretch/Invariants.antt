@@ -1,13 +1,8 @@
 -- The loop's invariant: the marks in the first `k` bytes are counted, at most eight a byte. The measure is the number of bytes left.
-use mathlib.Core.Path.{◌≡◌, sym, ap, ap₂, ◌∙◌}
-use Prim.Native.Nat.{◌+◌, ◌-◌, ◌*◌, ◌≤◌, ◌<◌}
-use native.Mathlib.Omega.{arith}
-use lib.Count.{ones-le}
+use mathlib.Core.Path.{◌≡◌}
+use Prim.Native.Nat.{◌-◌, ◌*◌, ◌≤◌}
 use lib.ListN.{length, take}
-use lib.Seq.{take_all}
 use Rattle.decoder_marks.specs.Marks.{set_marks}
-use Rattle.decoder_marks.proofs.Counted.{set_marks-none, set_marks-more, ones_eight}
-use borrow.Author.Rules.{rules}
 use Rattle.decoder_marks.proofs.count_stretch.Given as goal
 
 abbrev pub invariant-loop-k : goal.invariant-loop-k

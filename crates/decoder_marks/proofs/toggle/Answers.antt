@@ -1,5 +1,4 @@
 -- A bit of 1 is added to the marks.
-use borrow.Author.Rules.{rules}
 use Rattle.decoder_marks.proofs.Marks.{toggled}
 use Rattle.decoder_marks.proofs.toggle.Goals as goal
 

@@ -2,7 +2,6 @@
 use mathlib.Core.Path.{sym, ◌∙◌}
 use native.Mathlib.Nat.{mul-le-mul}
 use native.Mathlib.Omega.{arith}
-use borrow.Author.Rules.{rules}
 use Rattle.decoder_tables.proofs.Tables.{tables-made, first-long, behind-long, tables-whole}
 use Rattle.decoder_tables.proofs.fill_tables.Goals as goal
 

@@ -1,5 +1,4 @@
 -- The values of the positions stand before those of four bits.
-use borrow.Author.Rules.{rules}
 use Rattle.decoder_tables.proofs.Tables.{values-written}
 use Rattle.decoder_tables.proofs.fill_values.Goals as goal
 

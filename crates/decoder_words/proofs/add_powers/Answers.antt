@@ -2,7 +2,6 @@
 use mathlib.Core.Path.{refl, ◌∙◌}
 use native.Mathlib.Omega.{arith}
 use Rattle.decoder_flips.proofs.Positions.{one_sent, two_sent, three_sent, none_through, one_through, two_through, three_through}
-use borrow.Author.Rules.{rules}
 use Rattle.decoder_words.proofs.add_powers.Goals as goal
 
 pub add_power-requires : goal.add_power-requires

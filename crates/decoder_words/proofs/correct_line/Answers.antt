@@ -6,12 +6,10 @@ use Rattle.staircase.specs.Frame.{frame_of}
 use Rattle.staircase.specs.Decoder.{Progress, round}
 use Rattle.staircase.specs.Outcomes.{stuck_among}
 use Rattle.design.specs.Sizes.{params_of}
-use Rattle.decoder_words.specs.Ready.{FrameKept, LineMarks}
 use Rattle.decoder_lines.specs.Layouts.{line_word}
 use Rattle.decoder_lines.proofs.Layouts.{size-high, t-high}
 use Rattle.decoder_flips.specs.Told.{outcome_of}
 use Rattle.decoder_flips.proofs.Passes.{flips-told, pass-none, pass-more, pass-few, stuck-none, stuck-more}
-use borrow.Author.Rules.{rules}
 use Rattle.decoder_words.proofs.correct_line.Goals as goal
 
 pub loop-a-init : goal.loop-a-init

@@ -1,19 +1,14 @@
 -- The loop's invariant: the words before `a` are corrected, `stuck` of them were stuck, and all kept numbers are right. The measure is the number of
 -- words left.
-use mathlib.Core.Path.{◌≡◌, ap, ◌∙◌}
-use Prim.Native.Nat.{ℕ, ◌+◌, ◌-◌, ◌<◌, ◌≤◌}
-use native.Mathlib.Omega.{arith}
+use mathlib.Core.Path.{◌≡◌}
+use Prim.Native.Nat.{◌-◌, ◌≤◌}
 use Rattle.staircase.specs.Lists.{tabulate}
 use Rattle.staircase.specs.Frame.{frame_of}
-use Rattle.staircase.specs.Decoder.{Progress, round}
+use Rattle.staircase.specs.Decoder.{round}
 use Rattle.staircase.specs.Outcomes.{stuck_among}
 use Rattle.design.specs.Sizes.{params_of}
 use Rattle.decoder_words.specs.Ready.{FrameKept, LineMarks}
 use Rattle.decoder_lines.specs.Layouts.{line_word}
-use Rattle.decoder_lines.proofs.Layouts.{size-high, t-high}
-use Rattle.decoder_flips.specs.Told.{outcome_of}
-use Rattle.decoder_flips.proofs.Passes.{flips-told, pass-none, pass-more, pass-few, stuck-none, stuck-more}
-use borrow.Author.Rules.{rules}
 use Rattle.decoder_words.proofs.correct_line.Given as goal
 
 abbrev pub invariant-loop-a : goal.invariant-loop-a

@@ -1,6 +1,6 @@
 use mathlib.Core.Path.{◌≡◌, sym, ap, ◌∙◌, subst}
 use mathlib.Core.List.{List}
-use Prim.Native.Nat.{ℕ, ◌+◌, ◌-◌, ◌*◌, ◌<◌, ◌≤◌}
+use Prim.Native.Nat.{ℕ, ◌+◌, ◌-◌, ◌<◌}
 use native.Mathlib.Omega.{arith}
 use Rattle.staircase.specs.Lists.{tabulate, concat}
 use Rattle.staircase.specs.Frame.{Site, frame_of}
@@ -14,7 +14,6 @@ use Rattle.decoder_lines.proofs.Layouts.{lines-few}
 use Rattle.decoder_words.specs.Ready.{LineReady, FrameKept, LineMarks}
 use Rattle.decoder_flips.proofs.Passes.{lines_none, lines_next, stuck-lines-none, stuck-lines_next}
 use Rattle.decoder_words.proofs.Word.{ready_at}
-use borrow.Author.Rules.{rules}
 use Rattle.decoder_words.proofs.correct_lines.Goals as goal
 
 pub loop-i-init : goal.loop-i-init

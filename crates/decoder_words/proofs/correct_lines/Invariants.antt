@@ -1,22 +1,14 @@
 -- The loop's invariant: the lines before line `k + i` are corrected, `stuck` of their words were stuck, and all kept numbers are right. The measure is
 -- the number of lines left.
-use mathlib.Core.Path.{◌≡◌, sym, ap, ◌∙◌, subst}
-use mathlib.Core.List.{List}
-use Prim.Native.Nat.{ℕ, ◌+◌, ◌-◌, ◌*◌, ◌<◌, ◌≤◌}
-use native.Mathlib.Omega.{arith}
+use mathlib.Core.Path.{◌≡◌}
+use Prim.Native.Nat.{◌+◌, ◌-◌, ◌*◌, ◌≤◌}
 use Rattle.staircase.specs.Lists.{tabulate, concat}
-use Rattle.staircase.specs.Frame.{Site, frame_of}
-use Rattle.staircase.specs.Decoder.{Progress, round}
+use Rattle.staircase.specs.Frame.{frame_of}
+use Rattle.staircase.specs.Decoder.{round}
 use Rattle.staircase.specs.Outcomes.{stuck_among}
 use Rattle.design.specs.Sizes.{params_of}
-use Rattle.layout.specs.declared.Line.{Line}
-use Rattle.layout.specs.Layouts.{lines_in}
-use Rattle.decoder_lines.specs.Layouts.{layout_of, line_word}
-use Rattle.decoder_lines.proofs.Layouts.{lines-few}
-use Rattle.decoder_words.specs.Ready.{LineReady, FrameKept, LineMarks}
-use Rattle.decoder_flips.proofs.Passes.{lines_none, lines_next, stuck-lines-none, stuck-lines_next}
-use Rattle.decoder_words.proofs.Word.{ready_at}
-use borrow.Author.Rules.{rules}
+use Rattle.decoder_lines.specs.Layouts.{layout_of}
+use Rattle.decoder_words.specs.Ready.{FrameKept, LineMarks}
 use Rattle.decoder_words.proofs.correct_lines.Given as goal
 
 abbrev pub invariant-loop-i : goal.invariant-loop-i

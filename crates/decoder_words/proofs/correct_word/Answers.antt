@@ -15,7 +15,6 @@ use Rattle.decoder_words.proofs.Tables.{first_part}
 use Rattle.decoder_words.proofs.Word.{table_powers}
 use Rattle.decoder_words.proofs.Marks.{numbers-within, marks_stay}
 use Rattle.decoder_words.proofs.Corrected.{added_behind, word-stuck, word-corrected}
-use borrow.Author.Rules.{rules}
 use Rattle.decoder_words.proofs.correct_word.Goals as goal
 
 pub word_number-w-requires : goal.word_number-w-requires

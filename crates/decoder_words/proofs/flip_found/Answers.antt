@@ -1,14 +1,12 @@
 -- The located bits are flipped where all of them are sent, in the buffers and in the marks behind the numbers.
 use mathlib.Core.Path.{sym, ap, ◌∙◌}
 use native.Mathlib.Omega.{arith}
-use borrow.Author.Tests.{not-true, not-false}
 use Rattle.decoder_kept.specs.Numbers.{kept_at}
 use Rattle.decoder_kept.proofs.Words.{number_is}
 use Rattle.decoder_lines.proofs.Layouts.{size-high}
 use Rattle.decoder_words.proofs.Word.{word-remainder, located-line, inside_frame, none_found, all_found}
 use Rattle.decoder_words.proofs.Corrected.{word_kept}
 use Rattle.decoder_words.proofs.Marks.{numbers-within, flippable, flipped_kept, flipped_marks}
-use borrow.Author.Rules.{rules}
 use Rattle.decoder_words.proofs.flip_found.Goals as goal
 
 pub word_number-w-requires : goal.word_number-w-requires

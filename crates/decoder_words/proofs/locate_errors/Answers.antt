@@ -7,7 +7,6 @@ use Rattle.design.specs.Sizes.{params_of}
 use Rattle.decoder_locator.specs.Located.{located}
 use Rattle.layout.specs.Layouts.{bits_in}
 use Rattle.decoder_words.proofs.Tables.{first_part, locator_parts}
-use borrow.Author.Rules.{rules}
 use Rattle.decoder_words.proofs.locate_errors.Goals as goal
 
 pub slice_bounds-locate-end : goal.slice_bounds-locate-end

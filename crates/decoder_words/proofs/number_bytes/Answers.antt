@@ -3,7 +3,6 @@ use mathlib.Core.Path.{ap, ap₂}
 use Prim.Native.Nat.{ℕ, ◌*◌}
 use native.Mathlib.Omega.{arith}
 use Rattle.staircase.proofs.Bounds.{small_product}
-use borrow.Author.Rules.{rules}
 use Rattle.decoder_words.proofs.number_bytes.Goals as goal
 
 pub overflow_mul-result : goal.overflow_mul-result

@@ -11,7 +11,6 @@ use Rattle.decoder_flips.specs.Sites.{sites_of, Inside, listed, Below}
 use Rattle.layout.specs.Layouts.{bits_in}
 use Rattle.decoder_lines.specs.Layouts.{line_word}
 use Rattle.decoder_flips.proofs.Located.{listed-none, listed_one, listed_two, listed_three}
-use borrow.Author.Rules.{rules}
 use Rattle.decoder_words.proofs.sites_of.Goals as goal
 
 pub site_at-x-requires : goal.site_at-x-requires

@@ -6,7 +6,6 @@ use Rattle.decoder_kept.proofs.Words.{zero-clean, other_outcome, marked_stuck}
 use Rattle.decoder_lines.proofs.Layouts.{size-high}
 use Rattle.decoder_words.proofs.Corrected.{word_kept}
 use Rattle.decoder_words.proofs.Marks.{numbers-within}
-use borrow.Author.Rules.{rules}
 use Rattle.decoder_words.proofs.visit_word.Goals as goal
 
 pub word_number-w-requires : goal.word_number-w-requires

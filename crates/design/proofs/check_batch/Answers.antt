@@ -4,7 +4,6 @@ use Rattle.staircase.specs.Rules.{out_of_range}
 use Rattle.staircase.specs.Batch.{most-frames, batch_rule}
 use Rattle.answers.specs.Answers.{refusal_verdict}
 use Rattle.design.proofs.Sizes.{range_rule}
-use borrow.Author.Rules.{rules}
 use Rattle.design.proofs.check_batch.Goals as goal
 
 pub returns : goal.returns

@@ -4,7 +4,6 @@ use Rattle.staircase.specs.Design.{most-blocks}
 use Rattle.staircase.specs.Rules.{out_of_range, count_rule}
 use Rattle.answers.specs.Answers.{refusal_verdict}
 use Rattle.design.proofs.Sizes.{range_rule}
-use borrow.Author.Rules.{rules}
 use Rattle.design.proofs.check_count.Goals as goal
 
 pub returns : goal.returns

@@ -3,7 +3,6 @@ use mathlib.Core.Path.{sym, ap, ◌∙◌}
 use mathlib.Core.Bool.{Bool, cond}
 use Rattle.staircase.specs.Rules.Verdict.{accepted}
 use Rattle.answers.specs.Answers.{refusal_verdict, verdict_of}
-use borrow.Author.Rules.{rules}
 use Rattle.design.proofs.check_range.Goals as goal
 
 pub returns-then-out_of_range : goal.returns-then-out_of_range

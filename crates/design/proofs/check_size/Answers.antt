@@ -3,7 +3,6 @@ use mathlib.Core.Path.{sym, ◌∙◌}
 use native.Mathlib.Omega.{arith}
 use Rattle.answers.specs.Answers.{refusal_verdict, verdict_of}
 use Rattle.design.proofs.Sizes.{no_m, no_t, no_M, no_col, sizes_in}
-use borrow.Author.Rules.{rules}
 use Rattle.design.proofs.check_size.Goals as goal
 
 pub returns-then-out_of_range : goal.returns-then-out_of_range

@@ -2,7 +2,6 @@
 use mathlib.Core.Path.{sym}
 use Rattle.answers.specs.Answers.{verdict_of}
 use Rattle.design.proofs.Answers.{design-refused, design-made}
-use borrow.Author.Rules.{rules}
 use Rattle.design.proofs.design_check.Goals as goal
 
 pub returns-in-Made : goal.returns-in-Made

@@ -1,7 +1,6 @@
 -- What rule 1 accepts fits the fields.
 use native.Mathlib.Omega.{arith}
 use Rattle.design.proofs.Sizes.{sizes}
-use borrow.Author.Rules.{rules}
 use Rattle.design.proofs.design_of.Goals as goal
 
 pub overflow_cast-result : goal.overflow_cast-result

@@ -1,11 +1,8 @@
 use mathlib.Core.Path.{◌≡◌}
-use Prim.Native.Nat.{◌+◌, ◌-◌, ◌≤◌}
+use Prim.Native.Nat.{◌-◌}
 use native.Mathlib.Nat.{zero-add}
 use native.Mathlib.Omega.{arith}
-use lib.ListN.{length, drop}
-use Rattle.bch.specs.Code.{distance}
 use Rattle.differences.proofs.Rest.{rest_next, rest-none}
-use borrow.Author.Rules.{rules}
 use Rattle.differences.proofs.differences.Goals as goal
 
 pub loop-k-init : goal.loop-k-init

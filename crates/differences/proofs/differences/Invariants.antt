@@ -1,12 +1,8 @@
 -- What is counted, and what the rest of both buffers adds, is the whole.
 use mathlib.Core.Path.{◌≡◌}
 use Prim.Native.Nat.{◌+◌, ◌-◌, ◌≤◌}
-use native.Mathlib.Nat.{zero-add}
-use native.Mathlib.Omega.{arith}
 use lib.ListN.{length, drop}
 use Rattle.bch.specs.Code.{distance}
-use Rattle.differences.proofs.Rest.{rest_next, rest-none}
-use borrow.Author.Rules.{rules}
 use Rattle.differences.proofs.differences.Given as goal
 
 abbrev pub invariant-loop-k : goal.invariant-loop-k

@@ -1,5 +1,4 @@
 -- A frame is a batch of one.
-use borrow.Author.Rules.{rules}
 use mathlib.Core.Path.{ap, ◌∙◌}
 use lib.ListN.{length}
 use Rattle.staircase.specs.Calls.{Encoded}

@@ -13,7 +13,6 @@ use Rattle.rules.specs.Lengths.{lengths_of, kit_due, batch_due, batch_size_rules
 use Rattle.rules.proofs.Chain.{batch_where}
 use Rattle.encoder_batch.specs.Checks.{frames_rules}
 use Rattle.encoder_batch.proofs.BatchCall.{frames-sized}
-use borrow.Author.Rules.{rules}
 use Rattle.encoder_batch.proofs.check_frames.Goals as goal
 
 -- by the lengths of a kit, and of the frames beside them

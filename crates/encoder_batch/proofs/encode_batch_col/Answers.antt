@@ -1,5 +1,4 @@
 -- The call ends at a refused design, at refused frames, or with the redundancy made.
-use borrow.Author.Rules.{rules}
 use mathlib.Core.Path.{sym, ◌∙◌}
 use lib.ListN.{length}
 use Rattle.design.proofs.Answers.{made-allowed}

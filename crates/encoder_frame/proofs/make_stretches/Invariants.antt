@@ -1,16 +1,10 @@
 -- The loop's invariant: the groups before `first` are made. The measure is the number of groups left.
-use mathlib.Core.Path.{◌≡◌, ap, ◌∙◌}
-use mathlib.Core.List.{List}
-use Prim.Native.Nat.{ℕ, ◌-◌, ◌*◌, ◌≤◌}
-use native.Mathlib.Omega.{arith}
+use mathlib.Core.Path.{◌≡◌}
+use Prim.Native.Nat.{◌-◌, ◌*◌, ◌≤◌}
 use lib.ListN.{length}
 use Rattle.staircase.specs.Frame.{groups}
-use Rattle.staircase.proofs.Bounds.{small_product}
-use Rattle.staircase.proofs.Fill.{stretches, stretches_none, stretches_all}
-use Rattle.bch_remainders.proofs.Rows.{row-length}
+use Rattle.staircase.proofs.Fill.{stretches}
 use Rattle.encoder_frame.specs.Groups.{group_at}
-use Rattle.encoder_frame.proofs.Joined.{several_end, stretches_several}
-use Rattle.encoder_frame.proofs.FrameGroups.{group_at-length}
 use Rattle.encoder_frame.proofs.make_stretches.Given as goal
 
 abbrev pub invariant-loop-first : goal.invariant-loop-first

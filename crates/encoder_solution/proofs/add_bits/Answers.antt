@@ -1,10 +1,10 @@
 use mathlib.Core.Path.{◌≡◌, ap, ◌∙◌}
 use mathlib.Core.List.{List}
-use Prim.Native.Nat.{ℕ, ◌-◌, ◌≤◌}
+use Prim.Native.Nat.{ℕ, ◌-◌}
 use native.Mathlib.Omega.{arith}
-use lib.ListN.{length, get_or, set, length-set}
+use lib.ListN.{get_or, set, length-set}
 use Rattle.staircase.specs.Lists.{bit_sum}
-use Rattle.staircase.proofs.Fill.{filled, filled_none, filled_more, filled_next, filled-all}
+use Rattle.staircase.proofs.Fill.{filled_none, filled_more, filled_next, filled-all}
 use Rattle.encoder_solution.proofs.add_bits.Goals as goal
 
 pub loop-q-init : goal.loop-q-init

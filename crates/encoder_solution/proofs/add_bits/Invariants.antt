@@ -1,11 +1,9 @@
 -- The loop's invariant: the bits before `q` are sums, the others as they were. The measure is the number of bits left.
-use mathlib.Core.Path.{◌≡◌, ap, ◌∙◌}
-use mathlib.Core.List.{List}
-use Prim.Native.Nat.{ℕ, ◌-◌, ◌≤◌}
-use native.Mathlib.Omega.{arith}
-use lib.ListN.{length, get_or, set, length-set}
+use mathlib.Core.Path.{◌≡◌}
+use Prim.Native.Nat.{◌-◌, ◌≤◌}
+use lib.ListN.{length, get_or}
 use Rattle.staircase.specs.Lists.{bit_sum}
-use Rattle.staircase.proofs.Fill.{filled, filled_none, filled_more, filled_next, filled-all}
+use Rattle.staircase.proofs.Fill.{filled}
 use Rattle.encoder_solution.proofs.add_bits.Given as goal
 
 abbrev pub invariant-loop-q : goal.invariant-loop-q

@@ -1,13 +1,11 @@
 -- The loop's invariant: the words before `q` have the bit added, the others are as they were. The measure is the number of words left.
-use mathlib.Core.Path.{◌≡◌, refl, ap, ap₂, ◌∙◌}
+use mathlib.Core.Path.{◌≡◌}
 use mathlib.Core.Bool.{cond}
-use Prim.Native.Nat.{ℕ, ◌+◌, ◌-◌, ◌≤◌, ◌<◌}
-use native.Mathlib.Omega.{arith}
+use Prim.Native.Nat.{ℕ, ◌-◌, ◌≤◌, ◌<◌}
 use lib.Dec.{eqb}
-use lib.ListN.{length, get_or, length-set}
-use Rattle.bch.proofs.Store.{set_each}
+use lib.ListN.{length, get_or}
 use Rattle.staircase.specs.Lists.{bit_sum}
-use Rattle.matrix.proofs.Bits.{bit, bit_added}
+use Rattle.matrix.proofs.Bits.{bit}
 use Rattle.encoder_solution.specs.Bits.{place_constant}
 use Rattle.encoder_solution.proofs.add_constant.Given as goal
 

@@ -2,7 +2,6 @@
 use native.Mathlib.Omega.{arith}
 use Prim.Native.Nat.{◌+◌}
 use lib.ListN.{length, get_or}
-use borrow.Author.Rules.{rules}
 use Rattle.encoder_solution.proofs.constant_at.Goals as goal
 
 pub overflow_add-result-2 : goal.overflow_add-result-2

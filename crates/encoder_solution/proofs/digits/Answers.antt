@@ -1,8 +1,8 @@
-use mathlib.Core.Path.{◌≡◌, ◌∙◌}
-use Prim.Native.Nat.{◌-◌, ◌/◌, ◌%◌, ◌^◌, ◌≤◌}
+use mathlib.Core.Path.{◌∙◌}
+use Prim.Native.Nat.{◌-◌}
 use native.Mathlib.Omega.{arith}
-use lib.ListN.{length, get_or, length-set}
-use Rattle.staircase.proofs.Fill.{filled, filled_none, filled_more, filled-all}
+use lib.ListN.{length-set}
+use Rattle.staircase.proofs.Fill.{filled_none, filled_more, filled-all}
 use Rattle.encoder_solution.proofs.digits.Goals as goal
 
 pub loop-b-init : goal.loop-b-init

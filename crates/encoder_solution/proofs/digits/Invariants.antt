@@ -1,9 +1,8 @@
 -- The loop's invariant: the entries before `b` are filled. The measure is the number of entries left.
-use mathlib.Core.Path.{◌≡◌, ◌∙◌}
+use mathlib.Core.Path.{◌≡◌}
 use Prim.Native.Nat.{◌-◌, ◌/◌, ◌%◌, ◌^◌, ◌≤◌}
-use native.Mathlib.Omega.{arith}
-use lib.ListN.{length, get_or, length-set}
-use Rattle.staircase.proofs.Fill.{filled, filled_none, filled_more, filled-all}
+use lib.ListN.{length, get_or}
+use Rattle.staircase.proofs.Fill.{filled}
 use Rattle.encoder_solution.proofs.digits.Given as goal
 
 abbrev pub invariant-loop-b : goal.invariant-loop-b

@@ -1,13 +1,9 @@
 -- The loop's invariant: the rows before `a` are filled. The measure is the number of rows left.
-use mathlib.Core.Path.{◌≡◌, sym, ap, ◌∙◌}
-use Prim.Native.Nat.{ℕ, ◌+◌, ◌-◌, ◌*◌, ◌/◌, ◌%◌, ◌≤◌}
-use native.Mathlib.Nat.{zero-mul, mul_comm, add-mul, one-mul}
-use native.Mathlib.Omega.{arith}
+use mathlib.Core.Path.{◌≡◌}
+use Prim.Native.Nat.{◌-◌, ◌*◌, ◌/◌, ◌%◌, ◌≤◌}
 use lib.ListN.{length, get_or}
-use Rattle.staircase.proofs.Fill.{filled, filled_none, filled-all, filled-stretch}
-use Rattle.bch_remainders.proofs.Rows.{row_end, row-length}
+use Rattle.staircase.proofs.Fill.{filled}
 use Rattle.encoder_solution.specs.Bits.{remainder_digit}
-use Rattle.encoder_solution.proofs.Stack.{digit_row}
 use Rattle.encoder_solution.proofs.p_bits.Given as goal
 
 abbrev pub invariant-loop-a : goal.invariant-loop-a

@@ -2,7 +2,6 @@
 use mathlib.Core.Path.{refl}
 use Prim.Native.Nat.{◌-◌, ◌*◌}
 use native.Mathlib.Omega.{arith}
-use borrow.Author.Rules.{rules}
 use Rattle.bch.proofs.Store.{zeros-at}
 use Rattle.words_blocks.proofs.Sums.{part_length}
 use Rattle.encoder_solution.proofs.Solution.{zeros-part}

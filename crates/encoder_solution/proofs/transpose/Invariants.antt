@@ -1,11 +1,8 @@
 -- The loop's invariant: the entries before `k` are filled. The measure is the number of entries left.
-use mathlib.Core.Path.{◌≡◌, ◌∙◌}
+use mathlib.Core.Path.{◌≡◌}
 use Prim.Native.Nat.{◌+◌, ◌-◌, ◌*◌, ◌/◌, ◌%◌, ◌≤◌}
-use native.Mathlib.Nat.{mul_comm}
-use native.Mathlib.Omega.{arith}
-use lib.ListN.{length, get_or, length-set}
-use Rattle.staircase.proofs.Fill.{filled, filled_none, filled_more, filled-all}
-use Rattle.encoder_solution.proofs.Stack.{stack-entry}
+use lib.ListN.{length, get_or}
+use Rattle.staircase.proofs.Fill.{filled}
 use Rattle.encoder_solution.proofs.transpose.Given as goal
 
 abbrev pub invariant-loop-k : goal.invariant-loop-k

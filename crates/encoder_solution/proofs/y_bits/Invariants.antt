@@ -1,9 +1,8 @@
 -- The loop's invariant: the bits before `q` are filled. The measure is the number of bits left.
-use mathlib.Core.Path.{◌≡◌, ◌∙◌}
+use mathlib.Core.Path.{◌≡◌}
 use Prim.Native.Nat.{◌-◌, ◌/◌, ◌%◌, ◌^◌, ◌≤◌}
-use native.Mathlib.Omega.{arith}
-use lib.ListN.{length, get_or, length-set}
-use Rattle.staircase.proofs.Fill.{filled, filled_none, filled_more, filled-all}
+use lib.ListN.{length, get_or}
+use Rattle.staircase.proofs.Fill.{filled}
 use Rattle.encoder_solution.proofs.y_bits.Given as goal
 
 abbrev pub invariant-loop-q : goal.invariant-loop-q

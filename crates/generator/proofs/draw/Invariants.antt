@@ -1,7 +1,6 @@
 -- After k turns the number is that of k outputs.
-use Rattle.std.proofs.Common.{◌≡◌, ℕ, ◌+◌, ◌-◌, ◌*◌, ◌≤◌, ap, ◌∙◌, ap₂, arith, rules}
-use Rattle.staircase.specs.Load.{next_state, output, state_after, drawn_bits}
-use Rattle.generator.proofs.States.{after_none, after_more, draw_none, draw_more, draw_small}
+use Rattle.std.proofs.Common.{◌≡◌, ◌-◌, ◌≤◌}
+use Rattle.staircase.specs.Load.{state_after, drawn_bits}
 use Rattle.generator.proofs.draw.Given as goal
 
 abbrev pub invariant-loop-k : goal.invariant-loop-k

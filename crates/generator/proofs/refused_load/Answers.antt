@@ -1,5 +1,5 @@
 -- Each case by the definitions of the answer.
-use Rattle.std.proofs.Common.{sym, refl, ap, rules}
+use Rattle.std.proofs.Common.{sym, refl, ap}
 use Rattle.answers.specs.Answers.{verdict_of}
 use Rattle.generator.specs.Answers.{load_verdict, load_state}
 use Rattle.generator.proofs.refused_load.Goals as goal

@@ -1,5 +1,5 @@
 -- The product of two numbers of 32 bits is one of 64.
-use Rattle.std.proofs.Common.{arith, rules}
+use Rattle.std.proofs.Common.{arith}
 use Rattle.generator.proofs.States.{product_small}
 use Rattle.generator.proofs.wrapping_mul_u32.Goals as goal
 

@@ -6,7 +6,6 @@ use Rattle.design.specs.Sizes.{params_of, lists_of}
 use Rattle.answers.proofs.Checks.{refused_then, passed_then, check_passed}
 use Rattle.rules.specs.Bytes.{byte_rules}
 use Rattle.rules.proofs.Chain.{content-rules}
-use borrow.Author.Rules.{rules}
 use Rattle.kit.proofs.check_content.Goals as goal
 
 pub returns-in_default : goal.returns-in_default

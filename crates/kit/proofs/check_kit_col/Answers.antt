@@ -5,7 +5,6 @@ use lib.ListN.{length}
 use Rattle.design.proofs.Answers.{made-allowed}
 use Rattle.rules.specs.Lengths.{lengths_of, lengths_rule}
 use Rattle.kit.proofs.KitCall.{kit-sized, kit-refused, kit-judged}
-use borrow.Author.Rules.{rules}
 use Rattle.answers.proofs.Checks.{refused_then, passed_then, check_passed}
 use Rattle.kit.proofs.check_kit_col.Goals as goal
 

@@ -1,6 +1,5 @@
 -- W fits, and the planes of its rows are as the rows of A W ask.
 use native.Mathlib.Omega.{arith}
-use borrow.Author.Rules.{rules}
 use mathlib.Core.Path.{sym, ap, ◌∙◌}
 use Prim.Native.Nat.{ℕ, ◌*◌}
 use Rattle.staircase.specs.System.{row_bytes}

@@ -1,6 +1,5 @@
 -- The first wrong entry of A W is the place; none is a kit that passes.
 use native.Mathlib.Omega.{arith}
-use borrow.Author.Rules.{rules}
 use mathlib.Core.Path.{ap}
 use Prim.Native.Nat.{ℕ, ◌*◌}
 use Rattle.design.specs.Sizes.{params_of, lists_of}

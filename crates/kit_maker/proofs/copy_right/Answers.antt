@@ -1,10 +1,10 @@
-use mathlib.Core.Path.{◌≡◌, ap, ◌∙◌}
+use mathlib.Core.Path.{ap, ◌∙◌}
 use mathlib.Core.List.{List}
-use Prim.Native.Nat.{ℕ, ◌-◌, ◌*◌, ◌≤◌}
+use Prim.Native.Nat.{ℕ, ◌-◌, ◌*◌}
 use native.Mathlib.Omega.{arith}
-use lib.ListN.{length, set, length-set}
+use lib.ListN.{set, length-set}
 use Rattle.staircase.specs.System.{row_bytes}
-use Rattle.staircase.proofs.Fill.{filled, filled_none, filled_more, filled-all}
+use Rattle.staircase.proofs.Fill.{filled_none, filled_more, filled-all}
 use Rattle.kit_maker.specs.Making.{right_byte}
 use Rattle.kit_maker.proofs.Halves.{right_place}
 use Rattle.kit_maker.proofs.copy_right.Goals as goal

@@ -1,13 +1,10 @@
 -- The loop's invariant: the first `k` bytes are those of the right halves. The measure is the number of bytes left.
-use mathlib.Core.Path.{◌≡◌, ap, ◌∙◌}
-use mathlib.Core.List.{List}
-use Prim.Native.Nat.{ℕ, ◌-◌, ◌*◌, ◌≤◌}
-use native.Mathlib.Omega.{arith}
-use lib.ListN.{length, set, length-set}
+use mathlib.Core.Path.{◌≡◌}
+use Prim.Native.Nat.{◌-◌, ◌*◌, ◌≤◌}
+use lib.ListN.{length}
 use Rattle.staircase.specs.System.{row_bytes}
-use Rattle.staircase.proofs.Fill.{filled, filled_none, filled_more, filled-all}
+use Rattle.staircase.proofs.Fill.{filled}
 use Rattle.kit_maker.specs.Making.{right_byte}
-use Rattle.kit_maker.proofs.Halves.{right_place}
 use Rattle.kit_maker.proofs.copy_right.Given as goal
 
 abbrev pub invariant-loop-k : goal.invariant-loop-k

@@ -1,11 +1,11 @@
 use mathlib.Core.Path.{◌≡◌, refl, ap, ◌∙◌, subst}
-use Prim.Native.Nat.{ℕ, ◌+◌, ◌-◌, ◌*◌, ◌≤◌, ◌<◌}
+use Prim.Native.Nat.{ℕ, ◌+◌, ◌-◌, ◌*◌, ◌<◌}
 use native.Mathlib.Omega.{arith}
 use borrow.Rule.Slice.PartMut.{mid_len, same_len_mid}
-use lib.ListN.{length, get_or}
+use lib.ListN.{get_or}
 use Rattle.staircase.specs.System.{row_bytes}
 use Rattle.staircase.specs.Rules.{entries}
-use Rattle.matrix_elimination.specs.Steps.{row_width, left}
+use Rattle.matrix_elimination.specs.Steps.{row_width}
 use Rattle.kit_system.specs.Rows.{row_entry}
 use Rattle.kit_maker.specs.Making.{sent_row}
 use Rattle.kit_maker.proofs.Halves.{left_place, rows_none, rows_more}

@@ -1,15 +1,10 @@
 -- The loop's invariant: the left halves of the first `e` rows hold rows of A. The measure is the number of rows left.
-use mathlib.Core.Path.{◌≡◌, refl, ap, ◌∙◌, subst}
-use Prim.Native.Nat.{ℕ, ◌+◌, ◌-◌, ◌*◌, ◌≤◌, ◌<◌}
-use native.Mathlib.Omega.{arith}
-use borrow.Rule.Slice.PartMut.{mid_len, same_len_mid}
-use lib.ListN.{length, get_or}
-use Rattle.staircase.specs.System.{row_bytes}
+use mathlib.Core.Path.{◌≡◌}
+use Prim.Native.Nat.{ℕ, ◌-◌, ◌≤◌, ◌<◌}
+use lib.ListN.{length}
 use Rattle.staircase.specs.Rules.{entries}
-use Rattle.matrix_elimination.specs.Steps.{row_width, left}
-use Rattle.kit_system.specs.Rows.{row_entry}
+use Rattle.matrix_elimination.specs.Steps.{left}
 use Rattle.kit_maker.specs.Making.{sent_row}
-use Rattle.kit_maker.proofs.Halves.{left_place, rows_none, rows_more}
 use Rattle.kit_maker.proofs.fill_rows.Given as goal
 
 abbrev pub invariant-loop-e : goal.invariant-loop-e

@@ -1,6 +1,5 @@
 -- The working bytes are the matrix that holds A, and then its inverse.
 use native.Mathlib.Omega.{arith}
-use borrow.Author.Rules.{rules}
 use mathlib.Core.Path.{◌≡◌, refl, sym, ap, ◌∙◌}
 use Prim.Native.Nat.{ℕ, ◌*◌, ◌≤◌, ◌<◌}
 use Rattle.staircase.specs.System.{row_bytes}

@@ -1,5 +1,4 @@
 -- A refusal of rule 7 is the answer; lists that pass are permutations, which the system asks for.
-use borrow.Author.Rules.{rules}
 use mathlib.Core.Path.{sym, ◌∙◌}
 use Rattle.staircase.specs.Maker.{singular_rule}
 use Rattle.staircase.proofs.Rules.{lists_permute}

@@ -1,5 +1,4 @@
 -- The call ends at a refused design, at a refused length, or with the rules on what the lists hold and the inverse.
-use borrow.Author.Rules.{rules}
 use mathlib.Core.Path.{sym, ap, ◌∙◌}
 use mathlib.Core.List.{[]}
 use lib.ListN.{length}

@@ -1,5 +1,4 @@
 -- The first refusal of the two rules.
-use borrow.Author.Rules.{rules}
 use Rattle.rules.proofs.Chain.{both_then}
 use Rattle.kit_spread.proofs.check_lists.Goals as goal
 

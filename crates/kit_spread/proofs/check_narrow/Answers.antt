@@ -1,5 +1,4 @@
 -- The test of the code is that of the rule.
-use borrow.Author.Rules.{rules}
 use native.Mathlib.Omega.{arith}
 use Prim.Native.Nat.{◌*◌}
 use borrow.Author.Tests.{lt-ltb, le-ltb}

@@ -1,6 +1,5 @@
 -- The design of the lists is refused by its own rules, or by rule 15 or 6, or is the one that was made.
 use mathlib.Core.Path.{subst}
-use borrow.Author.Rules.{rules}
 use Rattle.design.specs.declared.Designed.{Designed}
 use Rattle.design.specs.Answers.{DesignIs, DesignAllowed}
 use Rattle.kit_spread.proofs.SpreadCall.{design_stops, lists-stop, lists-pass}

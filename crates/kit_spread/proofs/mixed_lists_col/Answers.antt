@@ -1,5 +1,4 @@
 -- The call ends at a design that is refused, with its lists' lengths, or with both lists filled.
-use borrow.Author.Rules.{rules}
 use mathlib.Core.Path.{◌≡◌, ap, ◌∙◌}
 use Prim.Native.Nat.{ℕ}
 use native.Mathlib.Omega.{arith}

@@ -1,11 +1,11 @@
 use mathlib.Core.Path.{◌≡◌, sym, ap, ◌∙◌}
-use Prim.Native.Nat.{ℕ, ◌-◌, ◌≤◌, ◌<◌}
+use Prim.Native.Nat.{ℕ, ◌-◌, ◌<◌}
 use native.Mathlib.Omega.{arith}
-use lib.ListN.{length, get_or, length-set}
+use lib.ListN.{get_or, length-set}
 use Rattle.staircase.specs.Rules.{entries}
 use Rattle.staircase.specs.System.{preimage}
 use Rattle.staircase.proofs.Permutation.{preimage-sent, preimage-of}
-use Rattle.staircase.proofs.Fill.{Placed, placed_next}
+use Rattle.staircase.proofs.Fill.{placed_next}
 use Rattle.rules.proofs.Entries.{entry-at}
 use Rattle.kit_system.proofs.fill_preimages.Goals as goal
 

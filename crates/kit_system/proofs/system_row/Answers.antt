@@ -1,13 +1,12 @@
 use mathlib.Core.Path.{◌≡◌, refl, sym, ◌∙◌}
-use Prim.Native.Nat.{ℕ, ◌-◌, ◌≤◌}
+use Prim.Native.Nat.{◌-◌}
 use native.Mathlib.Omega.{arith}
 use lib.ListN.{length}
 use Rattle.staircase.specs.Lists.{sum_bits}
 use Rattle.staircase.specs.Rules.{entries}
-use Rattle.matrix.specs.Packed.{packed_bit}
 use Rattle.matrix.proofs.Packed.{packed_bit-zeros}
 use Rattle.kit_system.specs.Rows.{power_digit, row_term, row_entry}
-use Rattle.kit_system.proofs.Terms.{Sized, sized, sum_more}
+use Rattle.kit_system.proofs.Terms.{sized, sum_more}
 use Rattle.kit_system.proofs.system_row.Goals as goal
 
 pub clear-requires : goal.clear-requires

@@ -1,14 +1,12 @@
 -- The loop's invariant: each bit is the sum of the terms before `b`. The measure is the number of terms left.
-use mathlib.Core.Path.{◌≡◌, refl, sym, ◌∙◌}
+use mathlib.Core.Path.{◌≡◌}
 use Prim.Native.Nat.{ℕ, ◌-◌, ◌≤◌}
-use native.Mathlib.Omega.{arith}
 use lib.ListN.{length}
 use Rattle.staircase.specs.Lists.{sum_bits}
 use Rattle.staircase.specs.Rules.{entries}
 use Rattle.matrix.specs.Packed.{packed_bit}
-use Rattle.matrix.proofs.Packed.{packed_bit-zeros}
-use Rattle.kit_system.specs.Rows.{power_digit, row_term, row_entry}
-use Rattle.kit_system.proofs.Terms.{Sized, sized, sum_more}
+use Rattle.kit_system.specs.Rows.{power_digit, row_term}
+use Rattle.kit_system.proofs.Terms.{Sized}
 use Rattle.kit_system.proofs.system_row.Given as goal
 
 abbrev pub invariant-loop-b : goal.invariant-loop-b

@@ -5,7 +5,6 @@ use native.Mathlib.Omega.{arith}
 use Rattle.staircase.specs.Frame.{groups}
 use Rattle.layout.specs.declared.Shape.{Shape}
 use Rattle.layout.specs.Layouts.{lines_in}
-use borrow.Author.Rules.{rules}
 use Rattle.layout.proofs.line_count.Goals as goal
 
 pub returns-in-FeedForward : goal.returns-in-FeedForward

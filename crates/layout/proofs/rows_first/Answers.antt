@@ -2,7 +2,6 @@
 use mathlib.Core.Path.{sym, ap}
 use Rattle.layout.specs.declared.Shape.{Shape}
 use Rattle.layout.specs.Layouts.{rows_first}
-use borrow.Author.Rules.{rules}
 use Rattle.layout.proofs.rows_first.Goals as goal
 
 pub returns-in-FeedForward : goal.returns-in-FeedForward

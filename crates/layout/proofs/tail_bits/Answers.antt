@@ -4,7 +4,6 @@ use native.Mathlib.Omega.{arith}
 use Rattle.design.specs.Sizes.{params_of}
 use Rattle.layout.specs.declared.Shape.{Shape}
 use Rattle.layout.specs.Layouts.{tail_in}
-use borrow.Author.Rules.{rules}
 use Rattle.layout.proofs.tail_bits.Goals as goal
 
 pub returns-in-FeedForward : goal.returns-in-FeedForward

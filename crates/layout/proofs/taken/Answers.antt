@@ -3,7 +3,6 @@ use mathlib.Core.Path.{sym, ap, ◌∙◌}
 use mathlib.Core.Bool.{Bool, not, cond}
 use Rattle.design.specs.Sizes.{params_of}
 use Rattle.layout.specs.Layouts.{turned_in, taken_in}
-use borrow.Author.Rules.{rules}
 use Rattle.layout.proofs.taken.Goals as goal
 
 pub returns-then-at : goal.returns-then-at

@@ -3,7 +3,6 @@ use mathlib.Core.Path.{sym, ◌∙◌}
 use borrow.Author.Tests.{eq-eqb, ne_eqb}
 use Rattle.design.specs.Sizes.{params_of}
 use Rattle.layout.proofs.Layouts.{turned-even, turned_odd}
-use borrow.Author.Rules.{rules}
 use Rattle.layout.proofs.turned.Goals as goal
 
 pub returns-then-k-eq0 : goal.returns-then-k-eq0

@@ -4,7 +4,6 @@ use Prim.Native.Nat.{ℕ, ◌-◌}
 use native.Mathlib.Omega.{arith}
 use Rattle.design.specs.Sizes.{params_of}
 use Rattle.layout.proofs.Layouts.{turn_at, turn-not}
-use borrow.Author.Rules.{rules}
 use Rattle.layout.proofs.turned_position.Goals as goal
 
 pub returns-then-turned : goal.returns-then-turned

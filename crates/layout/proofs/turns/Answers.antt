@@ -3,7 +3,6 @@ use mathlib.Core.Path.{sym, ap, ◌∙◌}
 use Rattle.design.specs.Sizes.{params_of}
 use Rattle.layout.specs.declared.Shape.{Shape}
 use Rattle.layout.specs.Layouts.{turns_in}
-use borrow.Author.Rules.{rules}
 use Rattle.layout.proofs.turns.Goals as goal
 
 pub returns-in-FeedForward : goal.returns-in-FeedForward

@@ -5,7 +5,6 @@ use native.Mathlib.Omega.{arith}
 use Rattle.staircase.proofs.Bounds.{small_product, stretch-end}
 use Rattle.layout.specs.Layouts.{lines_in}
 use Rattle.layout.proofs.Layouts.{lines-most}
-use borrow.Author.Rules.{rules}
 use Rattle.layout.proofs.word_number.Goals as goal
 
 pub overflow_mul-result : goal.overflow_mul-result

@@ -4,7 +4,6 @@ use Rattle.staircase.specs.Design.{Params}
 use Rattle.design.proofs.Answers.{refused-design, made-design}
 use Rattle.load.specs.Checks.{fill_rules}
 use Rattle.load.proofs.LoadCalls.{fill-rules}
-use borrow.Author.Rules.{rules}
 use Rattle.load.proofs.check_fill.Goals as goal
 
 pub returns-in_default : goal.returns-in_default

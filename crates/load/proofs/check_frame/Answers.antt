@@ -8,7 +8,6 @@ use Rattle.design.specs.Sizes.{params_of}
 use Rattle.answers.proofs.Checks.{refused_then, passed_then, check_passed}
 use Rattle.rules.proofs.Accepted.{frame_small}
 use Rattle.load.specs.Checks.{turn_rules}
-use borrow.Author.Rules.{rules}
 use Rattle.load.proofs.check_frame.Goals as goal
 
 pub returns-in_default : goal.returns-in_default

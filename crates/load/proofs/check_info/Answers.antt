@@ -8,7 +8,6 @@ use Rattle.answers.proofs.Checks.{refused_then, passed_then, check_passed}
 use Rattle.rules.specs.declared.lengths.Lengths.{Lengths}
 use Rattle.rules.specs.Lengths.{frame_due}
 use Rattle.load.specs.Checks.{fill_rules}
-use borrow.Author.Rules.{rules}
 use Rattle.load.proofs.check_info.Goals as goal
 
 pub returns-in_default : goal.returns-in_default

@@ -4,7 +4,6 @@ use Rattle.staircase.specs.Design.{Params}
 use Rattle.design.proofs.Answers.{refused-design, made-design, made-allowed}
 use Rattle.load.specs.Checks.{turn_rules}
 use Rattle.load.proofs.LoadCalls.{turn-rules}
-use borrow.Author.Rules.{rules}
 use Rattle.load.proofs.check_turn.Goals as goal
 
 pub returns-in_default : goal.returns-in_default

@@ -5,7 +5,6 @@ use Rattle.answers.specs.Answers.{verdict_of}
 use Rattle.answers.proofs.Checks.{check_refused, check_passed}
 use Rattle.generator.specs.Answers.{load_verdict, load_state}
 use Rattle.load.proofs.LoadCalls.{buffer-refused, buffer-done}
-use borrow.Author.Rules.{rules}
 use Rattle.load.proofs.errors_buffer.Goals as goal
 
 pub returns-in_default : goal.returns-in_default

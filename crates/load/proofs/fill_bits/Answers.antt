@@ -1,12 +1,11 @@
 use mathlib.Core.Path.{◌≡◌, refl, ap, ap₂, ◌∙◌}
 use mathlib.Core.List.{List}
-use Prim.Native.Nat.{ℕ, ◌-◌, ◌≤◌}
+use Prim.Native.Nat.{ℕ, ◌-◌}
 use native.Mathlib.Omega.{arith}
 use lib.ListN.{length, set, length-set}
 use Rattle.staircase.specs.Load.{next_state, output, state_after, load_bit}
-use Rattle.staircase.proofs.Fill.{filled, filled_none, filled_more, filled-all}
+use Rattle.staircase.proofs.Fill.{filled_none, filled_more, filled-all}
 use Rattle.generator.proofs.States.{after_none, after_more}
-use borrow.Author.Rules.{rules}
 use Rattle.load.proofs.fill_bits.Goals as goal
 
 pub loop-k-init : goal.loop-k-init

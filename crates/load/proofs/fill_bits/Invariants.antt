@@ -1,13 +1,9 @@
 -- After k turns the first k bytes are the outputs of k steps.
-use mathlib.Core.Path.{◌≡◌, refl, ap, ap₂, ◌∙◌}
-use mathlib.Core.List.{List}
-use Prim.Native.Nat.{ℕ, ◌-◌, ◌≤◌}
-use native.Mathlib.Omega.{arith}
-use lib.ListN.{length, set, length-set}
-use Rattle.staircase.specs.Load.{next_state, output, state_after, load_bit}
-use Rattle.staircase.proofs.Fill.{filled, filled_none, filled_more, filled-all}
-use Rattle.generator.proofs.States.{after_none, after_more}
-use borrow.Author.Rules.{rules}
+use mathlib.Core.Path.{◌≡◌}
+use Prim.Native.Nat.{◌-◌, ◌≤◌}
+use lib.ListN.{length}
+use Rattle.staircase.specs.Load.{state_after, load_bit}
+use Rattle.staircase.proofs.Fill.{filled}
 use Rattle.load.proofs.fill_bits.Given as goal
 
 abbrev pub invariant-loop-k : goal.invariant-loop-k

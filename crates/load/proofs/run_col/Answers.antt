@@ -5,7 +5,6 @@ use Rattle.staircase.specs.Load.{WithRun}
 use Rattle.answers.specs.Answers.{verdict_of}
 use Rattle.answers.proofs.Checks.{check_refused, check_passed}
 use Rattle.load.proofs.LoadCalls.{accepted-small, run_refused, run_done}
-use borrow.Author.Rules.{rules}
 use Rattle.load.proofs.run_col.Goals as goal
 
 pub returns-in_default : goal.returns-in_default

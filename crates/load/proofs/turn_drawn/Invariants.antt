@@ -1,16 +1,10 @@
 -- After k turns the first k bits are turned by their draws, and the state is that after k draws.
-use mathlib.Core.Path.{◌≡◌, ap, ap₂, ◌∙◌}
-use mathlib.Core.Bool.{cond}
-use mathlib.Core.List.{List}
-use Prim.Native.Nat.{ℕ, ◌+◌, ◌-◌, ◌*◌, ◌≤◌}
-use native.Mathlib.Omega.{arith}
-use lib.Dec.{ltb}
-use lib.ListN.{length, get_or, set, length-set}
-use Rattle.staircase.specs.Load.{state_after, drawn, random_turns}
-use Rattle.staircase.proofs.Fill.{filled, filled_none, filled_more, filled_next}
-use Rattle.generator.proofs.States.{after_none, after-add, draw_small}
-use Rattle.load.proofs.Turning.{turn_bit, turned-all}
-use borrow.Author.Rules.{rules}
+use mathlib.Core.Path.{◌≡◌}
+use Prim.Native.Nat.{◌-◌, ◌*◌, ◌≤◌}
+use lib.ListN.{length}
+use Rattle.staircase.specs.Load.{state_after, random_turns}
+use Rattle.staircase.proofs.Fill.{filled}
+use Rattle.load.proofs.Turning.{turn_bit}
 use Rattle.load.proofs.turn_drawn.Given as goal
 
 abbrev pub invariant-loop-k : goal.invariant-loop-k

@@ -1,13 +1,12 @@
 use mathlib.Core.Path.{◌≡◌, ap, ap₂, ◌∙◌}
 use mathlib.Core.Bool.{Bool, cond}
 use mathlib.Core.List.{List}
-use Prim.Native.Nat.{ℕ, ◌+◌, ◌-◌, ◌≤◌}
+use Prim.Native.Nat.{ℕ, ◌+◌, ◌-◌}
 use native.Mathlib.Omega.{arith}
-use lib.ListN.{length, get_or, set, length-set}
+use lib.ListN.{get_or, set, length-set}
 use Rattle.staircase.specs.Load.{run_turns}
-use Rattle.staircase.proofs.Fill.{filled, filled_none, filled_more, filled_next}
+use Rattle.staircase.proofs.Fill.{filled_none, filled_more, filled_next}
 use Rattle.load.proofs.Turning.{turn_bit, turned-all}
-use borrow.Author.Rules.{rules}
 use Rattle.load.proofs.turn_run.Goals as goal
 
 pub loop-k-init : goal.loop-k-init

@@ -1,14 +1,10 @@
 -- After k turns those of the first k bits that are in the run are turned.
-use mathlib.Core.Path.{◌≡◌, ap, ap₂, ◌∙◌}
-use mathlib.Core.Bool.{Bool, cond}
-use mathlib.Core.List.{List}
-use Prim.Native.Nat.{ℕ, ◌+◌, ◌-◌, ◌≤◌}
-use native.Mathlib.Omega.{arith}
-use lib.ListN.{length, get_or, set, length-set}
+use mathlib.Core.Path.{◌≡◌}
+use Prim.Native.Nat.{◌+◌, ◌-◌, ◌≤◌}
+use lib.ListN.{length}
 use Rattle.staircase.specs.Load.{run_turns}
-use Rattle.staircase.proofs.Fill.{filled, filled_none, filled_more, filled_next}
-use Rattle.load.proofs.Turning.{turn_bit, turned-all}
-use borrow.Author.Rules.{rules}
+use Rattle.staircase.proofs.Fill.{filled}
+use Rattle.load.proofs.Turning.{turn_bit}
 use Rattle.load.proofs.turn_run.Given as goal
 
 abbrev pub invariant-loop-k : goal.invariant-loop-k

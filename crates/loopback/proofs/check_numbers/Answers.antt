@@ -2,7 +2,6 @@
 use mathlib.Core.Path.{◌∙◌}
 use Rattle.answers.proofs.Checks.{refused_then, passed_then}
 use Rattle.loopback.specs.Link.{number_rules}
-use borrow.Author.Rules.{rules}
 use Rattle.loopback.proofs.check_numbers.Goals as goal
 
 pub returns-in_default : goal.returns-in_default

@@ -3,7 +3,6 @@ use mathlib.Core.Path.{refl, sym, ap, ◌∙◌}
 use Rattle.staircase.specs.Design.{Params}
 use Rattle.staircase.specs.Rules.{kept_work}
 use Rattle.design.proofs.Answers.{design-refused, made-params, made-allowed}
-use borrow.Author.Rules.{rules}
 use Rattle.answers.proofs.Checks.{check_refused}
 use Rattle.loopback.proofs.kept_bytes.Goals as goal
 

@@ -9,7 +9,6 @@ use Rattle.staircase.specs.Rules.{word_work, kept_work, decoder_work}
 use Rattle.staircase.specs.Calls.{Encoded, encode_call}
 use Rattle.answers.proofs.Checks.{check_passed}
 use Rattle.loopback.proofs.TwoCalls.{decode-same, part_length, loopback_numbers, loopback_encoder, small-frame, own-length, working_fits, loopback_decoded}
-use borrow.Author.Rules.{rules}
 use Rattle.loopback.proofs.loopback_col.Goals as goal
 
 pub returns-in_default : goal.returns-in_default

@@ -2,10 +2,10 @@ use native.Mathlib.Omega.{arith}
 use mathlib.Core.Path.{◌≡◌, ap, ap₂, ◌∙◌}
 use mathlib.Core.Bool.{cond}
 use mathlib.Core.List.{List}
-use Prim.Native.Nat.{ℕ, ◌-◌, ◌≤◌}
+use Prim.Native.Nat.{ℕ, ◌-◌}
 use lib.Dec.{eqb}
-use lib.ListN.{length, get_or, set, length-set}
-use Rattle.staircase.proofs.Fill.{filled, filled_none, filled_more, filled-all, filled_next}
+use lib.ListN.{get_or, set, length-set}
+use Rattle.staircase.proofs.Fill.{filled_none, filled_more, filled-all, filled_next}
 use Rattle.loopback.specs.Link.{turned}
 use Rattle.loopback.proofs.turn_bits.Goals as goal
 

@@ -1,13 +1,10 @@
 -- The loop's invariant: the bits before `k` are turned. The measure is the number of bits left.
-use native.Mathlib.Omega.{arith}
-use mathlib.Core.Path.{◌≡◌, ap, ap₂, ◌∙◌}
+use mathlib.Core.Path.{◌≡◌}
 use mathlib.Core.Bool.{cond}
-use mathlib.Core.List.{List}
-use Prim.Native.Nat.{ℕ, ◌-◌, ◌≤◌}
+use Prim.Native.Nat.{◌-◌, ◌≤◌}
 use lib.Dec.{eqb}
-use lib.ListN.{length, get_or, set, length-set}
-use Rattle.staircase.proofs.Fill.{filled, filled_none, filled_more, filled-all, filled_next}
-use Rattle.loopback.specs.Link.{turned}
+use lib.ListN.{length, get_or}
+use Rattle.staircase.proofs.Fill.{filled}
 use Rattle.loopback.proofs.turn_bits.Given as goal
 
 abbrev pub invariant-loop-k : goal.invariant-loop-k

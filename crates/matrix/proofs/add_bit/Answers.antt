@@ -1,5 +1,4 @@
 -- The stored byte is the law of `packed_bit-add`.
-use borrow.Author.Rules.{rules}
 use native.Mathlib.Omega.{arith}
 use lib.ListN.{length-set}
 use Rattle.matrix.proofs.Packed.{packed_bit-add}

@@ -1,7 +1,6 @@
 -- Where no entry is wrong the search would find none.
 use mathlib.Core.Path.{sym, ◌∙◌}
 use lib.ListN.{length}
-use borrow.Author.Rules.{rules}
 use Rattle.matrix.proofs.Wrong.{wrong_at, some-none}
 use Rattle.matrix.proofs.first_wrong.Goals as goal
 

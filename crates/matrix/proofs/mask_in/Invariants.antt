@@ -1,12 +1,9 @@
 -- The loop's invariant: the first `x` bytes are masked in and the others as they were. The measure is the number of bytes left.
-use mathlib.Core.Path.{◌≡◌, refl, ap}
+use mathlib.Core.Path.{◌≡◌}
 use mathlib.Core.List.{List}
 use Prim.Native.Nat.{ℕ, ◌-◌, ◌≤◌, ◌<◌}
-use native.Mathlib.Omega.{arith}
-use borrow.Author.Count.{below_none}
 use lib.Bits.{bit_and, bit_xor}
-use lib.ListN.{length, get_or, length-set}
-use Rattle.staircase.proofs.Fill.{each_more, rest_more}
+use lib.ListN.{length, get_or}
 use Rattle.matrix.proofs.mask_in.Given as goal
 
 -- what is left at place q

@@ -1,11 +1,10 @@
 use mathlib.Core.Path.{◌≡◌, ◌∙◌}
-use mathlib.Core.Logic.{⊎_elim}
-use Prim.Native.Nat.{◌-◌, ◌≤◌}
+use Prim.Native.Nat.{◌-◌}
 use native.Mathlib.Omega.{arith}
 use lib.ListN.{length, replicate}
 use Rattle.staircase.specs.System.{row_bytes}
 use Rattle.matrix.proofs.Packed.{plane_end, plane_length}
-use Rattle.matrix.proofs.Product.{Masked, masked_none, masked_more, masked_skip}
+use Rattle.matrix.proofs.Product.{masked_none, masked_more, masked_skip}
 use Rattle.matrix.proofs.mask_rows.Goals as goal
 use Rattle.matrix.proofs.mask_rows.Goals.{then-v-ne0, else-v-ne0}
 

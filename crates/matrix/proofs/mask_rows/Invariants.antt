@@ -1,12 +1,8 @@
 -- The loop's invariant: the first `b` bytes of the row are masked in, in every column. The measure is the number of bytes left.
-use mathlib.Core.Path.{◌≡◌, ◌∙◌}
-use mathlib.Core.Logic.{⊎_elim}
+use mathlib.Core.Path.{◌≡◌}
 use Prim.Native.Nat.{◌-◌, ◌≤◌}
-use native.Mathlib.Omega.{arith}
-use lib.ListN.{length, replicate}
-use Rattle.staircase.specs.System.{row_bytes}
-use Rattle.matrix.proofs.Packed.{plane_end, plane_length}
-use Rattle.matrix.proofs.Product.{Masked, masked_none, masked_more, masked_skip}
+use lib.ListN.{length}
+use Rattle.matrix.proofs.Product.{Masked}
 use Rattle.matrix.proofs.mask_rows.Given as goal
 
 abbrev pub invariant-loop-b : goal.invariant-loop-b

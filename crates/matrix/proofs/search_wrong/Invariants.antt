@@ -1,15 +1,8 @@
 -- The loop's invariant: no column before `x` is wrong. The measure is the number of columns left.
-use mathlib.Core.Path.{◌≡◌, sym, ◌∙◌}
-use mathlib.Core.Bool.{true, false}
-use mathlib.Core.List.{List}
-use Prim.Native.Nat.{ℕ, ◌-◌, ◌%◌, ◌≤◌, ◌<◌}
-use native.Mathlib.Omega.{arith}
-use borrow.Author.Count.{below_none, below_more}
-use borrow.Author.Tests.{eq-eqb, ne_eqb}
-use lib.Count.{ones}
-use lib.ListN.{length, get_or}
-use Rattle.staircase.specs.System.{identity}
-use Rattle.staircase.proofs.Search.{first_where-is, first_where-none}
+use mathlib.Core.Path.{◌≡◌}
+use mathlib.Core.Bool.{false}
+use Prim.Native.Nat.{ℕ, ◌-◌, ◌≤◌, ◌<◌}
+use lib.ListN.{length}
 use Rattle.matrix.proofs.Wrong.{wrong_at}
 use Rattle.matrix.proofs.search_wrong.Given as goal
 

@@ -1,15 +1,10 @@
 -- The loop's invariant: the low bit of what is gathered tells whether one of the first `x` bytes has an odd number of ones. The measure is the number
 -- of bytes left.
-use mathlib.Core.Path.{◌≡◌, refl, sym, ap, ◌∙◌}
-use mathlib.Core.Bool.{◌||◌}
-use Prim.Native.Nat.{ℕ, ◌-◌, ◌%◌, ◌≤◌}
-use native.Mathlib.Numerals.{add-one}
-use native.Mathlib.Omega.{arith}
+use mathlib.Core.Path.{◌≡◌}
+use Prim.Native.Nat.{◌-◌, ◌%◌, ◌≤◌}
 use lib.Dec.{eqb, ltb}
 use lib.ListN.{length}
 use Rattle.staircase.specs.Lists.{first_where}
-use Rattle.staircase.proofs.Search.{first_where_last}
-use Rattle.matrix.proofs.Ones.{odd_gathered}
 use Rattle.matrix.proofs.Wrong.{odd_at}
 use Rattle.matrix.proofs.some_odd.Given as goal
 

@@ -3,7 +3,6 @@ use mathlib.Core.Path.{sym, ◌∙◌}
 use Prim.Native.Nat.{◌+◌}
 use native.Mathlib.Omega.{arith}
 use lib.ListN.{length}
-use borrow.Author.Rules.{rules}
 use Rattle.matrix.proofs.Wrong.{wrong_past, odd_front, odd_part, wrong_even, wrong_front, wrong_rest}
 use Rattle.matrix.proofs.some_wrong.Goals as goal
 

@@ -3,7 +3,6 @@ use mathlib.Core.Path.{◌≡◌, subst}
 use Prim.Native.Nat.{ℕ, ◌+◌, ◌*◌, ◌≤◌, ◌<◌}
 use native.Mathlib.Decide.{dec_lt}
 use native.Mathlib.Omega.{arith}
-use borrow.Author.Rules.{rules}
 use Rattle.staircase.specs.Square.{cleared_entry}
 use Rattle.matrix_elimination.specs.Steps.{bit_at}
 use Rattle.matrix_elimination.proofs.ClearedSteps.{kept_steps, kept_pivots, kept-none, cleared_steps, cleared-units, cleared-none}

@@ -1,9 +1,8 @@
 use mathlib.Core.Path.{◌≡◌, refl, subst, ◌∙◌}
-use Prim.Native.Nat.{ℕ, ◌+◌, ◌-◌, ◌%◌, ◌≤◌}
+use Prim.Native.Nat.{ℕ, ◌+◌, ◌-◌}
 use native.Mathlib.Omega.{arith}
-use lib.ListN.{length}
 use Rattle.staircase.specs.Square.{Units}
-use Rattle.matrix_elimination.specs.Steps.{left, RowSteps}
+use Rattle.matrix_elimination.specs.Steps.{left}
 use Rattle.matrix_elimination.proofs.StepLaws.{steps_none, steps_then}
 use Rattle.matrix_elimination.proofs.eliminate.Goals as goal
 

@@ -1,11 +1,9 @@
 -- The loop's invariant: the first lo columns are the identity's. The measure is the number of columns left.
-use mathlib.Core.Path.{◌≡◌, refl, subst, ◌∙◌}
-use Prim.Native.Nat.{ℕ, ◌+◌, ◌-◌, ◌%◌, ◌≤◌}
-use native.Mathlib.Omega.{arith}
+use mathlib.Core.Path.{◌≡◌}
+use Prim.Native.Nat.{◌-◌, ◌%◌, ◌≤◌}
 use lib.ListN.{length}
 use Rattle.staircase.specs.Square.{Units}
 use Rattle.matrix_elimination.specs.Steps.{left, RowSteps}
-use Rattle.matrix_elimination.proofs.StepLaws.{steps_none, steps_then}
 use Rattle.matrix_elimination.proofs.eliminate.Given as goal
 
 abbrev pub invariant-loop-lo : goal.invariant-loop-lo

@@ -1,9 +1,8 @@
-use mathlib.Core.Path.{◌≡◌, refl, ◌∙◌}
-use Prim.Native.Nat.{ℕ, ◌-◌, ◌*◌, ◌≤◌, ◌<◌}
+use mathlib.Core.Path.{refl, ◌∙◌}
+use Prim.Native.Nat.{◌-◌, ◌*◌}
 use native.Mathlib.Omega.{arith}
-use lib.ListN.{length}
-use Rattle.staircase.specs.System.{identity, row_bytes}
-use Rattle.matrix_elimination.specs.Steps.{left, right}
+use Rattle.staircase.specs.System.{row_bytes}
+use Rattle.matrix_elimination.specs.Steps.{right}
 use Rattle.matrix_elimination.proofs.UnitRow.{unit_next}
 use Rattle.matrix_elimination.proofs.fill_identity.Goals as goal
 

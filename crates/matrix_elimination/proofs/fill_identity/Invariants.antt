@@ -1,12 +1,10 @@
 -- The loop's invariant: the right halves of the first i rows are the identity's, and the left halves as they were. The measure is the number of rows
 -- left.
-use mathlib.Core.Path.{◌≡◌, refl, ◌∙◌}
+use mathlib.Core.Path.{◌≡◌}
 use Prim.Native.Nat.{ℕ, ◌-◌, ◌*◌, ◌≤◌, ◌<◌}
-use native.Mathlib.Omega.{arith}
 use lib.ListN.{length}
 use Rattle.staircase.specs.System.{identity, row_bytes}
 use Rattle.matrix_elimination.specs.Steps.{left, right}
-use Rattle.matrix_elimination.proofs.UnitRow.{unit_next}
 use Rattle.matrix_elimination.proofs.fill_identity.Given as goal
 
 abbrev pub invariant-loop-i : goal.invariant-loop-i

@@ -1,6 +1,5 @@
 -- What elimination leaves of the matrix and of the identity.
 use mathlib.Core.Path.{◌∙◌}
-use borrow.Author.Rules.{rules}
 use Rattle.matrix_elimination.proofs.Inversion.{inversion_first, inversion_made}
 use Rattle.matrix_elimination.proofs.invert.Goals as goal
 

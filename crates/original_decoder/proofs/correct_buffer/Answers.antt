@@ -4,7 +4,6 @@ use Prim.Native.Nat.{ℕ, ◌-◌, ◌*◌}
 use native.Mathlib.Nat.{sub-zero}
 use native.Mathlib.Omega.{arith}
 use lib.ListN.{take}
-use borrow.Author.Rules.{rules}
 use Rattle.staircase.proofs.Bounds.{small_product}
 use Rattle.decoder_kept.specs.Numbers.{nonzero_numbers}
 use Rattle.design.specs.Sizes.{params_of}

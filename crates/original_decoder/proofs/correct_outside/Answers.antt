@@ -4,7 +4,6 @@ use Prim.Native.Nat.{◌+◌, ◌-◌, ◌*◌, ◌%◌, ◌^◌}
 use native.Mathlib.Omega.{arith}
 use lib.ListN.{length, take, drop}
 use lib.Seq.{length-take-le}
-use borrow.Author.Rules.{rules}
 use Rattle.words_positions.proofs.Parts.{part-fits}
 use Rattle.layout.specs.Layouts.{row_frames}
 use Rattle.design.specs.Sizes.{params_of}

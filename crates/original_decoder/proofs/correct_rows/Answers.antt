@@ -3,7 +3,6 @@ use mathlib.Core.Path.{◌≡◌, refl, sym, ap, ap₂, ◌∙◌}
 use Prim.Native.Nat.{ℕ, ◌-◌, ◌*◌, ◌≤◌}
 use native.Mathlib.Omega.{arith}
 use lib.ListN.{length, take, drop, length-replicate}
-use borrow.Author.Rules.{rules}
 use Rattle.decoder_kept.specs.Numbers.{nonzero_numbers}
 use Rattle.design.specs.Sizes.{params_of}
 use Rattle.original_decoder.proofs.Kept.{rows-outside, marks-keep, marks-count, numbers-end, part-short}

@@ -1,7 +1,6 @@
 -- The call ends at a refused design, at a refused buffer, or after the rounds.
 use mathlib.Core.Path.{sym, ◌∙◌}
 use lib.ListN.{length}
-use borrow.Author.Rules.{rules}
 use Rattle.answers.proofs.Checks.{check_passed}
 use Rattle.design.proofs.Answers.{made_original}
 use Rattle.original_decoder.proofs.DecodeCall.{decode-fits, decode-design, decode-refused, decode-done}

@@ -3,7 +3,6 @@ use Prim.Native.Nat.{◌-◌}
 use native.Mathlib.Omega.{arith}
 use lib.ListN.{take, drop}
 use Rattle.original_decoder.proofs.Rounds.{row_lines, rows_fit, kept_frame, rounds_back}
-use borrow.Author.Rules.{rules}
 use Rattle.original_decoder.proofs.run_rounds.Goals as goal
 
 pub run_rounds-requires : goal.run_rounds-requires

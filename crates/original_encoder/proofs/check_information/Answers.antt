@@ -10,7 +10,6 @@ use Rattle.answers.proofs.Checks.{refused_then, passed_then, check_passed}
 use Rattle.design.specs.Sizes.{params_of}
 use Rattle.original_rows.proofs.Checked.{buffer-sizes, buffer_limits, buffer-small}
 use Rattle.original_encoder.specs.Written.{width_bits, encode_rules}
-use borrow.Author.Rules.{rules}
 use Rattle.original_encoder.proofs.check_information.Goals as goal
 
 pub returns-in_default : goal.returns-in_default

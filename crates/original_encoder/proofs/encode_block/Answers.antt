@@ -4,7 +4,6 @@ use mathlib.Core.List.{List}
 use Prim.Native.Nat.{ℕ, ◌*◌, ◌≤◌}
 use native.Mathlib.Omega.{arith}
 use lib.ListN.{length, get_or}
-use borrow.Author.Rules.{rules}
 use Rattle.staircase.proofs.Bounds.{small_product, stretch-end}
 use Rattle.design.specs.Sizes.{params_of}
 use Rattle.original_rows.proofs.Checked.{buffer-small}

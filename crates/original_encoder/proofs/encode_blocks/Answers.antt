@@ -1,7 +1,6 @@
 use mathlib.Core.Path.{◌≡◌, ◌∙◌, subst}
-use Prim.Native.Nat.{ℕ, ◌-◌, ◌≤◌}
+use Prim.Native.Nat.{ℕ, ◌-◌}
 use native.Mathlib.Omega.{arith}
-use lib.ListN.{length}
 use Rattle.original.proofs.Rules.{degree_some, degree_of}
 use Rattle.design.specs.Sizes.{params_of}
 use Rattle.original_encoder.proofs.Blocks.{Done, done_none, done_next, done_all}

@@ -1,11 +1,9 @@
 -- The loop's invariant: the first b blocks are encoded. The measure is the number of blocks left.
-use mathlib.Core.Path.{◌≡◌, ◌∙◌, subst}
-use Prim.Native.Nat.{ℕ, ◌-◌, ◌≤◌}
-use native.Mathlib.Omega.{arith}
+use mathlib.Core.Path.{◌≡◌}
+use Prim.Native.Nat.{◌-◌, ◌≤◌}
 use lib.ListN.{length}
-use Rattle.original.proofs.Rules.{degree_some, degree_of}
 use Rattle.design.specs.Sizes.{params_of}
-use Rattle.original_encoder.proofs.Blocks.{Done, done_none, done_next, done_all}
+use Rattle.original_encoder.proofs.Blocks.{Done}
 use Rattle.original_encoder.proofs.encode_blocks.Given as goal
 
 abbrev pub invariant-loop-b : goal.invariant-loop-b

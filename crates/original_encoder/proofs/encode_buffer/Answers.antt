@@ -1,6 +1,5 @@
 -- The parity is zeroed, which changes no parity that is written, and the blocks are encoded.
 use native.Mathlib.Omega.{arith}
-use borrow.Author.Rules.{rules}
 use mathlib.Core.Path.{◌≡◌, sym, ap, ◌∙◌, subst⁻¹, subst₂}
 use mathlib.Core.Bool.{false}
 use mathlib.Core.List.{List}

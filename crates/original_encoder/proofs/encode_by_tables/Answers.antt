@@ -1,5 +1,4 @@
 -- The tables are made in the first entries of a local array, and the working entries are the first of another.
-use borrow.Author.Rules.{rules}
 use native.Mathlib.Omega.{arith}
 use mathlib.Core.Path.{◌≡◌, ◌∙◌, subst⁻¹}
 use lib.ListN.{length}

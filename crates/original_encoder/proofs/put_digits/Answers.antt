@@ -1,5 +1,5 @@
 use mathlib.Core.Path.{◌≡◌, subst}
-use Prim.Native.Nat.{ℕ, suc, ◌-◌, ◌≤◌}
+use Prim.Native.Nat.{ℕ, suc, ◌-◌}
 use native.Mathlib.Omega.{arith}
 use Rattle.original_encoder.proofs.Digits.{Last, last_none, last_more, last_all}
 use Rattle.original_encoder.proofs.put_digits.Goals as goal

@@ -1,11 +1,8 @@
 -- The loop's invariant: the digits of the first `a` rows are written. The measure is the number of rows left.
-use mathlib.Core.Path.{◌≡◌, subst}
-use Prim.Native.Nat.{ℕ, ◌-◌, ◌≤◌}
-use native.Mathlib.Omega.{arith}
+use mathlib.Core.Path.{◌≡◌}
+use Prim.Native.Nat.{◌-◌, ◌≤◌}
 use lib.ListN.{length, get_or}
-use Rattle.staircase.proofs.Bounds.{small_product, stretch-end}
 use Rattle.original_encoder.specs.Written.{RowsAt}
-use Rattle.original_encoder.proofs.Digits.{rows_none, rows_more}
 use Rattle.original_encoder.proofs.put_rows.Given as goal
 
 abbrev pub invariant-loop-a : goal.invariant-loop-a

@@ -6,7 +6,6 @@ use Rattle.design.specs.Sizes.{params_of}
 use Rattle.rules.specs.Bytes.{buffer_verdict}
 use Rattle.original_rows.specs.Rows.{received_rules}
 use Rattle.original_rows.proofs.Checked.{buffer-sizes}
-use borrow.Author.Rules.{rules}
 use Rattle.original_rows.proofs.check_received.Goals as goal
 
 pub returns : goal.returns

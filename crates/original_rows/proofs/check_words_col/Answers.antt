@@ -1,5 +1,4 @@
 -- The call ends at a refused design, at a refused buffer, or with the count.
-use borrow.Author.Rules.{rules}
 use mathlib.Core.Path.{sym, ◌∙◌}
 use Rattle.answers.proofs.Checks.{check_passed}
 use Rattle.design.proofs.Answers.{made_original}

@@ -4,7 +4,6 @@ use Rattle.design.specs.Sizes.{params_of, lists_of}
 use mathlib.Core.List.{[]}
 use Rattle.original.specs.Frame.{buffer_of}
 use Rattle.words_lines.proofs.Lent.{buffer_lent, row-sites}
-use borrow.Author.Rules.{rules}
 use Rattle.original_rows.proofs.count_outside.Goals as goal
 
 pub count_outside-requires : goal.count_outside-requires

@@ -1,6 +1,5 @@
 -- Each answer by the rule that decides it.
 use Rattle.program.proofs.Starting.{long-kit_stops, long-text_stops, kit_starts, kit_stops, broken_kit_stops}
-use borrow.Author.Rules.{rules}
 use Rattle.program.proofs.begin.Goals as goal
 
 pub returns-then-kit-gt-MOST_INPUT : goal.returns-then-kit-gt-MOST_INPUT

@@ -1,6 +1,5 @@
 -- Each answer by what the scan says.
 use Rattle.program.proofs.Starting.{text_goes, text_stops, broken_text_stops}
-use borrow.Author.Rules.{rules}
 use Rattle.program.proofs.begin_text.Goals as goal
 
 pub returns-in-Read : goal.returns-in-Read

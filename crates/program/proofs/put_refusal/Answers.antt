@@ -1,6 +1,5 @@
 -- There is room for the two lines.
 use Rattle.program.proofs.Printing.{printed_refusal}
-use borrow.Author.Rules.{rules}
 use Rattle.program.proofs.put_refusal.Goals as goal
 
 pub returns : goal.returns

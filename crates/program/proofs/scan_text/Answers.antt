@@ -1,6 +1,5 @@
 -- The scan for the one text or the other.
 use Rattle.program.proofs.Starting.{told_framed, told_bare}
-use borrow.Author.Rules.{rules}
 use Rattle.program.proofs.scan_text.Goals as goal
 
 pub returns-then-framed : goal.returns-then-framed

@@ -4,7 +4,6 @@ use native.Mathlib.Omega.{arith}
 use Rattle.staircase.specs.Design.{most-blocks}
 use Rattle.staircase.proofs.Bounds.{small_product}
 use Rattle.program.proofs.ProgramReady.{sizes_are}
-use borrow.Author.Rules.{rules}
 use Rattle.program.proofs.sizes_of.Goals as goal
 
 pub overflow_mul-inverse : goal.overflow_mul-inverse

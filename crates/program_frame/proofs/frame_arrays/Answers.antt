@@ -1,7 +1,6 @@
 -- The arrays are long enough for the parts that are lent.
 use mathlib.Core.Path.{sym, ◌∙◌}
 use Rattle.program.proofs.ProgramReady.{few-blocks, list_room, inverse-room, info-room, red-room, ready}
-use borrow.Author.Rules.{rules}
 use Rattle.program_frame.proofs.frame_arrays.Goals as goal
 
 pub sizes_of-s-requires : goal.sizes_of-s-requires

@@ -2,7 +2,6 @@
 use Rattle.program.proofs.Printing.{printed_as}
 use Rattle.program_frame.proofs.Framing.{groups-fit, frame-printed}
 use native.Mathlib.Omega.{arith}
-use borrow.Author.Rules.{rules}
 use Rattle.program_frame.proofs.frame_call.Goals as goal
 
 pub put_encoded-requires : goal.put_encoded-requires

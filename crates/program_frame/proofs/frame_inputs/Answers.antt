@@ -2,7 +2,6 @@
 use Rattle.program.proofs.Starting.{begun_goes, begun_stops}
 use Rattle.program.proofs.Printing.{printed_as}
 use Rattle.program_frame.proofs.Framing.{frame_stopped}
-use borrow.Author.Rules.{rules}
 use Rattle.program_frame.proofs.frame_inputs.Goals as goal
 
 pub frame_arrays-requires : goal.frame_arrays-requires

@@ -1,6 +1,5 @@
 -- A buffer that is too short, and one that is long enough.
 use Rattle.program.proofs.Printing.{output-printed, output-none}
-use borrow.Author.Rules.{rules}
 use Rattle.program_frame.proofs.frame_output.Goals as goal
 
 pub returns-then-out-lt-MOST_OUTPUT : goal.returns-then-out-lt-MOST_OUTPUT

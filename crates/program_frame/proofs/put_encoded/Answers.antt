@@ -1,7 +1,6 @@
 -- The groups have room, and so has a refusal.
 use Rattle.program.proofs.Printing.{printed-text, refused-prints}
 use Rattle.program_frame.proofs.Framing.{group-bits, few-groups, groups-room, passed-groups}
-use borrow.Author.Rules.{rules}
 use Rattle.program_frame.proofs.put_encoded.Goals as goal
 
 pub put_groups-requires : goal.put_groups-requires

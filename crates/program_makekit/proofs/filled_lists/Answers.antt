@@ -1,7 +1,6 @@
 -- The lists that are filled are those that the text shows.
 use Rattle.program.proofs.Printing.{printed_as}
 use Rattle.program_makekit.proofs.Making.{fill_fits, kit_shown}
-use borrow.Author.Rules.{rules}
 use Rattle.program_makekit.proofs.filled_lists.Goals as goal
 
 pub fill_lists-requires : goal.fill_lists-requires

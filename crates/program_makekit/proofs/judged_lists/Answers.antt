@@ -1,7 +1,6 @@
 -- Where the lists' lines go wrong, the place is printed; behind them the lists are filled.
 use Rattle.program.proofs.Printing.{printed_as}
 use Rattle.program_makekit.proofs.Making.{lists_broken, lists-read}
-use borrow.Author.Rules.{rules}
 use Rattle.program_makekit.proofs.judged_lists.Goals as goal
 
 pub list_arrays-requires : goal.list_arrays-requires

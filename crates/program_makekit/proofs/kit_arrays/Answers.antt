@@ -1,7 +1,6 @@
 -- The arrays have room for the inverse and the working bytes.
 use native.Mathlib.Omega.{arith}
 use Rattle.program_makekit.proofs.Making.{inverse-room, work-room, make_ready}
-use borrow.Author.Rules.{rules}
 use Rattle.program_makekit.proofs.kit_arrays.Goals as goal
 
 pub overflow_mul-room : goal.overflow_mul-room

@@ -1,6 +1,5 @@
 -- The arrays have room for the lists.
 use Rattle.program_makekit.proofs.Making.{lists-fit}
-use borrow.Author.Rules.{rules}
 use Rattle.program_makekit.proofs.list_arrays.Goals as goal
 
 pub filled_lists-requires : goal.filled_lists-requires

@@ -1,7 +1,6 @@
 -- The maker is called, and what it answers is printed.
 use Rattle.program.proofs.Printing.{printed_as}
 use Rattle.program_makekit.proofs.Making.{made-prints}
-use borrow.Author.Rules.{rules}
 use Rattle.program_makekit.proofs.make_kit.Goals as goal
 
 pub returns : goal.returns

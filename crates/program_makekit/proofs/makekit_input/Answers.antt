@@ -2,7 +2,6 @@
 use Rattle.program.proofs.Printing.{printed_as}
 use Rattle.text.proofs.MakeKitLaws.{long-input}
 use Rattle.program_makekit.proofs.Making.{front_starts, front_ruled, front_broken}
-use borrow.Author.Rules.{rules}
 use Rattle.program_makekit.proofs.makekit_input.Goals as goal
 
 pub returns-then-text-gt-MOST_INPUT : goal.returns-then-text-gt-MOST_INPUT

@@ -1,7 +1,6 @@
 -- A text that is too long is refused; behind that the maker is called.
 use Rattle.program.proofs.Printing.{printed_as}
 use Rattle.program_makekit.proofs.Making.{long-prints}
-use borrow.Author.Rules.{rules}
 use Rattle.program_makekit.proofs.measured_kit.Goals as goal
 
 pub returns-then-long-gt-MOST_INPUT : goal.returns-then-long-gt-MOST_INPUT

@@ -1,7 +1,6 @@
 -- The text has room, and so has a refusal.
 use Rattle.program.proofs.Printing.{refused-prints}
 use Rattle.program_makekit.proofs.Making.{write_part, write_fits, kit-printed}
-use borrow.Author.Rules.{rules}
 use Rattle.program_makekit.proofs.put_made.Goals as goal
 
 pub slice_bounds-put_kit-end-in-Passed : goal.slice_bounds-put_kit-end-in-Passed

@@ -7,7 +7,6 @@ use Rattle.rules.specs.Lengths.{decoder_due}
 use Rattle.rules.specs.declared.lengths.Lengths.{Lengths}
 use Rattle.program.proofs.ProgramReady.{few-blocks, list_room, inverse-room, info-room, ready}
 use Rattle.program_mend.proofs.Mending.{red-room, work-room}
-use borrow.Author.Rules.{rules}
 use Rattle.program_mend.proofs.mend_arrays.Goals as goal
 
 pub sizes_of-s-requires : goal.sizes_of-s-requires

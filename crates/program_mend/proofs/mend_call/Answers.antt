@@ -3,7 +3,6 @@ use mathlib.Core.Path.{◌∙◌}
 use Rattle.program.proofs.Printing.{printed_as}
 use Rattle.program_mend.proofs.Mending.{frame-fits, mend_printed}
 use native.Mathlib.Omega.{arith}
-use borrow.Author.Rules.{rules}
 use Rattle.program_mend.proofs.mend_call.Goals as goal
 
 pub put_decoded-requires : goal.put_decoded-requires

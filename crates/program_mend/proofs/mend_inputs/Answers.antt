@@ -2,7 +2,6 @@
 use Rattle.program.proofs.Starting.{begun_goes, begun_stops}
 use Rattle.program.proofs.Printing.{printed_as}
 use Rattle.program_mend.proofs.Mending.{mend_stopped}
-use borrow.Author.Rules.{rules}
 use Rattle.program_mend.proofs.mend_inputs.Goals as goal
 
 pub mend_arrays-requires : goal.mend_arrays-requires

@@ -1,7 +1,6 @@
 -- Blocks, groups and counts, one after the other.
 use native.Mathlib.Omega.{arith}
 use Rattle.program_mend.proofs.Mending.{block-bits, block_room, group-bits, few-groups, groups-room, lines-printed}
-use borrow.Author.Rules.{rules}
 use Rattle.program_mend.proofs.put_corrected.Goals as goal
 
 pub put_blocks-i-requires : goal.put_blocks-i-requires

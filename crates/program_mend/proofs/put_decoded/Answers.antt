@@ -1,6 +1,5 @@
 -- Each answer of the decoder prints what it says.
 use Rattle.program_mend.proofs.Mending.{decoded-prints, refused-prints}
-use borrow.Author.Rules.{rules}
 use Rattle.program_mend.proofs.put_decoded.Goals as goal
 
 pub returns-in-Refused : goal.returns-in-Refused

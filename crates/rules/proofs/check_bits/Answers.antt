@@ -7,7 +7,6 @@ use borrow.Author.Tests.{le-ltb}
 use Rattle.staircase.specs.Rules.{bit_rule}
 use Rattle.staircase.proofs.Rules.{refuse_first-accepted}
 use Rattle.answers.specs.Answers.{verdict_of}
-use borrow.Author.Rules.{rules}
 use Rattle.rules.proofs.check_bits.Goals as goal
 
 pub returns-then-most-le1 : goal.returns-then-most-le1

@@ -2,7 +2,6 @@
 use mathlib.Core.Path.{◌∙◌}
 use Rattle.answers.proofs.Checks.{refused_then, passed_then}
 use Rattle.rules.specs.Bytes.{buffer_verdict}
-use borrow.Author.Rules.{rules}
 use Rattle.rules.proofs.check_buffer.Goals as goal
 
 pub returns-in_default : goal.returns-in_default

@@ -9,7 +9,6 @@ use Rattle.answers.proofs.Checks.{refused_then, passed_then}
 use Rattle.design.proofs.Allowed.{order-positive}
 use Rattle.rules.specs.Bytes.{byte_rules}
 use Rattle.rules.proofs.OfDesign.{lists-rule, spare-rule}
-use borrow.Author.Rules.{rules}
 use Rattle.rules.proofs.check_bytes.Goals as goal
 
 pub check_lists-lists-requires : goal.check_lists-lists-requires

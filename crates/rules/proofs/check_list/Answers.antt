@@ -1,12 +1,12 @@
 use mathlib.Core.Path.{◌≡◌, sym, ◌∙◌}
 use mathlib.Core.Bool.{false}
-use Prim.Native.Nat.{ℕ, ◌-◌, ◌≤◌, ◌<◌}
+use Prim.Native.Nat.{◌-◌}
 use native.Mathlib.Omega.{arith}
 use lib.ListN.{length, get_or, replicate, length-set}
 use borrow.Author.Count.{below_more}
 use Rattle.staircase.specs.Rules.{entries, bad_entry}
 use Rattle.staircase.proofs.Rules.{refuse_first-accepted, refuse_first-refused}
-use Rattle.rules.proofs.Entries.{entry-at, Marked, marked_none, marked_more, too_high, repeated, new_entry}
+use Rattle.rules.proofs.Entries.{entry-at, marked_none, marked_more, too_high, repeated, new_entry}
 use Rattle.answers.specs.Answers.{refusal_verdict, verdict_of}
 use Rattle.rules.proofs.check_list.Goals as goal
 

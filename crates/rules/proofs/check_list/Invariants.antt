@@ -1,15 +1,11 @@
 -- The loop's invariant: the marks tell which numbers are among the first `p` entries, and no entry before `p` is bad. The measure is the number
 -- of entries left.
-use mathlib.Core.Path.{◌≡◌, sym, ◌∙◌}
+use mathlib.Core.Path.{◌≡◌}
 use mathlib.Core.Bool.{false}
 use Prim.Native.Nat.{ℕ, ◌-◌, ◌≤◌, ◌<◌}
-use native.Mathlib.Omega.{arith}
-use lib.ListN.{length, get_or, replicate, length-set}
-use borrow.Author.Count.{below_more}
+use lib.ListN.{length}
 use Rattle.staircase.specs.Rules.{entries, bad_entry}
-use Rattle.staircase.proofs.Rules.{refuse_first-accepted, refuse_first-refused}
-use Rattle.rules.proofs.Entries.{entry-at, Marked, marked_none, marked_more, too_high, repeated, new_entry}
-use Rattle.answers.specs.Answers.{refusal_verdict, verdict_of}
+use Rattle.rules.proofs.Entries.{Marked}
 use Rattle.rules.proofs.check_list.Given as goal
 
 abbrev pub invariant-loop-p : goal.invariant-loop-p

@@ -1,7 +1,6 @@
 -- A refusal of the first list is the answer; otherwise the second list's is.
 use mathlib.Core.Path.{◌∙◌}
 use Rattle.answers.proofs.Checks.{refused_then, passed_then}
-use borrow.Author.Rules.{rules}
 use Rattle.rules.proofs.check_lists.Goals as goal
 
 pub returns-in_default : goal.returns-in_default

@@ -4,7 +4,6 @@ use Rattle.answers.specs.Answers.{verdict_of}
 use Rattle.rules.proofs.Spare.{empty-spare}
 use native.Mathlib.Omega.{arith}
 use mathlib.Core.Path.{sym}
-use borrow.Author.Rules.{rules}
 use Rattle.rules.proofs.check_spare.Goals as goal
 
 pub returns-then-inverse-eq0 : goal.returns-then-inverse-eq0

@@ -1,10 +1,7 @@
 -- The loop's invariant: no byte before `i` is above `most`. The measure is the number of bytes left.
-use native.Mathlib.Omega.{arith}
 use mathlib.Core.Path.{◌≡◌}
 use Prim.Native.Nat.{ℕ, ◌-◌, ◌≤◌, ◌<◌}
-use native.Mathlib.Nat.{le_trans}
 use lib.ListN.{length, get_or}
-use borrow.Author.Count.{below_more}
 use Rattle.rules.proofs.greatest.Given as goal
 
 abbrev pub invariant-loop-i : goal.invariant-loop-i

@@ -1,15 +1,9 @@
 -- The loop's invariant: no byte before `i` is above 1. The measure is the number of bytes left.
-use mathlib.Core.Path.{◌≡◌, sym}
+use mathlib.Core.Path.{◌≡◌}
 use mathlib.Core.Bool.{false}
 use Prim.Native.Nat.{ℕ, ◌-◌, ◌≤◌, ◌<◌}
-use native.Mathlib.Omega.{arith}
 use lib.Dec.{ltb}
 use lib.ListN.{length, get_or}
-use borrow.Author.Count.{below_more}
-use borrow.Author.Tests.{lt-ltb, le-ltb}
-use Rattle.staircase.specs.Rules.{bit_rule}
-use Rattle.staircase.proofs.Rules.{refuse_first-accepted, refuse_first-refused}
-use Rattle.answers.specs.Answers.{refusal_verdict, verdict_of}
 use Rattle.rules.proofs.search_bits.Given as goal
 
 abbrev pub invariant-loop-i : goal.invariant-loop-i

@@ -1,5 +1,4 @@
 -- Each case is a law of what is stored.
-use borrow.Author.Rules.{rules}
 use mathlib.Core.Path.{refl}
 use Rattle.rules_verdict.proofs.Stores.{told_other, told-all}
 use Rattle.rules_verdict.proofs.tell_place.Goals as goal

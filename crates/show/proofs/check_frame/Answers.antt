@@ -3,7 +3,6 @@ use mathlib.Core.Path.{sym, ◌∙◌}
 use Rattle.show.specs.Show.{frame_rules}
 use Rattle.answers.proofs.Checks.{refused_then, passed_then, check_passed}
 use Rattle.staircase.proofs.Rules.{count_limits}
-use borrow.Author.Rules.{rules}
 use Rattle.show.proofs.check_frame.Goals as goal
 
 pub returns-in_default : goal.returns-in_default

@@ -4,7 +4,6 @@ use Prim.Native.Nat.{ℕ}
 use Rattle.staircase.specs.Rules.{refuse, out_of_range, part_rule}
 use Rattle.show.specs.declared.Part.{Part}
 use Rattle.show.specs.Answers.{part_of}
-use borrow.Author.Rules.{rules}
 use Rattle.show.proofs.check_part.Goals as goal
 
 pub returns-in-Block : goal.returns-in-Block

@@ -1,7 +1,6 @@
 -- A refused design decides; otherwise rules 4 and 6 do, for the sizes that the design was made from.
 use mathlib.Core.Path.{◌∙◌}
 use Rattle.show.proofs.Shown.{design-refuses, frame_decides}
-use borrow.Author.Rules.{rules}
 use Rattle.show.proofs.check_show_col.Goals as goal
 
 pub returns-in_default : goal.returns-in_default

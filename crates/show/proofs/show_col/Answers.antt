@@ -1,6 +1,5 @@
 -- A refusal shows nothing; past the checks the part is there, and is shown.
 use Rattle.show.proofs.Shown.{design-empty, frame-empty, passed-part, passed_shown}
-use borrow.Author.Rules.{rules}
 use Rattle.show.proofs.show_col.Goals as goal
 
 pub returns-in_default : goal.returns-in_default

@@ -2,7 +2,6 @@
 use mathlib.Core.Path.{◌∙◌}
 use Rattle.show.specs.Answers.{part_of}
 use Rattle.show.specs.Show.{HasPart}
-use borrow.Author.Rules.{rules}
 use Rattle.show.proofs.shown_part.Goals as goal
 
 pub stretch_of-requires : goal.stretch_of-requires

@@ -3,7 +3,6 @@ use Prim.Native.Nat.{◌-◌}
 use native.Mathlib.Nat.{add-sub_cancel_left}
 use native.Mathlib.Omega.{arith}
 use Rattle.staircase.proofs.Bounds.{stretch-end}
-use borrow.Author.Rules.{rules}
 use Rattle.show.proofs.stretch_of.Goals as goal
 
 pub overflow_mul-at : goal.overflow_mul-at

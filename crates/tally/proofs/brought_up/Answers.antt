@@ -3,7 +3,6 @@ use Prim.Native.Nat.{◌+◌}
 use native.Mathlib.Omega.{arith}
 use Rattle.tally.specs.Answers.{totals_of}
 use Rattle.tally.proofs.Totals.{fit_of, up_done, up_refused}
-use borrow.Author.Rules.{rules}
 use Rattle.tally.proofs.brought_up.Goals as goal
 
 pub overflow_add-result : goal.overflow_add-result

@@ -1,7 +1,6 @@
 -- Each of the six is rule 16 for its total.
 use Rattle.staircase.specs.Tally.{full_rule}
 use Rattle.rules.proofs.Chain.{both_then}
-use borrow.Author.Rules.{rules}
 use Rattle.tally.proofs.check_totals.Goals as goal
 
 pub returns : goal.returns

@@ -4,7 +4,6 @@ use Rattle.staircase.specs.Tally.{decode_with}
 use Rattle.answers.specs.Answers.{verdict_of}
 use Rattle.tally.specs.Answers.{totals_of}
 use Rattle.tally.proofs.Totals.{sums-fit, tallied_is}
-use borrow.Author.Rules.{rules}
 use Rattle.tally.proofs.decode_counted_col.Goals as goal
 
 pub brought_up-requires : goal.brought_up-requires

@@ -3,7 +3,6 @@ use mathlib.Core.Path.{ap}
 use Rattle.staircase.specs.Report as report
 use Rattle.staircase.specs.Report.{report_call}
 use Rattle.tally.specs.Answers.{totals_of}
-use borrow.Author.Rules.{rules}
 use Rattle.tally.proofs.report.Goals as goal
 
 pub returns : goal.returns

@@ -1,7 +1,6 @@
 use native.Mathlib.Nat.{mod-lt}
 use native.Mathlib.Omega.{arith}
-use borrow.Author.Rules.{rules}
-use Rattle.staircase.proofs.Report.{Same, same_start, same_step, same_end}
+use Rattle.staircase.proofs.Report.{same_start, same_step, same_end}
 use Rattle.tally_share.proofs.greatest_common.Goals as goal
 
 pub loop-y-init : goal.loop-y-init

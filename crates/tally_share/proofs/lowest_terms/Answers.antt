@@ -2,7 +2,6 @@
 use mathlib.Core.Path.{sym, ap, ◌∙◌}
 use Prim.Native.Nat.{ℕ, ◌/◌}
 use Rattle.staircase.proofs.Report.{share-none, share-some}
-use borrow.Author.Rules.{rules}
 use Rattle.tally_share.proofs.lowest_terms.Goals as goal
 
 pub returns-then-b-eq0 : goal.returns-then-b-eq0

@@ -4,7 +4,6 @@ use Rattle.staircase.specs.Design.{most-blocks}
 use Rattle.staircase.proofs.Bounds.{small_product}
 use native.Mathlib.Omega.{arith}
 use lib.ListN.{length}
-use borrow.Author.Rules.{rules}
 use Rattle.text_frame.proofs.read_blocks.Goals as goal
 
 pub returns-in_default : goal.returns-in_default

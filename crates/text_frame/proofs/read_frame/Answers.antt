@@ -3,7 +3,6 @@ use mathlib.Core.Path.{sym, ap, ◌∙◌}
 use Prim.Native.Nat.{ℕ, ◌*◌}
 use Rattle.text_frame.proofs.Calls.{frame_refused, frame-few, frame-pass, groups-room, groups-pass, frame-room, frame-length, frame-filled}
 use native.Mathlib.Omega.{arith}
-use borrow.Author.Rules.{rules}
 use Rattle.text_frame.proofs.read_frame.Goals as goal
 
 pub returns-in_default : goal.returns-in_default

@@ -1,6 +1,5 @@
 -- What judging finds, as the answer.
 use Rattle.text_frame.proofs.Answering.{blocks-told}
-use borrow.Author.Rules.{rules}
 use Rattle.text_frame.proofs.scan_blocks.Goals as goal
 
 pub returns : goal.returns

@@ -1,6 +1,5 @@
 -- What judging finds, as the answer.
 use Rattle.text_frame.proofs.Answering.{frame-told}
-use borrow.Author.Rules.{rules}
 use Rattle.text_frame.proofs.scan_frame.Goals as goal
 
 pub returns : goal.returns

@@ -1,6 +1,5 @@
 -- Each case of what is found has its answer.
 use Rattle.text_frame.proofs.Answering.{count-told, place_told}
-use borrow.Author.Rules.{rules}
 use Rattle.text_frame.proofs.told.Goals as goal
 
 pub returns-in-Count : goal.returns-in-Count

@@ -1,9 +1,7 @@
 use Rattle.text_frame_fill.proofs.Filling.{bit_there, bit_next, bits-all, bits_none}
-use Rattle.text_formats.specs.Items.{bits, prep, walk}
 use native.Mathlib.Omega.{arith}
-use mathlib.Core.Path.{◌≡◌}
-use lib.ListN.{length, length-set, take}
-use Prim.Native.Nat.{◌≤◌, ◌-◌}
+use lib.ListN.{length, length-set}
+use Prim.Native.Nat.{◌-◌}
 use Rattle.text_frame_fill.proofs.fill_bits.Goals as goal
 
 pub loop-k-init : goal.loop-k-init

@@ -1,9 +1,7 @@
 -- The loop's invariant: the first k bytes are the bits that are read. The measure is the number of bits left.
-use Rattle.text_frame_fill.proofs.Filling.{bit_there, bit_next, bits-all, bits_none}
 use Rattle.text_formats.specs.Items.{bits, prep, walk}
-use native.Mathlib.Omega.{arith}
 use mathlib.Core.Path.{◌≡◌}
-use lib.ListN.{length, length-set, take}
+use lib.ListN.{length, take}
 use Prim.Native.Nat.{◌≤◌, ◌-◌}
 use Rattle.text_frame_fill.proofs.fill_bits.Given as goal
 

@@ -1,7 +1,6 @@
 -- The number is there, then Y, then P, then a line feed.
 use Rattle.text_frame_fill.proofs.Filling.{group_wrong, group-own, parity_there, feed_there, both-filled}
 use native.Mathlib.Omega.{arith}
-use borrow.Author.Rules.{rules}
 use Rattle.text_frame_fill.proofs.fill_group.Goals as goal
 
 pub returns-in_default : goal.returns-in_default

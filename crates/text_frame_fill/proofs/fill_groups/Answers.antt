@@ -1,11 +1,8 @@
 use Rattle.text_frame_fill.proofs.Filling.{none_filled, next_given, next_passes, all-filled, group_next}
-use Rattle.text.specs.FrameText.{group_line, group_lines}
-use Rattle.text_formats.specs.Items.{prep, walk}
+use Rattle.text.specs.FrameText.{group_line}
 use Rattle.staircase.proofs.Bounds.{stretch-end}
 use native.Mathlib.Omega.{arith}
-use mathlib.Core.Path.{◌≡◌}
-use lib.ListN.{length, take}
-use Prim.Native.Nat.{◌+◌, ◌-◌, ◌*◌, ◌≤◌}
+use Prim.Native.Nat.{◌-◌, ◌*◌}
 use Rattle.text_frame_fill.proofs.fill_groups.Goals as goal
 
 pub loop-i-init : goal.loop-i-init

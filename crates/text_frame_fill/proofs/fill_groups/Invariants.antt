@@ -1,9 +1,6 @@
 -- The loop's invariant: the bits of i groups are written, and the walk of all lines goes on behind them. The measure is the number of lines left.
-use Rattle.text_frame_fill.proofs.Filling.{none_filled, next_given, next_passes, all-filled, group_next}
-use Rattle.text.specs.FrameText.{group_line, group_lines}
+use Rattle.text.specs.FrameText.{group_lines}
 use Rattle.text_formats.specs.Items.{prep, walk}
-use Rattle.staircase.proofs.Bounds.{stretch-end}
-use native.Mathlib.Omega.{arith}
 use mathlib.Core.Path.{◌≡◌}
 use lib.ListN.{length, take}
 use Prim.Native.Nat.{◌+◌, ◌-◌, ◌*◌, ◌≤◌}

@@ -1,6 +1,5 @@
 -- The part of the slice is lent, and comes back with the values of the walk.
 use Rattle.text_frame_fill.proofs.Filling.{half_lent, half_filled}
-use borrow.Author.Rules.{rules}
 use Rattle.text_frame_fill.proofs.fill_half.Goals as goal
 
 pub fill_part-requires : goal.fill_part-requires

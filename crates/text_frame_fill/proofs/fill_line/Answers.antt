@@ -2,7 +2,6 @@
 use Rattle.text_frame_fill.proofs.Filling.{line_wrong, line-part, line-filled}
 use native.Mathlib.Omega.{arith}
 use lib.ListN.{length}
-use borrow.Author.Rules.{rules}
 use Rattle.text_frame_fill.proofs.fill_line.Goals as goal
 
 pub returns-in_default : goal.returns-in_default

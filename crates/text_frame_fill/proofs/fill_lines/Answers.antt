@@ -1,10 +1,8 @@
 use Rattle.text_frame_fill.proofs.Filling.{none_filled, all-filled, row_passes, row_filled}
-use Rattle.text_formats.specs.Items.{bits_line, bits_lines, prep, walk}
+use Rattle.text_formats.specs.Items.{bits_line}
 use Rattle.staircase.proofs.Bounds.{stretch-end}
 use native.Mathlib.Omega.{arith}
-use mathlib.Core.Path.{◌≡◌}
-use lib.ListN.{length, take}
-use Prim.Native.Nat.{◌+◌, ◌-◌, ◌*◌, ◌≤◌}
+use Prim.Native.Nat.{◌-◌}
 use Rattle.text_frame_fill.proofs.fill_lines.Goals as goal
 
 pub loop-i-init : goal.loop-i-init

@@ -1,8 +1,5 @@
 -- The loop's invariant: the bits of i lines are written, and the walk of all lines goes on behind them. The measure is the number of lines left.
-use Rattle.text_frame_fill.proofs.Filling.{none_filled, all-filled, row_passes, row_filled}
-use Rattle.text_formats.specs.Items.{bits_line, bits_lines, prep, walk}
-use Rattle.staircase.proofs.Bounds.{stretch-end}
-use native.Mathlib.Omega.{arith}
+use Rattle.text_formats.specs.Items.{bits_lines, prep, walk}
 use mathlib.Core.Path.{◌≡◌}
 use lib.ListN.{length, take}
 use Prim.Native.Nat.{◌+◌, ◌-◌, ◌*◌, ◌≤◌}

@@ -4,7 +4,6 @@ use Rattle.text_formats.specs.Items.{bits, Passes}
 use native.Mathlib.Omega.{arith}
 use mathlib.Core.Path.{sym, subst, ◌∙◌}
 use lib.ListN.{length}
-use borrow.Author.Rules.{rules}
 use Rattle.text_frame_fill.proofs.fill_part.Goals as goal
 
 pub overflow_add-at : goal.overflow_add-at

@@ -2,7 +2,6 @@
 use Rattle.text_items.proofs.Lines.{step-of, stops_first, goes_on}
 use Rattle.text_formats.specs.Items.{lits, bits_line}
 use Rattle.text.specs.FrameText.{block_names}
-use borrow.Author.Rules.{rules}
 use Rattle.text_frame_scan.proofs.front.Goals as goal
 
 pub returns-in_default : goal.returns-in_default

@@ -1,6 +1,5 @@
 -- The number, Y, P and the line feed, one after the other.
 use Rattle.text_frame_scan.proofs.Judging.{group-number, group-self, group-parity, group-end}
-use borrow.Author.Rules.{rules}
 use Rattle.text_frame_scan.proofs.group_line.Goals as goal
 
 pub returns-in_default : goal.returns-in_default

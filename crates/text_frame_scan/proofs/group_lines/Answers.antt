@@ -1,12 +1,11 @@
 use Rattle.text_formats.proofs.Lines.{lines-whole, lines_end}
 use Rattle.text_items.proofs.Lines.{lines_wrong, lines_step}
-use Rattle.text.specs.FrameText.{group_line, group_lines}
+use Rattle.text.specs.FrameText.{group_line}
 use Rattle.text_items.specs.Answers.{step_of}
-use Rattle.text_formats.specs.Items.{walk}
 use borrow.Author.Rules.{rules}
 use native.Mathlib.Omega.{arith}
-use mathlib.Core.Path.{◌≡◌, sym, ap, ◌∙◌}
-use Prim.Native.Nat.{◌+◌, ◌-◌, ◌≤◌}
+use mathlib.Core.Path.{sym, ap, ◌∙◌}
+use Prim.Native.Nat.{◌+◌, ◌-◌}
 use Rattle.text_frame_scan.proofs.group_lines.Goals as goal
 
 pub loop-i-init : goal.loop-i-init

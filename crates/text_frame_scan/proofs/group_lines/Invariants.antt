@@ -1,12 +1,8 @@
 -- The loop's invariant: i lines are read, and the walk of all lines goes on behind them. The measure is the number of lines left.
-use Rattle.text_formats.proofs.Lines.{lines-whole, lines_end}
-use Rattle.text_items.proofs.Lines.{lines_wrong, lines_step}
-use Rattle.text.specs.FrameText.{group_line, group_lines}
+use Rattle.text.specs.FrameText.{group_lines}
 use Rattle.text_items.specs.Answers.{step_of}
 use Rattle.text_formats.specs.Items.{walk}
-use borrow.Author.Rules.{rules}
-use native.Mathlib.Omega.{arith}
-use mathlib.Core.Path.{◌≡◌, sym, ap, ◌∙◌}
+use mathlib.Core.Path.{◌≡◌}
 use Prim.Native.Nat.{◌+◌, ◌-◌, ◌≤◌}
 use Rattle.text_frame_scan.proofs.group_lines.Given as goal
 

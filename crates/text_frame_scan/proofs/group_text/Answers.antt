@@ -1,6 +1,5 @@
 -- The header, the lines of the groups, and the end of the text.
 use Rattle.text_frame_scan.proofs.Judging.{names_wrong, groups_wrong, groups_there, groups_over}
-use borrow.Author.Rules.{rules}
 use Rattle.text_frame_scan.proofs.group_text.Goals as goal
 
 pub returns-then-s-e : goal.returns-then-s-e

@@ -3,7 +3,6 @@ use Rattle.text_frame_scan.proofs.Judging.{front_wrong, front_on}
 use Rattle.staircase.specs.Design.{most-blocks}
 use Rattle.text.specs.FrameText.{frame_tail, frame_format}
 use Prim.Native.Nat.{◌-◌}
-use borrow.Author.Rules.{rules}
 use Rattle.text_frame_scan.proofs.judge_frame.Goals as goal
 
 pub returns-in-Refused : goal.returns-in-Refused

@@ -1,11 +1,10 @@
 use Rattle.text_frame_scan.proofs.Judging.{tail_there, tail_over, tail_wrong, tail_next}
-use Rattle.text.specs.FrameText.{block_tail}
-use Rattle.text_formats.specs.Items.{scan_at, verdict}
+use Rattle.text_formats.specs.Items.{verdict}
 use Rattle.staircase.specs.Design.{most-blocks}
 use borrow.Author.Rules.{rules}
 use native.Mathlib.Omega.{arith}
-use mathlib.Core.Path.{◌≡◌, refl, sym, ap, ◌∙◌}
-use Prim.Native.Nat.{◌≤◌, ◌-◌}
+use mathlib.Core.Path.{refl, sym, ap, ◌∙◌}
+use Prim.Native.Nat.{◌-◌}
 use Rattle.text_frame_scan.proofs.more_blocks.Goals as goal
 
 pub loop-i-init : goal.loop-i-init

@@ -1,11 +1,8 @@
 -- After i lines `g` begins the group text, or the text goes on with the line of block i + 1.
-use Rattle.text_frame_scan.proofs.Judging.{frame-group, frame-none, frame-cut, frame_next}
 use Rattle.text.specs.FrameText.{frame_tail}
 use Rattle.text_formats.specs.Items.{scan_at, verdict}
 use Rattle.staircase.specs.Design.{most-blocks}
-use borrow.Author.Rules.{rules}
-use native.Mathlib.Omega.{arith}
-use mathlib.Core.Path.{◌≡◌, refl, sym, ap, ◌∙◌}
+use mathlib.Core.Path.{◌≡◌}
 use Prim.Native.Nat.{◌≤◌, ◌-◌}
 use Rattle.text_frame_scan.proofs.more_frame.Given as goal
 

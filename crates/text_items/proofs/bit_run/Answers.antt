@@ -1,9 +1,8 @@
 use Rattle.text_items.proofs.Lines.{bits-done, bits-end, bits-low, bits-high, bits-step, bits-all}
 use Rattle.text_items.specs.Answers.{step_of}
-use Rattle.text_formats.specs.Items.{bits, walk}
 use native.Mathlib.Omega.{arith}
-use mathlib.Core.Path.{◌≡◌, sym, ap, ◌∙◌}
-use Prim.Native.Nat.{◌≤◌, ◌-◌}
+use mathlib.Core.Path.{sym, ap, ◌∙◌}
+use Prim.Native.Nat.{◌-◌}
 use Rattle.text_items.proofs.bit_run.Goals as goal
 
 pub loop-i-init : goal.loop-i-init

@@ -1,9 +1,7 @@
 -- After i bits: what the others say at q is what all of them say.
-use Rattle.text_items.proofs.Lines.{bits-done, bits-end, bits-low, bits-high, bits-step, bits-all}
 use Rattle.text_items.specs.Answers.{step_of}
 use Rattle.text_formats.specs.Items.{bits, walk}
-use native.Mathlib.Omega.{arith}
-use mathlib.Core.Path.{◌≡◌, sym, ap, ◌∙◌}
+use mathlib.Core.Path.{◌≡◌}
 use Prim.Native.Nat.{◌≤◌, ◌-◌}
 use Rattle.text_items.proofs.bit_run.Given as goal
 

@@ -1,6 +1,5 @@
 -- The number, the bits and the line feed, one after the other.
 use Rattle.text_items.proofs.Lines.{line-number, line-bits, line-end}
-use borrow.Author.Rules.{rules}
 use Rattle.text_items.proofs.bits_line.Goals as goal
 
 pub returns-in_default : goal.returns-in_default

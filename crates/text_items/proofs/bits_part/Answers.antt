@@ -1,6 +1,5 @@
 -- The space, and then the bits.
 use Rattle.text_items.proofs.Lines.{part_space, part-bits}
-use borrow.Author.Rules.{rules}
 use Rattle.text_items.proofs.bits_part.Goals as goal
 
 pub returns-in_default : goal.returns-in_default

@@ -1,5 +1,4 @@
 -- No byte at the position, a byte below the digits, a byte above them, and a digit.
-use borrow.Author.Rules.{rules}
 use Rattle.text_items.proofs.Numbers.{digit_at_out, low_read, high_read, digit-read}
 use Rattle.text_items.proofs.digit_at.Goals as goal
 

@@ -1,11 +1,8 @@
 -- After i bytes: what those from i on say at q is what all of them say.
-use native.Mathlib.Omega.{arith}
-use mathlib.Core.Path.{◌≡◌, refl, sym, ◌∙◌}
+use mathlib.Core.Path.{◌≡◌}
 use Prim.Native.Nat.{◌≤◌, ◌-◌}
 use lib.ListN.{length, drop}
-use borrow.Author.Rules.{rules}
 use Rattle.text_formats.specs.Items.{walk, lits}
-use Rattle.text_items.proofs.Fields.{lit_done, lit_stop, lit_next}
 use Rattle.text_items.proofs.literal.Given as goal
 
 abbrev pub invariant-loop-i : goal.invariant-loop-i

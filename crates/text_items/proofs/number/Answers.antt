@@ -1,7 +1,7 @@
 use native.Mathlib.Omega.{arith}
 use Prim.Native.Nat.{◌-◌}
 use borrow.Author.Rules.{rules}
-use Rattle.text_items.proofs.Numbers.{digit_at-small, none_read, zero-read, Leading, leading_first, leading_small, leading_stop, leading_next, leading_full}
+use Rattle.text_items.proofs.Numbers.{digit_at-small, none_read, zero-read, leading_first, leading_small, leading_stop, leading_next, leading_full}
 use Rattle.text_items.proofs.number.Goals as goal
 
 pub digit_at-first-requires : goal.digit_at-first-requires

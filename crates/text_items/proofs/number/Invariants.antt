@@ -1,8 +1,6 @@
 -- No number, a number that starts with 0, and digit after digit: `Leading` of proofs/Numbers.antt.
-use native.Mathlib.Omega.{arith}
 use Prim.Native.Nat.{◌-◌}
-use borrow.Author.Rules.{rules}
-use Rattle.text_items.proofs.Numbers.{digit_at-small, none_read, zero-read, Leading, leading_first, leading_small, leading_stop, leading_next, leading_full}
+use Rattle.text_items.proofs.Numbers.{Leading}
 use Rattle.text_items.proofs.number.Given as goal
 
 abbrev pub invariant-loop-n : goal.invariant-loop-n

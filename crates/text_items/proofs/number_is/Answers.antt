@@ -7,7 +7,6 @@ use lib.Seq.{length-take-le}
 use Rattle.text_formats.specs.Items.{walk, lits}
 use Rattle.text_lines.proofs.Decimal.{dec-short}
 use Rattle.text_items.proofs.Fields.{written-front}
-use borrow.Author.Rules.{rules}
 use Rattle.text_items.proofs.number_is.Goals as goal
 
 pub slice_bounds-text-end : goal.slice_bounds-text-end

@@ -1,5 +1,4 @@
 -- The number, and then the byte.
-use borrow.Author.Rules.{rules}
 use Rattle.text_items.proofs.Fields.{then_bad, then_stop, then_got}
 use Rattle.text_items.proofs.number_then.Goals as goal
 

@@ -1,6 +1,5 @@
 -- The two lines and the design, rule 6, the rest, and the filling.
 use Rattle.text_kit.proofs.ReadLaws.{read_none, read_ruled, read_lengths, read_small, read-not, lists_ready, inverse_ready, read_whole}
-use borrow.Author.Rules.{rules}
 use Rattle.text_kit.proofs.read_kit.Goals as goal
 
 pub judge_rest-whole-requires : goal.judge_rest-whole-requires

@@ -1,6 +1,5 @@
 -- The two lines and the design, and then the rest.
 use Rattle.text_kit.proofs.ScanLaws.{opens, small-order, scan-none, scan_ruled, scan-not, scan-whole}
-use borrow.Author.Rules.{rules}
 use Rattle.text_kit.proofs.scan_kit.Goals as goal
 
 pub judge_rest-whole-requires : goal.judge_rest-whole-requires

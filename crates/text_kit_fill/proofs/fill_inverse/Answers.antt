@@ -2,7 +2,7 @@ use native.Mathlib.Omega.{arith}
 use Prim.Native.Nat.{◌-◌}
 use Rattle.staircase.specs.System.{row_bytes}
 use Rattle.staircase.proofs.Bounds.{stretch-end}
-use Rattle.text_kit_fill.proofs.RowFilling.{Packed, packed_start, packed-length, packed-line, packed_next, packed_all}
+use Rattle.text_kit_fill.proofs.RowFilling.{packed_start, packed-length, packed-line, packed_next, packed_all}
 use Rattle.text_kit_fill.proofs.fill_inverse.Goals as goal
 
 pub overflow_add-w : goal.overflow_add-w

@@ -1,9 +1,6 @@
 -- After p lines: `Packed` of proofs/RowFilling.antt.
-use native.Mathlib.Omega.{arith}
 use Prim.Native.Nat.{◌-◌}
-use Rattle.staircase.specs.System.{row_bytes}
-use Rattle.staircase.proofs.Bounds.{stretch-end}
-use Rattle.text_kit_fill.proofs.RowFilling.{Packed, packed_start, packed-length, packed-line, packed_next, packed_all}
+use Rattle.text_kit_fill.proofs.RowFilling.{Packed}
 use Rattle.text_kit_fill.proofs.fill_inverse.Given as goal
 
 abbrev pub invariant-loop-p : goal.invariant-loop-p

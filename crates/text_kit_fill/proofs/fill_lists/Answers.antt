@@ -1,7 +1,7 @@
 use native.Mathlib.Omega.{arith}
 use borrow.Author.Rules.{rules}
 use Prim.Native.Nat.{◌-◌}
-use Rattle.text_kit_fill.proofs.Filling.{Filled, filled_start, filled-left, filled-right, filled_wrong, filled_next, filled-own, filled-parity}
+use Rattle.text_kit_fill.proofs.Filling.{filled_start, filled-left, filled-right, filled_wrong, filled_next, filled-own, filled-parity}
 use Rattle.text_kit_fill.proofs.fill_lists.Goals as goal
 
 pub loop-p-init : goal.loop-p-init

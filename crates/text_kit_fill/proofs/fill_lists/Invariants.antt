@@ -1,8 +1,6 @@
 -- After p lines: `Filled` of proofs/Filling.antt.
-use native.Mathlib.Omega.{arith}
-use borrow.Author.Rules.{rules}
 use Prim.Native.Nat.{◌-◌}
-use Rattle.text_kit_fill.proofs.Filling.{Filled, filled_start, filled-left, filled-right, filled_wrong, filled_next, filled-own, filled-parity}
+use Rattle.text_kit_fill.proofs.Filling.{Filled}
 use Rattle.text_kit_fill.proofs.fill_lists.Given as goal
 
 abbrev pub invariant-loop-p : goal.invariant-loop-p

@@ -1,7 +1,6 @@
 -- The line is right, so its number is, and its bits stand behind the space.
 use native.Mathlib.Omega.{arith}
 use Rattle.text_kit_fill.proofs.RowFilling.{row_not, row_parts, row_next, row_packed}
-use borrow.Author.Rules.{rules}
 use Rattle.text_kit_fill.proofs.fill_row.Goals as goal
 
 pub returns-in_default : goal.returns-in_default

@@ -1,11 +1,9 @@
 -- The bits from k on are gathered, the last first.
-use native.Mathlib.Omega.{arith}
-use mathlib.Core.Path.{◌≡◌, ap, ◌∙◌}
-use Prim.Native.Nat.{ℕ, ◌≤◌, ◌<◌}
+use mathlib.Core.Path.{◌≡◌}
+use Prim.Native.Nat.{◌≤◌, ◌<◌}
 use lib.ListN.{take, drop}
 use Rattle.text_kit_fill.specs.Bytes.{lows}
 use Rattle.text.specs.KitReader.{binary}
-use Rattle.text_kit_fill.proofs.Packing.{gather_none, gather_step}
 use Rattle.text_kit_fill.proofs.gather.Given as goal
 
 abbrev pub invariant-loop-k : goal.invariant-loop-k

@@ -2,8 +2,8 @@ use native.Mathlib.Omega.{arith}
 use borrow.Author.Rules.{rules}
 use mathlib.Core.Path.{◌≡◌, refl, ap, ◌∙◌}
 use mathlib.Core.List.{List}
-use Prim.Native.Nat.{ℕ, ◌≤◌, ◌+◌, ◌-◌, ◌/◌, ◌%◌}
-use lib.ListN.{length, take, drop, set, length-set}
+use Prim.Native.Nat.{ℕ, ◌+◌, ◌-◌, ◌/◌, ◌%◌}
+use lib.ListN.{take, drop, set, length-set}
 use lib.Seq.{sets}
 use Rattle.text_kit_fill.specs.Bytes.{lows}
 use Rattle.text.specs.KitReader.{pack}

@@ -1,14 +1,10 @@
 -- After b bytes: they are the first b of the packed bits.
-use native.Mathlib.Omega.{arith}
-use borrow.Author.Rules.{rules}
-use mathlib.Core.Path.{◌≡◌, refl, ap, ◌∙◌}
-use mathlib.Core.List.{List}
-use Prim.Native.Nat.{ℕ, ◌≤◌, ◌+◌, ◌-◌, ◌/◌, ◌%◌}
-use lib.ListN.{length, take, drop, set, length-set}
+use mathlib.Core.Path.{◌≡◌}
+use Prim.Native.Nat.{◌≤◌, ◌+◌, ◌-◌, ◌/◌}
+use lib.ListN.{length, take, drop}
 use lib.Seq.{sets}
 use Rattle.text_kit_fill.specs.Bytes.{lows}
 use Rattle.text.specs.KitReader.{pack}
-use Rattle.text_kit_fill.proofs.Packing.{pack-none, pack-more}
 use Rattle.text_kit_fill.proofs.pack_row.Given as goal
 
 abbrev pub invariant-loop-b : goal.invariant-loop-b

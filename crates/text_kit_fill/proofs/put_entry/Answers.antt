@@ -2,7 +2,6 @@
 use native.Mathlib.Omega.{arith}
 use native.Mathlib.Numerals.{add-one}
 use lib.ListN.{length-set}
-use borrow.Author.Rules.{rules}
 use Rattle.text_kit_fill.proofs.put_entry.Goals as goal
 
 pub bounds-list-p-2 : goal.bounds-list-p-2

@@ -1,7 +1,6 @@
 -- The names, the lists' lines and the end of the text.
 use Rattle.text.specs.KitText.{list_names}
 use Rattle.text_kit_scan.proofs.PartLaws.{part-names, part-lines, part-more, part-whole, lists-split}
-use borrow.Author.Rules.{rules}
 use Rattle.text_kit_scan.proofs.judge_lists.Goals as goal
 
 pub returns-in_default : goal.returns-in_default

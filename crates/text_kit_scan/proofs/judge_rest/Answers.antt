@@ -1,6 +1,5 @@
 -- The names, the lists' lines and what follows them.
 use Rattle.text_kit_scan.proofs.RestLaws.{rest-names, rest-lists, rest-tail, rest-whole}
-use borrow.Author.Rules.{rules}
 use Rattle.text_kit_scan.proofs.judge_rest.Goals as goal
 
 pub returns-in-Refused : goal.returns-in-Refused

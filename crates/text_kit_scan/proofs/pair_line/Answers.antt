@@ -1,6 +1,5 @@
 -- The place's number, the space and the two entries.
 use Rattle.text_kit_scan.proofs.ListLines.{place_wrong, space_wrong, pair_read}
-use borrow.Author.Rules.{rules}
 use Rattle.text_kit_scan.proofs.pair_line.Goals as goal
 
 pub returns-in-Refused : goal.returns-in-Refused

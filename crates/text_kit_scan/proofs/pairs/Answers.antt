@@ -1,11 +1,10 @@
 use native.Mathlib.Omega.{arith}
 use borrow.Author.Rules.{rules}
-use mathlib.Core.Path.{◌≡◌, sym, ap, ◌∙◌}
-use Prim.Native.Nat.{◌≤◌, ◌-◌}
-use Rattle.text_formats.specs.Items.{walk}
+use mathlib.Core.Path.{sym, ap, ◌∙◌}
+use Prim.Native.Nat.{◌-◌}
 use Rattle.text_formats.proofs.Lines.{lines-whole, lines_end}
 use Rattle.text_items.specs.Answers.{step_of}
-use Rattle.text.specs.KitText.{pair_line, pair_lines}
+use Rattle.text.specs.KitText.{pair_line}
 use Rattle.text_kit_scan.proofs.ListLines.{pairs_wrong, pairs_step}
 use Rattle.text_kit_scan.proofs.pairs.Goals as goal
 

@@ -1,13 +1,9 @@
 -- After p lines: what the lines from p on say at q is what all of them say.
-use native.Mathlib.Omega.{arith}
-use borrow.Author.Rules.{rules}
-use mathlib.Core.Path.{◌≡◌, sym, ap, ◌∙◌}
+use mathlib.Core.Path.{◌≡◌}
 use Prim.Native.Nat.{◌≤◌, ◌-◌}
 use Rattle.text_formats.specs.Items.{walk}
-use Rattle.text_formats.proofs.Lines.{lines-whole, lines_end}
 use Rattle.text_items.specs.Answers.{step_of}
-use Rattle.text.specs.KitText.{pair_line, pair_lines}
-use Rattle.text_kit_scan.proofs.ListLines.{pairs_wrong, pairs_step}
+use Rattle.text.specs.KitText.{pair_lines}
 use Rattle.text_kit_scan.proofs.pairs.Given as goal
 
 abbrev pub invariant-loop-place : goal.invariant-loop-place

@@ -1,6 +1,5 @@
 -- The two lines, and the design of their numbers.
 use Rattle.text_kit_scan.proofs.TwoLines.{front-none, front_ruled, front_starts}
-use borrow.Author.Rules.{rules}
 use Rattle.text_kit_scan.proofs.read_front.Goals as goal
 
 pub returns-in-NoLines : goal.returns-in-NoLines

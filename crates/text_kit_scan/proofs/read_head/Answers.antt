@@ -1,6 +1,5 @@
 -- The names, the first number and the two after it.
 use Rattle.text_kit_scan.proofs.TwoLines.{lines-names, lines-first, lines-others, lines-read}
-use borrow.Author.Rules.{rules}
 use Rattle.text_kit_scan.proofs.read_head.Goals as goal
 
 pub returns-in-Refused : goal.returns-in-Refused

@@ -1,8 +1,8 @@
 use native.Mathlib.Omega.{arith}
 use borrow.Author.Rules.{rules}
-use mathlib.Core.Path.{◌≡◌, sym, ap, ◌∙◌}
-use Prim.Native.Nat.{◌≤◌, ◌-◌}
-use Rattle.text_formats.specs.Items.{walk, bits_line, bits_lines}
+use mathlib.Core.Path.{sym, ap, ◌∙◌}
+use Prim.Native.Nat.{◌-◌}
+use Rattle.text_formats.specs.Items.{bits_line}
 use Rattle.text_formats.proofs.Lines.{lines-whole, lines_end}
 use Rattle.text_items.specs.Answers.{step_of}
 use Rattle.text_items.proofs.Lines.{lines_wrong, lines_step}

@@ -1,12 +1,8 @@
 -- After p lines: what the lines from p on say at q is what all of them say.
-use native.Mathlib.Omega.{arith}
-use borrow.Author.Rules.{rules}
-use mathlib.Core.Path.{◌≡◌, sym, ap, ◌∙◌}
+use mathlib.Core.Path.{◌≡◌}
 use Prim.Native.Nat.{◌≤◌, ◌-◌}
-use Rattle.text_formats.specs.Items.{walk, bits_line, bits_lines}
-use Rattle.text_formats.proofs.Lines.{lines-whole, lines_end}
+use Rattle.text_formats.specs.Items.{walk, bits_lines}
 use Rattle.text_items.specs.Answers.{step_of}
-use Rattle.text_items.proofs.Lines.{lines_wrong, lines_step}
 use Rattle.text_kit_scan.proofs.rows.Given as goal
 
 abbrev pub invariant-loop-row : goal.invariant-loop-row

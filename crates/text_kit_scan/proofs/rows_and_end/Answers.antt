@@ -1,7 +1,6 @@
 -- The names, the rows' lines and the end of the text.
 use Rattle.text.specs.KitText.{row_names}
 use Rattle.text_kit_scan.proofs.PartLaws.{part-names, part-lines, part-more, part-whole, tail-split}
-use borrow.Author.Rules.{rules}
 use Rattle.text_kit_scan.proofs.rows_and_end.Goals as goal
 
 pub returns-in_default : goal.returns-in_default

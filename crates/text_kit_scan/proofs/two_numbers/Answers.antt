@@ -1,6 +1,5 @@
 -- One number after the other.
 use Rattle.text_kit_scan.proofs.ListLines.{two_first, two_second, two_read}
-use borrow.Author.Rules.{rules}
 use Rattle.text_kit_scan.proofs.two_numbers.Goals as goal
 
 pub returns-in-Stop : goal.returns-in-Stop

@@ -5,7 +5,6 @@ use Rattle.design.specs.Sizes.{order_of}
 use Rattle.answers.proofs.Checks.{refused_then, passed_then}
 use Rattle.text_kit_write.specs.Checks.{text_rules}
 use Rattle.text_kit_write.proofs.WriteCall.{lengths_passed, text-judged}
-use borrow.Author.Rules.{rules}
 use Rattle.text_kit_write.proofs.check_text.Goals as goal
 
 pub returns-in_default : goal.returns-in_default

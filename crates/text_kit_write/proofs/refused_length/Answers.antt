@@ -1,5 +1,4 @@
 -- Each case is a law of the answer.
-use borrow.Author.Rules.{rules}
 use mathlib.Core.Path.{sym, ap, ◌∙◌}
 use Rattle.staircase.specs.Rules.{Verdict}
 use Rattle.answers.specs.Answers.{verdict_of}

@@ -1,5 +1,4 @@
 -- The call ends at a refused design, at refused lists, or with the length.
-use borrow.Author.Rules.{rules}
 use mathlib.Core.Path.{sym, ◌∙◌}
 use Rattle.staircase.proofs.Rules.{list-lengths}
 use Rattle.design.proofs.Answers.{made-allowed}

@@ -1,5 +1,5 @@
 use native.Mathlib.Omega.{arith}
-use Prim.Native.Nat.{◌^◌, ◌≤◌, ◌<◌}
+use Prim.Native.Nat.{◌^◌, ◌<◌}
 use Rattle.text_lines.proofs.Decimal.{dec_one_length, dec-more-length}
 use Rattle.text_lines.proofs.Storing.{put_one, put_last}
 use Rattle.text_lines.proofs.+put_digits.Goals as goal

@@ -1,8 +1,4 @@
-use mathlib.Core.Path.{◌≡◌}
-use Prim.Native.Nat.{◌+◌, ◌^◌, ◌<◌}
 use native.Mathlib.Omega.{arith}
-use lib.ListN.{length}
-use Rattle.text_formats.specs.Format.{dec}
 use Rattle.text_lines.proofs.Decimal.{dec-short, dec_one_length, dec-more-length}
 use Rattle.text_lines.proofs.digits.Goals as goal
 

@@ -1,10 +1,8 @@
 -- Each division by 10 takes one digit away; what is left below 10 has one.
 use mathlib.Core.Path.{◌≡◌}
 use Prim.Native.Nat.{◌+◌, ◌^◌, ◌<◌}
-use native.Mathlib.Omega.{arith}
 use lib.ListN.{length}
 use Rattle.text_formats.specs.Format.{dec}
-use Rattle.text_lines.proofs.Decimal.{dec-short, dec_one_length, dec-more-length}
 use Rattle.text_lines.proofs.digits.Given as goal
 
 abbrev pub invariant-loop-x : goal.invariant-loop-x

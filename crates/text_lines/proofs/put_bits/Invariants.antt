@@ -1,11 +1,9 @@
 -- `Copied` of proofs/Storing.antt of the characters.
-use native.Mathlib.Omega.{arith}
-use mathlib.Core.Path.{◌≡◌, refl, sym}
-use Prim.Native.Nat.{◌-◌, ◌≤◌, ◌<◌}
+use mathlib.Core.Path.{◌≡◌}
+use Prim.Native.Nat.{◌-◌, ◌≤◌}
 use lib.ListN.{length}
 use Rattle.text_lines.specs.Written.{chars}
-use Rattle.text_lines.proofs.Chars.{length-chars, chars-at}
-use Rattle.text_lines.proofs.Storing.{Copied, copied_none, copied_more, copied_all}
+use Rattle.text_lines.proofs.Storing.{Copied}
 use Rattle.text_lines.proofs.put_bits.Given as goal
 
 abbrev pub invariant-loop-i : goal.invariant-loop-i

@@ -1,7 +1,6 @@
 -- The number with the space behind it, the bits with the line feed behind them.
 use native.Mathlib.Omega.{arith}
 use Rattle.text_lines.proofs.Placing.{block-put}
-use borrow.Author.Rules.{rules}
 use Rattle.text_lines.proofs.put_block.Goals as goal
 
 pub put_run-requires : goal.put_run-requires

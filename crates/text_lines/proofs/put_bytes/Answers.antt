@@ -1,8 +1,7 @@
 use native.Mathlib.Omega.{arith}
-use mathlib.Core.Path.{◌≡◌, refl}
-use Prim.Native.Nat.{◌-◌, ◌≤◌}
-use lib.ListN.{length}
-use Rattle.text_lines.proofs.Storing.{Copied, copied_none, copied_more, copied_all}
+use mathlib.Core.Path.{refl}
+use Prim.Native.Nat.{◌-◌}
+use Rattle.text_lines.proofs.Storing.{copied_none, copied_more, copied_all}
 use Rattle.text_lines.proofs.put_bytes.Goals as goal
 
 pub loop-i-init : goal.loop-i-init

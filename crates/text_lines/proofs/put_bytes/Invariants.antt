@@ -1,9 +1,8 @@
 -- `Copied` of proofs/Storing.antt.
-use native.Mathlib.Omega.{arith}
-use mathlib.Core.Path.{◌≡◌, refl}
+use mathlib.Core.Path.{◌≡◌}
 use Prim.Native.Nat.{◌-◌, ◌≤◌}
 use lib.ListN.{length}
-use Rattle.text_lines.proofs.Storing.{Copied, copied_none, copied_more, copied_all}
+use Rattle.text_lines.proofs.Storing.{Copied}
 use Rattle.text_lines.proofs.put_bytes.Given as goal
 
 abbrev pub invariant-loop-i : goal.invariant-loop-i

@@ -1,7 +1,6 @@
 -- The line of names, two numbers with a space behind each, the third with the line feed behind it.
 use native.Mathlib.Omega.{arith}
 use Rattle.text_lines.proofs.Placing.{counts-put}
-use borrow.Author.Rules.{rules}
 use Rattle.text_lines.proofs.put_counts.Goals as goal
 
 pub put_field-j-requires : goal.put_field-j-requires

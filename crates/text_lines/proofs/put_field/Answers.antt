@@ -4,7 +4,6 @@ use lib.ListN.{length}
 use Rattle.text_lines.proofs.Placing.{put_snoc}
 use native.Mathlib.Omega.{arith}
 use Rattle.text_formats.specs.Format.{dec}
-use borrow.Author.Rules.{rules}
 use Rattle.text_lines.proofs.put_field.Goals as goal
 
 pub put_byte-requires : goal.put_byte-requires

@@ -1,7 +1,6 @@
 -- The number and Y with a space behind each, P with the line feed behind it.
 use native.Mathlib.Omega.{arith}
 use Rattle.text_lines.proofs.Placing.{group-put}
-use borrow.Author.Rules.{rules}
 use Rattle.text_lines.proofs.put_group.Goals as goal
 
 pub put_run-j-requires : goal.put_run-j-requires

@@ -1,7 +1,6 @@
 -- The line of names, the number with the space behind it, the place with the line feed behind it.
 use native.Mathlib.Omega.{arith}
 use Rattle.text_lines.proofs.Placing.{refusal_put}
-use borrow.Author.Rules.{rules}
 use Rattle.text_lines.proofs.put_refusal.Goals as goal
 
 pub put_field-j-requires : goal.put_field-j-requires

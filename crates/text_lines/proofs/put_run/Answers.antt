@@ -4,7 +4,6 @@ use Rattle.text_lines.proofs.Placing.{put_snoc}
 use native.Mathlib.Omega.{arith}
 use Rattle.text_lines.specs.Written.{chars}
 use Rattle.text_lines.proofs.Chars.{length-chars}
-use borrow.Author.Rules.{rules}
 use Rattle.text_lines.proofs.put_run.Goals as goal
 
 pub put_byte-requires : goal.put_byte-requires

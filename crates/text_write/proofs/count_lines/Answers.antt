@@ -4,7 +4,6 @@ use Rattle.text_write.proofs.Room.{told-room, told-put, told-kept}
 use native.Mathlib.Omega.{arith}
 use Rattle.text_lines.proofs.Decimal.{dec-short}
 use Rattle.text.specs.Programs.{counts_text}
-use borrow.Author.Rules.{rules}
 use Rattle.text_write.proofs.count_lines.Goals as goal
 
 pub overflow_add-a : goal.overflow_add-a

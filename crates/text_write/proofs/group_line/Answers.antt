@@ -4,7 +4,6 @@ use Rattle.text_write.proofs.Room.{told-room, told-put, told-kept}
 use native.Mathlib.Omega.{arith}
 use Rattle.text_lines.proofs.Decimal.{dec-short}
 use Rattle.text.specs.FrameText.{group_line_text}
-use borrow.Author.Rules.{rules}
 use Rattle.text_write.proofs.group_line.Goals as goal
 
 pub overflow_add-n : goal.overflow_add-n

@@ -1,7 +1,6 @@
 -- The test is that of the room for the text.
 use Rattle.text_write.proofs.Room.{told-room, told-put, told-kept}
 use native.Mathlib.Omega.{arith}
-use borrow.Author.Rules.{rules}
 use Rattle.text_write.proofs.put_text.Goals as goal
 
 pub put_bytes-requires : goal.put_bytes-requires

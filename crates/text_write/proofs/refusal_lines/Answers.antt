@@ -3,7 +3,6 @@ use Rattle.text_lines.proofs.Placing.{refusal_length}
 use Rattle.text_write.proofs.Room.{told-room, told-put, told-kept}
 use native.Mathlib.Omega.{arith}
 use Rattle.text.specs.Programs.{refusal_text}
-use borrow.Author.Rules.{rules}
 use Rattle.text_write.proofs.refusal_lines.Goals as goal
 
 pub put_refusal-requires : goal.put_refusal-requires

@@ -11,7 +11,6 @@ use Rattle.rules.specs.Lengths.{lengths_of, frame_due}
 use Rattle.rules.proofs.Chain.{frame_where}
 use Rattle.rules.proofs.Accepted.{frame-accepted, frame_small}
 use Rattle.words.specs.Checks.{received_rules}
-use borrow.Author.Rules.{rules}
 use Rattle.words.proofs.check_received.Goals as goal
 
 pub returns-in_default : goal.returns-in_default

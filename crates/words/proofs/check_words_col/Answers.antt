@@ -1,5 +1,4 @@
 -- The call ends at a refused design, at a refused frame, or with the count.
-use borrow.Author.Rules.{rules}
 use mathlib.Core.Path.{sym, ◌∙◌}
 use native.Mathlib.Nat.{le_refl}
 use lib.ListN.{length}

@@ -1,5 +1,4 @@
 -- An empty block adds nothing; another adds what `add_columns` or `add_rows` does.
-use borrow.Author.Rules.{rules}
 use mathlib.Core.Path.{◌≡◌, refl, ◌∙◌}
 use Prim.Native.Nat.{◌*◌}
 use native.Mathlib.Omega.{arith}

@@ -1,9 +1,8 @@
-use mathlib.Core.Path.{◌≡◌, refl, ◌∙◌}
-use Prim.Native.Nat.{ℕ, ◌+◌, ◌-◌, ◌*◌, ◌≤◌, ◌<◌}
+use mathlib.Core.Path.{refl, ◌∙◌}
+use Prim.Native.Nat.{◌+◌, ◌-◌, ◌*◌}
 use native.Mathlib.Omega.{arith}
-use lib.ListN.{length, get_or, length-set}
-use Rattle.bch.specs.Powers.{xor_sum}
-use Rattle.bch_remainders.proofs.Powers.{Added, added_more}
+use lib.ListN.{length, length-set}
+use Rattle.bch_remainders.proofs.Powers.{added_more}
 use Rattle.bch_remainders.proofs.Rows.{row_end, row-length, row-bits}
 use Rattle.words_blocks.proofs.Sums.{row-sum}
 use Rattle.words_blocks.proofs.add_dots.Goals as goal

@@ -1,12 +1,9 @@
 -- The loop's invariant: each entry before `a` has the sum over its row added. The measure is the number of rows left.
-use mathlib.Core.Path.{◌≡◌, refl, ◌∙◌}
+use mathlib.Core.Path.{◌≡◌}
 use Prim.Native.Nat.{ℕ, ◌+◌, ◌-◌, ◌*◌, ◌≤◌, ◌<◌}
-use native.Mathlib.Omega.{arith}
-use lib.ListN.{length, get_or, length-set}
+use lib.ListN.{length, get_or}
 use Rattle.bch.specs.Powers.{xor_sum}
-use Rattle.bch_remainders.proofs.Powers.{Added, added_more}
-use Rattle.bch_remainders.proofs.Rows.{row_end, row-length, row-bits}
-use Rattle.words_blocks.proofs.Sums.{row-sum}
+use Rattle.bch_remainders.proofs.Powers.{Added}
 use Rattle.words_blocks.proofs.add_dots.Given as goal
 
 abbrev pub invariant-loop-a : goal.invariant-loop-a

@@ -1,11 +1,9 @@
 -- A block that is sent ends within the information.
 use native.Mathlib.Omega.{arith}
-use borrow.Author.Rules.{rules}
 use mathlib.Core.Path.{sym, ap, ◌∙◌}
 use Prim.Native.Nat.{ℕ, ◌*◌, ◌-◌}
 use native.Mathlib.Nat.{add-sub_cancel_left}
 use lib.ListN.{take, drop}
-use borrow.Author.Tests.{not-true, not-false}
 use Rattle.words_blocks.proofs.Blocks.{sent-at, block_none, block-some, block-end}
 use Rattle.words_blocks.proofs.block_of.Goals as goal
 

@@ -1,5 +1,4 @@
 -- The sums are made from 0 by an addition for each block, with a half of the tables each.
-use borrow.Author.Rules.{rules}
 use native.Mathlib.Omega.{arith}
 use mathlib.Core.Path.{◌≡◌, ap, ap₂, ◌∙◌}
 use Prim.Native.Nat.{◌+◌}

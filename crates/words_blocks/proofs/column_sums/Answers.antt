@@ -1,5 +1,4 @@
 -- The sum is that of a column word's blocks.
-use borrow.Author.Rules.{rules}
 use Rattle.words_blocks.specs.Blocks.{column_sum, bit_place, block_sum}
 use Rattle.words_blocks.proofs.column_sums.Goals as goal
 

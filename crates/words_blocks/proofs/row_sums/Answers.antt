@@ -1,5 +1,4 @@
 -- The sum is that of a row word's blocks.
-use borrow.Author.Rules.{rules}
 use Rattle.words_blocks.specs.Blocks.{row_sum, bit_place, block_sum}
 use Rattle.words_blocks.proofs.row_sums.Goals as goal
 

@@ -1,5 +1,4 @@
 -- The halves of the bits, of the powers and of the tables are as `add_stretch` asks.
-use borrow.Author.Rules.{rules}
 use mathlib.Core.Path.{refl}
 use Rattle.words_lines.proofs.Columns.{first_asked, second_asked, ends_added}
 use Rattle.words_lines.proofs.add_ends.Goals as goal

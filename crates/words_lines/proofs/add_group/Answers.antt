@@ -2,7 +2,6 @@
 use native.Mathlib.Omega.{arith}
 use mathlib.Core.Path.{refl}
 use Rattle.words_lines.proofs.Tail.{red-ends, table_ends, ends_lent, tail-made}
-use borrow.Author.Rules.{rules}
 use Rattle.words_lines.proofs.add_group.Goals as goal
 
 pub overflow_mul-y : goal.overflow_mul-y

@@ -1,8 +1,8 @@
-use mathlib.Core.Path.{◌≡◌, refl, ap, ◌∙◌}
-use Prim.Native.Nat.{ℕ, ◌+◌, ◌-◌, ◌*◌, ◌≤◌}
+use mathlib.Core.Path.{refl, ap, ◌∙◌}
+use Prim.Native.Nat.{ℕ, ◌+◌, ◌-◌, ◌*◌}
 use native.Mathlib.Omega.{arith}
-use lib.ListN.{length, get_or, length-set}
-use Rattle.bch_remainders.proofs.Powers.{Added, added_more}
+use lib.ListN.{get_or, length-set}
+use Rattle.bch_remainders.proofs.Powers.{added_more}
 use Rattle.words_lines.specs.Words.{entry_at}
 use Rattle.words_lines.proofs.add_listed_row.Goals as goal
 

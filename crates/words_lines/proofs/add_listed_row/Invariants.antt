@@ -1,9 +1,8 @@
 -- The loop's invariant: the sums before `a` are added to, the others as they were. The measure is the number of sums left.
-use mathlib.Core.Path.{◌≡◌, refl, ap, ◌∙◌}
-use Prim.Native.Nat.{ℕ, ◌+◌, ◌-◌, ◌*◌, ◌≤◌}
-use native.Mathlib.Omega.{arith}
-use lib.ListN.{length, get_or, length-set}
-use Rattle.bch_remainders.proofs.Powers.{Added, added_more}
+use mathlib.Core.Path.{◌≡◌}
+use Prim.Native.Nat.{◌+◌, ◌-◌, ◌*◌, ◌≤◌}
+use lib.ListN.{length, get_or}
+use Rattle.bch_remainders.proofs.Powers.{Added}
 use Rattle.words_lines.specs.Words.{entry_at}
 use Rattle.words_lines.proofs.add_listed_row.Given as goal
 

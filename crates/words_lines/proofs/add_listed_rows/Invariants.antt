@@ -1,14 +1,10 @@
 -- The loop's invariant: each sum has the part over the first `j` rows added, and `reads` is `j`. The measure is the number of rows left.
-use mathlib.Core.Path.{◌≡◌, ap, ◌∙◌}
+use mathlib.Core.Path.{◌≡◌}
 use Prim.Native.Nat.{ℕ, ◌+◌, ◌-◌, ◌*◌, ◌≤◌, ◌<◌}
-use native.Mathlib.Omega.{arith}
-use lib.Arith.{digits_lt}
 use lib.ListN.{length, get_or}
 use Rattle.bch.specs.Polynomial.{◌⊕◌}
 use Rattle.bch.specs.Powers.{xor_sum}
-use Rattle.bch_remainders.proofs.Rows.{row_end, column-more}
 use Rattle.words_sums.specs.Listed.{listed_bit}
-use Rattle.words_lines.proofs.Columns.{listed-entry, listed_below, listed-none}
 use Rattle.words_lines.proofs.add_listed_rows.Given as goal
 
 abbrev pub invariant-loop-j : goal.invariant-loop-j

@@ -1,5 +1,4 @@
 -- The places are those of X or Q by the list, or those of Y or P.
-use borrow.Author.Rules.{rules}
 use mathlib.Core.Path.{subst⁻¹}
 use mathlib.Core.Bool.{Bool}
 use Prim.Native.Nat.{◌+◌, ◌*◌}

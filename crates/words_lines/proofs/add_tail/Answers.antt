@@ -1,7 +1,6 @@
 -- A case for each kind.
 use Rattle.design.specs.Sizes.{params_of, lists_of}
 use Rattle.words_lines.proofs.Tail.{group_lent, group-is, no_tail}
-use borrow.Author.Rules.{rules}
 use Rattle.words_lines.proofs.add_tail.Goals as goal
 
 pub add_group-requires : goal.add_group-requires

@@ -12,7 +12,6 @@ use Rattle.words_blocks.proofs.Sums.{part_length}
 use Rattle.words_tables.specs.Tables.{MayParts}
 use Rattle.words_positions.proofs.Parts.{part-fits, part-is}
 use Rattle.words_lines.specs.Words.{ReadTable}
-use borrow.Author.Rules.{rules}
 use Rattle.words_lines.proofs.count_back.Goals as goal
 
 pub slice_bounds-back-end : goal.slice_bounds-back-end

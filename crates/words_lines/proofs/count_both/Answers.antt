@@ -1,13 +1,11 @@
 -- Where no line is read backwards, the first pass takes them all.
 use native.Mathlib.Omega.{arith}
 use mathlib.Core.Path.{sym, ◌∙◌}
-use borrow.Author.Tests.{not-true}
 use Rattle.staircase.specs.Frame.{frame_of}
 use Rattle.design.specs.Sizes.{params_of}
 use Rattle.layout.proofs.Layouts.{turned_none}
 use Rattle.words_lines.specs.Words.{layout_with}
 use Rattle.words_lines.proofs.Count.{one_pass, both-passes}
-use borrow.Author.Rules.{rules}
 use Rattle.words_lines.proofs.count_both.Goals as goal
 
 pub returns-then-not-turns : goal.returns-then-not-turns

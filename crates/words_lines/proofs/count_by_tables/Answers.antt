@@ -7,7 +7,6 @@ use Rattle.words_blocks.proofs.Sums.{part_length}
 use Rattle.words_tables.specs.Tables.{MayParts}
 use Rattle.words_positions.proofs.Parts.{part-fits, part-is}
 use Rattle.words_lines.proofs.Tables.{parts_asked, parts_of}
-use borrow.Author.Rules.{rules}
 use Rattle.words_lines.proofs.count_by_tables.Goals as goal
 
 pub fill_parts-requires : goal.fill_parts-requires

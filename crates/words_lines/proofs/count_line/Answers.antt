@@ -5,7 +5,6 @@ use mathlib.Core.Bool.{Bool}
 use Prim.Native.Nat.{◌-◌}
 use lib.ListN.{length, take, drop}
 use lib.Seq.{length-take-le}
-use borrow.Author.Tests.{not-true, not-false}
 use Rattle.staircase.specs.Frame.{frame_of}
 use Rattle.staircase.proofs.Tabulate.{tabulate-length}
 use Rattle.design.specs.Sizes.{params_of}
@@ -15,7 +14,6 @@ use Rattle.words_positions.proofs.Parts.{part-fits, part-is}
 use Rattle.words_lines.specs.Words.{nonzeros, layout_with, line_remainders, ReadTable}
 use Rattle.words_lines.proofs.Lines.{LineLent}
 use Rattle.words_lines.proofs.Count.{remainders_outside, not_taken, line_taken}
-use borrow.Author.Rules.{rules}
 use Rattle.words_lines.proofs.count_line.Goals as goal
 
 pub returns-then-not-taken : goal.returns-then-not-taken

@@ -1,8 +1,5 @@
-use mathlib.Core.Path.{◌≡◌}
-use Prim.Native.Nat.{◌+◌, ◌-◌, ◌≤◌}
+use Prim.Native.Nat.{◌-◌}
 use native.Mathlib.Omega.{arith}
-use lib.ListN.{length, drop}
-use Rattle.words_lines.specs.Words.{nonzeros}
 use Rattle.words_lines.proofs.Count.{nonzeros_next, nonzeros-end}
 use Rattle.words_lines.proofs.count_nonzero.Goals as goal
 

@@ -1,10 +1,8 @@
 -- The loop's invariant: what is counted, and what is left to count. The measure is the number of entries left.
 use mathlib.Core.Path.{◌≡◌}
 use Prim.Native.Nat.{◌+◌, ◌-◌, ◌≤◌}
-use native.Mathlib.Omega.{arith}
 use lib.ListN.{length, drop}
 use Rattle.words_lines.specs.Words.{nonzeros}
-use Rattle.words_lines.proofs.Count.{nonzeros_next, nonzeros-end}
 use Rattle.words_lines.proofs.count_nonzero.Given as goal
 
 abbrev pub invariant-loop-k : goal.invariant-loop-k

@@ -11,7 +11,6 @@ use Rattle.layout.proofs.Layouts.{bits_highest, code_in}
 use Rattle.words_positions.proofs.Parts.{part-fits, part-is}
 use Rattle.words_lines.specs.Words.{ReadTable}
 use Rattle.words_lines.proofs.Tables.{ahead_table}
-use borrow.Author.Rules.{rules}
 use Rattle.words_lines.proofs.count_outside.Goals as goal
 
 pub slice_bounds-positions-end : goal.slice_bounds-positions-end

@@ -1,6 +1,6 @@
 use native.Mathlib.Omega.{arith}
 use mathlib.Core.Path.{◌≡◌, ap, ◌∙◌}
-use Prim.Native.Nat.{ℕ, ◌-◌, ◌*◌, ◌≤◌}
+use Prim.Native.Nat.{ℕ, ◌-◌}
 use Rattle.staircase.specs.Lists.{concat}
 use Rattle.staircase.specs.Frame.{outside_among, frame_of}
 use Rattle.design.specs.Sizes.{params_of}

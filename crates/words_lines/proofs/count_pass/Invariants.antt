@@ -1,14 +1,11 @@
 -- The loop's invariant: the words outside the code in the lines before line k that the pass takes are counted. The measure is the number of lines left.
-use native.Mathlib.Omega.{arith}
-use mathlib.Core.Path.{◌≡◌, ap, ◌∙◌}
-use Prim.Native.Nat.{ℕ, ◌-◌, ◌*◌, ◌≤◌}
+use mathlib.Core.Path.{◌≡◌}
+use Prim.Native.Nat.{◌-◌, ◌*◌, ◌≤◌}
 use Rattle.staircase.specs.Lists.{concat}
 use Rattle.staircase.specs.Frame.{outside_among, frame_of}
 use Rattle.design.specs.Sizes.{params_of}
 use Rattle.layout.specs.Layouts.{lines_in}
-use Rattle.layout.proofs.Layouts.{lines-most}
 use Rattle.words_lines.specs.Words.{layout_with, pass_sites}
-use Rattle.words_lines.proofs.Count.{none_yet, next_line}
 use Rattle.words_lines.proofs.count_pass.Given as goal
 
 abbrev pub invariant-loop-k : goal.invariant-loop-k

@@ -8,7 +8,6 @@ use Rattle.staircase.proofs.Bounds.{small_product}
 use Rattle.layout.proofs.Layouts.{lines-most}
 use Rattle.words_blocks.specs.Blocks.{block_reads}
 use Rattle.words_lines.proofs.Lines.{lent_block, blocks_of_line}
-use borrow.Author.Rules.{rules}
 use Rattle.words_lines.proofs.line_blocks.Goals as goal
 
 pub overflow_mul-area : goal.overflow_mul-area

@@ -5,7 +5,6 @@ use Rattle.design.specs.Sizes.{params_of}
 use Rattle.layout.proofs.Layouts.{size_highest, r_highest, tail-most}
 use Rattle.words_lines.specs.Words.{line_blocks}
 use Rattle.words_lines.proofs.Lines.{tables-fit, blocks_asked, tail_asked, reads-few, line-done}
-use borrow.Author.Rules.{rules}
 use Rattle.words_lines.proofs.line_remainders.Goals as goal
 
 pub table_length-b-requires : goal.table_length-b-requires

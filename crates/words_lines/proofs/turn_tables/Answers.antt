@@ -4,7 +4,6 @@ use mathlib.Core.Path.{refl, sym, ◌∙◌}
 use Rattle.design.specs.Sizes.{params_of}
 use Rattle.words_tables.proofs.Tables.{no_parts}
 use Rattle.words_lines.proofs.Tables.{back_table, parts_asked, parts_of}
-use borrow.Author.Rules.{rules}
 use Rattle.words_lines.proofs.turn_tables.Goals as goal
 
 pub returns-then-tables-eq0 : goal.returns-then-tables-eq0

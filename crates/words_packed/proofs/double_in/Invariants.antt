@@ -1,11 +1,8 @@
 -- The loop's invariant: the first `k` bytes are doubled, with the row's bits added, the others as they were, and `reads` is `k`. The measure is the
 -- number of bytes left.
-use mathlib.Core.Path.{◌≡◌, refl, ap}
+use mathlib.Core.Path.{◌≡◌}
 use Prim.Native.Nat.{ℕ, ◌+◌, ◌-◌, ◌*◌, ◌≤◌, ◌<◌}
-use native.Mathlib.Omega.{arith}
-use borrow.Author.Count.{below_none}
-use lib.ListN.{length, get_or, length-set}
-use Rattle.staircase.proofs.Fill.{each_more, rest_more}
+use lib.ListN.{length, get_or}
 use Rattle.words_packed.proofs.double_in.Given as goal
 
 abbrev pub invariant-loop-k : goal.invariant-loop-k

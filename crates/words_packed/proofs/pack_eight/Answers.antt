@@ -1,10 +1,10 @@
-use mathlib.Core.Path.{◌≡◌, refl}
-use Prim.Native.Nat.{ℕ, ◌+◌, ◌-◌, ◌≤◌, ◌<◌}
+use mathlib.Core.Path.{refl}
+use Prim.Native.Nat.{◌+◌, ◌-◌}
 use native.Mathlib.Omega.{arith}
 use borrow.Author.Count.{below_none}
-use lib.ListN.{length, get_or, length-set}
+use lib.ListN.{length, length-set}
 use Rattle.staircase.proofs.Fill.{each_more}
-use Rattle.words_packed.proofs.Packed.{Packs, packs-all, packs_eight, EightBits, eight-bits}
+use Rattle.words_packed.proofs.Packed.{Packs, packs-all, packs_eight, eight-bits}
 use Rattle.words_packed.proofs.pack_eight.Goals as goal
 
 pub loop-k-init : goal.loop-k-init

@@ -1,12 +1,9 @@
 -- The loop's invariant: the first `k` bytes are packed, `reads` is `k`, and the bits that come next are below 2, so that no sum is too large. The measure is
 -- the number of bytes left.
-use mathlib.Core.Path.{◌≡◌, refl}
-use Prim.Native.Nat.{ℕ, ◌+◌, ◌-◌, ◌≤◌, ◌<◌}
-use native.Mathlib.Omega.{arith}
-use borrow.Author.Count.{below_none}
-use lib.ListN.{length, get_or, length-set}
-use Rattle.staircase.proofs.Fill.{each_more}
-use Rattle.words_packed.proofs.Packed.{Packs, packs-all, packs_eight, EightBits, eight-bits}
+use mathlib.Core.Path.{◌≡◌}
+use Prim.Native.Nat.{ℕ, ◌-◌, ◌≤◌, ◌<◌}
+use lib.ListN.{length, get_or}
+use Rattle.words_packed.proofs.Packed.{Packs, EightBits}
 use Rattle.words_packed.proofs.pack_eight.Given as goal
 
 abbrev pub invariant-loop-k : goal.invariant-loop-k

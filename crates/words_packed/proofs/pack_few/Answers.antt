@@ -1,13 +1,12 @@
 use mathlib.Core.Path.{◌≡◌, sym, ap, ◌∙◌}
 use mathlib.Core.List.{List}
-use Prim.Native.Nat.{ℕ, ◌+◌, ◌-◌, ◌*◌, ◌^◌, ◌≤◌, ◌<◌}
-use borrow.Author.Rules.{rules}
+use Prim.Native.Nat.{ℕ, ◌+◌, ◌-◌, ◌*◌}
 use native.Mathlib.Omega.{arith}
 use lib.ListN.{length, get_or, take, drop}
 use lib.Pow.{pow_mono, pow_pos}
 use Rattle.bch.proofs.Store.{zeros-at}
 use Rattle.bch_remainders.proofs.Rows.{row_end, row-length, row_at, row-bits}
-use Rattle.words_packed.proofs.Packed.{Packs, packs-none, packs-more, packs-all, doubled_below}
+use Rattle.words_packed.proofs.Packed.{packs-none, packs-more, packs-all, doubled_below}
 use Rattle.words_packed.proofs.pack_few.Goals as goal
 
 pub loop-i-init : goal.loop-i-init

@@ -1,15 +1,9 @@
 -- The loop's invariant: each byte holds the bits of the rows from row `i` on, which are at most 8 - `i`, and `reads` is the width after a pass. The measure
 -- is `i`.
-use mathlib.Core.Path.{◌≡◌, sym, ap, ◌∙◌}
-use mathlib.Core.List.{List}
-use Prim.Native.Nat.{ℕ, ◌+◌, ◌-◌, ◌*◌, ◌^◌, ◌≤◌, ◌<◌}
-use borrow.Author.Rules.{rules}
-use native.Mathlib.Omega.{arith}
-use lib.ListN.{length, get_or, take, drop}
-use lib.Pow.{pow_mono, pow_pos}
-use Rattle.bch.proofs.Store.{zeros-at}
-use Rattle.bch_remainders.proofs.Rows.{row_end, row-length, row_at, row-bits}
-use Rattle.words_packed.proofs.Packed.{Packs, packs-none, packs-more, packs-all, doubled_below}
+use mathlib.Core.Path.{◌≡◌}
+use Prim.Native.Nat.{ℕ, ◌-◌, ◌*◌, ◌^◌, ◌≤◌, ◌<◌}
+use lib.ListN.{length, get_or}
+use Rattle.words_packed.proofs.Packed.{Packs}
 use Rattle.words_packed.proofs.pack_few.Given as goal
 
 abbrev pub invariant-loop-i : goal.invariant-loop-i

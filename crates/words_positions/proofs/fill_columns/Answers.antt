@@ -1,5 +1,4 @@
 -- The generator has the degree of an allowed design.
-use borrow.Author.Rules.{rules}
 use mathlib.Core.Path.{◌∙◌, subst₂}
 use Prim.Native.Nat.{ℕ, ◌*◌, ◌^◌}
 use native.Mathlib.Nat.{one-mul}

@@ -1,5 +1,4 @@
 -- The code is that of an allowed design.
-use borrow.Author.Rules.{rules}
 use mathlib.Core.Path.{subst₂}
 use Prim.Native.Nat.{ℕ, ◌*◌}
 use Rattle.bch.specs.Code.{generator}

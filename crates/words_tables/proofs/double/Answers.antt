@@ -1,8 +1,8 @@
-use mathlib.Core.Path.{◌≡◌, refl}
-use Prim.Native.Nat.{◌-◌, ◌≤◌}
+use mathlib.Core.Path.{refl}
+use Prim.Native.Nat.{◌-◌}
 use native.Mathlib.Omega.{arith}
-use lib.ListN.{length, length-set}
-use Rattle.words_tables.proofs.Tables.{Doubled, doubled_none, doubled_more}
+use lib.ListN.{length-set}
+use Rattle.words_tables.proofs.Tables.{doubled_none, doubled_more}
 use Rattle.words_tables.proofs.double.Goals as goal
 
 pub loop-v-init : goal.loop-v-init

@@ -1,9 +1,8 @@
 -- The loop's invariant: `v` entries behind the first w are made, and those are as they were. The measure is the number of entries left.
-use mathlib.Core.Path.{◌≡◌, refl}
+use mathlib.Core.Path.{◌≡◌}
 use Prim.Native.Nat.{◌-◌, ◌≤◌}
-use native.Mathlib.Omega.{arith}
-use lib.ListN.{length, length-set}
-use Rattle.words_tables.proofs.Tables.{Doubled, doubled_none, doubled_more}
+use lib.ListN.{length}
+use Rattle.words_tables.proofs.Tables.{Doubled}
 use Rattle.words_tables.proofs.double.Given as goal
 
 abbrev pub invariant-loop-v : goal.invariant-loop-v

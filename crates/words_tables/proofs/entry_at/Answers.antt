@@ -1,7 +1,6 @@
 -- Behind the last entry a list has 0, by what `get_or` gives there.
 use mathlib.Core.Path.{sym}
 use native.Mathlib.Omega.{arith}
-use borrow.Author.Rules.{rules}
 use lib.ListN.{get_or-eq_default}
 use Rattle.words_tables.proofs.entry_at.Goals as goal
 

@@ -1,14 +1,8 @@
 -- The loop's invariant: the first w entries, w = 2^i, are the sums of i entries of the list from `from` on. The measure is the number of entries left.
-use mathlib.Core.Path.{◌≡◌, refl, sym, ap, ◌∙◌}
-use Prim.Native.Nat.{ℕ, ◌+◌, ◌-◌, ◌*◌, ◌^◌, ◌≤◌, ◌<◌}
-use native.Mathlib.Numerals.{add-one}
-use native.Mathlib.Omega.{arith}
-use borrow.Author.Rules.{rules}
-use lib.Pow.{pow_mono}
-use lib.ListN.{length, get_or, length-set}
-use Rattle.bch.specs.Polynomial.{◌⊕◌}
+use mathlib.Core.Path.{◌≡◌}
+use Prim.Native.Nat.{ℕ, ◌+◌, ◌-◌, ◌^◌, ◌≤◌, ◌<◌}
+use lib.ListN.{length, get_or}
 use Rattle.words_tables.specs.Tables.{sum_at}
-use Rattle.words_tables.proofs.Tables.{sums_none, sums_doubled}
 use Rattle.words_tables.proofs.fill_table.Given as goal
 
 abbrev pub invariant-loop-i : goal.invariant-loop-i

@@ -1,12 +1,8 @@
 -- The loop's invariant: the tables before `j` are filled. The measure is the number of tables left.
-use mathlib.Core.Path.{◌≡◌, sym, ◌∙◌}
+use mathlib.Core.Path.{◌≡◌}
 use Prim.Native.Nat.{ℕ, ◌+◌, ◌-◌, ◌*◌, ◌/◌, ◌≤◌, ◌<◌}
-use native.Mathlib.Omega.{arith}
 use lib.ListN.{length, get_or}
-use Rattle.staircase.proofs.Fill.{each_part}
-use Rattle.bch_remainders.proofs.Rows.{row-length}
 use Rattle.words_tables.specs.Tables.{table_entry}
-use Rattle.words_tables.proofs.Tables.{table_is}
 use Rattle.words_tables.proofs.fill_tables.Given as goal
 
 abbrev pub invariant-loop-j : goal.invariant-loop-j

@@ -1,5 +1,4 @@
 -- The tables of the blocks have the length of the definition, and those of the redundancy, at most 2 × 1024 entries, come behind them.
-use borrow.Author.Rules.{rules}
 use native.Mathlib.Omega.{arith}
 use Rattle.words_tables.specs.Tables.{table_length}
 use Rattle.words_tables.proofs.parts_due.Goals as goal

@@ -1,5 +1,4 @@
 -- The length is that of the definition, at most 64 tables of 256 sums.
-use borrow.Author.Rules.{rules}
 use mathlib.Core.Path.{refl}
 use native.Mathlib.Omega.{arith}
 use Rattle.words_tables.specs.Tables.{table_length}

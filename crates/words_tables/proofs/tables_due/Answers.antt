@@ -1,7 +1,6 @@
 -- The products fit, since the factors are at most 4096, 512 and 512.
 use native.Mathlib.Nat.{mul-le-mul}
 use native.Mathlib.Omega.{arith}
-use borrow.Author.Rules.{rules}
 use Rattle.words_tables.proofs.tables_due.Goals as goal
 
 pub overflow_mul-blocks : goal.overflow_mul-blocks

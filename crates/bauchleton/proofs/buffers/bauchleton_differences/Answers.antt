@@ -9,7 +9,6 @@ use Rattle.rules_verdict.specs.Number.{told}
 use Rattle.rules_verdict.proofs.Stores.{judged-told}
 use Rattle.bauchleton.specs.Answers.{zeros}
 use Rattle.bauchleton.proofs.Answers.{accepted-told, refused-told}
-use borrow.Author.Rules.{rules}
 use Rattle.bauchleton.proofs.buffers.bauchleton_differences.Goals as goal
 
 pub returns-in_default : goal.returns-in_default

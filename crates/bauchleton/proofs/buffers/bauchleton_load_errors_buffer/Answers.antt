@@ -1,6 +1,5 @@
 -- The answer as the host is told it, and the buffer that is left.
 use Rattle.bauchleton.proofs.LoadTold.{load_told}
-use borrow.Author.Rules.{rules}
 use Rattle.bauchleton.proofs.buffers.bauchleton_load_errors_buffer.Goals as goal
 
 pub returns : goal.returns

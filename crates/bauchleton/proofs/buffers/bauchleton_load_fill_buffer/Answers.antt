@@ -3,7 +3,6 @@ use mathlib.Core.Path.{ap, ◌∙◌}
 use mathlib.Core.List.{[], ◌∷◌}
 use Prim.Native.Nat.{ℕ}
 use Rattle.rules_verdict.specs.Number.{told}
-use borrow.Author.Rules.{rules}
 use Rattle.bauchleton.proofs.buffers.bauchleton_load_fill_buffer.Goals as goal
 
 pub returns : goal.returns

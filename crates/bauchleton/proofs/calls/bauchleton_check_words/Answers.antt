@@ -1,5 +1,4 @@
 -- The word checker's answer as the host is told it.
-use borrow.Author.Rules.{rules}
 use Rattle.staircase.specs.Calls.{Counted}
 use Rattle.rules_verdict.specs.Number.{number}
 use Rattle.rules_verdict.proofs.Stores.{told_alike}

@@ -7,7 +7,6 @@ use Rattle.bauchleton.specs.Answers.{corrected_answer}
 use Rattle.bauchleton.specs.Report.{decode_reported, report_bytes}
 use Rattle.bauchleton.proofs.Answers.{corrected-told}
 use Rattle.bauchleton.proofs.Report.{decode_forty, lending, decode_other, part_lent, decoded-told}
-use borrow.Author.Rules.{rules}
 use Rattle.bauchleton.proofs.calls.bauchleton_decode.Goals as goal
 
 pub returns : goal.returns

@@ -7,7 +7,6 @@ use Rattle.bauchleton.specs.Answers.{corrected_answer}
 use Rattle.bauchleton.specs.Report.{window_call_of, window_reported, report_bytes}
 use Rattle.bauchleton.proofs.Answers.{corrected-told}
 use Rattle.bauchleton.proofs.Report.{window_forty, lending, window_other, part_lent, decoded-told}
-use borrow.Author.Rules.{rules}
 use Rattle.bauchleton.proofs.calls.bauchleton_decode_window.Goals as goal
 
 pub returns : goal.returns

@@ -4,7 +4,6 @@ use lib.ListN.{length}
 use Rattle.staircase.specs.Calls.{encode_call}
 use Rattle.bauchleton.specs.Report.{encode_reported}
 use Rattle.bauchleton.proofs.Report.{encode_forty, encode_other, part_lent, encoded-told}
-use borrow.Author.Rules.{rules}
 use Rattle.bauchleton.proofs.calls.bauchleton_encode.Goals as goal
 
 pub returns : goal.returns

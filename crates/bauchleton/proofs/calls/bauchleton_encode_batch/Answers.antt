@@ -4,7 +4,6 @@ use lib.ListN.{length}
 use Rattle.staircase.specs.Batch.{batch_call}
 use Rattle.bauchleton.specs.Report.{batch_reported}
 use Rattle.bauchleton.proofs.Report.{batch_forty, batch_other, part_lent, encoded-told}
-use borrow.Author.Rules.{rules}
 use Rattle.bauchleton.proofs.calls.bauchleton_encode_batch.Goals as goal
 
 pub returns : goal.returns

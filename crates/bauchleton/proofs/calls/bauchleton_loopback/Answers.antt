@@ -1,5 +1,4 @@
 -- The loopback's answer as the host is told it.
-use borrow.Author.Rules.{rules}
 use Rattle.bauchleton.specs.Answers.{corrected_answer}
 use Rattle.bauchleton.proofs.Answers.{corrected-told}
 use Rattle.bauchleton.proofs.calls.bauchleton_loopback.Goals as goal

@@ -1,5 +1,4 @@
 -- The answers of the two calls that show, as the host is told them.
-use borrow.Author.Rules.{rules}
 use Rattle.staircase.specs.Rules.{Part}
 use Rattle.staircase.specs.Calls.{show_call}
 use Rattle.bauchleton.proofs.Answers.{show_told}

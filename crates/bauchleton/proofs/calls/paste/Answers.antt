@@ -1,9 +1,9 @@
 use mathlib.Core.Path.{◌≡◌, ap, ◌∙◌}
 use mathlib.Core.List.{List}
-use Prim.Native.Nat.{ℕ, ◌-◌, ◌≤◌}
+use Prim.Native.Nat.{ℕ, ◌-◌}
 use native.Mathlib.Omega.{arith}
 use lib.ListN.{length, set, get_or}
-use lib.Seq.{paste-zero, length-paste, paste as pasting}
+use lib.Seq.{paste-zero, length-paste}
 use Rattle.bauchleton.proofs.Answers.{pasted-none, pasted-more, pasted-all}
 use Rattle.bauchleton.proofs.calls.paste.Goals as goal
 

@@ -1,11 +1,8 @@
 -- After k turns the first k bytes are the stretch's and the rest is as it was.
-use mathlib.Core.Path.{◌≡◌, ap, ◌∙◌}
-use mathlib.Core.List.{List}
-use Prim.Native.Nat.{ℕ, ◌-◌, ◌≤◌}
-use native.Mathlib.Omega.{arith}
-use lib.ListN.{length, set, get_or}
-use lib.Seq.{paste-zero, length-paste, paste as pasting}
-use Rattle.bauchleton.proofs.Answers.{pasted-none, pasted-more, pasted-all}
+use mathlib.Core.Path.{◌≡◌}
+use Prim.Native.Nat.{◌-◌, ◌≤◌}
+use lib.ListN.{length}
+use lib.Seq.{paste as pasting}
 use Rattle.bauchleton.proofs.calls.paste.Given as goal
 
 abbrev pub invariant-loop-k : goal.invariant-loop-k

@@ -1,7 +1,6 @@
 -- The checker's verdict, reported; where the report has another length the checker is lent no working bytes.
 use lib.ListN.{length}
 use Rattle.bauchleton.proofs.Report.{part_lent, kit-told}
-use borrow.Author.Rules.{rules}
 use Rattle.bauchleton.proofs.kits.bauchleton_check_kit.Goals as goal
 
 pub returns : goal.returns

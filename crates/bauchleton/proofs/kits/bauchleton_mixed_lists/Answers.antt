@@ -1,6 +1,5 @@
 -- The answer as the host is told it, and the lists that the call leaves.
 use Rattle.bauchleton.proofs.LoadTold.{load_told}
-use borrow.Author.Rules.{rules}
 use Rattle.bauchleton.proofs.kits.bauchleton_mixed_lists.Goals as goal
 
 pub returns : goal.returns

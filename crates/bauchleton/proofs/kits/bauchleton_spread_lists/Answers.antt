@@ -3,7 +3,6 @@ use mathlib.Core.List.{[], ◌∷◌}
 use Rattle.staircase.specs.Rules.{Verdict}
 use Rattle.rules_verdict.specs.Number.{number, place_of}
 use Rattle.rules_verdict.proofs.Stores.{told_alike}
-use borrow.Author.Rules.{rules}
 use Rattle.bauchleton.proofs.kits.bauchleton_spread_lists.Goals as goal
 
 pub returns : goal.returns

@@ -9,7 +9,6 @@ use Rattle.rules_verdict.proofs.Stores.{judged-told}
 use Rattle.bauchleton.specs.Answers.{zeros}
 use Rattle.bauchleton.proofs.Answers.{refused-told}
 use Rattle.bauchleton.proofs.MadeTold.{made_told}
-use borrow.Author.Rules.{rules}
 use Rattle.bauchleton.proofs.lengths.bauchleton_order.Goals as goal
 
 pub returns-in_default : goal.returns-in_default

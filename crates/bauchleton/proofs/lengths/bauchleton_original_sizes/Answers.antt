@@ -13,7 +13,6 @@ use Rattle.bauchleton.specs.Answers.{zeros}
 use Rattle.bauchleton.specs.OriginalSizes.{original_lengths}
 use Rattle.bauchleton.proofs.Answers.{refused-told}
 use Rattle.bauchleton.proofs.MadeTold.{made_told}
-use borrow.Author.Rules.{rules}
 use Rattle.bauchleton.proofs.lengths.bauchleton_original_sizes.Goals as goal
 
 pub returns-in_default : goal.returns-in_default

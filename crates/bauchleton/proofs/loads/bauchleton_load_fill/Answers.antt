@@ -1,6 +1,5 @@
 -- The answer as the host is told it, and the information that is left.
 use Rattle.bauchleton.proofs.LoadTold.{load_told}
-use borrow.Author.Rules.{rules}
 use Rattle.bauchleton.proofs.loads.bauchleton_load_fill.Goals as goal
 
 pub returns : goal.returns

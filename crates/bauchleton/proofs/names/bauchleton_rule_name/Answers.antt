@@ -4,7 +4,6 @@ use Prim.Native.Nat.{zero-le}
 use native.Mathlib.Omega.{arith}
 use Rattle.bauchleton.specs.RuleNames.{rule_name}
 use Rattle.bauchleton.proofs.RuleNames.{name_told, name_none, past}
-use borrow.Author.Rules.{rules}
 use Rattle.bauchleton.proofs.names.bauchleton_rule_name.Goals as goal
 
 pub returns-in-0 : goal.returns-in-0

@@ -3,7 +3,6 @@ use Rattle.staircase.specs.Calls.{Counted}
 use Rattle.rules_verdict.specs.Number.{number}
 use Rattle.rules_verdict.proofs.Stores.{told_alike}
 use Rattle.bauchleton.specs.Answers.{words_answer}
-use borrow.Author.Rules.{rules}
 use Rattle.bauchleton.proofs.originals.bauchleton_original_check_words.Goals as goal
 
 pub returns : goal.returns

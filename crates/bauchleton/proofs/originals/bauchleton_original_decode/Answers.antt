@@ -2,7 +2,6 @@
 use lib.ListN.{length}
 use Rattle.bauchleton.proofs.Report.{part_lent}
 use Rattle.bauchleton.proofs.OriginalReport.{original_decode-told, buffer-told}
-use borrow.Author.Rules.{rules}
 use Rattle.bauchleton.proofs.originals.bauchleton_original_decode.Goals as goal
 
 pub returns : goal.returns

@@ -1,6 +1,5 @@
 -- The encoder's verdict, reported, and the buffer that it leaves; where the report has another length the encoder is lent nothing of it.
 use Rattle.bauchleton.proofs.OriginalReport.{original_told}
-use borrow.Author.Rules.{rules}
 use Rattle.bauchleton.proofs.originals.bauchleton_original_encode.Goals as goal
 
 pub returns : goal.returns

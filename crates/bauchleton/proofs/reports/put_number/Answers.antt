@@ -3,7 +3,6 @@ use mathlib.Core.Path.{refl}
 use native.Mathlib.Omega.{arith}
 use lib.ListN.{length-set}
 use Rattle.bauchleton.proofs.Report.{stored_eight}
-use borrow.Author.Rules.{rules}
 use Rattle.bauchleton.proofs.reports.put_number.Goals as goal
 
 pub bounds-part-4 : goal.bounds-part-4

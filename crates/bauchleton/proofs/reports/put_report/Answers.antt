@@ -2,7 +2,6 @@
 use mathlib.Core.Path.{refl}
 use Rattle.bauchleton.specs.Report.{eight_bytes}
 use Rattle.bauchleton.proofs.Report.{eight_length, five_parts, told-report, stored_report}
-use borrow.Author.Rules.{rules}
 use Rattle.bauchleton.proofs.reports.put_report.Goals as goal
 
 pub returns-then-report-ne-REPORT : goal.returns-then-report-ne-REPORT

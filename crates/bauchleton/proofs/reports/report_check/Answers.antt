@@ -1,6 +1,5 @@
 -- A verdict's rule and place.
 use Rattle.bauchleton.proofs.Report.{judged-reported}
-use borrow.Author.Rules.{rules}
 use Rattle.bauchleton.proofs.reports.report_check.Goals as goal
 
 pub returns : goal.returns

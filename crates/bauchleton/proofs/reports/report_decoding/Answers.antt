@@ -8,7 +8,6 @@ use Rattle.rules_verdict.proofs.Stores.{told_alike}
 use Rattle.bauchleton.specs.Answers.{corrected_answer}
 use Rattle.bauchleton.specs.Report.{report_bytes}
 use Rattle.bauchleton.proofs.Report.{judged-reported}
-use borrow.Author.Rules.{rules}
 use Rattle.bauchleton.proofs.reports.report_decoding.Goals as goal
 
 pub returns-in-Decoded : goal.returns-in-Decoded

@@ -6,7 +6,6 @@ use Rattle.staircase.proofs.Rules.{count_limits}
 use Rattle.answers.specs.Answers.{verdict_of}
 use Rattle.design.proofs.Answers.{design-made, made-allowed, refused-design}
 use Rattle.bauchleton.proofs.FrameSizes.{sizes-none, sizes-some}
-use borrow.Author.Rules.{rules}
 use Rattle.answers.proofs.Checks.{check_refused, check_passed}
 use Rattle.bauchleton.proofs.sizes.bauchleton_sizes.Goals as goal
 

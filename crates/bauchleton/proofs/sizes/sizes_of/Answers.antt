@@ -1,7 +1,6 @@
 -- The lengths that are due, one by one.
 use native.Mathlib.Omega.{arith}
 use Rattle.bauchleton.proofs.FrameSizes.{sizes-made, kit-work-few}
-use borrow.Author.Rules.{rules}
 use Rattle.bauchleton.proofs.sizes.sizes_of.Goals as goal
 
 pub overflow_add-loopback : goal.overflow_add-loopback

@@ -1,7 +1,6 @@
 -- A verdict's rule and place.
 use Rattle.rules_verdict.proofs.Stores.{judged-told}
 use Rattle.bauchleton.specs.FrameSizes.{no_sizes}
-use borrow.Author.Rules.{rules}
 use Rattle.bauchleton.proofs.sizes.tell_no_sizes.Goals as goal
 
 pub returns : goal.returns

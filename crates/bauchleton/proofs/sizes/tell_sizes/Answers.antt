@@ -3,7 +3,6 @@ use mathlib.Core.Path.{refl}
 use native.Mathlib.Omega.{arith}
 use lib.ListN.{length-set}
 use Rattle.rules_verdict.proofs.Stores.{told_other, told-all}
-use borrow.Author.Rules.{rules}
 use Rattle.bauchleton.proofs.sizes.tell_sizes.Goals as goal
 
 pub returns-then-answer-ne16 : goal.returns-then-answer-ne16

@@ -7,7 +7,6 @@ use Rattle.tally.specs.Answers.{totals_of}
 use Rattle.bauchleton.specs.LentTally.{lent_tally_call}
 use Rattle.bauchleton.proofs.Report.{part_lent}
 use Rattle.bauchleton.proofs.LentTally.{tallied, tallied_forty, tallied_other, tallied_is, untallied, untallied_forty, untallied_other, untallied_is, lent_told}
-use borrow.Author.Rules.{rules}
 use Rattle.bauchleton.proofs.tallies.bauchleton_decode_tallied.Goals as goal
 
 pub returns-then-tally-ne-TOTALS : goal.returns-then-tally-ne-TOTALS

@@ -1,7 +1,6 @@
 -- A slice that is no tally is refused; else its report.
 use Rattle.tally.specs.Answers.{totals_of}
 use Rattle.bauchleton.proofs.LentTally.{report_other, report_six}
-use borrow.Author.Rules.{rules}
 use Rattle.bauchleton.proofs.tallies.bauchleton_report.Goals as goal
 
 pub returns-then-tally-ne-TOTALS : goal.returns-then-tally-ne-TOTALS

@@ -10,7 +10,6 @@ use Rattle.answers.proofs.Checks.{check_refused}
 use Rattle.rules_verdict.specs.declared.Judged.{Judged}
 use Rattle.bauchleton.specs.LentTally.{length_first}
 use Rattle.bauchleton.proofs.LentTally.{late_verdict, early-verdict}
-use borrow.Author.Rules.{rules}
 use Rattle.bauchleton.proofs.tallies.length_first.Goals as goal
 
 pub returns-in_default : goal.returns-in_default

@@ -5,7 +5,6 @@ use lib.ListN.{length-set}
 use Rattle.bauchleton.proofs.Report.{stored_all}
 use Rattle.staircase.specs.Tally.{totals}
 use Rattle.tally.specs.Answers.{totals_of}
-use borrow.Author.Rules.{rules}
 use Rattle.bauchleton.proofs.tallies.put_totals.Goals as goal
 
 pub bounds-out-4 : goal.bounds-out-4

@@ -3,7 +3,6 @@ use mathlib.Core.Path.{refl}
 use native.Mathlib.Omega.{arith}
 use lib.ListN.{length-set}
 use Rattle.rules_verdict.proofs.Stores.{told_other, told-all}
-use borrow.Author.Rules.{rules}
 use Rattle.bauchleton.proofs.tallies.tell_report.Goals as goal
 
 pub returns-then-answer-ne9 : goal.returns-then-answer-ne9

@@ -1,5 +1,4 @@
 -- A verdict's rule and place.
-use borrow.Author.Rules.{rules}
 use mathlib.Core.List.{[]}
 use Rattle.rules_verdict.proofs.Stores.{judged-told}
 use Rattle.bauchleton.proofs.tells.tell_check.Goals as goal

@@ -1,5 +1,4 @@
 -- Each case by its definition.
-use borrow.Author.Rules.{rules}
 use mathlib.Core.Path.{sym}
 use mathlib.Core.List.{[], ◌∷◌}
 use Rattle.staircase.specs.Frame.{Frame}

@@ -5,7 +5,6 @@ use Rattle.generator.specs.declared.Loaded.{Loaded}
 use Rattle.generator.specs.Answers.{load_verdict, load_state}
 use Rattle.rules_verdict.specs.Number.{number, place_of}
 use Rattle.rules_verdict.proofs.Stores.{told_alike, judged-told}
-use borrow.Author.Rules.{rules}
 use Rattle.bauchleton.proofs.tells.tell_load.Goals as goal
 
 pub returns-in-State : goal.returns-in-State

@@ -1,5 +1,4 @@
 -- The reader's verdict as the host is told it, and what the reader leaves.
-use borrow.Author.Rules.{rules}
 use Rattle.staircase.specs.Rules.{Verdict}
 use Rattle.text.specs.KitReader.{read_kit_call}
 use Rattle.bauchleton_text.specs.Answers.{kit_answer}

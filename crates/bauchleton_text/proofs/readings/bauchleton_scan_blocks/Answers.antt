@@ -1,5 +1,4 @@
 -- A design that is refused, and the reader behind one that is made.
-use borrow.Author.Rules.{rules}
 use Rattle.bauchleton_text.proofs.Answers.{refused-design, made-fits, scan-blocks-refused, scan-blocks-made}
 use Rattle.bauchleton_text.proofs.readings.bauchleton_scan_blocks.Goals as goal
 

@@ -1,5 +1,4 @@
 -- The reader's verdict as the host is told it.
-use borrow.Author.Rules.{rules}
 use Rattle.staircase.specs.Rules.{Verdict}
 use Rattle.bauchleton_text.specs.Answers.{kit_answer}
 use Rattle.bauchleton_text.proofs.Answers.{told-by}

@@ -1,5 +1,4 @@
 -- Each case is a law of a reader's answer.
-use borrow.Author.Rules.{rules}
 use Rattle.bauchleton_text.proofs.Answers.{blocks-counted, blocks-refused, blocks_broken}
 use Rattle.bauchleton_text.proofs.readings.tell_blocks.Goals as goal
 

@@ -1,5 +1,4 @@
 -- Each case is a law of a kit reader's answer.
-use borrow.Author.Rules.{rules}
 use Rattle.bauchleton_text.proofs.Answers.{kit-made, kit-refused, kit_broken}
 use Rattle.bauchleton_text.proofs.readings.tell_kit.Goals as goal
 

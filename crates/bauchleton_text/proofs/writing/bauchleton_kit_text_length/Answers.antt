@@ -3,7 +3,6 @@ use Rattle.text.specs.KitWriter.{Measured}
 use Rattle.rules_verdict.specs.Number.{number}
 use Rattle.bauchleton_text.specs.Answers.{length_answer}
 use Rattle.rules_verdict.proofs.Stores.{told_alike}
-use borrow.Author.Rules.{rules}
 use Rattle.bauchleton_text.proofs.writing.bauchleton_kit_text_length.Goals as goal
 
 pub returns : goal.returns

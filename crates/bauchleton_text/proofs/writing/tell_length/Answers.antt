@@ -6,7 +6,6 @@ use Rattle.text_kit_write.specs.Checks.{measured_of}
 use Rattle.rules_verdict.specs.Number.{number, place_of}
 use Rattle.bauchleton_text.specs.Answers.{length_answer}
 use Rattle.rules_verdict.proofs.Stores.{told_alike, judged-told}
-use borrow.Author.Rules.{rules}
 use Rattle.bauchleton_text.proofs.writing.tell_length.Goals as goal
 
 pub returns-in-Length : goal.returns-in-Length

@@ -1,10 +1,8 @@
 -- The loop's invariant: the table has the logarithms of the first `j` powers. The measure is the number of powers left.
-use mathlib.Core.Path.{◌≡◌, subst⁻¹}
+use mathlib.Core.Path.{◌≡◌}
 use Prim.Native.Nat.{◌-◌, ◌^◌, ◌≤◌}
-use native.Mathlib.Omega.{arith}
 use lib.ListN.{length}
-use Rattle.bch.proofs.Powers.{powers-length}
-use Rattle.bch_field.proofs.Solved.{sizes, Logged, logged_none, logged_more, logged_all}
+use Rattle.bch_field.proofs.Solved.{Logged}
 use Rattle.bch_field.proofs.logarithms.fill_logs.Given as goal
 
 abbrev pub invariant-loop-j : goal.invariant-loop-j

@@ -1,5 +1,5 @@
-use mathlib.Core.Path.{◌≡◌, subst⁻¹}
-use Prim.Native.Nat.{◌-◌, ◌^◌, ◌≤◌}
+use mathlib.Core.Path.{subst⁻¹}
+use Prim.Native.Nat.{◌-◌}
 use native.Mathlib.Omega.{arith}
 use lib.ListN.{length}
 use Rattle.bch.proofs.Powers.{powers-length}

@@ -1,10 +1,8 @@
 -- The loop's invariant: the table has the solutions with exponents below `e`. The measure is the number of exponents left.
-use mathlib.Core.Path.{◌≡◌, subst⁻¹}
+use mathlib.Core.Path.{◌≡◌}
 use Prim.Native.Nat.{◌-◌, ◌^◌, ◌≤◌}
-use native.Mathlib.Omega.{arith}
 use lib.ListN.{length}
-use Rattle.bch.proofs.Powers.{powers-length}
-use Rattle.bch_field.proofs.Solved.{sizes, Solved, solved_none, solved_more, solved_all}
+use Rattle.bch_field.proofs.Solved.{Solved}
 use Rattle.bch_field.proofs.logarithms.fill_solutions.Given as goal
 
 abbrev pub invariant-loop-e : goal.invariant-loop-e

@@ -1,11 +1,8 @@
 -- The loop's invariant: the first `j` entries are those of their positions. The measure is the number of entries left.
-use mathlib.Core.Path.{◌≡◌, sym, ap, ◌∙◌}
-use Prim.Native.Nat.{ℕ, ◌+◌, ◌-◌, ◌≤◌, ◌<◌}
-use native.Mathlib.Omega.{arith}
-use lib.ListN.{length, get_or, length-set}
+use mathlib.Core.Path.{◌≡◌}
+use Prim.Native.Nat.{ℕ, ◌-◌, ◌≤◌, ◌<◌}
+use lib.ListN.{length, get_or}
 use Rattle.bch.specs.Locator.{power_syndromes}
-use Rattle.bch.proofs.Store.{set_each}
-use Rattle.bch_field.proofs.Solved.{sizes}
 use Rattle.bch_field.proofs.logarithms.fill_syndromes_by.Given as goal
 
 abbrev pub invariant-loop-j : goal.invariant-loop-j

@@ -3,7 +3,6 @@ use mathlib.Core.Path.{refl}
 use native.Mathlib.Omega.{arith}
 use Rattle.staircase.proofs.Bounds.{small_product}
 use Rattle.design.proofs.Sizes.{product-fits}
-use borrow.Author.Rules.{rules}
 use Rattle.design.proofs.Design.area.Goals as goal
 
 pub overflow_mul-result : goal.overflow_mul-result

@@ -5,7 +5,6 @@ use Rattle.staircase.specs.Rules.{◌then◌, long_rule, large_rule, design_rule
 use Rattle.answers.proofs.Checks.{check_passed}
 use Rattle.design.specs.Answers.{DesignIs, DesignAllowed}
 use Rattle.design.proofs.Answers.{sized-refused, sized-passed}
-use borrow.Author.Rules.{rules}
 use Rattle.design.proofs.Design.new_col.Goals as goal
 
 pub feed_forward-requires : goal.feed_forward-requires

@@ -6,7 +6,6 @@ use Rattle.original.specs.Rules.{row_long_rule, thin_rule, original_rules}
 use Rattle.answers.proofs.Checks.{check_passed}
 use Rattle.design.specs.Answers.{DesignIs, DesignOriginal}
 use Rattle.design.proofs.Answers.{sized-refused, sized-passed}
-use borrow.Author.Rules.{rules}
 use Rattle.design.proofs.Design.of_original_col.Goals as goal
 
 pub original-requires : goal.original-requires

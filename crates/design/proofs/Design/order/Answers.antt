@@ -4,7 +4,6 @@ use Prim.Native.Nat.{ℕ, ◌*◌}
 use native.Mathlib.Omega.{arith}
 use Rattle.staircase.proofs.Bounds.{small_product}
 use Rattle.design.proofs.Sizes.{product-fits}
-use borrow.Author.Rules.{rules}
 use Rattle.design.proofs.Design.order.Goals as goal
 
 pub overflow_mul-result : goal.overflow_mul-result

@@ -1,7 +1,7 @@
-use mathlib.Core.Path.{◌≡◌, ap₂, ◌∙◌}
+use mathlib.Core.Path.{ap₂, ◌∙◌}
 use mathlib.Core.Bool.{cond}
 use mathlib.Core.List.{List}
-use Prim.Native.Nat.{ℕ, ◌+◌, ◌-◌, ◌*◌, ◌/◌, ◌%◌, ◌^◌, ◌≤◌, ◌<◌}
+use Prim.Native.Nat.{ℕ, ◌+◌, ◌-◌, ◌*◌, ◌/◌, ◌%◌, ◌^◌}
 use native.Mathlib.Omega.{arith}
 use lib.Dec.{eqb}
 use lib.ListN.{length, get_or}
@@ -11,7 +11,7 @@ use Rattle.staircase.specs.Batch.{frame_at}
 use Rattle.staircase.proofs.Bounds.{stretch-end}
 use Rattle.bch_remainders.proofs.Rows.{row-length, row-bits}
 use Rattle.encoder_solution.specs.Bits.{place_constant}
-use Rattle.encoder_solution.proofs.Gathered.{Gathered, gathered_none, gathered_more}
+use Rattle.encoder_solution.proofs.Gathered.{gathered_none, gathered_more}
 use Rattle.encoder_frame.proofs.Lending.{part_of}
 use Rattle.encoder_frame.proofs.stretch.add_constants.Goals as goal
 

@@ -1,19 +1,10 @@
 -- The loop's invariant: the constants of the groups before `g` are in the words, whose other bits are 0. The measure is the number of groups left.
-use mathlib.Core.Path.{◌≡◌, ap₂, ◌∙◌}
-use mathlib.Core.Bool.{cond}
-use mathlib.Core.List.{List}
-use Prim.Native.Nat.{ℕ, ◌+◌, ◌-◌, ◌*◌, ◌/◌, ◌%◌, ◌^◌, ◌≤◌, ◌<◌}
-use native.Mathlib.Omega.{arith}
-use lib.Dec.{eqb}
+use mathlib.Core.Path.{◌≡◌}
+use Prim.Native.Nat.{ℕ, ◌-◌, ◌*◌, ◌≤◌, ◌<◌}
 use lib.ListN.{length, get_or}
-use Rattle.bch.proofs.Sum.{mod2_bit}
-use Rattle.staircase.specs.Lists.{bit_sum}
 use Rattle.staircase.specs.Batch.{frame_at}
-use Rattle.staircase.proofs.Bounds.{stretch-end}
-use Rattle.bch_remainders.proofs.Rows.{row-length, row-bits}
 use Rattle.encoder_solution.specs.Bits.{place_constant}
-use Rattle.encoder_solution.proofs.Gathered.{Gathered, gathered_none, gathered_more}
-use Rattle.encoder_frame.proofs.Lending.{part_of}
+use Rattle.encoder_solution.proofs.Gathered.{Gathered}
 use Rattle.encoder_frame.proofs.stretch.add_constants.Given as goal
 
 abbrev pub invariant-loop-g : goal.invariant-loop-g

@@ -1,13 +1,13 @@
 use mathlib.Core.Path.{◌≡◌, ap, ◌∙◌, subst⁻¹}
 use mathlib.Core.List.{List}
-use Prim.Native.Nat.{ℕ, ◌-◌, ◌*◌, ◌≤◌}
+use Prim.Native.Nat.{ℕ, ◌-◌, ◌*◌}
 use native.Mathlib.Omega.{arith}
 use lib.ListN.{length}
 use Rattle.bch.specs.Polynomial.{Bits}
 use Rattle.staircase.specs.Batch.{frame_at}
 use Rattle.staircase.proofs.Batch.{frame-bits}
 use Rattle.staircase.proofs.Bounds.{stretch-end}
-use Rattle.staircase.proofs.Fill.{stretches, stretches_none, stretches_more, stretches_all}
+use Rattle.staircase.proofs.Fill.{stretches_none, stretches_more, stretches_all}
 use Rattle.bch_remainders.proofs.Rows.{row-length}
 use Rattle.encoder_frame.specs.Group.{finished_of}
 use Rattle.encoder_frame.proofs.Lending.{part_of}

@@ -3,7 +3,6 @@ use mathlib.Core.Path.{subst, subst⁻¹}
 use mathlib.Core.List.{List}
 use Prim.Native.Nat.{ℕ, ◌*◌, ◌/◌, ◌%◌, ◌<◌}
 use native.Mathlib.Omega.{arith}
-use borrow.Author.Rules.{rules}
 use Rattle.staircase.specs.Frame.{groups}
 use Rattle.staircase.proofs.Bounds.{small_product, stretch-end}
 use Rattle.encoder_frame.specs.Groups.{FrameReady}

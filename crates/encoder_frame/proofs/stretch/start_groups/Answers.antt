@@ -1,11 +1,10 @@
-use mathlib.Core.Path.{◌≡◌, ◌∙◌}
+use mathlib.Core.Path.{◌∙◌}
 use mathlib.Core.List.{List}
 use Prim.Native.Nat.{ℕ, ◌+◌, ◌-◌, ◌*◌, ◌≤◌}
 use native.Mathlib.Omega.{arith}
-use lib.ListN.{length}
 use Rattle.staircase.specs.Frame.{groups}
 use Rattle.staircase.proofs.Bounds.{small_product, stretch-end}
-use Rattle.staircase.proofs.Fill.{stretches, stretches_none, stretches_more, stretches_all}
+use Rattle.staircase.proofs.Fill.{stretches_none, stretches_more, stretches_all}
 use Rattle.bch_remainders.proofs.Rows.{row-length}
 use Rattle.encoder_frame.specs.Groups.{start_at}
 use Rattle.encoder_frame.proofs.FrameGroups.{start_at-length}

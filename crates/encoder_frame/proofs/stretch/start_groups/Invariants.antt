@@ -1,15 +1,9 @@
 -- The loop's invariant: the groups before `g` are started. The measure is the number of groups left.
-use mathlib.Core.Path.{◌≡◌, ◌∙◌}
-use mathlib.Core.List.{List}
-use Prim.Native.Nat.{ℕ, ◌+◌, ◌-◌, ◌*◌, ◌≤◌}
-use native.Mathlib.Omega.{arith}
+use mathlib.Core.Path.{◌≡◌}
+use Prim.Native.Nat.{◌+◌, ◌-◌, ◌*◌, ◌≤◌}
 use lib.ListN.{length}
-use Rattle.staircase.specs.Frame.{groups}
-use Rattle.staircase.proofs.Bounds.{small_product, stretch-end}
-use Rattle.staircase.proofs.Fill.{stretches, stretches_none, stretches_more, stretches_all}
-use Rattle.bch_remainders.proofs.Rows.{row-length}
+use Rattle.staircase.proofs.Fill.{stretches}
 use Rattle.encoder_frame.specs.Groups.{start_at}
-use Rattle.encoder_frame.proofs.FrameGroups.{start_at-length}
 use Rattle.encoder_frame.proofs.stretch.start_groups.Given as goal
 
 abbrev pub invariant-loop-g : goal.invariant-loop-g

@@ -1,10 +1,10 @@
-use mathlib.Core.Path.{◌≡◌, refl, ap, ◌∙◌}
-use Prim.Native.Nat.{ℕ, ◌+◌, ◌-◌, ◌*◌, ◌≤◌}
+use mathlib.Core.Path.{refl, ap, ◌∙◌}
+use Prim.Native.Nat.{ℕ, ◌+◌, ◌-◌, ◌*◌}
 use native.Mathlib.Omega.{arith}
 use lib.ListN.{length, get_or, take, drop, length-set}
 use Rattle.bch.specs.Powers.{xor_sum}
 use Rattle.bch.proofs.PowerSum.{xor_sum-same}
-use Rattle.bch_remainders.proofs.Powers.{Added, added_more}
+use Rattle.bch_remainders.proofs.Powers.{added_more}
 use Rattle.bch_remainders.proofs.Rows.{row_end, row-length, row_at}
 use Rattle.encoder_solution.proofs.product.add_columns.Goals as goal
 

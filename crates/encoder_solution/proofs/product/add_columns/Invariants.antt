@@ -1,12 +1,9 @@
 -- The loop's invariant: the words before `e` are added to, the others as they were. The measure is the number of words left.
-use mathlib.Core.Path.{◌≡◌, refl, ap, ◌∙◌}
-use Prim.Native.Nat.{ℕ, ◌+◌, ◌-◌, ◌*◌, ◌≤◌}
-use native.Mathlib.Omega.{arith}
-use lib.ListN.{length, get_or, take, drop, length-set}
+use mathlib.Core.Path.{◌≡◌}
+use Prim.Native.Nat.{◌+◌, ◌-◌, ◌*◌, ◌≤◌}
+use lib.ListN.{length, get_or}
 use Rattle.bch.specs.Powers.{xor_sum}
-use Rattle.bch.proofs.PowerSum.{xor_sum-same}
-use Rattle.bch_remainders.proofs.Powers.{Added, added_more}
-use Rattle.bch_remainders.proofs.Rows.{row_end, row-length, row_at}
+use Rattle.bch_remainders.proofs.Powers.{Added}
 use Rattle.encoder_solution.proofs.product.add_columns.Given as goal
 
 abbrev pub invariant-loop-e : goal.invariant-loop-e

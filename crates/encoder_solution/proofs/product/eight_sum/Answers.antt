@@ -1,6 +1,5 @@
 -- Eight entries, one after the other.
 use Prim.Native.Nat.{◌+◌, ◌*◌}
-use borrow.Author.Rules.{rules}
 use lib.ListN.{get_or}
 use Rattle.encoder_solution.proofs.Words.{sum_of_eight}
 use Rattle.encoder_solution.proofs.product.eight_sum.Goals as goal

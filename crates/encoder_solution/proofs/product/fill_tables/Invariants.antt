@@ -1,12 +1,8 @@
 -- The loop's invariant: the tables before `j` are filled. The measure is the number of tables left.
-use mathlib.Core.Path.{◌≡◌, sym, ◌∙◌}
-use Prim.Native.Nat.{ℕ, ◌+◌, ◌-◌, ◌*◌, ◌≤◌, ◌<◌}
-use native.Mathlib.Omega.{arith}
+use mathlib.Core.Path.{◌≡◌}
+use Prim.Native.Nat.{ℕ, ◌-◌, ◌*◌, ◌≤◌, ◌<◌}
 use lib.ListN.{length, get_or}
-use Rattle.staircase.proofs.Fill.{each_part}
-use Rattle.bch_remainders.proofs.Rows.{row-length}
 use Rattle.words_tables.specs.Tables.{table_entry}
-use Rattle.encoder_solution.proofs.Words.{table_of_part}
 use Rattle.encoder_solution.proofs.product.fill_tables.Given as goal
 
 abbrev pub invariant-loop-j : goal.invariant-loop-j

@@ -1,16 +1,9 @@
 -- The loop's invariant: the bytes before `b` of every row are taken. The measure is the number of bytes left.
-use mathlib.Core.Path.{◌≡◌, sym, ap, ◌∙◌}
-use mathlib.Core.List.{List, ◌++◌}
-use Prim.Native.Nat.{ℕ, ◌+◌, ◌-◌, ◌*◌, ◌≤◌, ◌<◌}
-use native.Mathlib.Omega.{arith}
-use lib.ListN.{length, get_or, take, drop}
-use lib.Seq.{take_at}
+use mathlib.Core.Path.{◌≡◌}
+use Prim.Native.Nat.{ℕ, ◌-◌, ◌*◌, ◌≤◌, ◌<◌}
+use lib.ListN.{length, get_or}
 use Rattle.bch.specs.Polynomial.{◌⊕◌}
-use Rattle.staircase.proofs.Fill.{front_length}
-use Rattle.bch_remainders.proofs.Rows.{row-length, row_at}
-use Rattle.words_blocks.proofs.Sums.{part_length}
 use Rattle.encoder_solution.specs.Words.{row_product}
-use Rattle.encoder_solution.proofs.Words.{product-none, product-more}
 use Rattle.encoder_solution.proofs.product.multiply_in.Given as goal
 
 abbrev pub invariant-loop-b : goal.invariant-loop-b

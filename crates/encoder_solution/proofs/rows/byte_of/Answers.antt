@@ -1,9 +1,9 @@
-use mathlib.Core.Path.{◌≡◌, refl}
-use Prim.Native.Nat.{ℕ, ◌-◌, ◌≤◌}
+use mathlib.Core.Path.{refl}
+use Prim.Native.Nat.{ℕ, ◌-◌}
 use native.Mathlib.Omega.{arith}
 use lib.ListN.{get_or}
 use Rattle.matrix.proofs.Bits.{bit, bit-lt, bit_added}
-use Rattle.encoder_solution.proofs.Gathered.{Gathered, gathered_none, gathered_more}
+use Rattle.encoder_solution.proofs.Gathered.{gathered_none, gathered_more}
 use Rattle.encoder_solution.proofs.rows.byte_of.Goals as goal
 
 pub loop-i-init : goal.loop-i-init

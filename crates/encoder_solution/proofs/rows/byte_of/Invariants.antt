@@ -1,10 +1,9 @@
 -- The loop's invariant: the bits of the words before `i` are in `v`, whose other bits are 0. The measure is the number of words left.
-use mathlib.Core.Path.{◌≡◌, refl}
-use Prim.Native.Nat.{ℕ, ◌-◌, ◌≤◌}
-use native.Mathlib.Omega.{arith}
+use mathlib.Core.Path.{◌≡◌}
+use Prim.Native.Nat.{◌-◌, ◌≤◌}
 use lib.ListN.{get_or}
-use Rattle.matrix.proofs.Bits.{bit, bit-lt, bit_added}
-use Rattle.encoder_solution.proofs.Gathered.{Gathered, gathered_none, gathered_more}
+use Rattle.matrix.proofs.Bits.{bit}
+use Rattle.encoder_solution.proofs.Gathered.{Gathered}
 use Rattle.encoder_solution.proofs.rows.byte_of.Given as goal
 
 abbrev pub invariant-loop-i : goal.invariant-loop-i

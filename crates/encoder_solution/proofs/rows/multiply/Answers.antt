@@ -1,7 +1,6 @@
 -- The packed constants are in the first bytes of a local array.
 use Prim.Native.Nat.{ℕ, ◌*◌}
 use native.Mathlib.Omega.{arith}
-use borrow.Author.Rules.{rules}
 use lib.ListN.{replicate}
 use Rattle.staircase.proofs.Bounds.{small_product}
 use Rattle.words_blocks.proofs.Sums.{part_length}

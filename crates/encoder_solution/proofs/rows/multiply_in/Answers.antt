@@ -1,9 +1,9 @@
-use mathlib.Core.Path.{◌≡◌, refl, ◌∙◌}
-use Prim.Native.Nat.{ℕ, ◌-◌, ◌*◌, ◌≤◌}
+use mathlib.Core.Path.{refl, ◌∙◌}
+use Prim.Native.Nat.{ℕ, ◌-◌, ◌*◌}
 use native.Mathlib.Omega.{arith}
 use lib.ListN.{length, get_or, length-set}
 use borrow.Rule.Slice.PartMut.{mid_len}
-use Rattle.bch_remainders.proofs.Powers.{Added, added_more}
+use Rattle.bch_remainders.proofs.Powers.{added_more}
 use Rattle.bch_remainders.proofs.Rows.{row_end}
 use Rattle.encoder_solution.specs.Words.{row_product}
 use Rattle.encoder_solution.proofs.Masked.{row-product}

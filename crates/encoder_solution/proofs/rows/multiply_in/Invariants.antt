@@ -1,13 +1,9 @@
 -- The loop's invariant: the words before `e` are added to, the others as they were. The measure is the number of words left.
-use mathlib.Core.Path.{◌≡◌, refl, ◌∙◌}
-use Prim.Native.Nat.{ℕ, ◌-◌, ◌*◌, ◌≤◌}
-use native.Mathlib.Omega.{arith}
-use lib.ListN.{length, get_or, length-set}
-use borrow.Rule.Slice.PartMut.{mid_len}
-use Rattle.bch_remainders.proofs.Powers.{Added, added_more}
-use Rattle.bch_remainders.proofs.Rows.{row_end}
+use mathlib.Core.Path.{◌≡◌}
+use Prim.Native.Nat.{◌-◌, ◌*◌, ◌≤◌}
+use lib.ListN.{length, get_or}
+use Rattle.bch_remainders.proofs.Powers.{Added}
 use Rattle.encoder_solution.specs.Words.{row_product}
-use Rattle.encoder_solution.proofs.Masked.{row-product}
 use Rattle.encoder_solution.proofs.rows.multiply_in.Given as goal
 
 abbrev pub invariant-loop-e : goal.invariant-loop-e

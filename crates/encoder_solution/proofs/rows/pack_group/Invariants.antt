@@ -1,10 +1,7 @@
 -- The loop's invariant: the bytes before `b` are packed. The measure is the number of bytes left.
-use mathlib.Core.Path.{◌≡◌, ap, ◌∙◌}
+use mathlib.Core.Path.{◌≡◌}
 use Prim.Native.Nat.{ℕ, ◌+◌, ◌-◌, ◌*◌, ◌≤◌, ◌<◌}
-use native.Mathlib.Omega.{arith}
-use lib.ListN.{length, get_or, length-set}
-use Rattle.staircase.proofs.Fill.{each_more}
-use Rattle.bch_remainders.proofs.Rows.{row-length, row_at}
+use lib.ListN.{length, get_or}
 use Rattle.matrix.proofs.Bits.{bit}
 use Rattle.encoder_solution.proofs.rows.pack_group.Given as goal
 

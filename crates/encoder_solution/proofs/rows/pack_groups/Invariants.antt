@@ -1,14 +1,8 @@
 -- The loop's invariant: the bytes of the groups before `g` are packed. The measure is the number of groups left.
-use mathlib.Core.Path.{◌≡◌, sym, ◌∙◌}
+use mathlib.Core.Path.{◌≡◌}
 use Prim.Native.Nat.{ℕ, ◌+◌, ◌-◌, ◌*◌, ◌/◌, ◌%◌, ◌≤◌, ◌<◌}
-use native.Mathlib.Omega.{arith}
-use borrow.Rule.Slice.PartMut.{same_len_mid}
 use lib.ListN.{length, get_or}
-use Rattle.staircase.proofs.Bounds.{stretch-end}
-use Rattle.staircase.proofs.Fill.{each_part}
-use Rattle.bch_remainders.proofs.Rows.{row-length}
 use Rattle.matrix.proofs.Bits.{bit}
-use Rattle.encoder_solution.proofs.Masked.{group-byte}
 use Rattle.encoder_solution.proofs.rows.pack_groups.Given as goal
 
 abbrev pub invariant-loop-g : goal.invariant-loop-g

@@ -1,7 +1,7 @@
 use mathlib.Core.Path.{◌≡◌, refl, sym, ap, ◌∙◌}
 use mathlib.Core.Bool.{cond}
 use mathlib.Core.List.{List}
-use Prim.Native.Nat.{ℕ, ◌+◌, ◌-◌, ◌*◌, ◌≤◌, ◌<◌}
+use Prim.Native.Nat.{ℕ, ◌+◌, ◌-◌, ◌*◌, ◌<◌}
 use native.Mathlib.Omega.{arith}
 use lib.Dec.{eqb}
 use lib.ListN.{length, take, drop}
@@ -11,7 +11,7 @@ use Rattle.staircase.proofs.Matrix.{sum_bits-lt, sum_bits-same}
 use Rattle.bch_remainders.proofs.Rows.{row-length}
 use Rattle.matrix.specs.Packed.{packed_bit}
 use Rattle.matrix.proofs.Bits.{bit, bit_added}
-use Rattle.encoder_solution.proofs.Gathered.{Gathered, gathered_none, gathered_more}
+use Rattle.encoder_solution.proofs.Gathered.{gathered_none, gathered_more}
 use Rattle.encoder_solution.proofs.Masked.{packed-front}
 use Rattle.encoder_solution.proofs.rows.row_word.Invariants.{entry}
 use Rattle.encoder_solution.proofs.rows.row_word.Goals as goal

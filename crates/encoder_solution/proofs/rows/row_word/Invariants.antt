@@ -1,19 +1,10 @@
 -- The loop's invariant: the bits of the groups before `g` are in `x`, whose other bits are 0. The measure is the number of groups left.
-use mathlib.Core.Path.{◌≡◌, refl, sym, ap, ◌∙◌}
-use mathlib.Core.Bool.{cond}
 use mathlib.Core.List.{List}
-use Prim.Native.Nat.{ℕ, ◌+◌, ◌-◌, ◌*◌, ◌≤◌, ◌<◌}
-use native.Mathlib.Omega.{arith}
-use lib.Dec.{eqb}
-use lib.ListN.{length, take, drop}
-use Rattle.staircase.specs.Lists.{bit_sum, sum_bits}
-use Rattle.staircase.proofs.Bounds.{stretch-end}
-use Rattle.staircase.proofs.Matrix.{sum_bits-lt, sum_bits-same}
-use Rattle.bch_remainders.proofs.Rows.{row-length}
+use Prim.Native.Nat.{ℕ, ◌-◌, ◌*◌, ◌≤◌}
+use lib.ListN.{length, drop}
+use Rattle.staircase.specs.Lists.{sum_bits}
 use Rattle.matrix.specs.Packed.{packed_bit}
-use Rattle.matrix.proofs.Bits.{bit, bit_added}
-use Rattle.encoder_solution.proofs.Gathered.{Gathered, gathered_none, gathered_more}
-use Rattle.encoder_solution.proofs.Masked.{packed-front}
+use Rattle.encoder_solution.proofs.Gathered.{Gathered}
 use Rattle.encoder_solution.proofs.rows.row_word.Given as goal
 
 -- entry g of what the row and the constants make

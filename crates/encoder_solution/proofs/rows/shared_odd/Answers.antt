@@ -1,10 +1,7 @@
 use mathlib.Core.Path.{◌≡◌, ap₂}
-use Prim.Native.Nat.{◌-◌, ◌*◌, ◌%◌, ◌≤◌}
+use Prim.Native.Nat.{◌-◌, ◌*◌}
 use native.Mathlib.Omega.{arith}
-use lib.Count.{ones}
 use lib.ListN.{length}
-use Rattle.staircase.specs.Lists.{sum_bits}
-use Rattle.matrix.specs.Packed.{packed_bit}
 use Rattle.matrix.proofs.Packed.{packed_bit-at}
 use Rattle.matrix.proofs.Product.{mask_none, mask_byte}
 use Rattle.encoder_solution.proofs.rows.shared_odd.Goals as goal

@@ -1,13 +1,10 @@
 -- The loop's invariant: the parity of the masked bytes is the sum over the bits passed. The measure is the number of bytes left.
-use mathlib.Core.Path.{◌≡◌, ap₂}
+use mathlib.Core.Path.{◌≡◌}
 use Prim.Native.Nat.{◌-◌, ◌*◌, ◌%◌, ◌≤◌}
-use native.Mathlib.Omega.{arith}
 use lib.Count.{ones}
 use lib.ListN.{length}
 use Rattle.staircase.specs.Lists.{sum_bits}
 use Rattle.matrix.specs.Packed.{packed_bit}
-use Rattle.matrix.proofs.Packed.{packed_bit-at}
-use Rattle.matrix.proofs.Product.{mask_none, mask_byte}
 use Rattle.encoder_solution.proofs.rows.shared_odd.Given as goal
 
 abbrev pub invariant-loop-i : goal.invariant-loop-i

@@ -1,6 +1,5 @@
 -- The row masks the planes, and the first wrong byte is the first wrong entry.
 use native.Mathlib.Omega.{arith}
-use borrow.Author.Rules.{rules}
 use mathlib.Core.Path.{◌≡◌, ◌∙◌}
 use lib.ListN.{length}
 use Rattle.words_positions.proofs.Parts.{part-fits, part-is}

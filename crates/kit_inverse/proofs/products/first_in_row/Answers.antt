@@ -1,6 +1,5 @@
 -- A packed row of A has no bit past n, and its first wrong entry is that of the row.
 use native.Mathlib.Omega.{arith}
-use borrow.Author.Rules.{rules}
 use mathlib.Core.Path.{◌≡◌, ◌∙◌}
 use Prim.Native.Nat.{◌+◌, ◌/◌}
 use lib.ListN.{length}

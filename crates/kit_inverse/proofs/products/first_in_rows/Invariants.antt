@@ -1,19 +1,12 @@
 -- The loop's invariant: the rows before `e` have no wrong entry. The measure is the number of rows left.
-use native.Mathlib.Omega.{arith}
-use borrow.Author.Rules.{rules}
-use mathlib.Core.Path.{◌≡◌, ap, ◌∙◌, subst}
+use mathlib.Core.Path.{◌≡◌}
 use mathlib.Core.Bool.{Bool, false}
 use mathlib.Core.List.{List}
 use Prim.Native.Nat.{ℕ, ◌*◌, ◌-◌, ◌/◌, ◌%◌, ◌≤◌, ◌<◌}
-use native.Mathlib.Nat.{zero-mul}
 use lib.ListN.{length, get_or}
-use Rattle.staircase.specs.Lists.{first_where}
 use Rattle.staircase.specs.Rules.{entries}
-use Rattle.staircase.proofs.Bounds.{stretch-end}
 use Rattle.kit_system.specs.Rows.{unstack_of, row_entry}
 use Rattle.kit_inverse.specs.Products.{wrong_in}
-use Rattle.kit_inverse.proofs.RowSearch.{row_found, row_clean, rows_none}
-use Rattle.kit_inverse.proofs.RowSizes.{square_small}
 use Rattle.kit_inverse.proofs.products.first_in_rows.Given as goal
 
 -- entry x of row e is wrong

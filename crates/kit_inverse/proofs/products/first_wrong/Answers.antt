@@ -1,6 +1,5 @@
 -- The places of the parity list's inverse are those that the rows are sent from.
 use native.Mathlib.Omega.{arith}
-use borrow.Author.Rules.{rules}
 use mathlib.Core.Path.{◌∙◌}
 use Prim.Native.Nat.{◌/◌, ◌%◌}
 use lib.ListN.{length}

@@ -1,12 +1,10 @@
 use mathlib.Core.Path.{◌≡◌, refl, sym, ap₂, ◌∙◌}
-use Prim.Native.Nat.{ℕ, ◌-◌, ◌*◌, ◌≤◌}
+use Prim.Native.Nat.{ℕ, ◌-◌, ◌*◌}
 use native.Mathlib.Nat.{mul-zero}
 use native.Mathlib.Omega.{arith}
-use borrow.Author.Rules.{rules}
-use lib.ListN.{length}
 use Rattle.staircase.specs.Load.{state_after}
 use Rattle.staircase.proofs.Bounds.{small_product, stretch-end}
-use Rattle.staircase.proofs.Fill.{stretches, stretches_none, stretches_more, stretches_all}
+use Rattle.staircase.proofs.Fill.{stretches_none, stretches_more, stretches_all}
 use Rattle.design.specs.Sizes.{params_of}
 use Rattle.kit_spread.proofs.MixedEntries.{draw_none-left, part_length, rows_by, rows-by, rows-wide, rows_next, state_next}
 use Rattle.kit_spread.proofs.mixing.draw_columns.Goals as goal

@@ -1,15 +1,10 @@
 -- After c turns the rows of c column words are drawn, the rest of the table is as it was.
-use mathlib.Core.Path.{◌≡◌, refl, sym, ap₂, ◌∙◌}
-use Prim.Native.Nat.{ℕ, ◌-◌, ◌*◌, ◌≤◌}
-use native.Mathlib.Nat.{mul-zero}
-use native.Mathlib.Omega.{arith}
-use borrow.Author.Rules.{rules}
+use mathlib.Core.Path.{◌≡◌}
+use Prim.Native.Nat.{◌-◌, ◌*◌, ◌≤◌}
 use lib.ListN.{length}
 use Rattle.staircase.specs.Load.{state_after}
-use Rattle.staircase.proofs.Bounds.{small_product, stretch-end}
-use Rattle.staircase.proofs.Fill.{stretches, stretches_none, stretches_more, stretches_all}
-use Rattle.design.specs.Sizes.{params_of}
-use Rattle.kit_spread.proofs.MixedEntries.{draw_none-left, part_length, rows_by, rows-by, rows-wide, rows_next, state_next}
+use Rattle.staircase.proofs.Fill.{stretches}
+use Rattle.kit_spread.proofs.MixedEntries.{rows_by}
 use Rattle.kit_spread.proofs.mixing.draw_columns.Given as goal
 
 abbrev pub invariant-loop-c : goal.invariant-loop-c

@@ -1,10 +1,9 @@
-use borrow.Author.Rules.{rules}
-use mathlib.Core.Path.{◌≡◌, ◌∙◌}
-use Prim.Native.Nat.{◌-◌, ◌*◌, ◌≤◌}
+use mathlib.Core.Path.{◌∙◌}
+use Prim.Native.Nat.{◌-◌}
 use native.Mathlib.Omega.{arith}
-use lib.ListN.{length, length-set}
+use lib.ListN.{length-set}
 use Rattle.staircase.specs.Spread.{list_bytes}
-use Rattle.staircase.proofs.Fill.{stretches, stretches_none, stretches_all}
+use Rattle.staircase.proofs.Fill.{stretches_none, stretches_all}
 use Rattle.design.specs.Sizes.{params_of, order_of}
 use Rattle.kit_spread.specs.Mixing.{table_to}
 use Rattle.kit_spread.proofs.Turning.{two_bytes, entry_stored}

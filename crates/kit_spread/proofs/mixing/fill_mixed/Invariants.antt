@@ -1,14 +1,11 @@
 -- The loop's invariant: the first p entries are written, the rest as it was. The measure is the number of entries left.
-use borrow.Author.Rules.{rules}
-use mathlib.Core.Path.{◌≡◌, ◌∙◌}
+use mathlib.Core.Path.{◌≡◌}
 use Prim.Native.Nat.{◌-◌, ◌*◌, ◌≤◌}
-use native.Mathlib.Omega.{arith}
-use lib.ListN.{length, length-set}
-use Rattle.staircase.specs.Spread.{list_bytes}
-use Rattle.staircase.proofs.Fill.{stretches, stretches_none, stretches_all}
+use lib.ListN.{length}
+use Rattle.staircase.proofs.Fill.{stretches}
 use Rattle.design.specs.Sizes.{params_of, order_of}
 use Rattle.kit_spread.specs.Mixing.{table_to}
-use Rattle.kit_spread.proofs.Turning.{two_bytes, entry_stored}
+use Rattle.kit_spread.proofs.Turning.{two_bytes}
 use Rattle.kit_spread.proofs.mixing.fill_mixed.Given as goal
 
 abbrev pub invariant-loop-p : goal.invariant-loop-p

@@ -2,7 +2,6 @@
 use mathlib.Core.Path.{ap, ◌∙◌}
 use mathlib.Core.List.{List}
 use Prim.Native.Nat.{ℕ}
-use borrow.Author.Rules.{rules}
 use Rattle.staircase.specs.Spread.{list_bytes}
 use Rattle.staircase.proofs.BchCode.{proper_of}
 use Rattle.design.specs.Sizes.{params_of, order_of}

@@ -1,9 +1,9 @@
-use mathlib.Core.Path.{◌≡◌, refl, ap, ◌∙◌}
+use mathlib.Core.Path.{refl, ap, ◌∙◌}
 use mathlib.Core.List.{List}
-use Prim.Native.Nat.{ℕ, ◌-◌, ◌≤◌}
+use Prim.Native.Nat.{ℕ, ◌-◌}
 use native.Mathlib.Omega.{arith}
 use lib.ListN.{length, set, length-set}
-use Rattle.staircase.proofs.Fill.{filled, filled_none, filled_more, filled-all}
+use Rattle.staircase.proofs.Fill.{filled_none, filled_more, filled-all}
 use Rattle.kit_spread.proofs.mixing.number_rows.Goals as goal
 
 pub loop-j-init : goal.loop-j-init

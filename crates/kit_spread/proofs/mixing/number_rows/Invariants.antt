@@ -1,10 +1,8 @@
 -- After j turns the first j rows are numbered.
-use mathlib.Core.Path.{◌≡◌, refl, ap, ◌∙◌}
-use mathlib.Core.List.{List}
-use Prim.Native.Nat.{ℕ, ◌-◌, ◌≤◌}
-use native.Mathlib.Omega.{arith}
-use lib.ListN.{length, set, length-set}
-use Rattle.staircase.proofs.Fill.{filled, filled_none, filled_more, filled-all}
+use mathlib.Core.Path.{◌≡◌}
+use Prim.Native.Nat.{◌-◌, ◌≤◌}
+use lib.ListN.{length}
+use Rattle.staircase.proofs.Fill.{filled}
 use Rattle.kit_spread.proofs.mixing.number_rows.Given as goal
 
 abbrev pub invariant-loop-j : goal.invariant-loop-j

@@ -1,14 +1,9 @@
 -- The shuffle of what is left, from the state that was reached, is the shuffle of the whole.
-use mathlib.Core.Path.{◌≡◌, refl, sym, ap, ap₂, ◌∙◌}
-use mathlib.Core.List.{List}
-use Prim.Native.Nat.{ℕ, ◌+◌, ◌-◌, ◌*◌, ◌%◌, ◌≤◌, ◌<◌}
-use native.Mathlib.Nat.{mod-lt}
-use native.Mathlib.Omega.{arith}
-use borrow.Author.Rules.{rules}
-use lib.ListN.{length, length-set}
+use mathlib.Core.Path.{◌≡◌}
+use Prim.Native.Nat.{◌-◌, ◌*◌, ◌≤◌}
+use lib.ListN.{length}
 use Rattle.staircase.specs.Load.{state_after}
-use Rattle.staircase.specs.Mixed.{swapped, shuffled}
-use Rattle.kit_spread.proofs.MixedEntries.{shuffle_none, shuffle_draw, draw_none-left, draw_steps}
+use Rattle.staircase.specs.Mixed.{shuffled}
 use Rattle.kit_spread.proofs.mixing.shuffle_rows.Given as goal
 
 abbrev pub invariant-loop-i : goal.invariant-loop-i

@@ -1,12 +1,8 @@
 use mathlib.Core.Path.{◌≡◌, sym, ◌∙◌}
-use mathlib.Core.Bool.{cond}
-use mathlib.Core.List.{List}
-use Prim.Native.Nat.{ℕ, ◌+◌, ◌-◌, ◌*◌, ◌≤◌}
+use Prim.Native.Nat.{◌+◌, ◌-◌, ◌*◌}
 use native.Mathlib.Omega.{arith}
-use lib.Dec.{ltb}
-use lib.ListN.{get_or}
 use Rattle.staircase.specs.System.{row_bytes}
-use Rattle.matrix.proofs.Block.{Loaded, loaded_none, loaded_more, loaded_all}
+use Rattle.matrix.proofs.Block.{loaded_none, loaded_more, loaded_all}
 use Rattle.matrix.proofs.Packed.{padded_entry-at}
 use Rattle.matrix.proofs.planes.block_at.Invariants.{rows}
 use Rattle.matrix.proofs.planes.block_at.Goals as goal

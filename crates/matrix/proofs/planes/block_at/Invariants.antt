@@ -1,14 +1,10 @@
 -- The loop's invariant: the first `r` rows of the block are there and the others 0. The measure is the number of rows left.
-use mathlib.Core.Path.{◌≡◌, sym, ◌∙◌}
 use mathlib.Core.Bool.{cond}
 use mathlib.Core.List.{List}
 use Prim.Native.Nat.{ℕ, ◌+◌, ◌-◌, ◌*◌, ◌≤◌}
-use native.Mathlib.Omega.{arith}
 use lib.Dec.{ltb}
 use lib.ListN.{get_or}
-use Rattle.staircase.specs.System.{row_bytes}
-use Rattle.matrix.proofs.Block.{Loaded, loaded_none, loaded_more, loaded_all}
-use Rattle.matrix.proofs.Packed.{padded_entry-at}
+use Rattle.matrix.proofs.Block.{Loaded}
 use Rattle.matrix.proofs.planes.block_at.Given as goal
 
 -- byte c of row 8 b + r

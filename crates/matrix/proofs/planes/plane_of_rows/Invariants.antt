@@ -1,13 +1,9 @@
 -- The loop's invariant: the columns of the first `c` blocks have their entries. The measure is the number of blocks left.
-use mathlib.Core.Path.{◌≡◌, ◌∙◌}
+use mathlib.Core.Path.{◌≡◌}
 use mathlib.Core.List.{List}
-use Prim.Native.Nat.{ℕ, ◌+◌, ◌-◌, ◌*◌, ◌≤◌, ◌<◌}
-use native.Mathlib.Omega.{arith}
-use borrow.Rule.Slice.PartMut.{mid_len, same_len_mid}
+use Prim.Native.Nat.{ℕ, ◌-◌, ◌*◌, ◌≤◌, ◌<◌}
 use lib.ListN.{length, get_or}
-use Rattle.staircase.proofs.Fill.{each_part}
 use Rattle.matrix.specs.Packed.{padded_entry}
-use Rattle.matrix.proofs.Bits.{bit}
 use Rattle.matrix.proofs.Filled.{PlaneByte}
 use Rattle.matrix.proofs.planes.plane_of_rows.Given as goal
 

@@ -1,13 +1,12 @@
 use mathlib.Core.Path.{◌≡◌, ◌∙◌}
-use Prim.Native.Nat.{ℕ, ◌+◌, ◌-◌, ◌*◌, ◌/◌, ◌%◌, ◌≤◌, ◌<◌}
+use Prim.Native.Nat.{◌+◌, ◌-◌, ◌*◌}
 use native.Mathlib.Nat.{mul_comm}
 use native.Mathlib.Omega.{arith}
 use borrow.Rule.Slice.PartMut.{same_len_mid}
-use lib.ListN.{length, get_or}
 use Rattle.staircase.specs.System.{row_bytes}
 use Rattle.matrix.specs.Packed.{padded_entry}
 use Rattle.matrix.proofs.Packed.{plane_end, plane_length}
-use Rattle.matrix.proofs.Filled.{PlaneByte, planes_more, planes_all}
+use Rattle.matrix.proofs.Filled.{planes_more, planes_all}
 use Rattle.matrix.proofs.planes.planes_of_rows.Goals as goal
 
 pub overflow_add-rb : goal.overflow_add-rb

@@ -1,14 +1,10 @@
 -- The loop's invariant: the bytes of the first `b` planes have their entries. The measure is the number of planes left.
-use mathlib.Core.Path.{◌≡◌, ◌∙◌}
-use Prim.Native.Nat.{ℕ, ◌+◌, ◌-◌, ◌*◌, ◌/◌, ◌%◌, ◌≤◌, ◌<◌}
-use native.Mathlib.Nat.{mul_comm}
-use native.Mathlib.Omega.{arith}
-use borrow.Rule.Slice.PartMut.{same_len_mid}
+use mathlib.Core.Path.{◌≡◌}
+use Prim.Native.Nat.{ℕ, ◌-◌, ◌*◌, ◌/◌, ◌%◌, ◌≤◌, ◌<◌}
 use lib.ListN.{length, get_or}
 use Rattle.staircase.specs.System.{row_bytes}
 use Rattle.matrix.specs.Packed.{padded_entry}
-use Rattle.matrix.proofs.Packed.{plane_end, plane_length}
-use Rattle.matrix.proofs.Filled.{PlaneByte, planes_more, planes_all}
+use Rattle.matrix.proofs.Filled.{PlaneByte}
 use Rattle.matrix.proofs.planes.planes_of_rows.Given as goal
 
 abbrev pub invariant-loop-b : goal.invariant-loop-b

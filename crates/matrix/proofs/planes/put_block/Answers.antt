@@ -1,10 +1,10 @@
 use mathlib.Core.Path.{◌≡◌, ◌∙◌}
-use Prim.Native.Nat.{ℕ, ◌+◌, ◌-◌, ◌*◌, ◌/◌, ◌^◌, ◌≤◌, ◌<◌}
+use Prim.Native.Nat.{◌-◌, ◌*◌, ◌/◌, ◌^◌}
 use native.Mathlib.Omega.{arith}
 use borrow.Author.Count.{below_none}
-use lib.ListN.{length, get_or, length-set}
+use lib.ListN.{length, length-set}
 use Rattle.staircase.proofs.Fill.{each_more}
-use Rattle.matrix.proofs.Bits.{bit, bit-low, bit_shr}
+use Rattle.matrix.proofs.Bits.{bit-low, bit_shr}
 use Rattle.matrix.proofs.planes.put_block.Invariants.{ByteOf}
 use Rattle.matrix.proofs.planes.put_block.Goals as goal
 

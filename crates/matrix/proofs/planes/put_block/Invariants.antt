@@ -1,11 +1,8 @@
 -- The loop's invariant: the first `s` bytes have the bits of the block. The measure is the number of bytes left.
-use mathlib.Core.Path.{◌≡◌, ◌∙◌}
-use Prim.Native.Nat.{ℕ, ◌+◌, ◌-◌, ◌*◌, ◌/◌, ◌^◌, ◌≤◌, ◌<◌}
-use native.Mathlib.Omega.{arith}
-use borrow.Author.Count.{below_none}
-use lib.ListN.{length, get_or, length-set}
-use Rattle.staircase.proofs.Fill.{each_more}
-use Rattle.matrix.proofs.Bits.{bit, bit-low, bit_shr}
+use mathlib.Core.Path.{◌≡◌}
+use Prim.Native.Nat.{ℕ, ◌+◌, ◌-◌, ◌*◌, ◌≤◌, ◌<◌}
+use lib.ListN.{length, get_or}
+use Rattle.matrix.proofs.Bits.{bit}
 use Rattle.matrix.proofs.planes.put_block.Given as goal
 
 -- v has the bits of byte s of q

@@ -1,9 +1,7 @@
 -- The loop's invariant: the first `c` tiles of `turned` are those of `packed` with rows for columns. The measure is the number of tiles left.
-use mathlib.Core.Path.{◌≡◌, ap, ◌∙◌}
+use mathlib.Core.Path.{◌≡◌}
 use mathlib.Core.List.{List}
 use Prim.Native.Nat.{ℕ, ◌+◌, ◌-◌, ◌*◌, ◌≤◌, ◌<◌}
-use native.Mathlib.Decide.{dec_lt}
-use native.Mathlib.Omega.{arith}
 use lib.ListN.{length, get_or}
 use Rattle.matrix.proofs.Bits.{bit}
 use Rattle.matrix.proofs.tiles.turn.Given as goal

@@ -1,12 +1,9 @@
 -- The loop's invariant: the first c bytes of the row are written, and row `from` lies apart from it.
-use mathlib.Core.Path.{◌≡◌, ap₂, subst}
 use mathlib.Core.Logic.{◌⊎◌}
-use Prim.Native.Nat.{ℕ, ◌+◌, ◌-◌, ◌*◌, ◌≤◌}
-use native.Mathlib.Omega.{arith}
+use Prim.Native.Nat.{◌+◌, ◌-◌, ◌≤◌}
 use lib.Bits.{bit_xor}
 use lib.ListN.{length, get_or}
-use Rattle.staircase.proofs.Bounds.{small_product, stretch-end}
-use Rattle.matrix_elimination.proofs.RowLoop.{Written, written_none, written_next, written-rows, other_byte, rows_apart}
+use Rattle.matrix_elimination.proofs.RowLoop.{Written}
 use Rattle.matrix_elimination.proofs.rows.add_row.Given as goal
 
 abbrev pub invariant-loop-c : goal.invariant-loop-c

@@ -2,7 +2,6 @@
 use mathlib.Core.Path.{sym, ap}
 use Prim.Native.Nat.{ℕ}
 use native.Mathlib.Omega.{arith}
-use borrow.Author.Rules.{rules}
 use Rattle.matrix_elimination.specs.Steps.{left}
 use Rattle.matrix_elimination.proofs.Exchange.{exchanged_row_same}
 use Rattle.matrix_elimination.proofs.RowEntries.{exchanged-row, exchanged_steps}

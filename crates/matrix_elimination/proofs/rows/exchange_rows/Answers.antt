@@ -1,6 +1,5 @@
 -- Three additions exchange the rows.
 use mathlib.Core.Path.{◌∙◌}
-use borrow.Author.Rules.{rules}
 use Rattle.matrix_elimination.proofs.Exchange.{three_added}
 use Rattle.matrix_elimination.proofs.rows.exchange_rows.Goals as goal
 

@@ -1,8 +1,8 @@
 use mathlib.Core.Path.{◌≡◌, ◌∙◌}
-use Prim.Native.Nat.{◌+◌, ◌-◌, ◌≤◌}
+use Prim.Native.Nat.{◌+◌, ◌-◌}
 use native.Mathlib.Omega.{arith}
-use Rattle.matrix_elimination.specs.Steps.{row_width, left, RowSteps}
-use Rattle.matrix_elimination.proofs.Pivoting.{Searched, searched_none, searched_next}
+use Rattle.matrix_elimination.specs.Steps.{row_width, left}
+use Rattle.matrix_elimination.proofs.Pivoting.{searched_none, searched_next}
 use Rattle.matrix_elimination.proofs.RowBits.{bit-lt}
 use Rattle.matrix_elimination.proofs.StepLaws.{steps_none, steps_then}
 use Rattle.matrix_elimination.proofs.rows.find_pivot.Goals as goal

@@ -1,11 +1,7 @@
 -- The loop's invariant: the rows from lo + p to i are 0 in the columns lo to lo + p.
-use mathlib.Core.Path.{◌≡◌, ◌∙◌}
 use Prim.Native.Nat.{◌+◌, ◌-◌, ◌≤◌}
-use native.Mathlib.Omega.{arith}
-use Rattle.matrix_elimination.specs.Steps.{row_width, left, RowSteps}
-use Rattle.matrix_elimination.proofs.Pivoting.{Searched, searched_none, searched_next}
-use Rattle.matrix_elimination.proofs.RowBits.{bit-lt}
-use Rattle.matrix_elimination.proofs.StepLaws.{steps_none, steps_then}
+use Rattle.matrix_elimination.specs.Steps.{left, RowSteps}
+use Rattle.matrix_elimination.proofs.Pivoting.{Searched}
 use Rattle.matrix_elimination.proofs.rows.find_pivot.Given as goal
 
 abbrev pub invariant-loop-i : goal.invariant-loop-i

@@ -1,8 +1,8 @@
 use mathlib.Core.Path.{◌≡◌, ◌∙◌, subst}
-use Prim.Native.Nat.{ℕ, ◌-◌, ◌≤◌, ◌<◌}
+use Prim.Native.Nat.{ℕ, ◌-◌, ◌<◌}
 use native.Mathlib.Omega.{arith}
 use Rattle.staircase.specs.Square.{Pivots}
-use Rattle.matrix_elimination.specs.Steps.{left, RowSteps}
+use Rattle.matrix_elimination.specs.Steps.{left}
 use Rattle.matrix_elimination.proofs.Pivoting.{pivots_none}
 use Rattle.matrix_elimination.proofs.StepLaws.{steps_none, steps_then}
 use Rattle.matrix_elimination.proofs.rows.find_pivots.Goals as goal

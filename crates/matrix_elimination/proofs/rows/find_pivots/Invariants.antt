@@ -1,11 +1,7 @@
 -- The loop's invariant: there are p pivots.
-use mathlib.Core.Path.{◌≡◌, ◌∙◌, subst}
-use Prim.Native.Nat.{ℕ, ◌-◌, ◌≤◌, ◌<◌}
-use native.Mathlib.Omega.{arith}
+use Prim.Native.Nat.{◌-◌, ◌≤◌}
 use Rattle.staircase.specs.Square.{Pivots}
 use Rattle.matrix_elimination.specs.Steps.{left, RowSteps}
-use Rattle.matrix_elimination.proofs.Pivoting.{pivots_none}
-use Rattle.matrix_elimination.proofs.StepLaws.{steps_none, steps_then}
 use Rattle.matrix_elimination.proofs.rows.find_pivots.Given as goal
 
 abbrev pub invariant-loop-p : goal.invariant-loop-p

@@ -1,7 +1,7 @@
 use mathlib.Core.Path.{◌≡◌, ◌∙◌, subst}
-use Prim.Native.Nat.{ℕ, ◌-◌, ◌≤◌, ◌<◌}
+use Prim.Native.Nat.{ℕ, ◌-◌, ◌<◌}
 use native.Mathlib.Omega.{arith}
-use Rattle.matrix_elimination.specs.Steps.{row_width, left, RowSteps}
+use Rattle.matrix_elimination.specs.Steps.{row_width, left}
 use Rattle.matrix_elimination.proofs.Pivoting.{Placing, placing_first, placing_next, placing_all}
 use Rattle.matrix_elimination.proofs.RowBits.{bit-lt}
 use Rattle.matrix_elimination.proofs.StepLaws.{steps_none, steps_then}

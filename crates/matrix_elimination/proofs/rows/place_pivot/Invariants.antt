@@ -1,11 +1,7 @@
 -- The loop's invariant: row lo + p has its pivot, and the first q pivot rows are 0 in its column.
-use mathlib.Core.Path.{◌≡◌, ◌∙◌, subst}
-use Prim.Native.Nat.{ℕ, ◌-◌, ◌≤◌, ◌<◌}
-use native.Mathlib.Omega.{arith}
-use Rattle.matrix_elimination.specs.Steps.{row_width, left, RowSteps}
-use Rattle.matrix_elimination.proofs.Pivoting.{Placing, placing_first, placing_next, placing_all}
-use Rattle.matrix_elimination.proofs.RowBits.{bit-lt}
-use Rattle.matrix_elimination.proofs.StepLaws.{steps_none, steps_then}
+use Prim.Native.Nat.{◌-◌, ◌≤◌}
+use Rattle.matrix_elimination.specs.Steps.{left, RowSteps}
+use Rattle.matrix_elimination.proofs.Pivoting.{Placing}
 use Rattle.matrix_elimination.proofs.rows.place_pivot.Given as goal
 
 abbrev pub invariant-loop-q : goal.invariant-loop-q

@@ -1,7 +1,6 @@
 -- Where the entry is 0 nothing is done, and otherwise it is 1.
 use mathlib.Core.Path.{◌≡◌}
 use native.Mathlib.Omega.{arith}
-use borrow.Author.Rules.{rules}
 use Rattle.matrix_elimination.specs.Steps.{row_width, left}
 use Rattle.matrix_elimination.proofs.Pivoting.{reduced_zero, reduced_one}
 use Rattle.matrix_elimination.proofs.RowBits.{bit-lt}

@@ -1,11 +1,7 @@
 -- The loop's invariant: row i is 0 in the columns of the first q pivot rows, and the other rows are as they were.
-use mathlib.Core.Path.{◌≡◌, ◌∙◌, subst}
-use Prim.Native.Nat.{ℕ, ◌-◌, ◌≤◌}
-use native.Mathlib.Omega.{arith}
-use Rattle.matrix_elimination.specs.Steps.{row_width, left, RowSteps}
-use Rattle.matrix_elimination.proofs.Pivoting.{Reducing, reducing_none, reducing_next}
-use Rattle.matrix_elimination.proofs.RowBits.{bit-lt}
-use Rattle.matrix_elimination.proofs.StepLaws.{steps_none, steps_then}
+use Prim.Native.Nat.{◌-◌, ◌≤◌}
+use Rattle.matrix_elimination.specs.Steps.{left, RowSteps}
+use Rattle.matrix_elimination.proofs.Pivoting.{Reducing}
 use Rattle.matrix_elimination.proofs.rows.reduce_row.Given as goal
 
 abbrev pub invariant-loop-q : goal.invariant-loop-q

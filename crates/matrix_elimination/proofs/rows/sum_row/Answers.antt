@@ -1,9 +1,8 @@
 use mathlib.Core.Path.{◌≡◌, ap₂, subst}
-use mathlib.Core.Logic.{◌⊎◌}
-use Prim.Native.Nat.{ℕ, ◌+◌, ◌-◌, ◌*◌, ◌≤◌}
+use Prim.Native.Nat.{ℕ, ◌+◌, ◌-◌, ◌*◌}
 use native.Mathlib.Omega.{arith}
 use lib.Bits.{bit_xor}
-use lib.ListN.{length, get_or}
+use lib.ListN.{get_or}
 use Rattle.staircase.proofs.Bounds.{small_product, stretch-end}
 use Rattle.matrix_elimination.proofs.RowLoop.{Written, written_none, written_next, written-rows, other_byte, rows_apart}
 use Rattle.matrix_elimination.proofs.rows.sum_row.Goals as goal

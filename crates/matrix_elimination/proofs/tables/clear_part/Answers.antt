@@ -1,7 +1,6 @@
 use mathlib.Core.Path.{◌≡◌, subst}
-use Prim.Native.Nat.{ℕ, ◌-◌, ◌≤◌}
+use Prim.Native.Nat.{ℕ, ◌-◌}
 use native.Mathlib.Omega.{arith}
-use lib.ListN.{length}
 use Rattle.matrix_elimination.specs.Cleared.{RowsCleared}
 use Rattle.matrix_elimination.proofs.Clearing.{cleared-none, cleared_next}
 use Rattle.matrix_elimination.proofs.tables.clear_part.Goals as goal

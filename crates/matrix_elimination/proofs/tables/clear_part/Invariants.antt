@@ -1,10 +1,8 @@
 -- The loop's invariant: the rows before i are cleared, and the others as they were. The measure is the number of rows left.
-use mathlib.Core.Path.{◌≡◌, subst}
-use Prim.Native.Nat.{ℕ, ◌-◌, ◌≤◌}
-use native.Mathlib.Omega.{arith}
+use mathlib.Core.Path.{◌≡◌}
+use Prim.Native.Nat.{◌-◌, ◌≤◌}
 use lib.ListN.{length}
 use Rattle.matrix_elimination.specs.Cleared.{RowsCleared}
-use Rattle.matrix_elimination.proofs.Clearing.{cleared-none, cleared_next}
 use Rattle.matrix_elimination.proofs.tables.clear_part.Given as goal
 
 abbrev pub invariant-loop-i : goal.invariant-loop-i

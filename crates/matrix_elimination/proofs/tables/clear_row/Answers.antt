@@ -1,6 +1,5 @@
 -- A row of the table is added to row i.
 use native.Mathlib.Omega.{arith}
-use borrow.Author.Rules.{rules}
 use Rattle.staircase.proofs.Bounds.{small_product, stretch-end}
 use Rattle.matrix_elimination.proofs.Clearing.{cleared_one}
 use Rattle.matrix_elimination.proofs.tables.clear_row.Goals as goal

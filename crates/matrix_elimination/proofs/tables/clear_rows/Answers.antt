@@ -2,7 +2,6 @@
 use mathlib.Core.Path.{◌≡◌, sym, ◌∙◌, subst}
 use Prim.Native.Nat.{ℕ, ◌*◌, ◌/◌, ◌<◌}
 use native.Mathlib.Omega.{arith}
-use borrow.Author.Rules.{rules}
 use Rattle.matrix_elimination.proofs.ClearedEntries.{cleared-entry}
 use Rattle.matrix_elimination.proofs.Doubling.{SumsOf}
 use Rattle.matrix_elimination.proofs.tables.clear_rows.Goals as goal

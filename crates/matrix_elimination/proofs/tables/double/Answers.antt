@@ -1,7 +1,6 @@
 use mathlib.Core.Path.{◌≡◌, refl, sym, ◌∙◌, subst}
-use Prim.Native.Nat.{ℕ, ◌+◌, ◌-◌, ◌^◌, ◌≤◌}
+use Prim.Native.Nat.{ℕ, ◌+◌, ◌-◌, ◌^◌}
 use native.Mathlib.Omega.{arith}
-use lib.ListN.{length}
 use Rattle.matrix_elimination.proofs.Doubling.{SumsOf, Doubled, doubled_none, doubled_next, doubled_all}
 use Rattle.matrix_elimination.proofs.tables.double.Goals as goal
 

@@ -1,9 +1,8 @@
 -- The loop's invariant: x of the rows after the first 2^p are made. The measure is the number of rows left.
-use mathlib.Core.Path.{◌≡◌, refl, sym, ◌∙◌, subst}
-use Prim.Native.Nat.{ℕ, ◌+◌, ◌-◌, ◌^◌, ◌≤◌}
-use native.Mathlib.Omega.{arith}
+use mathlib.Core.Path.{◌≡◌}
+use Prim.Native.Nat.{◌-◌, ◌≤◌}
 use lib.ListN.{length}
-use Rattle.matrix_elimination.proofs.Doubling.{SumsOf, Doubled, doubled_none, doubled_next, doubled_all}
+use Rattle.matrix_elimination.proofs.Doubling.{Doubled}
 use Rattle.matrix_elimination.proofs.tables.double.Given as goal
 
 abbrev pub invariant-loop-x : goal.invariant-loop-x

@@ -1,11 +1,10 @@
 use mathlib.Core.Path.{◌≡◌, refl, sym, ap, ◌∙◌, subst}
-use Prim.Native.Nat.{ℕ, ◌+◌, ◌-◌, ◌*◌, ◌^◌, ◌≤◌, ◌<◌}
+use Prim.Native.Nat.{ℕ, ◌+◌, ◌-◌, ◌*◌, ◌^◌, ◌≤◌}
 use native.Mathlib.Numerals.{add-one}
 use native.Mathlib.Omega.{arith}
 use lib.Pow.{pow_mono}
-use lib.ListN.{length}
 use Rattle.staircase.proofs.Bounds.{small_product, stretch-end}
-use Rattle.matrix_elimination.specs.Steps.{bit_at, TableOf}
+use Rattle.matrix_elimination.specs.Steps.{TableOf}
 use Rattle.matrix_elimination.proofs.Doubling.{SumsOf, table_none, table_rows, table-length}
 use Rattle.matrix_elimination.proofs.PartBack.{back}
 use Rattle.matrix_elimination.proofs.tables.fill_table.Goals as goal

@@ -1,14 +1,8 @@
 -- The loop's invariant: a table of the sums of p rows, and the rows below n as they were. The measure is the number of rows left.
-use mathlib.Core.Path.{◌≡◌, refl, sym, ap, ◌∙◌, subst}
+use mathlib.Core.Path.{◌≡◌}
 use Prim.Native.Nat.{ℕ, ◌+◌, ◌-◌, ◌*◌, ◌^◌, ◌≤◌, ◌<◌}
-use native.Mathlib.Numerals.{add-one}
-use native.Mathlib.Omega.{arith}
-use lib.Pow.{pow_mono}
 use lib.ListN.{length}
-use Rattle.staircase.proofs.Bounds.{small_product, stretch-end}
 use Rattle.matrix_elimination.specs.Steps.{bit_at, TableOf}
-use Rattle.matrix_elimination.proofs.Doubling.{SumsOf, table_none, table_rows, table-length}
-use Rattle.matrix_elimination.proofs.PartBack.{back}
 use Rattle.matrix_elimination.proofs.tables.fill_table.Given as goal
 
 abbrev pub invariant-loop-p : goal.invariant-loop-p

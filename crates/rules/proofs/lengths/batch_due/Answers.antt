@@ -7,7 +7,6 @@ use Rattle.staircase.specs.Batch.{most-frames}
 use Rattle.staircase.proofs.Bounds.{small_product}
 use Rattle.design.specs.Sizes.{params_of}
 use Rattle.rules.specs.Lengths.{batch_due}
-use borrow.Author.Rules.{rules}
 use Rattle.rules.proofs.lengths.batch_due.Goals as goal
 
 pub overflow_mul-info : goal.overflow_mul-info

@@ -1,7 +1,6 @@
 -- Each of the three is its rule.
 use Rattle.rules.specs.Lengths.{batch_size_rules}
 use Rattle.rules.proofs.Chain.{both_then}
-use borrow.Author.Rules.{rules}
 use Rattle.rules.proofs.lengths.check_batch.Goals as goal
 
 pub returns : goal.returns

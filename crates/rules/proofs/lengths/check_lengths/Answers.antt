@@ -1,7 +1,6 @@
 -- Each of the six is rule 6 for its slice.
 use Rattle.rules.specs.Lengths.{lengths_rule}
 use Rattle.rules.proofs.Chain.{both_then}
-use borrow.Author.Rules.{rules}
 use Rattle.rules.proofs.lengths.check_lengths.Goals as goal
 
 pub returns : goal.returns

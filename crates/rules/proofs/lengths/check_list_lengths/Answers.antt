@@ -6,7 +6,6 @@ use Rattle.design.specs.Sizes.{params_of}
 use Rattle.rules.specs.declared.lengths.Lengths.{Lengths}
 use Rattle.rules.specs.Lengths.{lengths_rule}
 use Rattle.rules.proofs.Chain.{lists-alone}
-use borrow.Author.Rules.{rules}
 use Rattle.rules.proofs.lengths.check_list_lengths.Goals as goal
 
 pub returns : goal.returns

@@ -3,7 +3,6 @@ use mathlib.Core.Path.{ap, ◌∙◌}
 use Rattle.staircase.specs.Rules.{word_work, kept_work, decoder_work}
 use Rattle.design.specs.Sizes.{params_of}
 use Rattle.rules.specs.Lengths.{decoder_due}
-use borrow.Author.Rules.{rules}
 use Rattle.rules.proofs.lengths.decoder_due.Goals as goal
 
 pub returns : goal.returns

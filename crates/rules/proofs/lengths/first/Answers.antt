@@ -3,7 +3,6 @@ use mathlib.Core.Path.{refl, sym, ap, ◌∙◌}
 use Rattle.staircase.specs.Rules.{Verdict, ◌then◌}
 use Rattle.answers.specs.Answers.{verdict_of}
 use Rattle.answers.proofs.Checks.{refused_then, check_passed}
-use borrow.Author.Rules.{rules}
 use Rattle.rules.proofs.lengths.first.Goals as goal
 
 pub returns-in-Passed : goal.returns-in-Passed

@@ -6,7 +6,6 @@ use Rattle.staircase.specs.Design.{most-blocks}
 use Rattle.staircase.proofs.Bounds.{small_product}
 use Rattle.design.specs.Sizes.{params_of}
 use Rattle.rules.specs.Lengths.{frame_due}
-use borrow.Author.Rules.{rules}
 use Rattle.rules.proofs.lengths.frame_due.Goals as goal
 
 pub overflow_mul-info : goal.overflow_mul-info

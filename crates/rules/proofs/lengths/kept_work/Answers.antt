@@ -11,7 +11,6 @@ use Rattle.design.specs.Sizes.{params_of}
 use Rattle.rules.specs.declared.lengths.Lengths.{Lengths}
 use Rattle.rules.specs.Lengths.{frame_due}
 use Rattle.rules.proofs.Accepted.{kept_small}
-use borrow.Author.Rules.{rules}
 use Rattle.rules.proofs.lengths.kept_work.Goals as goal
 
 -- by the number of groups, the size of a block and the lengths of the frame's buffers

@@ -3,7 +3,6 @@ use native.Mathlib.Omega.{arith}
 use Rattle.staircase.specs.Rules.{kit_work}
 use Rattle.staircase.proofs.Bounds.{small_product}
 use Rattle.rules.specs.Lengths.{kit_due}
-use borrow.Author.Rules.{rules}
 use Rattle.rules.proofs.lengths.kit_due.Goals as goal
 
 pub overflow_mul-packed : goal.overflow_mul-packed

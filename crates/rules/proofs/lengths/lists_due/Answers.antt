@@ -1,7 +1,6 @@
 -- The sizes are those of the design.
 use Rattle.staircase.specs.Rules.{word_work}
 use Rattle.rules.specs.Lengths.{lists_due}
-use borrow.Author.Rules.{rules}
 use Rattle.rules.proofs.lengths.lists_due.Goals as goal
 
 pub returns : goal.returns

@@ -4,7 +4,6 @@ use native.Mathlib.Omega.{arith}
 use Rattle.staircase.specs.Maker.{make_work}
 use Rattle.staircase.proofs.Bounds.{small_product}
 use Rattle.rules.specs.Lengths.{make_due}
-use borrow.Author.Rules.{rules}
 use Rattle.rules.proofs.lengths.make_due.Goals as goal
 
 pub overflow_mul-packed : goal.overflow_mul-packed

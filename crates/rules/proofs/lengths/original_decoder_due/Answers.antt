@@ -7,7 +7,6 @@ use Rattle.staircase.proofs.Bounds.{small_product}
 use Rattle.original.specs.Rules.{original_work}
 use Rattle.design.specs.Sizes.{params_of}
 use Rattle.rules.specs.Lengths.{original_decoder_due}
-use borrow.Author.Rules.{rules}
 use Rattle.rules.proofs.lengths.original_decoder_due.Goals as goal
 
 few_bits : (few area : ℕ) → few ≤ most-blocks → area ≤ 4294967296 → few * area ≤ 17592186044416

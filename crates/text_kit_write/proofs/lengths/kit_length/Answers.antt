@@ -1,6 +1,5 @@
 -- The parts of the text: `kit-length` of proofs/Parts.antt.
 use mathlib.Core.List.{[]}
-use borrow.Author.Rules.{rules}
 use Rattle.text_kit_write.proofs.Parts.{kit-length}
 use Rattle.text_kit_write.proofs.lengths.kit_length.Goals as goal
 

@@ -1,9 +1,9 @@
 use native.Mathlib.Omega.{arith}
 use mathlib.Core.Path.{ap, ◌∙◌}
-use Prim.Native.Nat.{◌-◌, ◌≤◌}
+use Prim.Native.Nat.{◌-◌}
 use lib.ListN.{length}
 use Rattle.text.specs.KitSpelled.{pair_at, pairs_text}
-use Rattle.text_kit_write.proofs.Adding.{Summed, summed_none, summed_more, summed_all}
+use Rattle.text_kit_write.proofs.Adding.{summed_none, summed_more, summed_all}
 use Rattle.text_kit_write.proofs.Parts.{pair_is}
 use Rattle.text_kit_write.proofs.lengths.pairs_length.Goals as goal
 

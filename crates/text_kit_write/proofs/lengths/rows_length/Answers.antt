@@ -6,7 +6,7 @@ use lib.ListN.{length}
 use Rattle.text_lines.proofs.Decimal.{dec-short}
 use Rattle.text.specs.KitSpelled.{row_text, rows_text}
 use Rattle.text.proofs.KitSpelled.{row-length}
-use Rattle.text_kit_write.proofs.Adding.{Summed, summed_none, summed_more, summed_all}
+use Rattle.text_kit_write.proofs.Adding.{summed_none, summed_more, summed_all}
 use Rattle.text_kit_write.proofs.lengths.rows_length.Goals as goal
 
 pub loop-i-init : goal.loop-i-init

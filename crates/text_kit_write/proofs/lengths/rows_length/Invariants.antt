@@ -1,13 +1,8 @@
 -- `Summed` of proofs/Adding.antt, for lines of at most 4,118 bytes.
-use native.Mathlib.Omega.{arith}
-use mathlib.Core.Path.{◌≡◌}
 use mathlib.Core.List.{[]}
-use Prim.Native.Nat.{◌+◌, ◌-◌, ◌≤◌}
-use lib.ListN.{length}
-use Rattle.text_lines.proofs.Decimal.{dec-short}
-use Rattle.text.specs.KitSpelled.{row_text, rows_text}
-use Rattle.text.proofs.KitSpelled.{row-length}
-use Rattle.text_kit_write.proofs.Adding.{Summed, summed_none, summed_more, summed_all}
+use Prim.Native.Nat.{◌-◌, ◌≤◌}
+use Rattle.text.specs.KitSpelled.{row_text}
+use Rattle.text_kit_write.proofs.Adding.{Summed}
 use Rattle.text_kit_write.proofs.lengths.rows_length.Given as goal
 
 abbrev pub invariant-loop-i : goal.invariant-loop-i

@@ -1,6 +1,5 @@
 -- The digits of each number, two spaces and the line feed.
 use native.Mathlib.Omega.{arith}
-use borrow.Author.Rules.{rules}
 use Rattle.text.proofs.KitSpelled.{three-length}
 use Rattle.text_kit_write.proofs.Parts.{three_short}
 use Rattle.text_kit_write.proofs.lengths.three_length.Goals as goal

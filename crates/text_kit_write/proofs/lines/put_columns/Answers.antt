@@ -1,10 +1,9 @@
 use native.Mathlib.Omega.{arith}
 use mathlib.Core.Path.{refl, sym}
-use Prim.Native.Nat.{ℕ, ◌+◌, ◌-◌, ◌/◌, ◌%◌, ◌^◌, ◌≤◌, ◌<◌}
+use Prim.Native.Nat.{ℕ, ◌+◌, ◌-◌, ◌/◌, ◌%◌, ◌^◌, ◌<◌}
 use lib.ListN.{get_or}
-use Rattle.staircase.specs.Lists.{tabulate}
 use Rattle.staircase.proofs.Tabulate.{tabulate-length, tabulate-at}
-use Rattle.text_lines.proofs.Storing.{Copied, copied_none, copied_more, copied_all}
+use Rattle.text_lines.proofs.Storing.{copied_none, copied_more, copied_all}
 use Rattle.text_kit_write.proofs.lines.put_columns.Goals as goal
 
 pub loop-j-init : goal.loop-j-init

@@ -1,11 +1,8 @@
 -- `Copied` of proofs/Storing.antt of `text_lines`, of the characters.
-use native.Mathlib.Omega.{arith}
-use mathlib.Core.Path.{refl, sym}
-use Prim.Native.Nat.{ℕ, ◌+◌, ◌-◌, ◌/◌, ◌%◌, ◌^◌, ◌≤◌, ◌<◌}
+use Prim.Native.Nat.{◌+◌, ◌-◌, ◌/◌, ◌%◌, ◌^◌, ◌≤◌}
 use lib.ListN.{get_or}
 use Rattle.staircase.specs.Lists.{tabulate}
-use Rattle.staircase.proofs.Tabulate.{tabulate-length, tabulate-at}
-use Rattle.text_lines.proofs.Storing.{Copied, copied_none, copied_more, copied_all}
+use Rattle.text_lines.proofs.Storing.{Copied}
 use Rattle.text_kit_write.proofs.lines.put_columns.Given as goal
 
 abbrev pub invariant-loop-j : goal.invariant-loop-j

@@ -1,6 +1,5 @@
 -- `m t M`, the line of the three numbers, `place self parity`.
 use native.Mathlib.Omega.{arith}
-use borrow.Author.Rules.{rules}
 use Rattle.text_kit_write.proofs.Parts.{head_length, head_put}
 use Rattle.text_kit_write.proofs.lines.put_head.Goals as goal
 

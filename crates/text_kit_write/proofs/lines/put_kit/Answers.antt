@@ -1,6 +1,5 @@
 -- The parts of the text, one behind another, fill the buffer: `kit-put` of proofs/Parts.antt.
 use native.Mathlib.Omega.{arith}
-use borrow.Author.Rules.{rules}
 use mathlib.Core.Path.{◌≡◌, sym, ap, ◌∙◌}
 use Prim.Native.Nat.{ℕ, ◌*◌}
 use Rattle.staircase.specs.System.{row_bytes}

@@ -1,7 +1,7 @@
 use native.Mathlib.Omega.{arith}
-use Prim.Native.Nat.{◌-◌, ◌≤◌}
+use Prim.Native.Nat.{◌-◌}
 use Rattle.text.specs.KitSpelled.{pair_at, pairs_text}
-use Rattle.text_kit_write.proofs.Adding.{Written, written_none, written_same, written-room, written-more, written_all}
+use Rattle.text_kit_write.proofs.Adding.{written_none, written_same, written-room, written-more, written_all}
 use Rattle.text_kit_write.proofs.Parts.{pair_is}
 use Rattle.text_kit_write.proofs.lines.put_pairs.Goals as goal
 

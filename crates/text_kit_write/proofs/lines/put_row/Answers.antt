@@ -1,6 +1,5 @@
 -- The row's number and the space, its characters, the line feed.
 use native.Mathlib.Omega.{arith}
-use borrow.Author.Rules.{rules}
 use Rattle.staircase.specs.System.{row_bytes}
 use Rattle.staircase.proofs.Bounds.{small_product, stretch-end}
 use Rattle.text.proofs.KitSpelled.{row-length}

@@ -1,8 +1,8 @@
 use native.Mathlib.Omega.{arith}
 use mathlib.Core.Path.{refl}
-use Prim.Native.Nat.{◌-◌, ◌≤◌}
+use Prim.Native.Nat.{◌-◌}
 use Rattle.text.specs.KitSpelled.{row_text, rows_text}
-use Rattle.text_kit_write.proofs.Adding.{Written, written_none, written_same, written-room, written-more, written_all}
+use Rattle.text_kit_write.proofs.Adding.{written_none, written_same, written-room, written-more, written_all}
 use Rattle.text_kit_write.proofs.lines.put_rows.Goals as goal
 
 pub loop-i-init : goal.loop-i-init

@@ -1,9 +1,7 @@
 -- `Written` of proofs/Adding.antt of the lines of the rows.
-use native.Mathlib.Omega.{arith}
-use mathlib.Core.Path.{refl}
 use Prim.Native.Nat.{◌-◌, ◌≤◌}
-use Rattle.text.specs.KitSpelled.{row_text, rows_text}
-use Rattle.text_kit_write.proofs.Adding.{Written, written_none, written_same, written-room, written-more, written_all}
+use Rattle.text.specs.KitSpelled.{row_text}
+use Rattle.text_kit_write.proofs.Adding.{Written}
 use Rattle.text_kit_write.proofs.lines.put_rows.Given as goal
 
 abbrev pub invariant-loop-i : goal.invariant-loop-i

@@ -1,6 +1,5 @@
 -- Each number with the byte behind it, one behind another.
 use native.Mathlib.Omega.{arith}
-use borrow.Author.Rules.{rules}
 use Rattle.text.proofs.KitSpelled.{three-length}
 use Rattle.text_kit_write.proofs.Parts.{three_put}
 use Rattle.text_kit_write.proofs.lines.put_three.Goals as goal

@@ -1,9 +1,8 @@
 use native.Mathlib.Omega.{arith}
-use mathlib.Core.Path.{◌≡◌}
-use Prim.Native.Nat.{◌+◌, ◌*◌, ◌<◌}
-use lib.ListN.{length, drop}
+use Prim.Native.Nat.{◌<◌}
+use lib.ListN.{drop}
 use Rattle.text_lines.specs.Written.{next_block, block_lines_text}
-use Rattle.text_lines.proofs.Lines.{Rest, rest_start, rest_end, block_room, block_written, lines_none, one_less}
+use Rattle.text_lines.proofs.Lines.{rest_start, rest_end, block_room, block_written, lines_none, one_less}
 use Rattle.text_lines.proofs.whole.put_block_lines.Goals as goal
 
 pub loop-left-init : goal.loop-left-init

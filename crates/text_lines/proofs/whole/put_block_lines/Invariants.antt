@@ -1,10 +1,9 @@
 -- Each line is written behind the one before; what is left of the text is the lines of the blocks that are left.
-use native.Mathlib.Omega.{arith}
 use mathlib.Core.Path.{◌≡◌}
-use Prim.Native.Nat.{◌+◌, ◌*◌, ◌<◌}
+use Prim.Native.Nat.{◌+◌, ◌*◌}
 use lib.ListN.{length, drop}
-use Rattle.text_lines.specs.Written.{next_block, block_lines_text}
-use Rattle.text_lines.proofs.Lines.{Rest, rest_start, rest_end, block_room, block_written, lines_none, one_less}
+use Rattle.text_lines.specs.Written.{block_lines_text}
+use Rattle.text_lines.proofs.Lines.{Rest}
 use Rattle.text_lines.proofs.whole.put_block_lines.Given as goal
 
 abbrev pub invariant-loop-left : goal.invariant-loop-left

@@ -1,7 +1,6 @@
 -- The line of names, then the lines of the blocks.
 use native.Mathlib.Omega.{arith}
 use Rattle.text_lines.proofs.Lines.{block-text_parts, block-text-put}
-use borrow.Author.Rules.{rules}
 use Rattle.text_lines.proofs.whole.put_blocks.Goals as goal
 
 pub put_bytes-i-requires : goal.put_bytes-i-requires

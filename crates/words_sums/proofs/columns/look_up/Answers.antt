@@ -1,8 +1,8 @@
-use mathlib.Core.Path.{◌≡◌, refl}
-use Prim.Native.Nat.{◌-◌, ◌≤◌}
+use mathlib.Core.Path.{refl}
+use Prim.Native.Nat.{◌-◌}
 use native.Mathlib.Omega.{arith}
-use lib.ListN.{length, get_or, length-set}
-use Rattle.bch_remainders.proofs.Powers.{Added, added_more}
+use lib.ListN.{get_or, length-set}
+use Rattle.bch_remainders.proofs.Powers.{added_more}
 use Rattle.words_sums.proofs.columns.look_up.Goals as goal
 
 pub loop-a-init : goal.loop-a-init

@@ -1,17 +1,11 @@
 -- The loop's invariant: each entry has the sum over the first `g` groups of eight of its column added, where entries behind the end of `part` count as 0, and
 -- `reads` is the number of bits in these groups. The measure is the number of groups left.
-use mathlib.Core.Path.{◌≡◌, sym, ap, ◌∙◌}
+use mathlib.Core.Path.{◌≡◌}
 use Prim.Native.Nat.{ℕ, ◌+◌, ◌-◌, ◌*◌, ◌/◌, ◌≤◌, ◌<◌, min}
-use native.Mathlib.Omega.{arith}
 use lib.ListN.{length, get_or}
 use Rattle.bch.specs.Polynomial.{◌⊕◌}
 use Rattle.bch.specs.Powers.{xor_sum}
-use Rattle.bch.proofs.Sum.{⊕-zero-right}
-use Rattle.bch_remainders.proofs.Rows.{row-length}
-use Rattle.words_tables.proofs.Tables.{sum_of_eights}
 use Rattle.words_sums.specs.Listed.{listed_bit}
-use Rattle.words_sums.proofs.Groups.{sum_padded, part-behind, rows-read, rows_end}
-use Rattle.words_sums.proofs.ListedBits.{listed-group}
 use Rattle.words_sums.proofs.listed.add_listed.Given as goal
 
 abbrev pub invariant-loop-g : goal.invariant-loop-g

@@ -1,6 +1,5 @@
 -- Each bit is put below those before it: the byte so far is doubled, and stays below 256.
 use native.Mathlib.Omega.{arith}
-use borrow.Author.Rules.{rules}
 use Rattle.words_sums.proofs.ListedBits.{listed_byte_eight}
 use Rattle.words_sums.proofs.listed.eight_bits.Goals as goal
 

@@ -1,11 +1,7 @@
 -- The loop's invariant: `v` is the byte of the bits from bit `i` on. The measure is `i`.
-use mathlib.Core.Path.{◌≡◌, ap, ap₂, ◌∙◌}
-use Prim.Native.Nat.{ℕ, suc, ◌+◌, ◌-◌, ◌*◌, ◌≤◌}
-use native.Mathlib.Omega.{arith}
-use native.Mathlib.Nat.{suc-mul}
-use Rattle.bch_remainders.proofs.Rows.{row_end}
+use mathlib.Core.Path.{◌≡◌}
+use Prim.Native.Nat.{◌+◌, ◌-◌, ◌*◌, ◌≤◌}
 use Rattle.words_sums.specs.Listed.{listed_byte}
-use Rattle.words_sums.proofs.ListedBits.{listed_byte-none, listed_byte-more, listed_byte_half}
 use Rattle.words_sums.proofs.listed.few_bits.Given as goal
 
 abbrev pub invariant-loop-i : goal.invariant-loop-i

@@ -1,8 +1,8 @@
-use mathlib.Core.Path.{◌≡◌, refl}
-use Prim.Native.Nat.{◌+◌, ◌-◌, ◌≤◌}
+use mathlib.Core.Path.{refl}
+use Prim.Native.Nat.{◌+◌, ◌-◌}
 use native.Mathlib.Omega.{arith}
 use lib.ListN.{length, get_or, length-set}
-use Rattle.bch_remainders.proofs.Powers.{Added, added_more}
+use Rattle.bch_remainders.proofs.Powers.{added_more}
 use Rattle.words_sums.specs.Listed.{listed_byte}
 use Rattle.words_sums.proofs.listed.look_eight.Goals as goal
 

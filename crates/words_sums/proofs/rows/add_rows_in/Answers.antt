@@ -1,6 +1,6 @@
 use mathlib.Core.Path.{◌≡◌, refl, sym, ap, ◌∙◌}
 use mathlib.Core.List.{◌++◌}
-use Prim.Native.Nat.{ℕ, ◌+◌, ◌-◌, ◌*◌, ◌/◌, ◌≤◌, ◌<◌}
+use Prim.Native.Nat.{ℕ, ◌+◌, ◌-◌, ◌*◌, ◌/◌}
 use native.Mathlib.Nat.{sub-zero}
 use native.Mathlib.Omega.{arith}
 use borrow.Rule.Slice.PartMut.{same_len_mid, mid_len}
@@ -8,7 +8,7 @@ use lib.ListN.{length, get_or, take, drop}
 use Rattle.bch.specs.Powers.{xor_sum}
 use Rattle.bch_remainders.proofs.Rows.{row-length, row-bits}
 use Rattle.words_sums.proofs.Groups.{rows_end}
-use Rattle.words_sums.proofs.Tiles.{tiles_row, AddedBelow, added_group}
+use Rattle.words_sums.proofs.Tiles.{tiles_row, added_group}
 use Rattle.words_sums.proofs.rows.add_rows_in.Goals as goal
 
 pub loop-g-init : goal.loop-g-init

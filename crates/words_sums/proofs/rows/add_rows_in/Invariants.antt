@@ -1,16 +1,10 @@
 -- The loop's invariant: the entries of the groups before `g` have the sums over their rows added, the others are as they were, and `reads` is the number
 -- of columns as soon as a group is read. The measure is the number of groups left.
-use mathlib.Core.Path.{◌≡◌, refl, sym, ap, ◌∙◌}
-use mathlib.Core.List.{◌++◌}
-use Prim.Native.Nat.{ℕ, ◌+◌, ◌-◌, ◌*◌, ◌/◌, ◌≤◌, ◌<◌}
-use native.Mathlib.Nat.{sub-zero}
-use native.Mathlib.Omega.{arith}
-use borrow.Rule.Slice.PartMut.{same_len_mid, mid_len}
-use lib.ListN.{length, get_or, take, drop}
+use mathlib.Core.Path.{◌≡◌}
+use Prim.Native.Nat.{◌+◌, ◌-◌, ◌*◌, ◌/◌, ◌≤◌, ◌<◌}
+use lib.ListN.{length, get_or}
 use Rattle.bch.specs.Powers.{xor_sum}
-use Rattle.bch_remainders.proofs.Rows.{row-length, row-bits}
-use Rattle.words_sums.proofs.Groups.{rows_end}
-use Rattle.words_sums.proofs.Tiles.{tiles_row, AddedBelow, added_group}
+use Rattle.words_sums.proofs.Tiles.{AddedBelow}
 use Rattle.words_sums.proofs.rows.add_rows_in.Given as goal
 
 abbrev pub invariant-loop-g : goal.invariant-loop-g

@@ -1,9 +1,8 @@
-use mathlib.Core.Path.{◌≡◌, refl}
-use Prim.Native.Nat.{◌+◌, ◌-◌, ◌*◌, ◌≤◌}
+use mathlib.Core.Path.{refl}
+use Prim.Native.Nat.{◌-◌}
 use native.Mathlib.Omega.{arith}
-use lib.ListN.{length, get_or, length-set}
-use Rattle.bch.specs.Powers.{xor_sum}
-use Rattle.bch_remainders.proofs.Powers.{Added, added_more}
+use lib.ListN.{length-set}
+use Rattle.bch_remainders.proofs.Powers.{added_more}
 use Rattle.words_sums.proofs.rows.add_tiles.Goals as goal
 
 pub loop-i-init : goal.loop-i-init

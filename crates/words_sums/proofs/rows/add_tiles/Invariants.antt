@@ -1,10 +1,9 @@
 -- The loop's invariant: each entry before `i` has the sum that its bytes name added, the others are as they were. The measure is the number of entries left.
-use mathlib.Core.Path.{◌≡◌, refl}
+use mathlib.Core.Path.{◌≡◌}
 use Prim.Native.Nat.{◌+◌, ◌-◌, ◌*◌, ◌≤◌}
-use native.Mathlib.Omega.{arith}
-use lib.ListN.{length, get_or, length-set}
+use lib.ListN.{length, get_or}
 use Rattle.bch.specs.Powers.{xor_sum}
-use Rattle.bch_remainders.proofs.Powers.{Added, added_more}
+use Rattle.bch_remainders.proofs.Powers.{Added}
 use Rattle.words_sums.proofs.rows.add_tiles.Given as goal
 
 abbrev pub invariant-loop-i : goal.invariant-loop-i

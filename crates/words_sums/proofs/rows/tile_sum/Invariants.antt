@@ -1,12 +1,8 @@
 -- The loop's invariant: `x` is the sum over the first `c` tiles. The measure is the number of tiles left.
-use mathlib.Core.Path.{◌≡◌, refl, ap, ◌∙◌}
-use Prim.Native.Nat.{ℕ, ◌+◌, ◌-◌, ◌*◌, ◌≤◌}
-use native.Mathlib.Omega.{arith}
-use lib.Bits.{bit_xor}
+use mathlib.Core.Path.{◌≡◌}
+use Prim.Native.Nat.{◌+◌, ◌-◌, ◌*◌, ◌≤◌}
 use lib.ListN.{get_or}
 use Rattle.bch.specs.Powers.{xor_sum}
-use Rattle.bch_remainders.proofs.Powers.{xor_sum-more}
-use Rattle.bch_remainders.proofs.Rows.{row-length, row_at}
 use Rattle.words_sums.proofs.rows.tile_sum.Given as goal
 
 abbrev pub invariant-loop-c : goal.invariant-loop-c
