@@ -8,7 +8,7 @@ use Rattle.bauchleton_programs.proofs.Exit.{exits}
 use Rattle.bauchleton_programs.proofs.print_frame.Goals as goal
 
 pub returns : goal.returns
-returns c =
+returns g c =
     let made = c.output_bytes-out in
     let room : most-output ≤ length made.result = omega (arith, made.ensures) in
     exits _ _ _ _ _ _ (frame_status _ _) room c.frame_output-n.ensures c.print_output.ensures

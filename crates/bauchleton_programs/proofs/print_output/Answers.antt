@@ -4,7 +4,7 @@ use mathlib.Core.Logic.{inl, inr}
 use Rattle.bauchleton_programs.proofs.print_output.Goals as goal
 
 pub returns-then-taken : goal.returns-then-taken
-returns-then-taken c = inl c.output_status.ensures
+returns-then-taken g c = inl c.output_status.ensures
 
 pub returns : goal.returns
-returns c = inr refl
+returns g c = inr refl

@@ -3,4 +3,4 @@ use Rattle.bauchleton_programs.proofs.Exit.{exits_most}
 use Rattle.bauchleton_programs.proofs.run_makekit.Goals as goal
 
 pub returns : goal.returns
-returns c = exits_most _ _ c.print_makekit.ensures
+returns g c = exits_most _ _ c.print_makekit.ensures

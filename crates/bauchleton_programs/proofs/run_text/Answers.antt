@@ -3,7 +3,7 @@ use Rattle.bauchleton_programs.proofs.Exit.{exits_most}
 use Rattle.bauchleton_programs.proofs.run_text.Goals as goal
 
 pub returns-then-mends : goal.returns-then-mends
-returns-then-mends c = exits_most _ _ c.print_mend.ensures
+returns-then-mends g c = exits_most _ _ c.print_mend.ensures
 
 pub returns : goal.returns
-returns c = exits_most _ _ c.print_frame.ensures
+returns g c = exits_most _ _ c.print_frame.ensures
