@@ -1,6 +1,6 @@
 // Preloaded into a program, makes calls of the C library fail that the program makes on one descriptor.
 //     FAULT="CALL FD FIRST TIMES ERRNO MOST" LD_PRELOAD=faults.so PROGRAM
-// CALL is read, write or close; FD is 0 or 1, or 3 for every number above 2. Of these calls, counted from 1, those from FIRST on, TIMES of them, fail with
+// CALL is read, write or fsync; FD is 0 or 1, or 3 for every number above 2. Of these calls, counted from 1, those from FIRST on, TIMES of them, fail with
 // ERRNO, or answer 0 where that is 0; the others move at most MOST bytes.
 #include <errno.h>
 #include <stdio.h>
@@ -42,9 +42,9 @@ ssize_t write(int fd, const void *bytes, size_t count) {
     return syscall(SYS_write, fd, bytes, count);
 }
 
-int close(int fd) {
+int fsync(int fd) {
     size_t none = 0;
-    if (fails("close", fd, &none))
+    if (fails("fsync", fd, &none))
         return errno ? -1 : 0;
-    return syscall(SYS_close, fd);
+    return syscall(SYS_fsync, fd);
 }
