@@ -1,9 +1,9 @@
 -- Each number has its name.
 use mathlib.Core.Path.{◌≡◌, refl}
-use Prim.Native.Nat.{zero-le}
+use Prim.Native.Nat.{◌≤◌}
 use native.Mathlib.Omega.{arith}
 use Rattle.bauchleton.specs.RuleNames.{rule_name}
-use Rattle.bauchleton.proofs.RuleNames.{name_told, name_none, past}
+use Rattle.bauchleton.proofs.RuleNames.{name_told, name_none}
 use Rattle.bauchleton.proofs.names.bauchleton_rule_name.Goals as goal
 
 pub returns-in-0 : goal.returns-in-0
@@ -128,6 +128,5 @@ returns-in-19 c =
 
 pub returns-in_default : goal.returns-in_default
 returns-in_default c =
-    let r = c.in-0.rest in
-    name_none _ _
-    (past (past (past (past (past (past (past (past (past (past (past (past (past (past (past (past (past (past (past (past zero-le r.0.0.0.0.0.0.0.0.0.0.0.0.0.0.0.0.0.0.0.1) r.0.0.0.0.0.0.0.0.0.0.0.0.0.0.0.0.0.0.1) r.0.0.0.0.0.0.0.0.0.0.0.0.0.0.0.0.0.1) r.0.0.0.0.0.0.0.0.0.0.0.0.0.0.0.0.1) r.0.0.0.0.0.0.0.0.0.0.0.0.0.0.0.1) r.0.0.0.0.0.0.0.0.0.0.0.0.0.0.1) r.0.0.0.0.0.0.0.0.0.0.0.0.0.1) r.0.0.0.0.0.0.0.0.0.0.0.0.1) r.0.0.0.0.0.0.0.0.0.0.0.1) r.0.0.0.0.0.0.0.0.0.0.1) r.0.0.0.0.0.0.0.0.0.1) r.0.0.0.0.0.0.0.0.1) r.0.0.0.0.0.0.0.1) r.0.0.0.0.0.0.1) r.0.0.0.0.0.1) r.0.0.0.0.1) r.0.0.0.1) r.0.0.1) r.0.1) r.1)
+    let h : 20 ≤ c.args.rule = omega arith in
+    name_none _ _ h
