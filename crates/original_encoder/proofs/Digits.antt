@@ -1,4 +1,5 @@
 -- Digits written into a buffer, and rule 10 over the first columns of rows.
+--   digits_none, digits_more           no digit, and one more
 --   Last, last_none, last_more, last_all   the last digits are written: none, one more, all
 --   rows_none, rows_more               no row, and one more
 --   Good, good_none, good_next         the information of the first rows is bits
@@ -28,6 +29,23 @@ use Rattle.words_blocks.proofs.Sums.{part_length, part_at}
 use Rattle.original_encoder.specs.Written.{digit, DigitsAt, RowsAt, width_bits}
 
 -- ---- digits
+
+pub digits_none : (r from x : ℕ) (l : List ℕ) → DigitsAt 0 r from x l l
+digits_none r from x l = record { long = refl; before = λ k h. refl; behind = λ k h. refl; digits = λ j h. absurd (omega (arith, h)) }
+
+pub digits_more : (n r from x : ℕ) (l cur : List ℕ) → DigitsAt n r from x l cur → from + n < length cur → DigitsAt (n + 1) r from x l (set cur (from + n) (x / 2 ^ (r - 1 - n) % 2))
+digits_more n r from x l cur D h =
+    record {
+      long = length-set cur (from + n) (digit r x n) ∙ D.long;
+      before = λ k hk. get_or-set_other cur (from + n) k (digit r x n) 0 (λ e. omega (arith, hk, e)) ∙ D.before k hk;
+      behind = λ k hk. get_or-set_other cur (from + n) k (digit r x n) 0 (λ e. omega (arith, hk, e)) ∙ D.behind k (omega (arith, hk));
+      digits = λ j hj. at j hj (ℕ_discrete j n);
+    }
+  where
+    at : (j : ℕ) → j < n + 1 → Dec (j ≡ n) → get_or (set cur (from + n) (digit r x n)) (from + j) 0 ≡ digit r x j
+    at j hj (yes e) =
+        ap (λ (i : ℕ). get_or (set cur (from + n) (digit r x n)) (from + i) 0) e ∙ get_or-set_same cur (from + n) (digit r x n) 0 h ∙ ap (digit r x) (sym e)
+    at j hj (no e) = get_or-set_other cur (from + n) (from + j) (digit r x n) 0 (λ q. e (omega (arith, q))) ∙ D.digits j (omega (arith, hj, e))
 
 -- those from digit j on, and nothing else; x is `rest` without them
 pub record Last (j r from x rest : ℕ) (old new : List ℕ) : Type 0 where
