@@ -76,7 +76,7 @@ loop-g-preserved c =
       λ k h. e.1 k (omega arith)
           ∙ column-more l.g _ _ _ (λ j. xor_sum 8 (λ i. f k (8 * j + i))) (l.invariant.4 k h)
           (byte-names a.part.now a.tables.now c.requires.2 l.g _ (f k)
-          (c.slice_known-in-loop-g-1.given k).fits (omega arith)
+          (grind arith) (omega arith)
           (λ i m. rows_term a.block.now l.g r.result w i k h a.part.now _ r.ensures.3 m
           (rw l.invariant.3 at (p.1 k i (omega arith) m)))),
     )

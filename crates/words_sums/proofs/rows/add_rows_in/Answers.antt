@@ -89,7 +89,7 @@ loop-g-preserved c =
           l.invariant.1 (omega arith) n.ensures.2 (λ h. n.ensures.3 h ∙ l.invariant.1) (added.ensures.0 ∙ few) l.invariant.4
           (λ i h. added.ensures.1 i (omega (arith, few)))
           (λ i h. tiles_row a.part.now a.tables.now (bytes.new.packed ++ drop (w - 0) l.packed) tiles.new.turned i c.requires.2
-          (λ k. (c.slice_known-in-loop-g-2-1.given k).fits) (λ t q m o. tiles.ensures.1 t i q m (omega arith) o)
+          (λ k. grind arith) (λ t q m o. tiles.ensures.1 t i q m (omega arith) o)
           a.block.now bytes.new.packed (drop (w - 0) l.packed) g r h refl (bytes.ensures.0 ∙ wide)
           (λ k m. bytes.ensures.1 k i (omega (arith, wide)) (omega arith)
           ∙ ap (λ (z : ℕ). get_or (take (from + r * w - from) (drop from a.block.now)) (i * z + k) 0) wide)),
