@@ -58,9 +58,6 @@ module _ (m : ℕ) (low : 4 ≤ m) (high : m ≤ 10) where
       earlier : (j k : ℕ) → (k ≡ x → ⊥) → j < n + 1 → power m j ≡ k → j < n
       earlier j k d l q = let ne : j ≢ n = λ e. d (sym q ∙ ap (power m) e ∙ sym is) in omega arith
 
-  pub logged_all : (n : ℕ) (logs : List ℕ) → n ≡ 2 ^ m - 1 → Logged m n logs → LogTable m logs
-  logged_all n logs is L = record { long = L.long; below = L.below; log = λ j h. L.log j (omega arith) }
-
 -- ---- solutions of z^(k+1) + z = power v
 pub record Solved (m k n : ℕ) (table : List ℕ) : Type 0 where
   pub long : length table ≡ 2 ^ m - 1

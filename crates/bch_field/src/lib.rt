@@ -18,8 +18,8 @@ fn fill_quarters(m: usize, powers: &[u16], logs: &[u16], field: &mut [u16])
     ensures { FieldTables m field.new }
 {
     let q = logs.len();
-    bch_powers::copy_table(powers, &mut field[0..q - 1]);
-    bch_powers::copy_table(logs, &mut field[q..2 * q]);
+    field[0..q - 1].copy_from_slice(powers);
+    field[q..2 * q].copy_from_slice(logs);
     logarithms::fill_solutions(m, 1, powers, logs, &mut field[2 * q..3 * q - 1]);
     logarithms::fill_solutions(m, 2, powers, logs, &mut field[3 * q..4 * q - 1]);
 }

@@ -4,7 +4,7 @@
 //   fill_syndromes_by(m, powers, table)           the powers of the root and of its cube that the positions of a word carry
 //
 // Each is filled in one pass over the powers.
-ghost use Rattle.std.specs.Prelude.{◌≡◌, ◌-◌, ◌*◌, ◌%◌, ◌^◌, ◌≤◌, ◌<◌, length, replicate};
+ghost use Rattle.std.specs.Prelude.{◌≡◌, ◌-◌, ◌*◌, ◌%◌, ◌^◌, ◌≤◌, ◌<◌, length};
 ghost use Rattle.bch.specs.Field.{power, power_table};
 ghost use Rattle.bch.specs.Locator.{LogTable, Solution, SolutionTable, power_syndromes, SyndromeTable};
 
@@ -24,21 +24,12 @@ fn reduced(j: usize, order: usize) -> usize
     if j < order { j } else { j - order }
 }
 
-// Makes every entry of `out` 0. One step for each entry.
-fn clear(out: &mut [u16])
-    ensures { out.new ≡ replicate (length out.old) 0 }
-{
-    for i in 0..out.len() {
-        out[i] = 0;
-    }
-}
-
 // Fills `logs`, which has an entry for each element of field m: that of power j of the root is j, and that of 0 is 0. The work grows with 2^m.
 pub fn fill_logs(m: usize, powers: &[u16], logs: &mut [u16])
     requires { (4 ≤ m) × (m ≤ 10) × (powers.now ≡ power_table m (2 ^ m - 1)) × (length logs.old ≡ 2 ^ m) }
     ensures { LogTable m logs.new }
 {
-    clear(logs);
+    logs.fill(0);
     for j in 0..powers.len() {
         logs[power_at(m, powers, j)] = j as u16;
     }
@@ -62,7 +53,7 @@ pub fn fill_solutions(m: usize, k: usize, powers: &[u16], logs: &[u16], table: &
         × (length table.old ≡ 2 ^ m - 1) }
     ensures { SolutionTable m k table.new }
 {
-    clear(table);
+    table.fill(0);
     for e in 1..powers.len() {
         let v = solved_by(m, k, powers, logs, e);
         table[v] = e as u16;
@@ -87,7 +78,7 @@ pub fn fill_syndromes_by(m: usize, powers: &[u16], table: &mut [u32])
     ensures { SyndromeTable m table.new × (length table.new ≡ length table.old) }
 {
     let n = table.len();
-    for j in 0..n {
-        table[j] = syndromes_of(m, powers, n - 1 - j);
+    for (j, entry) in table.iter_mut().enumerate() {
+        *entry = syndromes_of(m, powers, n - 1 - j);
     }
 }

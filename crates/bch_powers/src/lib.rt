@@ -1,6 +1,5 @@
 // The powers of the root in each of the seven fields GF(2^m), m = 4 to 10, as constant tables.
-//   fill_powers(m, out)      fills `out` with the 2^m - 1 powers of the root of field m: entry j is power j
-//   copy_table(table, out)   copies a table
+//   fill_powers(m, out)   fills `out` with the 2^m - 1 powers of the root of field m: entry j is power j
 //
 // "2,025 entries over the seven fields, follow one rule: the first entry is 1, and each entry is the one before times x in its field."
 // The rule is the definition `power_table` of the crate `bch`. The proof of `fill_powers` computes the list that the rule makes and compares
@@ -12,29 +11,19 @@
 ghost use Rattle.std.specs.Prelude.{◌≡◌, ◌-◌, ◌^◌, ◌≤◌, length};
 ghost use Rattle.bch.specs.Field.{power_table};
 
-// Copies `table` into `out`.
-pub fn copy_table(table: &[u16], out: &mut [u16])
-    requires { length out.old ≡ length table.now }
-    ensures { out.new ≡ table.now }
-{
-    for i in 0..table.len() {
-        out[i] = table[i];
-    }
-}
-
 // Fills `out`, which has an entry for each power, with the powers of the root of field m. The work grows with 2^m.
 pub fn fill_powers(m: usize, out: &mut [u16])
     requires { (4 ≤ m) × (m ≤ 10) × (length out.old ≡ 2 ^ m - 1) }
     ensures { out.new ≡ power_table m (2 ^ m - 1) }
 {
     match m {
-        4 => copy_table(&POWERS_4, out),
-        5 => copy_table(&POWERS_5, out),
-        6 => copy_table(&POWERS_6, out),
-        7 => copy_table(&POWERS_7, out),
-        8 => copy_table(&POWERS_8, out),
-        9 => copy_table(&POWERS_9, out),
-        _ => copy_table(&POWERS_10, out),
+        4 => out.copy_from_slice(&POWERS_4),
+        5 => out.copy_from_slice(&POWERS_5),
+        6 => out.copy_from_slice(&POWERS_6),
+        7 => out.copy_from_slice(&POWERS_7),
+        8 => out.copy_from_slice(&POWERS_8),
+        9 => out.copy_from_slice(&POWERS_9),
+        _ => out.copy_from_slice(&POWERS_10),
     }
 }
 

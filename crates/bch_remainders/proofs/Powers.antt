@@ -4,17 +4,18 @@
 --   power_mod_next   x^(e + 1) is x times x^e
 --   spread-bit      a bit spread over 32 masks a number to itself or to 0
 --   xor_sum-more     one term more
+--   xor_sum-push     the same where the number of terms is that of the pairs that a loop over a zip has met
 --   Added           the entries before n have f added, the others are as they were
 --   added_more      one entry more
 -- Assumes nothing.
 use mathlib.Core.Path.{◌≡◌, sym, ap, ap₂, ◌∙◌}
-use mathlib.Core.List.{List}
+use mathlib.Core.List.{List, [], ◌∷◌, ◌++◌}
 use Prim.Native.Nat.{ℕ, suc, ◌+◌, ◌*◌, ◌/◌, ◌%◌, ◌^◌, ◌≤◌, ◌<◌}
 use native.Mathlib.Nat.{zero-mul, one-mul, mod-eq_of_lt, div-eq_of_lt-le}
 use native.Mathlib.Numerals.{add-one}
 use native.Mathlib.Omega.{arith}
 use lib.Bits.{bit_xor, bit_and, and_comm, and_mask}
-use lib.ListN.{length, get_or, set}
+use lib.ListN.{length, get_or, set, length-append}
 use Rattle.bch.specs.Polynomial.{◌⊕◌, times_x, iterate}
 use Rattle.bch.specs.Powers.{power_mod, xor_sum}
 use Rattle.bch.proofs.Sum.{bit_ind}
@@ -44,6 +45,10 @@ spread-bit b v h l =
 pub xor_sum-more : (n s : ℕ) (f : ℕ → ℕ) → s ≡ xor_sum n f → bit_xor s (f n) ≡ xor_sum (n + 1) f
 unfolding xor_sum ◌⊕◌
 xor_sum-more n s f e = ap (λ (k : ℕ). bit_xor k (f n)) e ∙ ap (λ (k : ℕ). xor_sum k f) (sym (add-one n))
+
+pub xor_sum-push : {A : Type 0} (met : List A) (pair : A) (s x : ℕ) (f : ℕ → ℕ) → s ≡ xor_sum (length met) f → x ≡ f (length met)
+    → bit_xor s x ≡ xor_sum (length (met ++ (pair ∷ []))) f
+xor_sum-push met pair s x f e h = rw (length-append, h) (xor_sum-more (length met) s f e)
 
 -- ---- a list added to, entry by entry
 abbrev pub Added : List ℕ → (ℕ → ℕ) → ℕ → List ℕ → Type 0

@@ -7,7 +7,6 @@
 //   dot(bits, part)                   the sum of the entries of `part` at the ones of `bits`, and how many bits it has read
 //   read_rows(acc, block, part)       `dot` for every column of a block at once, row by row; how many bits of each column it has read
 //   add_rows(acc, block, part)        the same without the number
-//   clear(acc)                        makes every entry 0
 //
 // The remainder of a word is a sum of powers of x modulo the generator, one for each of its ones (`remainder-powers` of the crate `bch`).
 // A polynomial is a number, bit i for x^i, and the sum is the exclusive or. So a table that is made once turns a remainder into a loop of
@@ -18,7 +17,7 @@
 // where each row gives every column one bit.
 #![tactic(auto)]
 
-ghost use Rattle.std.specs.Prelude.{◌≡◌, ℕ, ◌+◌, ◌-◌, ◌*◌, ◌/◌, ◌^◌, ◌≤◌, ◌<◌, length, get_or, replicate};
+ghost use Rattle.std.specs.Prelude.{◌≡◌, ℕ, ◌+◌, ◌-◌, ◌*◌, ◌/◌, ◌^◌, ◌≤◌, ◌<◌, length, get_or};
 ghost use Rattle.bch.specs.Polynomial.{◌⊕◌, times_x, Bits};
 ghost use Rattle.bch.specs.Code.{generator};
 ghost use Rattle.bch.specs.Mirror.{mirror};
@@ -66,10 +65,8 @@ pub fn fill_backwards(table: &[u32], out: &mut [u32])
     ensures { (length out.new ≡ length table.now)
         × ((j : ℕ) → j < length table.now → get_or out.new j 0 ≡ get_or table.now (length table.now - 1 - j) 0) }
 {
-    let n = table.len();
-    for j in 0..n {
-        out[j] = table[n - 1 - j];
-    }
+    out.copy_from_slice(table);
+    out.reverse();
 }
 
 // x times v modulo g, of degree r. `top` is 2^r.
@@ -88,9 +85,7 @@ pub fn fill_positions(g: u32, r: usize, top: u32, table: &mut [u32])
     ensures { PositionPowers g r table.new × (length table.new ≡ length table.old) }
 {
     let mut v: u32 = 1;
-    let mut i = table.len();
-    while 0 < i {
-        i -= 1;
+    for i in (0..table.len()).rev() {
         table[i] = v;
         v = times_x(g, r, top, v);
     }
@@ -112,14 +107,11 @@ pub fn dot(bits: &[u8], part: &[u32]) -> Reading
 {
     let mut acc: u32 = 0;
     let mut reads: usize = 0;
-    for j in 0..bits.len() {
-        acc = acc ^ masked(bits[j], part[j]);
+    for (&bit, &power) in bits.iter().zip(part) {
+        acc ^= masked(bit, power);
         reads += 1;
     }
-    Reading {
-        sum: acc,
-        reads: reads,
-    }
+    Reading { sum: acc, reads }
 }
 
 // Adds x to the lent entries of `acc` at the ones of `bits`. One step for each bit.
@@ -128,8 +120,8 @@ fn add_bits(acc: &mut [u32], bits: &[u8], x: u32)
     ensures { (length acc.new ≡ length acc.old)
         × ((a : ℕ) → a < length acc.old → get_or acc.new a 0 ≡ get_or acc.old a 0 ⊕ get_or bits.now a 0 * x) }
 {
-    for a in 0..acc.len() {
-        acc[a] = acc[a] ^ masked(bits[a], x);
+    for (a, entry) in acc.iter_mut().enumerate() {
+        *entry ^= masked(bits[a], x);
     }
 }
 
@@ -145,9 +137,9 @@ pub fn read_rows(acc: &mut [u32], block: &[u8], part: &[u32]) -> usize
 {
     let w = acc.len();
     let mut reads: usize = 0;
-    for j in 0..part.len() {
+    for (j, &power) in part.iter().enumerate() {
         let from = j * w;
-        add_bits(acc, &block[from..from + w], part[j]);
+        add_bits(acc, &block[from..from + w], power);
         reads += 1;
     }
     reads
@@ -161,13 +153,4 @@ pub fn add_rows(acc: &mut [u32], block: &[u8], part: &[u32])
         ⊕ xor_sum (length part.now) (λ j. get_or block.now (j * length acc.old + a) 0 * get_or part.now j 0)) }
 {
     read_rows(acc, block, part);
-}
-
-// Makes every entry of the lent `acc` 0. One step for each entry.
-pub fn clear(acc: &mut [u32])
-    ensures { acc.new ≡ replicate (length acc.old) 0 }
-{
-    for a in 0..acc.len() {
-        acc[a] = 0;
-    }
 }

@@ -6,9 +6,9 @@
 --   absent_flips, unsent-flips, info-flips, red-flips   each kind of bit
 --   info-below, red-below   a bit that is sent is a byte of its buffer
 --   listed-flips   three bits flipped, one after the other
---   listed-sent    three bits are sent where each of them is
+--   listed_sent    three bits are sent where each of them is
 -- Assumes nothing.
-use mathlib.Core.Path.{◌≡◌, refl, sym, ap, ap₂, ◌∙◌, subst}
+use mathlib.Core.Path.{◌≡◌, refl, sym, ap, ◌∙◌, subst}
 use mathlib.Core.Bool.{Bool, false, cond}
 use mathlib.Core.List.{List, [], ◌∷◌, ◌++◌}
 use Prim.Native.Nat.{ℕ, ◌+◌, ◌-◌, ◌<◌}
@@ -123,10 +123,8 @@ all_sent-append (unsent ∷ c) d = refl
 all_sent-append (in_info k ∷ c) d = all_sent-append c d
 all_sent-append (in_red k ∷ c) d = all_sent-append c d
 
-pub listed-sent : (s : Spots) {a b : Bool} → all_sent (sites_of s.x) ≡ a → all_sent (sites_of s.y) ≡ b
-    → cond a (cond b (all_sent (sites_of s.z)) false) false ≡ all_sent (listed s)
+pub listed_sent : (s : Spots) → all_sent (listed s) ≡ cond (all_sent (sites_of s.x)) (cond (all_sent (sites_of s.y)) (all_sent (sites_of s.z)) false) false
 unfolding listed
-listed-sent s e f =
-    sym (all_sent-append (sites_of s.x) (sites_of s.y ++ sites_of s.z)
-    ∙ ap₂ (λ (y z : Bool). cond y z false) e
-    (all_sent-append (sites_of s.y) (sites_of s.z) ∙ ap (λ (z : Bool). cond z (all_sent (sites_of s.z)) false) f))
+listed_sent s =
+    all_sent-append (sites_of s.x) (sites_of s.y ++ sites_of s.z)
+    ∙ ap (λ (z : Bool). cond (all_sent (sites_of s.x)) z false) (all_sent-append (sites_of s.y) (sites_of s.z))

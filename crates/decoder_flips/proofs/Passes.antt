@@ -1,5 +1,4 @@
 -- Words of a block or of a line, and blocks or lines, corrected one after the other.
---   some-corrected           a word some of whose bits are flipped
 --   flips-told               the flips that an outcome tells
 --   pass-none, pass-more     the words before a, and one word more
 --   pass-few                 a pass flips at most three bits for each word
@@ -8,9 +7,8 @@
 --   stuck-lines-none, stuck-lines_next   their stuck words
 -- Assumes nothing.
 use mathlib.Core.Path.{◌≡◌, refl, sym, ap, ap₂, ◌∙◌}
-use mathlib.Core.Logic.{◌≢◌}
 use mathlib.Core.List.{List}
-use Prim.Native.Nat.{ℕ, zero, suc, ◌+◌, ◌*◌, ◌≤◌}
+use Prim.Native.Nat.{ℕ, ◌+◌, ◌*◌, ◌≤◌}
 use native.Mathlib.Numerals.{add-one}
 use native.Mathlib.Omega.{arith}
 use lib.ListN.{length}
@@ -18,16 +16,11 @@ use Rattle.staircase.specs.Lists.{tabulate, concat}
 use Rattle.staircase.specs.Design.{Params}
 use Rattle.staircase.specs.Frame.{Frame, Site}
 use Rattle.staircase.specs.Decoder.{correction, flip_all, Progress, correct_word, correct_each, correct_words, round}
-use Rattle.staircase.specs.Outcomes.{Outcome, corrected_bits, outcome, flips_of, stuck_of, stuck_each, stuck_among}
-use Rattle.staircase.specs.Outcomes.Outcome.{corrected}
+use Rattle.staircase.specs.Outcomes.{Outcome, outcome, flips_of, stuck_of, stuck_each, stuck_among}
 use Rattle.staircase.proofs.Tabulate.{tabulate-length, concat_last}
 use Rattle.staircase.proofs.Bounds.{small_product}
 use Rattle.staircase.proofs.Rounds.{correct_words-append, correct_words-from, correct_words_last, correct_words-few}
 use Rattle.staircase.proofs.Outcomes.{outcome-flips, stuck_among-append, stuck_among_last}
-
-pub some-corrected : (n : ℕ) → n ≢ 0 → corrected n ≡ corrected_bits n
-some-corrected zero d = absurd (d refl)
-some-corrected (suc n) d = refl
 
 pub flips-told : (s : Params) (g : Frame) (w : List Site) (o : Outcome) {k : ℕ} → k ≡ flips_of o → o ≡ outcome s g w → k ≡ length (correction s g w)
 flips-told s g w o q e = q ∙ ap flips_of e ∙ outcome-flips s g w

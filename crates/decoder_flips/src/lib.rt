@@ -58,6 +58,7 @@ pub struct Pass {
 }
 
 // Whether a bit is in a block that is sent.
+#[tactic(auto, unfolding(crate::specs::Sites::sites_of))]
 fn is_sent(at: BitSite) -> bool
     ensures { result ≡ all_sent (sites_of at) }
 {
@@ -70,19 +71,11 @@ fn is_sent(at: BitSite) -> bool
 }
 
 // Whether all of the bits are.
+#[tactic(auto, using(crate::proofs::Flips::listed_sent))]
 pub fn all_sent(s: Spots) -> bool
     ensures { result ≡ all_sent (listed s) }
 {
-    let x = s.x;
-    if !is_sent(x) {
-        return false;
-    }
-    let y = s.y;
-    if !is_sent(y) {
-        return false;
-    }
-    let z = s.z;
-    is_sent(z)
+    is_sent(s.x) && is_sent(s.y) && is_sent(s.z)
 }
 
 // Flips bit k of a lent buffer and toggles mark `at`.
@@ -122,15 +115,13 @@ pub fn flip_all(info: &mut [u8], red: &mut [u8], marks: &mut [u8], s: Spots)
         × MarksKept (frame_of info.old red.old) marks.old
         (frame_of info.new red.new) marks.new }
 {
-    let x = s.x;
-    let y = s.y;
-    let z = s.z;
-    flip_at(info, red, marks, z);
-    flip_at(info, red, marks, y);
-    flip_at(info, red, marks, x);
+    flip_at(info, red, marks, s.z);
+    flip_at(info, red, marks, s.y);
+    flip_at(info, red, marks, s.x);
 }
 
 // How many positions there are.
+#[tactic(auto, unfolding(decoder_locator::specs::Located::positions_of))]
 pub fn count_of(found: Located) -> usize
     ensures { (result ≡ length (positions_of found)) × (result ≤ 3) }
 {

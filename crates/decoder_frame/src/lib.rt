@@ -17,7 +17,7 @@
 // inspects those of its own words, and corrects the words that are outside the code.
 #![tactic(auto)]
 
-ghost use Rattle.std.specs.Prelude.{◌≡◌, true, false, ◌+◌, ◌-◌, ◌*◌, ◌/◌, ◌^◌, ◌≤◌, ◌<◌, length};
+ghost use Rattle.std.specs.Prelude.{◌≡◌, true, false, ◌+◌, ◌-◌, ◌*◌, ◌^◌, ◌≤◌, ◌<◌, length};
 ghost use Rattle.staircase.specs.Design.{most-blocks, most-rounds};
 ghost use Rattle.staircase.specs.Frame.{frame_of, groups};
 ghost use Rattle.staircase.specs.Decoder.{run_each, rounds_allowed};
@@ -156,7 +156,7 @@ fn fill_pass(
 {
     let lines = layout::line_count(pass.frames);
     for k in 0..lines {
-        let at = PassLine { pass: pass, k: k };
+        let at = PassLine { pass, k };
         fill_line(at, own, parity, info, red, positions, tables, numbers);
     }
 }
@@ -178,22 +178,10 @@ fn fill_back(
         × PassFilled (record { frames = frames; back = true }) own.now parity.now (frame_of info.now red.now) (lines_in frames.shape frames.blocks) numbers.old numbers.new }
 {
     let n = positions.len();
-    let pass = Pass {
-        frames: frames,
-        back: true,
-    };
+    let pass = Pass { frames, back: true };
     let mut back = [0u32; 1024];
     words_lines::turn_tables(frames, positions, &mut back[0..n], tables);
-    fill_pass(
-        pass,
-        own,
-        parity,
-        info,
-        red,
-        &back[0..n],
-        &tables[..],
-        numbers,
-    );
+    fill_pass(pass, own, parity, info, red, &back[0..n], tables, numbers);
 }
 
 // `fill_numbers` with the tables of sums for words that are read forwards, or none.
@@ -213,24 +201,13 @@ fn fill_both(
         × Filled frames own.now parity.now (frame_of info.now red.now) numbers.new }
 {
     let pass = Pass {
-        frames: frames,
+        frames,
         back: false,
     };
-    fill_pass(
-        pass,
-        own,
-        parity,
-        info,
-        red,
-        positions,
-        &tables[..],
-        numbers,
-    );
-    let turns = layout::turns(frames);
-    if !turns {
-        return;
+    fill_pass(pass, own, parity, info, red, positions, tables, numbers);
+    if layout::turns(frames) {
+        fill_back(frames, own, parity, info, red, positions, tables, numbers);
     }
-    fill_back(frames, own, parity, info, red, positions, tables, numbers);
 }
 
 // `fill_numbers` by tables of sums, which are to have `due` entries.
@@ -357,15 +334,15 @@ pub fn run_rounds(
         if more.flips == 0 {
             return Made {
                 rounds: k + 1,
-                flips: flips,
-                stuck: stuck,
+                flips,
+                stuck,
             };
         }
     }
     Made {
         rounds: limit,
-        flips: flips,
-        stuck: stuck,
+        flips,
+        stuck,
     }
 }
 
@@ -374,7 +351,7 @@ fn group_count(blocks: usize) -> usize
     requires { blocks ≤ most-blocks }
     ensures { result ≡ groups blocks }
 {
-    (blocks + 1) / 2
+    blocks.div_ceil(2)
 }
 
 // How many positions a window has, over a frame of `blocks` blocks.
@@ -439,8 +416,8 @@ pub fn run_window(
         stuck = made.stuck;
     }
     Made {
-        rounds: rounds,
-        flips: flips,
-        stuck: stuck,
+        rounds,
+        flips,
+        stuck,
     }
 }

@@ -3,18 +3,16 @@
 --   only-behind   nor is what stands behind the numbers
 --   kept_at-take   a number is the same where what follows the numbers is left out
 --   kept_at-front  and where something follows them
---   nonzero_none, nonzero_more   numbers counted
---   put-more      one number more
+--   nonzero_none, nonzero_more, nonzero_same   numbers counted
 -- Assumes nothing.
 use mathlib.Core.Path.{◌≡◌, refl, sym, ap, ap₂, ◌∙◌}
-use mathlib.Core.Bool.{cond}
 use mathlib.Core.Logic.{◌≢◌}
 use mathlib.Core.List.{List, ◌++◌}
 use Prim.Native.Nat.{ℕ, ◌+◌, ◌-◌, ◌*◌, ◌≤◌, ◌<◌}
-use native.Mathlib.Decide.{ℕ_discrete}
+use native.Mathlib.Nat.{add-zero}
 use native.Mathlib.Numerals.{add-one}
+use borrow.Author.Tests.{eq-eqb, ne_eqb}
 use native.Mathlib.Omega.{arith}
-use lib.Dec.{eqb}
 use lib.ListN.{length, get_or, set, take, drop, length-set}
 use lib.Seq.{get_or-set_same, get_or-set_other, drop-set-lt, drop-drop, get_or-take, take_at}
 use Rattle.decoder_kept.specs.Numbers.{kept_at, number_at, OnlyAt, nonzero_numbers}
@@ -111,20 +109,11 @@ pub nonzero_none : (b : List ℕ) → 0 ≡ nonzero_numbers b 0
 unfolding nonzero_numbers
 nonzero_none b = refl
 
-pub nonzero_more : (b : List ℕ) (k : ℕ) {n x : ℕ} → n ≡ nonzero_numbers b k → x ≡ cond (eqb (number_at b k) 0) 0 1 → n + x ≡ nonzero_numbers b (k + 1)
-unfolding nonzero_numbers
-nonzero_more b k e f = ap₂ ◌+◌ e f ∙ ap (nonzero_numbers b) (sym (add-one k))
+module _ (b : List ℕ) (k : ℕ) where
+  pub nonzero_more : number_at b k ≢ 0 → nonzero_numbers b (k + 1) ≡ nonzero_numbers b k + 1
+  unfolding nonzero_numbers
+  nonzero_more d = rw (add-one, ne_eqb (number_at b k) 0 d) refl
 
--- ---- numbers stored one after the other
-
-pub put-more : (sums : List ℕ) (from n : ℕ) (b m a : List ℕ) → ((k : ℕ) → k < n → kept_at m (from + k) ≡ get_or sums k 0) → ((w : ℕ) → w < from → kept_at m w ≡ kept_at b w)
-    → OnlyAt m a (from + n) (get_or sums n 0)
-    → ((k : ℕ) → k < n + 1 → kept_at a (from + k) ≡ get_or sums k 0) × ((w : ℕ) → w < from → kept_at a w ≡ kept_at b w)
-put-more sums from n b m a here before O = (more, λ w h. O.others w (λ e. omega (arith, e, h)) ∙ before w h)
-  where
-    more : (k : ℕ) → k < n + 1 → kept_at a (from + k) ≡ get_or sums k 0
-    more k h = go (ℕ_discrete k n)
-      where
-        go : Dec (k ≡ n) → kept_at a (from + k) ≡ get_or sums k 0
-        go (yes e) = ap (λ (j : ℕ). kept_at a (from + j)) e ∙ O.here ∙ ap (λ (j : ℕ). get_or sums j 0) (sym e)
-        go (no e) = O.others (from + k) (λ d. e (omega (arith, d))) ∙ here k (omega arith)
+  pub nonzero_same : number_at b k ≡ 0 → nonzero_numbers b (k + 1) ≡ nonzero_numbers b k
+  unfolding nonzero_numbers
+  nonzero_same e = rw (add-one, eq-eqb (number_at b k) 0 e) (add-zero (nonzero_numbers b k))

@@ -6,15 +6,9 @@
 //   count(kept, n)    how many of the first n are not 0, whatever their marks
 #![tactic(auto)]
 
-ghost use Rattle.std.specs.Prelude.{◌≡◌, cond, ◌+◌, ◌*◌, ◌%◌, ◌≤◌, ◌<◌, eqb, length};
+ghost use Rattle.std.specs.Prelude.{◌≡◌, ◌+◌, ◌*◌, ◌≤◌, length};
 ghost use Rattle.bch.specs.Polynomial.{◌⊕◌};
 ghost use Rattle.decoder_kept.specs.Numbers.{kept_at, number_at, OnlyAt, PutFrom, nonzero_numbers};
-
-fn wide(x: u8) -> u32
-    ensures { (result ≡ x) × (result < 256) }
-{
-    x as u32
-}
 
 // Number k.
 pub fn get(kept: &[u8], k: usize) -> u32
@@ -22,10 +16,7 @@ pub fn get(kept: &[u8], k: usize) -> u32
     ensures { result ≡ kept_at kept.now k }
 {
     let at = 4 * k;
-    wide(kept[at])
-        + 256 * wide(kept[at + 1])
-        + 65536 * wide(kept[at + 2])
-        + 16777216 * wide(kept[at + 3])
+    u32::from_le_bytes([kept[at], kept[at + 1], kept[at + 2], kept[at + 3]])
 }
 
 // Makes number k x.
@@ -34,6 +25,7 @@ pub fn put(kept: &mut [u8], k: usize, x: u32)
     ensures { OnlyAt kept.old kept.new k x }
 {
     let at = 4 * k;
+    // kept as four stores: with copy_from_slice of to_le_bytes a program that does nothing else took half as long again
     kept[at] = (x % 256) as u8;
     kept[at + 1] = (x / 256 % 256) as u8;
     kept[at + 2] = (x / 65536 % 256) as u8;
@@ -45,8 +37,8 @@ pub fn put_numbers(sums: &[u32], from: usize, numbers: &mut [u8])
     requires { (4 * (from + length sums.now) ≤ length numbers.old) × (length numbers.old ≤ 16777216) }
     ensures { PutFrom sums.now from numbers.old numbers.new }
 {
-    for a in 0..sums.len() {
-        put(numbers, from + a, sums[a]);
+    for (a, sum) in sums.iter().enumerate() {
+        put(numbers, from + a, *sum);
     }
 }
 
@@ -55,18 +47,8 @@ pub fn add(kept: &mut [u8], k: usize, x: u32)
     requires { 4 * k + 4 ≤ length kept.old }
     ensures { OnlyAt kept.old kept.new k (number_at kept.old k ⊕ x) }
 {
-    let v = get(&kept[..], k) % 2147483648;
+    let v = get(kept, k) % 2147483648;
     put(kept, k, v ^ x);
-}
-
-// Whether a number is not 0, as a count.
-fn nonzero(x: u32) -> u64
-    ensures { (result ≡ cond (eqb (x % 2147483648) 0) 0 1) × (result ≤ 1) }
-{
-    if x % 2147483648 == 0 {
-        return 0;
-    }
-    1
 }
 
 // How many of the first n numbers are not 0, whatever their marks.
@@ -76,7 +58,10 @@ pub fn count(kept: &[u8], n: usize) -> u64
 {
     let mut numbers: u64 = 0;
     for k in 0..n {
-        numbers += nonzero(get(kept, k));
+        let number = get(kept, k) % 2147483648;
+        if number != 0 {
+            numbers += 1;
+        }
     }
     numbers
 }

@@ -38,18 +38,12 @@ pub struct WordBit {
     pub position: usize,
 }
 
-fn wide(x: u16) -> usize
-    ensures { (result ≡ x) × (result < 65536) }
-{
-    x as usize
-}
-
 // Entry q of the part of a table that begins at `from`.
 fn link_at(links: &[u16], from: usize, q: usize) -> usize
     requires { from + q < length links.now }
     ensures { (result ≡ get_or links.now (from + q) 0) × (result < 65536) }
 {
-    wide(links[from + q])
+    usize::from(links[from + q])
 }
 
 // Place (row, column) of a matrix with `width` columns, row by row.
@@ -78,6 +72,7 @@ pub fn fill_links(d: Design, own: &[u8], parity: &[u8], links: &mut [u16])
     ensures { LinksFit d links.new × (lists_in d links.new ≡ lists_of d own.now parity.now) }
 {
     let half = 2 * d.order();
+    // kept as an index loop: each step writes two entries, and the first says where the second stands
     for q in 0..half {
         let f = sent_to(d, own, parity, q);
         links[q] = f as u16;
@@ -177,7 +172,7 @@ fn red_bit(line: usize, f: usize, size: usize) -> WordBit
     ensures { incidence_of result ≡ incidence line (f % size) (2 * size + f / size) }
 {
     WordBit {
-        line: line,
+        line,
         word: f % size,
         position: 2 * size + f / size,
     }

@@ -10,14 +10,12 @@ use Prim.Native.Nat.{ℕ, ◌-◌, ◌*◌, ◌/◌, ◌%◌, ◌≤◌, ◌<◌
 use native.Mathlib.Omega.{arith}
 use lib.ListN.{length, get_or, take, drop, length-drop}
 use lib.Seq.{take_all}
+use Rattle.std.specs.Prelude.{Some}
 use Rattle.bch.specs.Polynomial.{◌⊕◌}
 use Rattle.bch.specs.Field.{value_at}
 use Rattle.bch.specs.Locator.{TripleOf, PowerIs, syndromes}
 use Rattle.bch.proofs.Cubic.{cubic_defect}
 use Rattle.decoder_locator.specs.declared.Located.TheVariants.{Nowhere, One, Two, Three}
-use Rattle.decoder_locator.specs.declared.Single.TheVariants as single
-use Rattle.decoder_locator.specs.declared.Pair.TheVariants as pair
-use Rattle.decoder_locator.specs.declared.Triple.TheVariants as triple
 use Rattle.decoder_locator.specs.Located.{located, positions_of, SumTable, Words, LocatorTables}
 use Rattle.decoder_locator.specs.Steps.{NotOne, NotTwo, NotThree, SingleIs, PairIs, TripleIs, CubicRootOf, OneOfThree}
 use Rattle.decoder_locator.proofs.Choices.{located-zero, located_one, located_two, located_three, located_nowhere}
@@ -66,15 +64,15 @@ module _ {m t : ℕ} {positions : List ℕ} (W : Words m t positions) where
   unfolding positions_of
   answer_zero x e = sym (ap (located positions t) e ∙ located-zero m t positions W.position W.n_fits (code_of W))
 
-  pub answer_one : (x p : ℕ) → SingleIs positions x (single.At p) → positions_of (One p) ≡ located positions t x
+  pub answer_one : (x p : ℕ) → SingleIs positions x (Some p) → positions_of (One p) ≡ located positions t x
   unfolding SingleIs positions_of
   answer_one x p h = sym (located_one m t positions W.position W.n_fits (code_of W) x p h.0 h.1)
 
-  pub answer_two : 2 ≤ t → (x p q : ℕ) → PairIs positions x (pair.At p q) → positions_of (Two p q) ≡ located positions t x
+  pub answer_two : 2 ≤ t → (x p q : ℕ) → PairIs positions x (Some (p, q)) → positions_of (Two p q) ≡ located positions t x
   unfolding PairIs positions_of
   answer_two two x p q h = sym (located_two m t positions W.position W.n_fits (code_of W) two x p q h.0 h.1 h.2)
 
-  pub answer_three : 3 ≤ t → (x j p q : ℕ) → TripleIs positions x (triple.At j p q) → positions_of (Three j p q) ≡ located positions t x
+  pub answer_three : 3 ≤ t → (x j p q : ℕ) → TripleIs positions x (Some (j, p, q)) → positions_of (Three j p q) ≡ located positions t x
   unfolding TripleIs positions_of
   answer_three three x j p q h =
       sym (located_three m t positions W.position W.n_fits (code_of W) three x j p q h.0 h.1 h.2 h.3)

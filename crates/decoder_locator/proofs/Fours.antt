@@ -3,19 +3,18 @@
 --   values-none   the values of no bits
 --   values-more   those of four bits more
 --   values-all    those of all bits
---   Filled        the entries of the table of four bits before entry p, after n others
+--   Filled        the entries of the table of four bits before entry p
 --   filled_more   one entry more
 --   filled-all    the whole table
 -- Assumes nothing.
 use mathlib.Core.Path.{◌≡◌, sym, ap, ap₂, ◌∙◌, subst⁻¹}
-use mathlib.Core.List.{List}
-use Prim.Native.Nat.{ℕ, ◌+◌, ◌-◌, ◌*◌, ◌/◌, ◌%◌, ◌^◌, ◌≤◌, ◌<◌}
+use mathlib.Core.List.{List, ◌++◌}
+use Prim.Native.Nat.{ℕ, ◌+◌, ◌*◌, ◌/◌, ◌%◌, ◌^◌, ◌≤◌, ◌<◌}
 use native.Mathlib.Nat.{zero-mul, zero-add, add-zero, mod-one, mod-lt, mod-eq_of_lt, le_trans, mul-le-mul_right}
 use native.Mathlib.Omega.{arith}
 use lib.Pow.{pow_pos, pow-add, pow_mono, mod-pow-add}
 use lib.Bits.{bit_xor, xor_block, xor_zero_l, xor_zero_r}
-use lib.ListN.{length, get_or, set, drop}
-use lib.Seq.{get_or-drop}
+use lib.ListN.{length, get_or, set, get_or-append}
 use Rattle.bch.specs.Polynomial.{◌⊕◌}
 use Rattle.bch.specs.Locator.{syndromes}
 use Rattle.bch.proofs.Polynomial.{linear_zero}
@@ -57,20 +56,18 @@ module _ (m : ℕ) (low : 4 ≤ m) (high : m ≤ 10) where
 pub values-all : (m x r k : ℕ) → x < 2 ^ r → r ≤ 4 * k → syndromes m (x % 2 ^ (4 * k)) ≡ syndromes m x
 values-all m x r k h l = ap (syndromes m) (mod-eq_of_lt (le_trans h (pow_mono {i = r} {j = 4 * k} l)))
 
-abbrev pub Filled : ℕ → ℕ → ℕ → List ℕ → Type 0
-Filled m n p table = (k : ℕ) → n ≤ k → k < n + p → get_or table k 0 ≡ syndromes m ((k - n) % 16 * 2 ^ (4 * ((k - n) / 16)))
+abbrev pub Filled : ℕ → ℕ → List ℕ → Type 0
+Filled m p sums = (k : ℕ) → k < p → get_or sums k 0 ≡ syndromes m (k % 16 * 2 ^ (4 * (k / 16)))
 
-pub filled_more : (m n p v : ℕ) (table : List ℕ) → n + p < length table → Filled m n p table → v ≡ syndromes m (p % 16 * 2 ^ (4 * (p / 16)))
-    → Filled m n (p + 1) (set table (n + p) v)
-filled_more m n p v table h f e =
-    let q : p ≡ n + p - n = omega arith in
-    set_each (λ k y. n ≤ k → k < n + (p + 1) → y ≡ syndromes m ((k - n) % 16 * 2 ^ (4 * ((k - n) / 16)))) table (n + p) v h
-    (λ a b. e ∙ ap (λ (i : ℕ). syndromes m (i % 16 * 2 ^ (4 * (i / 16)))) q) (λ k d a b. f k a (omega (arith, d)))
+pub filled_more : (m p v : ℕ) (sums : List ℕ) → p < length sums → Filled m p sums → v ≡ syndromes m (p % 16 * 2 ^ (4 * (p / 16)))
+    → Filled m (p + 1) (set sums p v)
+filled_more m p v sums h f e =
+    set_each (λ k y. k < p + 1 → y ≡ syndromes m (k % 16 * 2 ^ (4 * (k / 16)))) sums p v h (λ a. e) (λ k d a. f k (omega (arith, d)))
 
-pub filled-all : (m r n p : ℕ) (table : List ℕ) → r ≤ 4 * (p / 16) → p % 16 ≡ 0 → Filled m n p table → SumTable m r (drop n table)
-filled-all m r n p table h z f k v l b =
-    let i = n + (16 * k + v) in
-    let low : (i - n) % 16 ≡ v = omega arith in
-    let high : (i - n) / 16 ≡ k = omega arith in
-    get_or-drop n table (16 * k + v) 0 ∙ f i (omega arith) (omega arith)
-    ∙ ap₂ (λ (a b : ℕ). syndromes m (a * 2 ^ (4 * b))) low high
+-- the entries behind them do not count
+pub filled-all : (m r : ℕ) (sums rest : List ℕ) → r ≤ 4 * (length sums / 16) → length sums % 16 ≡ 0 → Filled m (length sums) sums → SumTable m r (sums ++ rest)
+filled-all m r sums rest h z f k v l b =
+    let low : (16 * k + v) % 16 ≡ v = omega arith in
+    let high : (16 * k + v) / 16 ≡ k = omega arith in
+    let i : 16 * k + v < length sums = omega arith in
+    get_or-append sums rest 0 (16 * k + v) i ∙ f (16 * k + v) i ∙ ap₂ (λ (a b : ℕ). syndromes m (a * 2 ^ (4 * b))) low high

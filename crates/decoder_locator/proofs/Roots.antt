@@ -14,13 +14,13 @@ use native.Mathlib.Decide.{ℕ_discrete}
 use native.Mathlib.Omega.{arith}
 use lib.Pow.{pow_pos, pow_mono}
 use lib.ListN.{length, get_or, take, drop}
+use Rattle.std.specs.Prelude.{Some}
 use Rattle.bch.specs.Polynomial.{◌⊕◌}
 use Rattle.bch.specs.Field.{power}
 use Rattle.bch.specs.Locator.{SolutionTable}
 use Rattle.bch.proofs.Sum.{⊕_comm, ⊕-self-left}
 use Rattle.bch.proofs.Powers.{power_table-at}
 use Rattle.bch.proofs.Locator.{power_below, power_cycle, power_one_only, power-not-zero, log-power, quarter_powers, quarter_logs, quarter_halves, quarter_cubics, pair_sum, pair_defect, pair_halving, pair_root}
-use Rattle.decoder_locator.specs.declared.Pair.TheVariants.{At}
 use Rattle.decoder_locator.specs.Steps.{Field, LogIs, SolutionIs, PairOf, RootOf, ExponentsAre}
 
 odd : (m : ℕ) → 4 ≤ m → (2 ^ m - 1) % 2 ≡ 1
@@ -145,7 +145,7 @@ module _ {m : ℕ} {field : List ℕ} (F : Field m field) where
     pub exponents_none : h ≡ 0 → (i k : ℕ) → PairOf m s c i k → ⊥
     exponents_none z i k P = (R i k (pair_of i k P)).0 z
 
-    pub exponents_are : {e w f : ℕ} → e < length field / 4 - 1 → Wrapped field (h + a) e → w ≡ power m e → LogIs m (s ⊕ w) f → ExponentsAre m s c (At e f)
+    pub exponents_are : {e w f : ℕ} → e < length field / 4 - 1 → Wrapped field (h + a) e → w ≡ power m e → LogIs m (s ⊕ w) f → ExponentsAre m s c (Some (e, f))
     unfolding ExponentsAre
     exponents_are {e} {w} {f} e-below wrapped w-is B = (d, λ i k P. go i k P (R i k (pair_of i k P)).1)
       where

@@ -11,11 +11,9 @@ use Prim.Native.Nat.{ℕ, ◌+◌, ◌≤◌, ◌<◌}
 use native.Mathlib.Decide.{ℕ_discrete}
 use native.Mathlib.Omega.{arith}
 use lib.ListN.{length, get_or}
+use Rattle.std.specs.Prelude.{Option, None, Some}
 use Rattle.bch.specs.Polynomial.{◌⊕◌}
 use Rattle.bch.proofs.Sum.{⊕·simp, ⊕_comm, ⊕_assoc, ⊕-left_comm, ⊕-self, ⊕-zero-right, ⊕-self-left}
-use Rattle.decoder_locator.specs.declared.Pair.TheVariants as pair
-use Rattle.decoder_locator.specs.declared.Triple.{Triple}
-use Rattle.decoder_locator.specs.declared.Triple.TheVariants.{Absent, At}
 use Rattle.decoder_locator.specs.Steps.{NotOne, NotTwo, NotThree, PairIs, TripleIs, TripleWith, OneOfThree}
 
 brought : (a b x : ℕ) → a ⊕ b ≡ x → b ≡ x ⊕ a
@@ -41,7 +39,7 @@ not-before-more table x j h d i l = go (ℕ_discrete i j)
 pub not_three : (table : List ℕ) (x j : ℕ) → length table ≤ j → NotBefore table x j → NotThree table x
 not_three table x j end h i p q k l b e = h i (omega arith) p q l b (brought (get_or table i 0) (get_or table p 0 ⊕ get_or table q 0) x e)
 
-module _ (table : List ℕ) (x j p q : ℕ) (one : NotOne table x) (l : j < length table) (h : PairIs table (x ⊕ get_or table j 0) (pair.At p q)) where
+module _ (table : List ℕ) (x j p q : ℕ) (one : NotOne table x) (l : j < length table) (h : PairIs table (x ⊕ get_or table j 0) (Some (p, q))) where
   abbrev T : ℕ → ℕ
   T k = get_or table k 0
 
@@ -60,15 +58,15 @@ module _ (table : List ℕ) (x j p q : ℕ) (one : NotOne table x) (l : j < leng
   unfolding PairIs
   sum = back (T j) (T p ⊕ T q) x h.2
 
-  pub with_first : j < p → TripleWith table x j (At j p q)
+  pub with_first : j < p → TripleWith table x j (Some (j, p, q))
   unfolding PairIs TripleIs TripleWith
   with_first k = (k, h.0, h.1, sum)
 
-  pub with_middle : p ≤ j → j < q → TripleWith table x j (At p j q)
+  pub with_middle : p ≤ j → j < q → TripleWith table x j (Some (p, j, q))
   unfolding PairIs TripleIs TripleWith
   with_middle k i = let n = not-among in (omega arith, i, h.1, ⊕-left_comm (T p) (T j) (T q) ∙ sum)
 
-  pub with_last : q ≤ j → TripleWith table x j (At p q j)
+  pub with_last : q ≤ j → TripleWith table x j (Some (p, q, j))
   unfolding PairIs TripleIs TripleWith
   with_last k = let n = not-among in (h.0, omega arith, l, sym (⊕_assoc (T p) (T q) (T j)) ∙ ⊕_comm (T p ⊕ T q) (T j) ∙ sum)
 
@@ -92,7 +90,7 @@ not_three_at table x j one d i p q k l b e = go (one i p q k l b e)
     go (inr (inl z)) = at p z i q (omega arith) b (left (T i) (T p) (T q) x e).0
     go (inr (inr z)) = at q z i p k (omega arith) (left (T i) (T p) (T q) x e).1
 
-pub with_one : (table : List ℕ) (x j : ℕ) (a : Triple) → OneOfThree table x j → TripleWith table x j a → TripleIs table x a
+pub with_one : (table : List ℕ) (x j : ℕ) (a : Option (ℕ × ℕ × ℕ)) → OneOfThree table x j → TripleWith table x j a → TripleIs table x a
 unfolding TripleIs TripleWith
-with_one table x j Absent one h = not_three_at table x j one h
-with_one table x j (At i p q) one h = h
+with_one table x j None one h = not_three_at table x j one h
+with_one table x j (Some (i, p, q)) one h = h

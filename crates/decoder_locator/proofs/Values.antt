@@ -17,6 +17,7 @@ use native.Mathlib.Nat.{mul-le-mul}
 use native.Mathlib.Omega.{arith}
 use lib.ListN.{length, get_or, take}
 use lib.Seq.{length-take-le, get_or-take}
+use Rattle.std.specs.Prelude.{Option, None, Some}
 use Rattle.bch.specs.Polynomial.{◌⊕◌}
 use Rattle.bch.specs.Field.{power, value_at}
 use Rattle.bch.specs.Locator.{FieldTables, TripleOf, SyndromeTable, syndromes}
@@ -25,8 +26,6 @@ use Rattle.bch.proofs.Polynomial.{poly_at-sum, poly_at-zero}
 use Rattle.bch.proofs.Bch.{Code}
 use Rattle.bch.proofs.Locator.{power-not-zero}
 use Rattle.bch.proofs.Syndromes.{value-below, syndromes-sum, syndromes-low, syndromes-high, first-value, third-value, fifth_value}
-use Rattle.decoder_locator.specs.declared.Pair.{Pair}
-use Rattle.decoder_locator.specs.declared.Pair.TheVariants.{Absent, At}
 use Rattle.decoder_locator.specs.Located.{Words}
 use Rattle.decoder_locator.specs.Steps.{Field, LogIs, NotTwo, PairIs, PairOf, CarryAre, ExponentsAre}
 use Rattle.decoder_locator.proofs.Roots.{log-only}
@@ -128,7 +127,7 @@ module _ {m t : ℕ} {table : List ℕ} (W : Words m t table) where
             cubes = high_is ∙ ap (value_at m 3) (sym e) ∙ value-sum 3 (get_or table p 0) (get_or table q 0) ∙ ap₂ ◌⊕◌ (cube_at two p p_below) (cube_at two q b);
           }
 
-      pub two_absent : ExponentsAre m (s % 65536) (s / 65536) Absent → NotTwo table x
+      pub two_absent : ExponentsAre m (s % 65536) (s / 65536) None → NotTwo table x
       unfolding ExponentsAre
       two_absent E p q l b e = E (length table - 1 - p) (length table - 1 - q) (pair_of_positions p q l b e)
 
@@ -149,10 +148,10 @@ module _ {m t : ℕ} {table : List ℕ} (W : Words m t table) where
               h (omega (arith, w.0)) (omega (arith, w.1))
               (ap₂ ◌⊕◌ (at e q w.0 b) (at f p w.1 p_below) ∙ ⊕_comm (get_or table q 0) (get_or table p 0) ∙ z)
 
-      pub two_carry : (e f : ℕ) → ExponentsAre m (s % 65536) (s / 65536) (At e f) → (a : Pair) → CarryAre table x e f a → PairIs table x a
+      pub two_carry : (e f : ℕ) → ExponentsAre m (s % 65536) (s / 65536) (Some (e, f)) → (a : Option (ℕ × ℕ)) → CarryAre table x e f a → PairIs table x a
       unfolding ExponentsAre CarryAre PairIs
-      two_carry e f E (At p q) h = h
-      two_carry e f E Absent h = not_carried e f E.1 h
+      two_carry e f E (Some (p, q)) h = h
+      two_carry e f E None h = not_carried e f E.1 h
 
       pub left-values : (values : List ℕ) → SyndromeTable m (take (length table) values) → length table ≤ length values → (j : ℕ) → j < length table
           → s ⊕ get_or values j 0 ≡ syndromes m (x ⊕ get_or table j 0)

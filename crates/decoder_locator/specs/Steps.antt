@@ -10,16 +10,10 @@
 --   CarryAre                      what the test of two exponents answers
 --   CubicRootOf                   what the search for the exponent of one of three answers
 -- Assumes nothing.
-use Rattle.std.specs.Prelude.{◌≡◌, ◌≢◌, ◌⊎◌, List, ℕ, ◌+◌, ◌-◌, ◌*◌, ◌^◌, ◌≤◌, ◌<◌, length, get_or}
+use Rattle.std.specs.Prelude.{◌≡◌, ◌≢◌, ◌⊎◌, Option, None, Some, List, ℕ, ◌+◌, ◌-◌, ◌*◌, ◌^◌, ◌≤◌, ◌<◌, length, get_or}
 use Rattle.bch.specs.Polynomial.{◌⊕◌}
 use Rattle.bch.specs.Field.{power}
 use Rattle.bch.specs.Locator.{Solution, FieldTables, TripleOf, PowerIs}
-use Rattle.decoder_locator.specs.declared.Single.{Single}
-use Rattle.decoder_locator.specs.declared.Single.TheVariants as single
-use Rattle.decoder_locator.specs.declared.Pair.{Pair}
-use Rattle.decoder_locator.specs.declared.Pair.TheVariants as pair
-use Rattle.decoder_locator.specs.declared.Triple.{Triple}
-use Rattle.decoder_locator.specs.declared.Triple.TheVariants as triple
 
 pub record Field (m : ℕ) (field : List ℕ) : Type 0 where
   pub m-low : 4 ≤ m
@@ -43,22 +37,22 @@ NotTwo table x = (p q : ℕ) → p < q → q < length table → get_or table p 0
 abbrev pub NotThree : List ℕ → ℕ → Type 0
 NotThree table x = (j p q : ℕ) → j < p → p < q → q < length table → get_or table j 0 ⊕ (get_or table p 0 ⊕ get_or table q 0) ≢ x
 
-unfoldable pub SingleIs : List ℕ → ℕ → Single → Type 0
-SingleIs table x single.Absent = NotOne table x
-SingleIs table x (single.At p) = (p < length table) × (get_or table p 0 ≡ x)
+unfoldable pub SingleIs : List ℕ → ℕ → Option ℕ → Type 0
+SingleIs table x None = NotOne table x
+SingleIs table x (Some p) = (p < length table) × (get_or table p 0 ≡ x)
 
-unfoldable pub PairIs : List ℕ → ℕ → Pair → Type 0
-PairIs table x pair.Absent = NotTwo table x
-PairIs table x (pair.At p q) = (p < q) × (q < length table) × (get_or table p 0 ⊕ get_or table q 0 ≡ x)
+unfoldable pub PairIs : List ℕ → ℕ → Option (ℕ × ℕ) → Type 0
+PairIs table x None = NotTwo table x
+PairIs table x (Some (p, q)) = (p < q) × (q < length table) × (get_or table p 0 ⊕ get_or table q 0 ≡ x)
 
-unfoldable pub TripleIs : List ℕ → ℕ → Triple → Type 0
-TripleIs table x triple.Absent = NotThree table x
-TripleIs table x (triple.At j p q) = (j < p) × (p < q) × (q < length table) × (get_or table j 0 ⊕ (get_or table p 0 ⊕ get_or table q 0) ≡ x)
+unfoldable pub TripleIs : List ℕ → ℕ → Option (ℕ × ℕ × ℕ) → Type 0
+TripleIs table x None = NotThree table x
+TripleIs table x (Some (j, p, q)) = (j < p) × (p < q) × (q < length table) × (get_or table j 0 ⊕ (get_or table p 0 ⊕ get_or table q 0) ≡ x)
 
 -- none where no two have what the entry at j leaves of the sum
-unfoldable pub TripleWith : List ℕ → ℕ → ℕ → Triple → Type 0
-TripleWith table x j triple.Absent = NotTwo table (x ⊕ get_or table j 0)
-TripleWith table x j (triple.At i p q) = TripleIs table x (triple.At i p q)
+unfoldable pub TripleWith : List ℕ → ℕ → ℕ → Option (ℕ × ℕ × ℕ) → Type 0
+TripleWith table x j None = NotTwo table (x ⊕ get_or table j 0)
+TripleWith table x j (Some (i, p, q)) = TripleIs table x (Some (i, p, q))
 
 abbrev pub OneOfThree : List ℕ → ℕ → ℕ → Type 0
 OneOfThree table x j =
@@ -73,19 +67,19 @@ pub record PairOf (m s c i k : ℕ) : Type 0 where
   pub cubes : c ≡ power m (3 * i) ⊕ power m (3 * k)
 
 -- the positions that carry x^e and x^f, where their entries have the sum x
-unfoldable pub CarryAre : List ℕ → ℕ → ℕ → ℕ → Pair → Type 0
-CarryAre table x e f pair.Absent =
+unfoldable pub CarryAre : List ℕ → ℕ → ℕ → ℕ → Option (ℕ × ℕ) → Type 0
+CarryAre table x e f None =
     e < length table → f < length table → get_or table (length table - 1 - e) 0 ⊕ get_or table (length table - 1 - f) 0 ≢ x
-CarryAre table x e f (pair.At p q) = PairIs table x (pair.At p q)
+CarryAre table x e f (Some (p, q)) = PairIs table x (Some (p, q))
 
 -- power h of the root, times power a, is one of two powers whose sum is power a
 abbrev pub RootOf : ℕ → ℕ → ℕ → ℕ → Type 0
 RootOf m a c h =
     (i k : ℕ) → PairOf m (power m a) c i k → (h ≢ 0) × ((power m (h + a) ≡ power m i) ⊎ (power m (h + a) ≡ power m k))
 
-unfoldable pub ExponentsAre : ℕ → ℕ → ℕ → Pair → Type 0
-ExponentsAre m s c pair.Absent = (i k : ℕ) → PairOf m s c i k → ⊥
-ExponentsAre m s c (pair.At e f) = (s ≢ 0) × ((i k : ℕ) → PairOf m s c i k → ((e ≡ i) × (f ≡ k)) ⊎ ((e ≡ k) × (f ≡ i)))
+unfoldable pub ExponentsAre : ℕ → ℕ → ℕ → Option (ℕ × ℕ) → Type 0
+ExponentsAre m s c None = (i k : ℕ) → PairOf m s c i k → ⊥
+ExponentsAre m s c (Some (e, f)) = (s ≢ 0) × ((i k : ℕ) → PairOf m s c i k → ((e ≡ i) × (f ≡ k)) ⊎ ((e ≡ k) × (f ≡ i)))
 
 -- a is the exponent of one of three powers of the root with the sum s, where d is the sum of their cubes and the cube of s, and e that of
 -- their fifth powers and the fifth power of s

@@ -30,41 +30,13 @@ pub enum Located {
     Three(usize, usize, usize),
 }
 
-// A position, if there is one.
-#[derive(Clone, Copy)]
-enum Single {
-    Absent,
-    At(usize),
-}
-
-// Two positions, or two exponents, if there are such.
-#[derive(Clone, Copy)]
-enum Pair {
-    Absent,
-    At(usize, usize),
-}
-
-// Three positions, if there are such.
-#[derive(Clone, Copy)]
-enum Triple {
-    Absent,
-    At(usize, usize, usize),
-}
-
-// A table entry as an index.
-fn wide(x: u16) -> usize
-    ensures { result ≡ x }
-{
-    x as usize
-}
-
 // Power e of the root.
 fn power_at(m: usize, e: usize, field: &[u16]) -> usize
     requires { Field m field.now × (e < 2 ^ m - 1) }
     ensures { (result ≡ power m e) × (result < 2 ^ m) }
 {
     let powers = &field[0..field.len() / 4 - 1];
-    wide(powers[e])
+    usize::from(powers[e])
 }
 
 // The logarithm of the field element x.
@@ -74,7 +46,7 @@ fn log_of(m: usize, x: usize, field: &[u16]) -> usize
 {
     let q = field.len() / 4;
     let logs = &field[q..2 * q];
-    wide(logs[x])
+    usize::from(logs[x])
 }
 
 // The exponent of a solution z of z² + z = power v, where k is 1, and of z³ + z = power v, where k is 2; 0 where there is none.
@@ -85,7 +57,7 @@ fn solution_at(m: usize, k: usize, v: usize, field: &[u16]) -> usize
     let q = field.len() / 4;
     let start = (k + 1) * q;
     let solutions = &field[start..start + q - 1];
-    wide(solutions[v])
+    usize::from(solutions[v])
 }
 
 // An exponent below n with the same power as x, where the powers come back after n. No division.
@@ -102,10 +74,9 @@ fn values_by_bits(m: usize, r: usize, x: u32, table: &[u32]) -> u32
     requires { (4 ≤ m) × (m ≤ 10) × (r ≤ 32) × (r ≤ length table.now) × (x < 2 ^ r) × SyndromeTable m table.now }
     ensures { result ≡ syndromes m x }
 {
-    let n = table.len();
     let mut acc: u32 = 0;
-    for k in 0..r {
-        acc = acc ^ (x >> k) % 2 * table[n - 1 - k];
+    for (k, entry) in table.iter().rev().take(r).enumerate() {
+        acc ^= (x >> k) % 2 * entry;
     }
     acc
 }
@@ -118,10 +89,10 @@ pub fn fill_sums(m: usize, r: usize, n: usize, table: &mut [u32])
         × (length table.new ≡ length table.old) }
 {
     let count = 16 * ((r + 3) / 4);
-    for p in 0..count {
+    let (entries, sums) = table.split_at_mut(n);
+    for (p, sum) in sums[..count].iter_mut().enumerate() {
         let low = 4 * (p / 16);
-        let v = values_by_bits(m, low + 4, ((p % 16) as u32) << low, &table[0..n]);
-        table[n + p] = v;
+        *sum = values_by_bits(m, low + 4, ((p % 16) as u32) << low, entries);
     }
 }
 
@@ -131,31 +102,32 @@ fn values_of(m: usize, r: usize, x: u32, sums: &[u32]) -> u32
     ensures { result ≡ syndromes m x }
 {
     let mut acc: u32 = 0;
+    // kept as an index loop: four bits choose the entry, and chunks_exact(16) with take and enumerate says it no plainer
     for k in 0..(r + 3) / 4 {
-        acc = acc ^ sums[16 * k + ((x >> 4 * k) % 16) as usize];
+        acc ^= sums[16 * k + ((x >> 4 * k) % 16) as usize];
     }
     acc
 }
 
 // The position whose entry is x. `s` has the values of x.
-fn one(m: usize, t: usize, x: u32, s: u32, positions: &[u32], field: &[u16]) -> Single
+fn one(m: usize, t: usize, x: u32, s: u32, positions: &[u32], field: &[u16]) -> Option<usize>
     requires { Words m t positions.now × FieldTables m field.now × (s ≡ syndromes m x) }
     ensures { SingleIs positions.now x result }
 {
     let low = (s % 65536) as usize;
     if low == 0 {
-        return Single::Absent;
+        return None;
     }
     let n = positions.len();
     let e = log_of(m, low, field);
     if n <= e {
-        return Single::Absent;
+        return None;
     }
     let p = n - 1 - e;
     if positions[p] != x {
-        return Single::Absent;
+        return None;
     }
-    Single::At(p)
+    Some(p)
 }
 
 // Of two powers of the root whose sum is power a and whose cubes have the sum `cubes`, one is power h + a, where h is the answer. It is 0
@@ -175,56 +147,60 @@ fn root(m: usize, a: usize, cubes: usize, field: &[u16]) -> usize
 }
 
 // The exponents of the two powers of the root whose sum is `sum` and whose cubes have the sum `cubes`.
-fn exponents(m: usize, sum: usize, cubes: usize, field: &[u16]) -> Pair
+fn exponents(m: usize, sum: usize, cubes: usize, field: &[u16]) -> Option<(usize, usize)>
     requires { Field m field.now × (sum < 2 ^ m) × (cubes < 2 ^ m) }
     ensures { ExponentsAre m sum cubes result }
 {
     if sum == 0 {
-        return Pair::Absent;
+        return None;
     }
     let a = log_of(m, sum, field);
     let h = root(m, a, cubes, field);
     if h == 0 {
-        return Pair::Absent;
+        return None;
     }
     let e = wrap(h + a, field.len() / 4 - 1);
     let f = log_of(m, sum ^ power_at(m, e, field), field);
-    Pair::At(e, f)
+    Some((e, f))
 }
 
 // The positions that carry x^e and x^f, where their entries have the sum x, which is not 0.
-fn pair_at(x: u32, e: usize, f: usize, positions: &[u32]) -> Pair
+fn pair_at(x: u32, e: usize, f: usize, positions: &[u32]) -> Option<(usize, usize)>
     requires { x ≢ 0 }
     ensures { CarryAre positions.now x e f result }
 {
     let n = positions.len();
     if n <= e {
-        return Pair::Absent;
+        return None;
     }
     if n <= f {
-        return Pair::Absent;
+        return None;
     }
     let p = n - 1 - e;
     let q = n - 1 - f;
     if positions[p] ^ positions[q] != x {
-        return Pair::Absent;
+        return None;
     }
     if p < q {
-        return Pair::At(p, q);
+        return Some((p, q));
     }
-    Pair::At(q, p)
+    Some((q, p))
 }
 
 // The two positions whose entries have the sum x. `s` has the values of x.
-fn two(m: usize, t: usize, x: u32, s: u32, positions: &[u32], field: &[u16]) -> Pair
+fn two(
+    m: usize,
+    t: usize,
+    x: u32,
+    s: u32,
+    positions: &[u32],
+    field: &[u16],
+) -> Option<(usize, usize)>
     requires { Words m t positions.now × FieldTables m field.now × (2 ≤ t) × (s ≡ syndromes m x) }
     ensures { PairIs positions.now x result }
 {
-    let roots = exponents(m, (s % 65536) as usize, (s / 65536) as usize, field);
-    match roots {
-        Pair::Absent => Pair::Absent,
-        Pair::At(e, f) => pair_at(x, e, f, positions),
-    }
+    let (e, f) = exponents(m, (s % 65536) as usize, (s / 65536) as usize, field)?;
+    pair_at(x, e, f, positions)
 }
 
 // The three positions whose entries have the sum x, where j is one of them and the sum is no single entry. `s` has the values of x.
@@ -237,24 +213,19 @@ fn three_with(
     positions: &[u32],
     values: &[u32],
     field: &[u16],
-) -> Triple
+) -> Option<(usize, usize, usize)>
     requires { LocatorTables m t positions.now values.now field.now × (2 ≤ t) × (s ≡ syndromes m x) × NotOne positions.now x
         × (j < length positions.now) }
     ensures { TripleWith positions.now x j result }
 {
-    let rest = two(m, t, x ^ positions[j], s ^ values[j], positions, field);
-    match rest {
-        Pair::Absent => Triple::Absent,
-        Pair::At(p, q) => {
-            if j < p {
-                return Triple::At(j, p, q);
-            }
-            if j < q {
-                return Triple::At(p, j, q);
-            }
-            Triple::At(p, q, j)
-        }
+    let (p, q) = two(m, t, x ^ positions[j], s ^ values[j], positions, field)?;
+    if j < p {
+        return Some((j, p, q));
     }
+    if j < q {
+        return Some((p, j, q));
+    }
+    Some((p, q, j))
 }
 
 // The three positions whose entries have the sum x, where it is no single entry: each position is tried as one of them. `s` has the values of x.
@@ -267,20 +238,16 @@ fn three_by_trial(
     positions: &[u32],
     values: &[u32],
     field: &[u16],
-) -> Triple
+) -> Option<(usize, usize, usize)>
     requires { LocatorTables m t positions.now values.now field.now × (2 ≤ t) × (s ≡ syndromes m x) × NotOne positions.now x }
     ensures { TripleIs positions.now x result }
 {
     for j in 0..positions.len() {
-        let found = three_with(m, t, x, s, j, positions, values, field);
-        match found {
-            Triple::Absent => {}
-            Triple::At(i, p, q) => {
-                return Triple::At(i, p, q);
-            }
+        if let Some(found) = three_with(m, t, x, s, j, positions, values, field) {
+            return Some(found);
         }
     }
-    Triple::Absent
+    None
 }
 
 // The value of the polynomial x, of r bits, at the fifth power of the root: one power for each bit.
@@ -292,7 +259,7 @@ fn fifth_of(m: usize, r: usize, x: usize, field: &[u16]) -> usize
     let mut acc: usize = 0;
     let mut e: usize = 0;
     for k in 0..r {
-        acc = acc ^ (x >> k) % 2 * power_at(m, e, field);
+        acc ^= (x >> k) % 2 * power_at(m, e, field);
         e = wrap(e + 5, n);
     }
     acc
@@ -339,7 +306,7 @@ fn three(
     positions: &[u32],
     values: &[u32],
     field: &[u16],
-) -> Triple
+) -> Option<(usize, usize, usize)>
     requires { LocatorTables m t positions.now values.now field.now × (t ≡ 3) × (s ≡ syndromes m x) × NotOne positions.now x
         × (x < 2 ^ (m * t)) }
     ensures { TripleIs positions.now x result }
@@ -347,7 +314,7 @@ fn three(
     let sum = (s % 65536) as usize;
     let d = power_of(m, 3, sum, field) ^ ((s / 65536) as usize);
     if d == 0 {
-        return Triple::Absent;
+        return None;
     }
     let e = power_of(m, 5, sum, field) ^ fifth_of(m, m * t, x as usize, field);
     if e == 0 {
@@ -356,7 +323,7 @@ fn three(
     let k = cubic_root(m, sum, d, e, field);
     let n = positions.len();
     if n <= k {
-        return Triple::Absent;
+        return None;
     }
     three_with(m, t, x, s, n - 1 - k, positions, values, field)
 }
@@ -379,23 +346,20 @@ pub fn locate(
         return Located::Nowhere;
     }
     let s = values_of(m, m * t, remainder, &syndromes[positions.len()..]);
-    let single = one(m, t, remainder, s, positions, field);
-    if let Single::At(p) = single {
+    if let Some(p) = one(m, t, remainder, s, positions, field) {
         return Located::One(p);
     }
     if t < 2 {
         return Located::Nowhere;
     }
-    let pair = two(m, t, remainder, s, positions, field);
-    if let Pair::At(p, q) = pair {
+    if let Some((p, q)) = two(m, t, remainder, s, positions, field) {
         return Located::Two(p, q);
     }
     if t < 3 {
         return Located::Nowhere;
     }
-    let triple = three(m, t, remainder, s, positions, syndromes, field);
-    match triple {
-        Triple::Absent => Located::Nowhere,
-        Triple::At(j, p, q) => Located::Three(j, p, q),
+    match three(m, t, remainder, s, positions, syndromes, field) {
+        None => Located::Nowhere,
+        Some((j, p, q)) => Located::Three(j, p, q),
     }
 }

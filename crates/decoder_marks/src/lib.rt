@@ -20,7 +20,7 @@ const STRETCH: usize = 4096;
 pub fn clear(marks: &mut [u8])
     ensures { marks.new ≡ replicate (length marks.old) 0 }
 {
-    matrix::clear(marks);
+    marks.fill(0);
 }
 
 // Makes mark k the other. A fixed number of steps.
@@ -37,8 +37,8 @@ fn count_stretch(marks: &[u8]) -> u16
     ensures { (result ≡ set_marks marks.now) × (result ≤ 8 * length marks.now) }
 {
     let mut n: u16 = 0;
-    for k in 0..marks.len() {
-        n = n + (matrix::ones_of(marks[k]) as u16);
+    for byte in marks {
+        n += u16::from(matrix::ones_of(*byte));
     }
     n
 }
@@ -49,12 +49,8 @@ pub fn count(marks: &[u8]) -> u64
     ensures { (result ≡ set_marks marks.now) × (result ≤ 8 * length marks.now) }
 {
     let mut n: u64 = 0;
-    let all = marks.len() / STRETCH;
-    for i in 0..all {
-        let at = STRETCH * i;
-        let end = at + STRETCH;
-        n = n + (count_stretch(&marks[at..end]) as u64);
+    for stretch in marks.chunks(STRETCH) {
+        n += u64::from(count_stretch(stretch));
     }
-    let at = STRETCH * all;
-    n + (count_stretch(&marks[at..]) as u64)
+    n
 }

@@ -53,7 +53,7 @@ fn sites_of(line: Line, links: &[u16], a: usize, found: Located) -> Spots
             let x = decoder_lines::site_at(line, links, a, p);
             Spots {
                 count: 1,
-                x: x,
+                x,
                 y: BitSite::Absent,
                 z: BitSite::Absent,
             }
@@ -63,8 +63,8 @@ fn sites_of(line: Line, links: &[u16], a: usize, found: Located) -> Spots
             let y = decoder_lines::site_at(line, links, a, q);
             Spots {
                 count: 2,
-                x: x,
-                y: y,
+                x,
+                y,
                 z: BitSite::Absent,
             }
         }
@@ -72,12 +72,7 @@ fn sites_of(line: Line, links: &[u16], a: usize, found: Located) -> Spots
             let x = decoder_lines::site_at(line, links, a, p);
             let y = decoder_lines::site_at(line, links, a, q);
             let z = decoder_lines::site_at(line, links, a, u);
-            Spots {
-                count: 3,
-                x: x,
-                y: y,
-                z: z,
-            }
+            Spots { count: 3, x, y, z }
         }
     }
 }
@@ -124,7 +119,7 @@ fn flip_found(
         × LineMarks line.frames info.old red.old kept.old info.new red.new kept.new }
 {
     let w = layout::word_number(line, a);
-    let x = decoder_kept::get(&kept[..], w) % 2147483648;
+    let x = decoder_kept::get(kept, w) % 2147483648;
     let found = locate_errors(line.frames, x, tables, field);
     let spots = sites_of(line, links, a, found);
     if !decoder_flips::all_sent(spots) {
@@ -191,7 +186,7 @@ pub fn correct_word(
     let count = decoder_flips::count_of(found);
     let w = layout::word_number(line, a);
     if count == 0 {
-        let x = decoder_kept::get(&kept[..], w) % 2147483648;
+        let x = decoder_kept::get(kept, w) % 2147483648;
         decoder_kept::put(kept, w, x + 2147483648);
         return 0;
     }
@@ -221,7 +216,7 @@ pub fn visit_word(
         × LineMarks line.frames info.old red.old kept.old info.new red.new kept.new }
 {
     let w = layout::word_number(line, a);
-    let x = decoder_kept::get(&kept[..], w);
+    let x = decoder_kept::get(kept, w);
     if x % 2147483648 == 0 {
         return Outcome::Clean;
     }
@@ -261,10 +256,7 @@ pub fn correct_line(
         flips += decoder_flips::flips_of(told);
         stuck += decoder_flips::stuck_of(told);
     }
-    Pass {
-        flips: flips,
-        stuck: stuck,
-    }
+    Pass { flips, stuck }
 }
 
 // Corrects the words of `count` lines from a line on, line by line, and answers how many bits it flipped and how many words were stuck: a round, or a
@@ -297,8 +289,5 @@ pub fn correct_lines(
         flips += more.flips;
         stuck += more.stuck;
     }
-    Pass {
-        flips: flips,
-        stuck: stuck,
-    }
+    Pass { flips, stuck }
 }

@@ -3,9 +3,9 @@
 --   rest-none   where one of them is at its end
 -- Assumes nothing.
 use mathlib.Core.Path.{◌≡◌, refl, ◌∙◌}
-use mathlib.Core.Logic.{◌⊎◌, inl, inr}
 use mathlib.Core.List.{List}
-use Prim.Native.Nat.{ℕ, ◌+◌, ◌<◌}
+use Prim.Native.Nat.{ℕ, ◌+◌, ◌≤◌, ◌<◌, min}
+use native.Mathlib.Decide.{dec_le}
 use native.Mathlib.Numerals.{add-one}
 use native.Mathlib.Omega.{arith}
 use lib.ListN.{length, get_or, drop, drop_of_length-le}
@@ -18,7 +18,10 @@ pub rest_next : (a b : List ℕ) (k : ℕ) → k < length a → k < length b
 unfolding distance
 rest_next a b k h g = rw (drop-cons a k 0 h, drop-cons b k 0 g, add-one k) refl
 
-pub rest-none : (a b : List ℕ) (k : ℕ) {e : ℕ} → k ≡ e → (e ≡ length a) ⊎ (e ≡ length b) → distance (drop k a) (drop k b) ≡ 0
+pub rest-none : (a b : List ℕ) (k : ℕ) → k ≡ min (length a) (length b) → distance (drop k a) (drop k b) ≡ 0
 unfolding distance
-rest-none a b k h (inl e) = rw (drop_of_length-le a {i = k} (omega arith)) refl
-rest-none a b k h (inr e) = distance_comm (drop k a) (drop k b) ∙ rw (drop_of_length-le b {i = k} (omega arith)) refl
+rest-none a b k h = go (dec_le (length a) k)
+  where
+    go : Dec (length a ≤ k) → distance (drop k a) (drop k b) ≡ 0
+    go (yes e) = rw (drop_of_length-le a {i = k} e) refl
+    go (no n) = distance_comm (drop k a) (drop k b) ∙ rw (drop_of_length-le b {i = k} (omega arith)) refl

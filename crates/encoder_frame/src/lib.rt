@@ -9,7 +9,7 @@
 mod group;
 mod stretch;
 
-ghost use Rattle.std.specs.Prelude.{◌≡◌, List, ℕ, ◌+◌, ◌*◌, ◌≤◌, ◌<◌, length};
+ghost use Rattle.std.specs.Prelude.{◌≡◌, List, ℕ, ◌+◌, ◌*◌, length};
 ghost use Rattle.staircase.specs.Lists.{concat};
 ghost use Rattle.staircase.specs.Frame.{groups};
 ghost use Rattle.staircase.specs.Batch.{batch_redundancy};
@@ -19,17 +19,6 @@ ghost use Rattle.encoder_frame.specs.Groups.{group_at, FramesReady, Encodable};
 
 use design::Design;
 use group::Sizes;
-
-// The groups of a stretch that begins at group `first` of `count`: 64, or those that are left.
-fn groups_left(count: usize, first: usize) -> usize
-    requires { first < count }
-    ensures { (first + result ≤ count) × (0 < result) × (result ≤ 64) }
-{
-    if count - first < 64 {
-        return count - first;
-    }
-    64
-}
 
 // Makes the redundancy of all groups of all frames, stretch by stretch.
 fn make_stretches(
@@ -49,9 +38,9 @@ fn make_stretches(
 {
     let w = 2 * (sizes.size * sizes.r);
     let count = sizes.frames * design::group_count(sizes.blocks as u64) as usize;
-    let mut first: usize = 0;
-    while first < count {
-        let n = groups_left(count, first);
+    for k in 0..count.div_ceil(64) {
+        let first = 64 * k;
+        let n = (count - first).min(64);
         let from = first * w;
         stretch::make_stretch(
             info,
@@ -64,7 +53,6 @@ fn make_stretches(
             inverse,
             &mut red[from..from + n * w],
         );
-        first = first + n;
     }
 }
 

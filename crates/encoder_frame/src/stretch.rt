@@ -51,6 +51,7 @@ fn start_groups(
         ≡ concat count (λ g. start_at columns.now positions.now sizes.size sizes.r sizes.blocks info.now (first + g)) }
 {
     let w = 2 * (sizes.size * sizes.r);
+    // kept as an index loop: after a loop over chunks_exact_mut a proof knows the length of `red` and not its bytes
     for g in 0..count {
         let from = g * w;
         start_at(
@@ -74,6 +75,7 @@ fn add_constants(red: &[u8], count: usize, preimages: &[u16], words: &mut [u64])
         × ((g q : ℕ) → count ≤ g → q < length words.old → get_or words.new q 0 / 2 ^ g % 2 ≡ 0) }
 {
     let w = 2 * words.len();
+    // kept as an index loop: chunks_exact asks for chunks of one byte at least, and there may be no words
     for g in 0..count {
         let from = g * w;
         encoder_solution::add_constant(&red[from..from + w], preimages, g, words);
@@ -88,6 +90,7 @@ fn finish_groups(words: &[u64], count: usize, part: &[u32], size: usize, r: usiz
         ≡ concat count (λ g. finished_of words.now g part.now size r (frame_at (2 * (size * r)) red.old g)) }
 {
     let w = 2 * (size * r);
+    // kept as an index loop: after a loop over chunks_exact_mut a proof knows the length of `red` and not its bytes
     for g in 0..count {
         let from = g * w;
         crate::group::finish_group(words, g, part, size, r, &mut red[from..from + w]);
@@ -112,16 +115,9 @@ fn solve_groups(
 {
     let size = sizes.size;
     let r = sizes.r;
-    add_constants(&red[..], count, preimages, words);
+    add_constants(red, count, preimages, words);
     encoder_solution::solve(inverse, size, r, count, words);
-    finish_groups(
-        &words[..],
-        count,
-        &columns[2 * size..2 * size + r],
-        size,
-        r,
-        red,
-    );
+    finish_groups(words, count, &columns[2 * size..2 * size + r], size, r, red);
 }
 
 // Makes the redundancy of `count` groups from the one that `first` groups precede on, at most 64, in their part of the redundancy. Lent to read are the

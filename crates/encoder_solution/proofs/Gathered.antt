@@ -1,7 +1,7 @@
 -- A number to which one bit after the other is added.
 --   bits-same                      two numbers with the same bits are equal
 --   Gathered                       the bits before i are by a rule, the others 0
---   gathered_none, gathered_more   0; one bit more
+--   gathered_more                  one bit more
 -- Assumes nothing.
 use mathlib.Core.Path.{◌≡◌, sym, ap, ap₂, ◌∙◌}
 use mathlib.Core.Bool.{Bool, cond}
@@ -14,7 +14,7 @@ use lib.Dec.{eqb}
 use borrow.Author.Tests.{eq-eqb, ne_eqb}
 use Rattle.staircase.specs.Lists.{bit_sum}
 use Rattle.staircase.proofs.Matrix.{bit_sum-zero, zero-bit_sum}
-use Rattle.matrix.proofs.Bits.{bit, bit-lt, bit-zero, bit_shr}
+use Rattle.matrix.proofs.Bits.{bit, bit-lt, bit_shr}
 
 -- ---- a number by its bits
 
@@ -38,9 +38,6 @@ bits-same =
 
 abbrev pub Gathered : (ℕ → ℕ) → ℕ → ℕ → Type 0
 Gathered f x i = (j : ℕ) → (j < i → bit x j ≡ f j) × (i ≤ j → bit x j ≡ 0)
-
-pub gathered_none : (f : ℕ → ℕ) (x : ℕ) → x ≡ 0 → Gathered f x 0
-gathered_none f x e j = (λ l. absurd (omega arith), λ l. ap (λ (z : ℕ). bit z j) e ∙ bit-zero j)
 
 pub gathered_more : (f : ℕ → ℕ) (x y i : ℕ) → f i < 2 → Gathered f x i → ((j : ℕ) → bit y j ≡ bit_sum (bit x j) (cond (eqb i j) (f i) 0))
     → Gathered f y (i + 1)

@@ -1,3 +1,4 @@
+pub mod Chunks
 pub mod Gathered
 pub mod Masked
 pub mod Solution

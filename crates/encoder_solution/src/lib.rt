@@ -29,8 +29,8 @@ fn digits(columns: &[u32], shift: usize, out: &mut [u8])
     requires { (length out.old ≡ length columns.now) × (shift < 32) }
     ensures { out.new ≡ tabulate (length columns.now) (λ b. get_or columns.now b 0 / 2 ^ shift % 2) }
 {
-    for b in 0..out.len() {
-        out[b] = ((columns[b] >> shift) % 2) as u8;
+    for (b, digit) in out.iter_mut().enumerate() {
+        *digit = ((columns[b] >> shift) % 2) as u8;
     }
 }
 
@@ -52,8 +52,8 @@ fn constant_at(bits: &[u8], preimages: &[u16], q: usize) -> u64
         × (get_or preimages.now q 0 < length preimages.now) }
     ensures { (result ≡ place_constant bits.now preimages.now (length preimages.now) q) × (result < 2) }
 {
-    let p = preimages[q] as usize;
-    ((bits[preimages.len() + q] + bits[p]) % 2) as u64
+    let p = usize::from(preimages[q]);
+    u64::from((bits[preimages.len() + q] + bits[p]) % 2)
 }
 
 // Adds the constant of a group to bit g of the lent words, one for each place. Lent to read are Q and P of the group as they would be for Y = 0, Q
@@ -65,8 +65,8 @@ pub fn add_constant(bits: &[u8], preimages: &[u16], g: usize, words: &mut [u64])
         × ((q j : ℕ) → q < length words.old → get_or words.new q 0 / 2 ^ j % 2 ≡ bit_sum (get_or words.old q 0 / 2 ^ j % 2)
         (cond (eqb g j) (place_constant bits.now preimages.now (length words.old) q) 0)) }
 {
-    for q in 0..words.len() {
-        words[q] = words[q] ^ (constant_at(bits, preimages, q) << g);
+    for (q, word) in words.iter_mut().enumerate() {
+        *word ^= constant_at(bits, preimages, q) << g;
     }
 }
 
@@ -75,8 +75,8 @@ fn transpose(from: &[u64], n: usize, m: usize, to: &mut [u64])
     requires { (length from.now ≡ n * m) × (length to.old ≡ n * m) × (0 < m) }
     ensures { to.new ≡ tabulate (n * m) (λ k. get_or from.now (k % m * n + k / m) 0) }
 {
-    for k in 0..to.len() {
-        to[k] = from[k % m * n + k / m];
+    for (k, entry) in to.iter_mut().enumerate() {
+        *entry = from[k % m * n + k / m];
     }
 }
 
@@ -116,9 +116,9 @@ fn solve_in(
     ensures { words.new ≡ tabulate (size * r) (solution_word inverse.now words.old size r) }
 {
     let n = size * r;
-    transpose(&words[..], size, r, &mut constants[0..n]);
-    multiply(inverse, n, count, &constants[..], products);
-    transpose(&products[..], r, size, words);
+    transpose(words, size, r, &mut constants[0..n]);
+    multiply(inverse, n, count, constants, products);
+    transpose(products, r, size, words);
 }
 
 // Multiplies the constants of `count` groups, at most 64, by the inverse: bit g of the lent words, one for each place, is the constant of group g before
@@ -136,7 +136,7 @@ pub fn solve(inverse: &[u8], size: usize, r: usize, count: usize, words: &mut [u
         size,
         r,
         count,
-        &mut constants[..],
+        &mut constants,
         &mut products[0..n],
         words,
     );
@@ -147,8 +147,8 @@ pub fn y_bits(words: &[u64], g: usize, out: &mut [u8])
     requires { (length out.old ≡ length words.now) × (g < 64) }
     ensures { out.new ≡ tabulate (length words.now) (λ q. get_or words.now q 0 / 2 ^ g % 2) }
 {
-    for q in 0..out.len() {
-        out[q] = ((words[q] >> g) % 2) as u8;
+    for (q, bit) in out.iter_mut().enumerate() {
+        *bit = ((words[q] >> g) % 2) as u8;
     }
 }
 
@@ -157,7 +157,7 @@ pub fn add_bits(bits: &[u8], out: &mut [u8])
     requires { (length bits.now ≡ length out.old) × Bits bits.now × Bits out.old }
     ensures { out.new ≡ tabulate (length out.old) (λ q. bit_sum (get_or out.old q 0) (get_or bits.now q 0)) }
 {
-    for q in 0..out.len() {
-        out[q] = (out[q] + bits[q]) % 2;
+    for (q, sum) in out.iter_mut().enumerate() {
+        *sum = (*sum + bits[q]) % 2;
     }
 }

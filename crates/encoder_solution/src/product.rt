@@ -21,6 +21,7 @@ fn double(table: &mut [u64], w: usize, x: u64)
         × ((v : ℕ) → v < w → get_or table.new v 0 ≡ get_or table.old v 0)
         × ((v : ℕ) → v < w → get_or table.new (w + v) 0 ≡ get_or table.old v 0 ⊕ x) }
 {
+    // kept as an index loop: the new entries are made from the first ones, and with split_at_mut that is no plainer
     for v in 0..w {
         table[w + v] = table[v] ^ x;
     }
@@ -34,9 +35,9 @@ fn fill_table(words: &[u64], table: &mut [u64])
 {
     table[0] = 0;
     let mut w: usize = 1;
-    for i in 0..words.len() {
-        double(table, w, words[i]);
-        w = w * 2;
+    for word in words {
+        double(table, w, *word);
+        w *= 2;
     }
 }
 
@@ -46,6 +47,7 @@ fn fill_tables(words: &[u64], c: usize, tables: &mut [u64])
     ensures { (length tables.new ≡ length tables.old)
         × ((q : ℕ) → q < 256 * c → get_or tables.new q 0 ≡ table_entry (λ k. get_or words.now k 0) q) }
 {
+    // kept as an index loop: after a loop over chunks_exact_mut a proof knows the length of the tables and not their entries
     for j in 0..c {
         let from = 8 * j;
         let to = 256 * j;
@@ -58,7 +60,7 @@ fn entry(tables: &[u64], at: usize, b: u8) -> u64
     requires { at + 256 ≤ length tables.now }
     ensures { result ≡ get_or tables.now (at + b) 0 }
 {
-    tables[at + (b as usize)]
+    tables[at + usize::from(b)]
 }
 
 // `row_sum` of eight bytes, as most passes have: without a loop it takes a quarter less.
@@ -85,8 +87,8 @@ fn row_sum(row: &[u8], tables: &[u64]) -> u64
         return eight_sum(row, tables);
     }
     let mut acc: u64 = 0;
-    for j in 0..row.len() {
-        acc = acc ^ entry(tables, 256 * j, row[j]);
+    for (j, byte) in row.iter().enumerate() {
+        acc ^= entry(tables, 256 * j, *byte);
     }
     acc
 }
@@ -98,21 +100,10 @@ fn add_columns(inverse: &[u8], w: usize, b: usize, c: usize, tables: &[u64], pro
         × ((e : ℕ) → e < length products.old → get_or products.new e 0 ≡ get_or products.old e 0
         ⊕ xor_sum c (λ j. get_or tables.now (256 * j + get_or inverse.now (e * w + b + j) 0) 0)) }
 {
-    for e in 0..products.len() {
+    for (e, product) in products.iter_mut().enumerate() {
         let from = e * w + b;
-        products[e] = products[e] ^ row_sum(&inverse[from..from + c], tables);
+        *product ^= row_sum(&inverse[from..from + c], tables);
     }
-}
-
-// The bytes of a pass that begins at byte b: 8, or those that are left.
-fn columns_left(w: usize, b: usize) -> usize
-    requires { b < w }
-    ensures { (b + result ≤ w) × (0 < result) × (result ≤ 8) }
-{
-    if w - b < 8 {
-        return w - b;
-    }
-    8
 }
 
 // `multiply` with the tables of a pass lent.
@@ -128,13 +119,10 @@ fn multiply_in(
         × ((e : ℕ) → e < length products.old → get_or products.new e 0 ≡ get_or products.old e 0
         ⊕ row_product inverse.now w (λ k. get_or constants.now k 0) e (8 * w)) }
 {
-    let mut b: usize = 0;
-    while b < w {
-        let c = columns_left(w, b);
-        let from = 8 * b;
-        fill_tables(&constants[from..from + 8 * c], c, &mut tables[0..256 * c]);
-        add_columns(inverse, w, b, c, &tables[0..256 * c], products);
-        b = b + c;
+    for (k, words) in constants.chunks(64).enumerate() {
+        let c = words.len() / 8;
+        fill_tables(words, c, &mut tables[0..256 * c]);
+        add_columns(inverse, w, 8 * k, c, &tables[0..256 * c], products);
     }
 }
 
@@ -147,5 +135,5 @@ pub fn multiply(inverse: &[u8], w: usize, constants: &[u64], products: &mut [u64
         ⊕ row_product inverse.now w (λ k. get_or constants.now k 0) e (8 * w)) }
 {
     let mut tables = [0u64; 2048];
-    multiply_in(inverse, w, constants, &mut tables[..], products);
+    multiply_in(inverse, w, constants, &mut tables, products);
 }

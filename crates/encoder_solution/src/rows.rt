@@ -20,8 +20,8 @@ fn byte_of(words: &[u64], g: usize) -> u8
     ensures { (i : ℕ) → i < 8 → result / 2 ^ i % 2 ≡ get_or words.now i 0 / 2 ^ g % 2 }
 {
     let mut v: u8 = 0;
-    for i in 0..words.len() {
-        v = v ^ ((((words[i] >> g) % 2) as u8) << i);
+    for (i, word) in words.iter().enumerate() {
+        v ^= (((*word >> g) % 2) as u8) << i;
     }
     v
 }
@@ -32,9 +32,9 @@ fn pack_group(words: &[u64], g: usize, out: &mut [u8])
     ensures { (length out.new ≡ length out.old)
         × ((q i : ℕ) → q < length out.old → i < 8 → get_or out.new q 0 / 2 ^ i % 2 ≡ get_or words.now (8 * q + i) 0 / 2 ^ g % 2) }
 {
-    for b in 0..out.len() {
+    for (b, byte) in out.iter_mut().enumerate() {
         let from = 8 * b;
-        out[b] = byte_of(&words[from..from + 8], g);
+        *byte = byte_of(&words[from..from + 8], g);
     }
 }
 
@@ -44,6 +44,7 @@ fn pack_groups(words: &[u64], p: usize, count: usize, packed: &mut [u8])
     ensures { (length packed.new ≡ length packed.old)
         × ((q i : ℕ) → q < count * p → i < 8 → get_or packed.new q 0 / 2 ^ i % 2 ≡ get_or words.now (8 * (q % p) + i) 0 / 2 ^ (q / p) % 2) }
 {
+    // kept as an index loop: after a loop over chunks_exact_mut a proof knows the length of the bytes and not the bytes
     for g in 0..count {
         let from = g * p;
         pack_group(words, g, &mut packed[from..from + p]);
@@ -56,10 +57,10 @@ fn shared_odd(a: &[u8], b: &[u8]) -> u8
     ensures { result ≡ sum_bits (8 * length a.now) (λ k. packed_bit a.now k * packed_bit b.now k) }
 {
     let mut acc: u8 = 0;
-    for i in 0..a.len() {
-        acc = acc ^ (a[i] & b[i]);
+    for (x, y) in a.iter().zip(b) {
+        acc ^= *x & *y;
     }
-    (u8::count_ones(acc) % 2) as u8
+    (acc.count_ones() % 2) as u8
 }
 
 // The word of which bit g is 1 where the row shares an odd number of ones with the first bytes of the packed constant of group g.
@@ -70,22 +71,12 @@ fn row_word(row: &[u8], packed: &[u8], p: usize, count: usize) -> u64
         × (count ≤ g → result / 2 ^ g % 2 ≡ 0) }
 {
     let mut x: u64 = 0;
+    // kept as an index loop: chunks_exact(p) with take(count) and enumerate says it no plainer
     for g in 0..count {
         let from = g * p;
-        x = x ^ ((shared_odd(row, &packed[from..from + row.len()]) as u64) << g);
+        x ^= u64::from(shared_odd(row, &packed[from..from + row.len()])) << g;
     }
     x
-}
-
-// The end of the p bytes from `from` on, or of all n.
-fn part_end(n: usize, from: usize, p: usize) -> usize
-    requires { from ≤ n }
-    ensures { (from ≤ result) × (result ≤ n) × (result ≤ from + p) × ((w : ℕ) → w ≤ p → from + w ≤ n → from + w ≤ result) }
-{
-    if n - from < p {
-        return n;
-    }
-    from + p
 }
 
 // `multiply` with the bytes of the packed constants lent.
@@ -105,10 +96,10 @@ fn multiply_in(
         ⊕ row_product inverse.now w (λ k. get_or constants.now k 0) e (8 * w)) }
 {
     pack_groups(constants, p, count, packed);
-    for e in 0..products.len() {
+    for (e, product) in products.iter_mut().enumerate() {
         let from = e * w;
-        let end = part_end(inverse.len(), from, p);
-        products[e] = products[e] ^ row_word(&inverse[from..end], packed, p, count);
+        let end = inverse.len().min(from + p);
+        *product ^= row_word(&inverse[from..end], packed, p, count);
     }
 }
 

@@ -33,7 +33,7 @@ pub fn preimage_of(preimages: &[u16], size: usize, r: usize, e: usize) -> usize
     requires { (length preimages.now ≡ size * r) × (size * r ≤ most-order) × (e < size * r) × ((q : ℕ) → q < size * r → get_or preimages.now q 0 < size * r) }
     ensures { (result ≡ get_or preimages.now (unstack_of size r e) 0) × (result < size * r) }
 {
-    preimages[e % r * size + e / r] as usize
+    usize::from(preimages[e % r * size + e / r])
 }
 
 // Digit a of power b, the highest first: what bit b of X or Y adds to bit a of the parity.
@@ -71,7 +71,7 @@ pub fn system_row(
         × ((k : ℕ) → packed_bit out.new k ≡ row_entry columns.now part.now (entries n own.now) size p e k) }
 {
     let r = part.len();
-    matrix::clear(out);
+    out.fill(0);
     for b in 0..r {
         let v = digit_at(columns, b, e % r);
         matrix::add_bit(out, e / r * r + b, v);

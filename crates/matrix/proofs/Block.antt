@@ -3,7 +3,7 @@
 --   exchange_bit                what stands at bit k then
 --   transposed, transposed-bit  the three exchanges: bit (s, r) is what bit (r, s) was
 --   agree         two tables that are equal agree below their length
---   Loaded, loaded_none, loaded_more, loaded_all   a block of which r rows are there
+--   Loaded, loaded_more, loaded_all   a block of which r rows are there
 -- Assumes nothing.
 use mathlib.Core.Path.{◌≡◌, refl, sym, ap, ap₂, ◌∙◌}
 use mathlib.Core.Bool.{Bool, true, false, cond}
@@ -14,12 +14,12 @@ use native.Mathlib.Omega.{arith}
 use lib.Bits.{bit_and, bit_xor}
 use lib.Dec.{eqb, ltb}
 use lib.ListN.{get_or}
-use borrow.Author.Tests.{lt-ltb, le-ltb, ltb-true, ltb-false}
+use borrow.Author.Tests.{lt-ltb, ltb-true, ltb-false}
 use Rattle.bch.proofs.Sum.{bit_ind}
 use Rattle.staircase.specs.Lists.{bit_sum, tabulate}
 use Rattle.staircase.proofs.Matrix.{bit_sum-zero, zero-bit_sum}
 use Rattle.staircase.proofs.Tabulate.{tabulate-at}
-use Rattle.matrix.proofs.Bits.{bit, bit-lt, bit-zero, bit_above, bit-xor, bit_mask, bit_shr, bit_shl}
+use Rattle.matrix.proofs.Bits.{bit, bit-lt, bit_above, bit-xor, bit_mask, bit_shr, bit_shl}
 
 -- ---- one exchange
 
@@ -140,9 +140,6 @@ transposed_bit x k h =
 
 abbrev pub Loaded : (ℕ → ℕ) → ℕ → ℕ → Type 0
 Loaded v q r = (k : ℕ) → k < 64 → bit q k ≡ cond (ltb k (8 * r)) (bit (v (k / 8)) (k % 8)) 0
-
-pub loaded_none : (v : ℕ → ℕ) → Loaded v 0 0
-loaded_none v k h = bit-zero k ∙ ap (λ (z : Bool). cond z (bit (v (k / 8)) (k % 8)) 0) (sym (le-ltb k 0 (omega arith)))
 
 pub loaded_more : (v : ℕ → ℕ) (q r u : ℕ) → u ≡ v r → u < 256 → Loaded v q r → Loaded v (bit_xor q (u * 2 ^ (8 * r) % 2 ^ 64)) (r + 1)
 loaded_more v q r u d h g k l =

@@ -1,7 +1,7 @@
 // Products of square matrices of bits in packed bytes.
-//   clear, add_bit   make a packed row
-//   mask_rows        a row of a product, from a packed row and planes
-//   first_wrong      the first entry of such a row that is not the identity's
+//   add_bit       adds a bit to a packed row
+//   mask_rows     a row of a product, from a packed row and planes
+//   first_wrong   the first entry of such a row that is not the identity's
 //
 // "An entry of a product is 1 exactly when a row and a column share an odd number of ones": the ones of masked bytes. The masked bytes are added
 // by exclusive or and the ones of the sum are counted once, which leaves the parity as it is and costs a fraction of a count at each byte.
@@ -21,7 +21,7 @@
 mod planes;
 mod tiles;
 
-ghost use Rattle.std.specs.Prelude.{◌≡◌, cond, not, ℕ, ◌*◌, ◌/◌, ◌%◌, ◌≤◌, ◌<◌, eqb, ltb, length, get_or, replicate};
+ghost use Rattle.std.specs.Prelude.{◌≡◌, cond, not, ℕ, ◌*◌, ◌/◌, ◌%◌, ◌≤◌, ◌<◌, eqb, ltb, length, get_or};
 ghost use Rattle.std.specs.Int.Bits.{bit_and, bit_xor};
 ghost use Rattle.std.specs.Int.Count.{ones};
 ghost use Rattle.staircase.specs.Lists.{bit_sum, sum_bits, first_where};
@@ -32,15 +32,6 @@ ghost use Rattle.matrix.specs.Packed.{packed_bit, plane_bit};
 pub use planes::planes_of_rows;
 pub use tiles::turn;
 
-// Makes the lent bytes 0. The work grows with their number.
-pub fn clear(bytes: &mut [u8])
-    ensures { bytes.new ≡ replicate (length bytes.old) 0 }
-{
-    for j in 0..bytes.len() {
-        bytes[j] = 0;
-    }
-}
-
 // Adds the bit v to bit k of the lent packed row. A fixed number of steps.
 pub fn add_bit(row: &mut [u8], k: usize, v: u8)
     requires { (k / 8 < length row.old) × (v < 2) }
@@ -48,7 +39,7 @@ pub fn add_bit(row: &mut [u8], k: usize, v: u8)
         × ((j : ℕ) → packed_bit row.new j ≡ bit_sum (packed_bit row.old j) (cond (eqb k j) v 0)) }
 {
     let b = k / 8;
-    row[b] = row[b] ^ (v << (k % 8));
+    row[b] ^= v << (k % 8);
 }
 
 // Adds to each byte of acc, by exclusive or, the byte of the plane masked by v. The work grows with the number of bytes.
@@ -58,8 +49,8 @@ fn mask_in(acc: &mut [u8], plane: &[u8], v: u8)
         × ((x : ℕ) → x < length acc.old
         → get_or acc.new x 0 ≡ bit_xor (get_or acc.old x 0) (bit_and (get_or plane.now x 0) v)) }
 {
-    for x in 0..acc.len() {
-        acc[x] = acc[x] ^ (plane[x] & v);
+    for (x, byte) in acc.iter_mut().enumerate() {
+        *byte ^= plane[x] & v;
     }
 }
 
@@ -73,9 +64,8 @@ pub fn mask_rows(acc: &mut [u8], row: &[u8], t: &[u8], n: usize)
         → ones (get_or acc.new x 0) % 2
         ≡ sum_bits (8 * row_bytes n) (λ k. packed_bit row.now k * plane_bit t.now n k x)) }
 {
-    clear(acc);
-    for b in 0..row.len() {
-        let v = row[b];
+    acc.fill(0);
+    for (b, &v) in row.iter().enumerate() {
         if v != 0 {
             let a = b * n;
             let e = a + n;
@@ -88,10 +78,7 @@ pub fn mask_rows(acc: &mut [u8], row: &[u8], t: &[u8], n: usize)
 fn identity_entry(i: usize, j: usize) -> u32
     ensures { result ≡ identity i j }
 {
-    if i == j {
-        return 1;
-    }
-    0
+    u32::from(i == j)
 }
 
 // The ones of a byte, counted by additions of neighbouring bits: each two bits become their sum, then each four, then all eight (H. Warren, "Hacker's
@@ -109,8 +96,8 @@ fn some_odd(bytes: &[u8]) -> bool
     ensures { result ≡ ltb (first_where (length bytes.now) (λ x. eqb (ones (get_or bytes.now x 0) % 2) 1)) (length bytes.now) }
 {
     let mut all: u8 = 0;
-    for x in 0..bytes.len() {
-        all = all | ones_of(bytes[x]);
+    for &byte in bytes {
+        all |= ones_of(byte);
     }
     all % 2 == 1
 }
@@ -124,21 +111,15 @@ fn some_wrong(acc: &[u8], e: usize) -> bool
     if n <= e {
         return some_odd(acc);
     }
-    if ones_of(acc[e]) % 2 == 0 {
-        return true;
-    }
-    if some_odd(&acc[0..e]) {
-        return true;
-    }
-    some_odd(&acc[e + 1..n])
+    ones_of(acc[e]) % 2 == 0 || some_odd(&acc[0..e]) || some_odd(&acc[e + 1..n])
 }
 
 // What `first_wrong` finds, by a search from column to column up to it.
 fn search_wrong(acc: &[u8], e: usize) -> usize
     ensures { result ≡ first_where (length acc.now) (λ x. not (eqb (ones (get_or acc.now x 0) % 2) (identity e x))) }
 {
-    for x in 0..acc.len() {
-        let odd = u8::count_ones(acc[x]) % 2;
+    for (x, &byte) in acc.iter().enumerate() {
+        let odd = byte.count_ones() % 2;
         if odd != identity_entry(e, x) {
             return x;
         }
@@ -152,7 +133,8 @@ pub fn first_wrong(acc: &[u8], e: usize) -> usize
     ensures { result ≡ first_where (length acc.now) (λ x. not (eqb (ones (get_or acc.now x 0) % 2) (identity e x))) }
 {
     if some_wrong(acc, e) {
-        return search_wrong(acc, e);
+        search_wrong(acc, e)
+    } else {
+        acc.len()
     }
-    acc.len()
 }

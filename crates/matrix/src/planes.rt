@@ -15,10 +15,7 @@ fn byte_at(w: &[u8], n: usize, rb: usize, i: usize, c: usize) -> u8
     requires { (length w.now ≡ n * rb) × (c < rb) }
     ensures { result ≡ cond (ltb i n) (get_or w.now (i * rb + c) 0) 0 }
 {
-    if n <= i {
-        return 0;
-    }
-    w[i * rb + c]
+    if i < n { w[i * rb + c] } else { 0 }
 }
 
 // The block of the rows from 8 b and the columns from 8 c, a byte a row, the first row lowest.
@@ -29,7 +26,7 @@ fn block_at(w: &[u8], n: usize, rb: usize, b: usize, c: usize) -> u64
     let mut q: u64 = 0;
     for r in 0..8 {
         let v = byte_at(w, n, rb, 8 * b + r, c);
-        q = q ^ ((v as u64) << (8 * r));
+        q ^= u64::from(v) << (8 * r);
     }
     q
 }
@@ -51,10 +48,7 @@ fn block_end(x: usize, n: usize) -> usize
     requires { (x < n) × (n ≤ most-order) }
     ensures { (x ≤ result) × (result ≤ n) × (result ≤ x + 8) × ((y : ℕ) → y < x + 8 → y < n → y < result) }
 {
-    if n < x + 8 {
-        return n;
-    }
-    x + 8
+    n.min(x + 8)
 }
 
 // The bytes of a block, the lowest first, as many as the part has.
@@ -64,8 +58,8 @@ fn put_block(part: &mut [u8], q: u64)
         × ((s : ℕ) → s < length part.old → (r : ℕ) → r < 8
         → get_or part.new s 0 / 2 ^ r % 2 ≡ q / 2 ^ (8 * s + r) % 2) }
 {
-    for s in 0..part.len() {
-        part[s] = ((q >> (8 * s)) % 256) as u8;
+    for (s, byte) in part.iter_mut().enumerate() {
+        *byte = ((q >> (8 * s)) % 256) as u8;
     }
 }
 

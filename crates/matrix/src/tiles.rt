@@ -6,19 +6,15 @@ ghost use Rattle.std.specs.Prelude.{◌≡◌, ℕ, ◌+◌, ◌*◌, ◌/◌, �
 
 use crate::planes::transpose_block;
 
-// A byte as a number of 64 bits.
-fn wide(x: u8) -> u64
-    ensures { (result ≡ x) × (result < 256) }
-{
-    x as u64
-}
-
 // Four bytes from byte `at` on as one number, the first lowest.
 fn four_bytes(b: &[u8], at: usize) -> u64
     requires { at + 4 ≤ length b.now }
     ensures { (result < 4294967296) × ((s i : ℕ) → s < 4 → i < 8 → result / 2 ^ (8 * s + i) % 2 ≡ get_or b.now (at + s) 0 / 2 ^ i % 2) }
 {
-    wide(b[at]) + 256 * wide(b[at + 1]) + 65536 * wide(b[at + 2]) + 16777216 * wide(b[at + 3])
+    u64::from(b[at])
+        + 256 * u64::from(b[at + 1])
+        + 65536 * u64::from(b[at + 2])
+        + 16777216 * u64::from(b[at + 3])
 }
 
 // Eight bytes from byte `at` on as one number, the first lowest. By halves: so the compiler makes two loads of it, and not eight.

@@ -16,17 +16,6 @@ ghost use Rattle.staircase.specs.System.{identity, row_bytes};
 ghost use Rattle.staircase.specs.Square.{Units, dependent, inverse_matrix, packed_matrix};
 ghost use Rattle.matrix_elimination.specs.Steps.{row_width, left, right, RowSteps};
 
-// The columns of one byte of the rows: 8, or those that are left.
-fn columns_left(n: usize, lo: usize) -> usize
-    requires { lo < n }
-    ensures { (lo + result ≤ n) × (0 < result) × (result ≤ 8) × (result < 8 → lo + result ≡ n) }
-{
-    if n - lo < 8 {
-        return n - lo;
-    }
-    8
-}
-
 // Makes the columns from lo on, of one byte of the rows, the identity's, up to the first for which there is no pivot, and answers how many are.
 fn clear_byte(m: &mut [u8], n: usize, w: usize, lo: usize) -> usize
     requires { (length m.old ≡ (n + 256) * w) × (w ≡ row_width n) × (n ≤ 4096) × (lo % 8 ≡ 0) × (lo < n) × Units n lo (left n m.old) }
@@ -34,7 +23,7 @@ fn clear_byte(m: &mut [u8], n: usize, w: usize, lo: usize) -> usize
         × (result < 8 → lo + result < n → (i : ℕ) → lo + result ≤ i → i < n → left n m.new i (lo + result) ≡ 0) }
     ensures row_steps { RowSteps n m.old m.new }
 {
-    let most = columns_left(n, lo);
+    let most = (n - lo).min(8);
     let h = rows::find_pivots(m, n, w, lo, most);
     tables::fill_table(m, n, w, lo, h);
     tables::clear_rows(m, n, w, lo, h);
@@ -47,13 +36,12 @@ fn eliminate(m: &mut [u8], n: usize, w: usize) -> usize
     ensures upper_bound { (result ≤ n) × Units n result (left n m.new) × (result < n → (i : ℕ) → result ≤ i → i < n → left n m.new i result ≡ 0) }
     ensures row_steps { RowSteps n m.old m.new }
 {
-    let mut lo: usize = 0;
-    while lo < n {
+    for b in 0..n.div_ceil(8) {
+        let lo = 8 * b;
         let h = clear_byte(m, n, w, lo);
         if h < 8 {
             return lo + h;
         }
-        lo += 8;
     }
     n
 }
@@ -67,7 +55,7 @@ fn unit_row(m: &mut [u8], n: usize, w: usize, i: usize)
 {
     let s = i * w + w / 2;
     let e = i * w + w;
-    matrix::clear(&mut m[s..e]);
+    m[s..e].fill(0);
     m[s + i / 8] = 1 << (i % 8);
 }
 

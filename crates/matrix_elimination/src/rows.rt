@@ -18,8 +18,9 @@ pub fn add_row(m: &mut [u8], k: usize, w: usize, to: usize, from: usize)
 {
     let x = to * w;
     let y = from * w;
+    // Kept as an index loop: both rows lie in one slice, and parts borrowed at once, as by `split_at_mut`, want a case for each order.
     for c in 0..w {
-        m[x + c] = m[x + c] ^ m[y + c];
+        m[x + c] ^= m[y + c];
     }
 }
 
@@ -33,6 +34,7 @@ pub fn sum_row(m: &mut [u8], k: usize, w: usize, to: usize, x: usize, y: usize)
     let t = to * w;
     let p = x * w;
     let q = y * w;
+    // Kept as an index loop, as in `add_row`.
     for c in 0..w {
         m[t + c] = m[p + c] ^ m[q + c];
     }
@@ -65,7 +67,7 @@ fn reduce_by(m: &mut [u8], n: usize, w: usize, to: usize, k: usize)
     ensures by_index { (i j : ℕ) → i < n → j < n → left n m.new i j
         ≡ cond (eqb i to) (bit_sum (left n m.old i j) (left n m.old to k * left n m.old k j)) (left n m.old i j) }
 {
-    if entry(&m[..], n, w, to, k) == 0 {
+    if entry(m, n, w, to, k) == 0 {
         return;
     }
     add_row(m, n + 256, w, to, k);
@@ -95,7 +97,7 @@ fn find_pivot(m: &mut [u8], n: usize, w: usize, lo: usize, p: usize) -> usize
     let k = lo + p;
     for i in k..n {
         reduce_row(m, n, w, lo, p, i);
-        if entry(&m[..], n, w, i, k) == 1 {
+        if entry(m, n, w, i, k) == 1 {
             return i;
         }
     }

@@ -28,11 +28,11 @@ pub fn fill_table(m: &mut [u8], n: usize, w: usize, lo: usize, h: usize)
 {
     let t = n * w;
     let e = t + w;
-    matrix::clear(&mut m[t..e]);
+    m[t..e].fill(0);
     let mut s: usize = 1;
     for p in 0..h {
         double(m, n, w, lo, p, s);
-        s = s * 2;
+        s *= 2;
     }
 }
 
@@ -41,7 +41,7 @@ fn first_bits(x: u8, h: usize) -> usize
     requires { h ≤ 8 }
     ensures { (result ≡ x % 2 ^ h) × (result < 256) }
 {
-    (x as usize) & ((1 << h) - 1)
+    usize::from(x) & ((1 << h) - 1)
 }
 
 // Row i takes the row of the table that the first h bits of its byte b name.

@@ -2,7 +2,6 @@
 --   row-sum               what `dot` answers for a row that is lent as a part of the block
 --   part_length, part_at, part-sum   a part of the table that is lent, and sums with it
 --   part_same             a sum over bits that agree
---   part-sums             tables of a part that is lent
 --   first_half, second_half   the tables of the two blocks of a word, as halves that are lent
 --   square                a block of m × m bits
 --   Adds, adds_part       a sum added for each word, by a part that is lent, and by the table
@@ -14,7 +13,7 @@
 --   zeros_are             a list of zeros as a table
 --   blocks_added          the two blocks of a group's words, from 0
 -- Assumes nothing.
-use mathlib.Core.Path.{◌≡◌, refl, sym, ap, ap₂, subst, subst₂, ◌∙◌}
+use mathlib.Core.Path.{◌≡◌, refl, sym, ap, ap₂, subst₂, ◌∙◌}
 use mathlib.Core.Bool.{Bool, true, false, cond}
 use mathlib.Core.List.{List, ◌∷◌}
 use Prim.Native.Nat.{ℕ, zero, suc, ◌+◌, ◌-◌, ◌*◌, ◌/◌, ◌≤◌, ◌<◌}
@@ -75,12 +74,6 @@ part_same positions from w b c same =
     xor_sum-same w (λ j. b j * get_or positions (from + j) 0) (λ j. c j * get_or positions (from + j) 0) (λ j l. ap (λ (x : ℕ). x * get_or positions (from + j) 0) (same j l))
 
 -- ---- tables of sums
-
--- a part as code lends it
-pub part-sums : (positions : List ℕ) (from n : ℕ) (tables : List ℕ) → MaySum (part_of positions from n) tables
-    → MaySum (take (from + n - from) (drop from positions)) tables
-part-sums positions from n tables =
-    let e : n ≡ from + n - from = omega arith in subst (λ (k : ℕ). MaySum (take k (drop from positions)) tables) e
 
 -- n words, of which w are lent
 module _ (positions : List ℕ) (n w : ℕ) (tables : List ℕ) (wide : w ≡ n) (H : MayHalves positions n tables) where

@@ -53,10 +53,10 @@ fn add_dots(acc: &mut [u32], block: &[u8], part: &[u32]) -> usize
 {
     let w = part.len();
     let mut reads: usize = 0;
-    for a in 0..acc.len() {
+    for (a, entry) in acc.iter_mut().enumerate() {
         let from = a * w;
         let row = bch_remainders::dot(&block[from..from + w], part);
-        acc[a] = acc[a] ^ row.sum;
+        *entry ^= row.sum;
         reads = row.reads;
     }
     reads
@@ -136,7 +136,7 @@ pub fn block_sums(
         (block_sum first_columns second_columns positions.now (length sums.old) (λ k. get_or first.now k 0) (λ k. get_or second.now k 0)))
         × (result ≡ block_reads first.now (length sums.old) + block_reads second.now (length sums.old)) }
 {
-    bch_remainders::clear(sums);
+    sums.fill(0);
     let half = tables.len() / 2;
     let ahead = &tables[0..half];
     let behind = &tables[half..2 * half];

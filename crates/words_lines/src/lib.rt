@@ -19,7 +19,7 @@
 // `words_packed` and `words_sums`.
 #![tactic(auto)]
 
-ghost use Rattle.std.specs.Prelude.{◌≡◌, true, false, cond, ℕ, ◌+◌, ◌*◌, ◌/◌, ◌≤◌, ◌<◌, eqb, length, get_or};
+ghost use Rattle.std.specs.Prelude.{◌≡◌, true, false, ℕ, ◌+◌, ◌*◌, ◌/◌, ◌≤◌, ◌<◌, length, get_or};
 ghost use Rattle.bch.specs.Polynomial.{◌⊕◌, Bits};
 ghost use Rattle.bch.specs.Powers.{xor_sum};
 ghost use Rattle.staircase.specs.Lists.{tabulate, concat};
@@ -66,9 +66,9 @@ fn add_listed_row(sums: &mut [u32], list: &[u8], p: usize, bits: &[u8], x: u32)
         × ((a : ℕ) → a < length sums.old → get_or sums.new a 0
         ≡ get_or sums.old a 0 ⊕ get_or bits.now (entry_at list.now (p + a)) 0 * x) }
 {
-    for a in 0..sums.len() {
+    for (a, sum) in sums.iter_mut().enumerate() {
         let e = rules::entry(list, p + a);
-        sums[a] = sums[a] ^ bch_remainders::masked(bits[e], x);
+        *sum ^= bch_remainders::masked(bits[e], x);
     }
 }
 
@@ -83,8 +83,8 @@ fn add_listed_rows(sums: &mut [u32], list: &[u8], bits: &[u8], part: &[u32]) -> 
 {
     let w = sums.len();
     let mut reads: usize = 0;
-    for j in 0..part.len() {
-        add_listed_row(sums, list, j * w, bits, part[j]);
+    for (j, &power) in part.iter().enumerate() {
+        add_listed_row(sums, list, j * w, bits, power);
         reads += 1;
     }
     reads
@@ -255,23 +255,13 @@ pub fn line_remainders(
     blocks + behind
 }
 
-// 1 where x is not 0.
-fn nonzero(x: u32) -> u64
-    ensures { (result ≡ cond (eqb x 0) 0 1) × (result ≤ 1) }
-{
-    if x == 0 {
-        return 0;
-    }
-    1
-}
-
 // How many of the lent entries are not 0. One step for each entry.
 pub fn count_nonzero(list: &[u32]) -> u64
     ensures { (result ≡ nonzeros list.now) × (result ≤ length list.now) }
 {
     let mut n: u64 = 0;
-    for k in 0..list.len() {
-        n = n + nonzero(list[k]);
+    for &x in list {
+        n += u64::from(x != 0);
     }
     n
 }
@@ -338,8 +328,8 @@ fn count_pass(
     let lines = layout::line_count(pass.frames);
     let mut total: u64 = 0;
     for k in 0..lines {
-        let at = PassLine { pass: pass, k: k };
-        total = total + count_line(at, own, parity, info, red, positions, tables);
+        let at = PassLine { pass, k };
+        total += count_line(at, own, parity, info, red, positions, tables);
     }
     total
 }
@@ -359,7 +349,7 @@ pub fn turn_tables(frames: Frames, positions: &[u32], back: &mut [u32], tables: 
     }
     let size = frames.d.size();
     let tail = layout::tail_bits(frames);
-    words_tables::fill_parts(&back[..], size, tail, tables);
+    words_tables::fill_parts(back, size, tail, tables);
 }
 
 // How many words that are read backwards are outside the code, with the tables for words that are not.
@@ -378,13 +368,10 @@ fn count_back(
         (concat (lines_in frames.shape frames.blocks) (pass_sites frames.shape (layout_with frames own.now parity.now) true))) × (result ≤ 2049000) }
 {
     let n = positions.len();
-    let pass = Pass {
-        frames: frames,
-        back: true,
-    };
+    let pass = Pass { frames, back: true };
     let mut back = [0u32; 1024];
     turn_tables(frames, positions, &mut back[0..n], tables);
-    count_pass(pass, own, parity, info, red, &back[0..n], &tables[..])
+    count_pass(pass, own, parity, info, red, &back[0..n], tables)
 }
 
 // How many words of a frame are outside the code, with the tables for words that are read forwards.
@@ -403,10 +390,10 @@ fn count_both(
         (frame_sites (layout_with frames own.now parity.now)) }
 {
     let pass = Pass {
-        frames: frames,
+        frames,
         back: false,
     };
-    let ahead = count_pass(pass, own, parity, info, red, positions, &tables[..]);
+    let ahead = count_pass(pass, own, parity, info, red, positions, tables);
     let turns = layout::turns(frames);
     if !turns {
         return ahead;

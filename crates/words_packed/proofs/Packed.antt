@@ -2,7 +2,6 @@
 --   Packs rows w k i x   x holds bit k of row i, of row i + 1, .., the lowest bit first
 --   packs-none           behind the last row it is 0
 --   packs-more           a row before them: twice the number, and the row's bit
---   packs-all            it holds the bits of all rows from row 0 on
 --   packs_eight          eight rows in one expression
 --   EightBits rows w k   bit k of each of the rows 0 to 7 is below 2
 --   eight-bits           it is, in rows of bits
@@ -39,9 +38,6 @@ packs-more rows w k i n x v y bits e next sum p (suc j) =
     let up : suc j ≡ 1 + j = omega arith in
     let there : n + j ≡ i + suc j = omega arith in
     ap (bit y) up ∙ sym (bit_shr y 1 j) ∙ ap (λ (z : ℕ). bit z j) half ∙ p j ∙ ap (λ (z : ℕ). get_or rows (z * w + k) 0) there
-
-pub packs-all : (rows : List ℕ) (w k n x : ℕ) → n ≡ 0 → Packs rows w k n x → (i : ℕ) → bit x i ≡ get_or rows (i * w + k) 0
-packs-all rows w k n x e p i = let h : n + i ≡ i = omega arith in rw h at (p i)
 
 pub packs_eight : (rows : List ℕ) (w k : ℕ) → length rows ≡ 8 * w → Bits rows
     → Packs rows w k 0 (2 * (2 * (2 * (2 * (2 * (2 * (2 * get_or rows (7 * w + k) 0 + get_or rows (6 * w + k) 0) + get_or rows (5 * w + k) 0)

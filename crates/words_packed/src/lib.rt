@@ -18,7 +18,7 @@ fn pack_eight(rows: &[u8], packed: &mut [u8]) -> usize
 {
     let w = packed.len();
     let mut reads: usize = 0;
-    for k in 0..w {
+    for (k, byte) in packed.iter_mut().enumerate() {
         let a = rows[7 * w + k];
         let b = 2 * a + rows[6 * w + k];
         let c = 2 * b + rows[5 * w + k];
@@ -26,7 +26,7 @@ fn pack_eight(rows: &[u8], packed: &mut [u8]) -> usize
         let e = 2 * d + rows[3 * w + k];
         let f = 2 * e + rows[2 * w + k];
         let g = 2 * f + rows[w + k];
-        packed[k] = 2 * g + rows[k];
+        *byte = 2 * g + rows[k];
         reads += 1;
     }
     reads
@@ -40,8 +40,8 @@ fn double_in(row: &[u8], packed: &mut [u8]) -> usize
         × (result ≡ length packed.old) }
 {
     let mut reads: usize = 0;
-    for k in 0..packed.len() {
-        packed[k] = 2 * packed[k] + row[k];
+    for (k, byte) in packed.iter_mut().enumerate() {
+        *byte = 2 * *byte + row[k];
         reads += 1;
     }
     reads
@@ -55,12 +55,10 @@ fn pack_few(rows: &[u8], count: usize, packed: &mut [u8]) -> usize
         → get_or packed.new k 0 / 2 ^ i % 2 ≡ get_or rows.now (i * length packed.old + k) 0)
         × (result ≡ length packed.old) }
 {
-    matrix::clear(packed);
     let w = packed.len();
+    packed.fill(0);
     let mut reads: usize = 0;
-    let mut i = count;
-    while 0 < i {
-        i -= 1;
+    for i in (0..count).rev() {
         let from = i * w;
         reads = double_in(&rows[from..from + w], packed);
     }
@@ -76,7 +74,8 @@ pub fn pack(rows: &[u8], count: usize, packed: &mut [u8]) -> usize
         × (result ≡ length packed.old) }
 {
     if count == 8 {
-        return pack_eight(rows, packed);
+        pack_eight(rows, packed)
+    } else {
+        pack_few(rows, count, packed)
     }
-    pack_few(rows, count, packed)
 }

@@ -3,7 +3,6 @@
 --   tiles_row             and so to those at the ones of row i of the group
 --   AddedBelow            the entries before n have f added, the others are as they were, both as far as the list goes
 --   added_group           one group of entries more, lent as a part
---   zeros-front           the front of a list of zeros
 -- Assumes nothing.
 use mathlib.Core.Path.{◌≡◌, sym, ap, ap₂, ◌∙◌}
 use mathlib.Core.List.{List, ◌++◌}
@@ -11,8 +10,8 @@ use Prim.Native.Nat.{ℕ, ◌+◌, ◌-◌, ◌*◌, ◌/◌, ◌%◌, ◌^◌, 
 use native.Mathlib.Decide.{dec_lt}
 use native.Mathlib.Omega.{arith}
 use borrow.Rule.Slice.PartMut.{put_mid, drop_put}
-use lib.ListN.{length, get_or, take, drop, replicate, length-replicate, replicate-append-replicate, get_or-append}
-use lib.Seq.{take_at, get_or-drop}
+use lib.ListN.{length, get_or, take, drop, get_or-append}
+use lib.Seq.{get_or-drop}
 use Rattle.bch.specs.Polynomial.{◌⊕◌}
 use Rattle.bch.specs.Powers.{xor_sum}
 use Rattle.bch.proofs.PowerSum.{xor_sum-same}
@@ -79,9 +78,3 @@ added_group old l ys f v g r same room few last long before here is k h = (
     within (no o) m = omega arith
 
 -- ---- working bytes
-
-pub zeros-front : (n m : ℕ) → n ≤ m → ◌≡◌ {A = List ℕ} (take n (replicate m 0)) (replicate n 0)
-zeros-front n m h =
-    let e : m ≡ n + (m - n) = omega arith in
-    ap (take n) (ap (λ (k : ℕ). replicate k 0) e ∙ sym (replicate-append-replicate n (m - n) 0))
-    ∙ take_at (replicate n 0) (replicate (m - n) 0) n (length-replicate n 0)

@@ -10,8 +10,8 @@ fn look_up(acc: &mut [u32], packed: &[u8], table: &[u32])
     ensures { (length acc.new ≡ length acc.old)
         × ((a : ℕ) → a < length acc.old → get_or acc.new a 0 ≡ get_or acc.old a 0 ⊕ get_or table.now (get_or packed.now a 0) 0) }
 {
-    for a in 0..acc.len() {
-        acc[a] = acc[a] ^ crate::entry(table, packed[a]);
+    for (a, sum) in acc.iter_mut().enumerate() {
+        *sum ^= crate::entry(table, packed[a]);
     }
 }
 
@@ -34,11 +34,11 @@ fn add_columns_in(
     let groups = (part.len() + 7) / 8;
     let mut reads: usize = 0;
     for g in 0..groups {
-        let count = crate::rows_left(part.len(), g);
+        let count = (part.len() - 8 * g).min(8);
         let from = 8 * g * w;
         let at = 256 * g;
         words_packed::pack(&block[from..from + count * w], count, packed);
-        look_up(acc, &packed[..], &tables[at..at + 256]);
+        look_up(acc, packed, &tables[at..at + 256]);
         reads += count;
     }
     reads

@@ -13,27 +13,16 @@ mod columns;
 mod listed;
 mod rows;
 
-ghost use Rattle.std.specs.Prelude.{◌≡◌, ◌+◌, ◌*◌, ◌≤◌, ◌<◌, length, get_or};
+ghost use Rattle.std.specs.Prelude.{◌≡◌, length, get_or};
 
 pub use columns::add_columns;
 pub use listed::add_listed;
 pub use rows::add_rows;
-
-// How many of n rows are packed from row 8 g on: eight, or those that are left.
-fn rows_left(n: usize, g: usize) -> usize
-    requires { 8 * g < n }
-    ensures { (8 * g + result ≤ n) × (0 < result) × (result ≤ 8) × (result < 8 → 8 * g + result ≡ n) }
-{
-    if n - 8 * g < 8 {
-        return n - 8 * g;
-    }
-    8
-}
 
 // Entry b of a table of 256.
 fn entry(table: &[u32], b: u8) -> u32
     requires { length table.now ≡ 256 }
     ensures { result ≡ get_or table.now b 0 }
 {
-    table[b as usize]
+    table[usize::from(b)]
 }

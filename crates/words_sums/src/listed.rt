@@ -35,44 +35,25 @@ fn few_bits(list: &[u8], bits: &[u8], p: usize, w: usize, count: usize) -> u8
     ensures { result ≡ listed_byte list.now bits.now p w count }
 {
     let mut v: u8 = 0;
-    let mut i = count;
-    while 0 < i {
-        i -= 1;
+    for i in (0..count).rev() {
         v = 2 * v + bit_at(list, bits, p + i * w);
     }
     v
 }
 
-// Adds to each entry of `acc` the entry of the table that the byte of its eight bits names: for entry a those from place p + a on.
-fn look_eight(acc: &mut [u32], list: &[u8], bits: &[u8], p: usize, table: &[u32])
-    requires { Sends list.now (length bits.now) × Bits bits.now × (p + 8 * length acc.old ≤ length bits.now) × (length table.now ≡ 256) }
-    ensures { (length acc.new ≡ length acc.old)
-        × ((a : ℕ) → a < length acc.old → get_or acc.new a 0 ≡ get_or acc.old a 0
-        ⊕ get_or table.now (listed_byte list.now bits.now (p + a) (length acc.old) 8) 0) }
+// `few_bits`, with the loop written out where there are eight bits.
+fn bits_of(list: &[u8], bits: &[u8], p: usize, w: usize, count: usize) -> u8
+    requires { Sends list.now (length bits.now) × Bits bits.now × (count ≤ 8) × (p + count * w < length bits.now + w) }
+    ensures { result ≡ listed_byte list.now bits.now p w count }
 {
-    let w = acc.len();
-    for a in 0..w {
-        let v = eight_bits(list, bits, p + a, w);
-        acc[a] = acc[a] ^ crate::entry(table, v);
+    if count == 8 {
+        eight_bits(list, bits, p, w)
+    } else {
+        few_bits(list, bits, p, w, count)
     }
 }
 
-// The same for `count` bits, at most eight.
-fn look_few(acc: &mut [u32], list: &[u8], bits: &[u8], p: usize, count: usize, table: &[u32])
-    requires { Sends list.now (length bits.now) × Bits bits.now × (count ≤ 8) × (p + count * length acc.old ≤ length bits.now)
-        × (length table.now ≡ 256) }
-    ensures { (length acc.new ≡ length acc.old)
-        × ((a : ℕ) → a < length acc.old → get_or acc.new a 0 ≡ get_or acc.old a 0
-        ⊕ get_or table.now (listed_byte list.now bits.now (p + a) (length acc.old) count) 0) }
-{
-    let w = acc.len();
-    for a in 0..w {
-        let v = few_bits(list, bits, p + a, w, count);
-        acc[a] = acc[a] ^ crate::entry(table, v);
-    }
-}
-
-// Adds what a group of at most eight places of each column names in its table.
+// Adds to each entry of `acc` the entry of the table that the byte of its `count` bits names, at most eight: for entry a those from place p + a on.
 fn look_listed(acc: &mut [u32], list: &[u8], bits: &[u8], p: usize, count: usize, table: &[u32])
     requires { Sends list.now (length bits.now) × Bits bits.now × (count ≤ 8) × (p + count * length acc.old ≤ length bits.now)
         × (length table.now ≡ 256) }
@@ -80,11 +61,10 @@ fn look_listed(acc: &mut [u32], list: &[u8], bits: &[u8], p: usize, count: usize
         × ((a : ℕ) → a < length acc.old → get_or acc.new a 0 ≡ get_or acc.old a 0
         ⊕ get_or table.now (listed_byte list.now bits.now (p + a) (length acc.old) count) 0) }
 {
-    if count == 8 {
-        look_eight(acc, list, bits, p, table);
-        return;
+    let w = acc.len();
+    for (a, sum) in acc.iter_mut().enumerate() {
+        *sum ^= crate::entry(table, bits_of(list, bits, p + a, w, count));
     }
-    look_few(acc, list, bits, p, count, table);
 }
 
 // Adds to each of the lent entries of `acc` the entries of `part` at the ones of its column: bit j of column a is the byte of `bits` to which the list sends
@@ -102,7 +82,7 @@ pub fn add_listed(acc: &mut [u32], list: &[u8], bits: &[u8], part: &[u32], table
     let groups = (part.len() + 7) / 8;
     let mut reads: usize = 0;
     for g in 0..groups {
-        let count = crate::rows_left(part.len(), g);
+        let count = (part.len() - 8 * g).min(8);
         let at = 256 * g;
         look_listed(acc, list, bits, 8 * g * w, count, &tables[at..at + 256]);
         reads += count;

@@ -12,7 +12,7 @@ fn tile_sum(turned: &[u8], i: usize, count: usize, tables: &[u32]) -> u32
     let mut x: u32 = 0;
     for c in 0..count {
         let at = 256 * c;
-        x = x ^ crate::entry(&tables[at..at + 256], turned[8 * c + i]);
+        x ^= crate::entry(&tables[at..at + 256], turned[8 * c + i]);
     }
     x
 }
@@ -24,8 +24,8 @@ fn add_tiles(acc: &mut [u32], turned: &[u8], count: usize, tables: &[u32])
         × ((i : ℕ) → i < length acc.old → get_or acc.new i 0 ≡ get_or acc.old i 0
         ⊕ xor_sum count (λ c. get_or tables.now (256 * c + get_or turned.now (8 * c + i) 0) 0)) }
 {
-    for i in 0..acc.len() {
-        acc[i] = acc[i] ^ tile_sum(turned, i, count, tables);
+    for (i, sum) in acc.iter_mut().enumerate() {
+        *sum ^= tile_sum(turned, i, count, tables);
     }
 }
 
@@ -51,12 +51,12 @@ fn add_rows_in(
     let groups = (acc.len() + 7) / 8;
     let mut reads: usize = 0;
     for g in 0..groups {
-        let rows = crate::rows_left(acc.len(), g);
+        let rows = (acc.len() - 8 * g).min(8);
         let first = 8 * g;
         let from = first * w;
         reads = words_packed::pack(&block[from..from + rows * w], rows, &mut packed[0..w]);
-        matrix::turn(&packed[..], count, turned);
-        add_tiles(&mut acc[first..first + rows], &turned[..], count, tables);
+        matrix::turn(packed, count, turned);
+        add_tiles(&mut acc[first..first + rows], turned, count, tables);
     }
     reads
 }

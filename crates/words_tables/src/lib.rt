@@ -22,8 +22,9 @@ fn double(table: &mut [u32], w: usize, x: u32)
         × ((v : ℕ) → v < w → get_or table.new v 0 ≡ get_or table.old v 0)
         × ((v : ℕ) → v < w → get_or table.new (w + v) 0 ≡ get_or table.old v 0 ⊕ x) }
 {
-    for v in 0..w {
-        table[w + v] = table[v] ^ x;
+    let (sums, more) = table.split_at_mut(w);
+    for (v, &sum) in sums.iter().enumerate() {
+        more[v] = sum ^ x;
     }
 }
 
@@ -31,10 +32,7 @@ fn double(table: &mut [u32], w: usize, x: u32)
 fn entry_at(part: &[u32], k: usize) -> u32
     ensures { result ≡ get_or part.now k 0 }
 {
-    if part.len() <= k {
-        return 0;
-    }
-    part[k]
+    part.get(k).copied().unwrap_or(0)
 }
 
 // Makes the table of the sums of the eight entries from entry `from` on: entry v adds those at the ones of v, the first for the lowest.
@@ -47,7 +45,7 @@ fn fill_table(part: &[u32], from: usize, table: &mut [u32])
     let mut w: usize = 1;
     for i in 0..EIGHT {
         double(table, w, entry_at(part, from + i));
-        w = w * 2;
+        w *= 2;
     }
 }
 

@@ -3,10 +3,6 @@ use native.Mathlib.Omega.{arith}
 use Rattle.bch_field.proofs.Solved.{sizes}
 use Rattle.bch_field.proofs.fill_field.Goals as goal
 
-pub overflow_sub-q : goal.overflow_sub-q
-overflow_sub-q c =
-    omega (arith, c.requires.2, sizes c.args.m c.requires.0 c.requires.1)
-
 pub slice_bounds-powers-end : goal.slice_bounds-powers-end
 slice_bounds-powers-end c =
     omega (arith, c.requires.2, sizes c.args.m c.requires.0 c.requires.1)

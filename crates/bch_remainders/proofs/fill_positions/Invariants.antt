@@ -1,5 +1,4 @@
 -- The loop's invariant: the entries from `i` on are the powers of their positions, and `v` is the power that position `i - 1` carries.
--- The measure is `i`.
 use mathlib.Core.Path.{◌≡◌}
 use Prim.Native.Nat.{ℕ, ◌-◌, ◌≤◌, ◌<◌}
 use lib.ListN.{length, get_or}
@@ -8,8 +7,5 @@ use Rattle.bch_remainders.proofs.fill_positions.Given as goal
 
 abbrev pub invariant-loop-i : goal.invariant-loop-i
 invariant-loop-i l =
-    (l.i ≤ length l.initial.table) × (length l.table ≡ length l.initial.table) × (l.v ≡ power_mod l.g l.r (length l.initial.table - l.i))
+    (l.v ≡ power_mod l.g l.r (length l.initial.table - l.i))
     × ((k : ℕ) → l.i ≤ k → k < length l.initial.table → get_or l.table k 0 ≡ power_mod l.g l.r (length l.initial.table - 1 - k))
-
-abbrev pub decreases-loop-i : goal.decreases-loop-i
-decreases-loop-i l = l.i

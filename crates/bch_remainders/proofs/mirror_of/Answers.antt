@@ -36,32 +36,6 @@ all-bits a p r g k z e =
 small : (a i : ℕ) → a < 2 ^ i → i ≤ 30 → a < 1073741824
 small a i h l = let p : 2 ^ i ≤ 2 ^ 30 = pow_mono l in omega (arith, h, p)
 
--- src/lib.rt:73:16
-pub overflow_add-bits : goal.overflow_add-bits
-overflow_add-bits c = omega arith
-
--- src/lib.rt:74:5
-pub loop-i-init : goal.loop-i-init
-loop-i-init c =
-    let a = c.args in
-    (omega arith, omega arith, omega arith, no_bits a.g (a.r + 1))
-
--- src/lib.rt:75:13
-pub overflow_mul-a : goal.overflow_mul-a
-overflow_mul-a c = let l = c.loop-i in omega (arith, small l.a l.i l.invariant.2 (omega arith))
-
--- src/lib.rt:75:13
-pub overflow_add-a : goal.overflow_add-a
-overflow_add-a c = let l = c.loop-i in omega (arith, small l.a l.i l.invariant.2 (omega arith))
-
--- src/lib.rt:74:9
-pub overflow_step-i : goal.overflow_step-i
-overflow_step-i c = omega arith
-
--- src/lib.rt:74:5
-pub loop-i-smaller : goal.loop-i-smaller
-loop-i-smaller c = omega arith
-
 -- src/lib.rt:74:5
 pub loop-i-preserved : goal.loop-i-preserved
 loop-i-preserved c =

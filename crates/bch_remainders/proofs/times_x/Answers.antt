@@ -1,13 +1,9 @@
 -- Where twice v is below 2^r it is the answer; otherwise g is taken away once.
 use mathlib.Core.Path.{sym}
 use native.Mathlib.Omega.{arith}
-use lib.Pow.{pow_mono}
 use Rattle.bch.proofs.Modulus.{times_x-small}
 use Rattle.bch_remainders.proofs.Powers.{times_x_over}
 use Rattle.bch_remainders.proofs.times_x.Goals as goal
-
-pub overflow_mul-w : goal.overflow_mul-w
-overflow_mul-w c = omega (arith, pow_mono {i = c.args.r} {j = 30} (omega arith))
 
 pub returns-then-w-top : goal.returns-then-w-top
 returns-then-w-top c = let a = c.args in sym (times_x-small a.g a.r a.v (omega arith))

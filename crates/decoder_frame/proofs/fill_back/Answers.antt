@@ -10,7 +10,7 @@ use Rattle.layout.specs.Layouts.{tail_in}
 use Rattle.layout.proofs.Layouts.{bits_highest}
 use Rattle.words_blocks.proofs.Sums.{part_length}
 use Rattle.words_tables.specs.Tables.{MayParts}
-use Rattle.words_positions.proofs.Parts.{part-fits, part-is}
+use Rattle.words_positions.proofs.Parts.{part-is}
 use Rattle.words_lines.specs.Words.{ReadTable}
 use Rattle.decoder_frame.proofs.fill_back.Goals as goal
 
@@ -26,13 +26,6 @@ turn_tables-requires c =
     let n = length a.positions.now in
     let small = bits_highest a.frames.shape a.frames.d p.0.tail.allowed in
     (p.0.tail.allowed, p.1, part_length _ 0 n n (omega arith) (omega (arith, p.1.long, small)), p.3.long)
-
-pub slice_bounds-fill_pass-end : goal.slice_bounds-fill_pass-end
-slice_bounds-fill_pass-end c =
-    let x = c.turn_tables in
-    let n = length c.args.positions.now in
-    let all : length x.new.back ≡ n = omega arith in
-    part-fits x.new.back _ _ all
 
 pub fill_pass-requires : goal.fill_pass-requires
 fill_pass-requires c =

@@ -5,7 +5,7 @@ use Rattle.design.specs.Sizes.{params_of}
 use Rattle.layout.specs.Layouts.{tail_in}
 use Rattle.words_blocks.proofs.Sums.{part_length}
 use Rattle.words_tables.specs.Tables.{MayParts}
-use Rattle.words_positions.proofs.Parts.{part-fits, part-is}
+use Rattle.words_positions.proofs.Parts.{part-is}
 use Rattle.words_lines.proofs.Tables.{parts_asked, parts_of}
 use Rattle.decoder_frame.proofs.fill_by_tables.Goals as goal
 
@@ -16,13 +16,6 @@ fill_parts-requires c =
     let entries = c.entries-tables in
     parts_asked a.frames.shape a.frames.d a.positions.now p.0.tail.allowed p.1.long c.size-size.ensures c.tail_bits-tail.ensures.0 p.4
     (part_length entries.result 0 a.due a.due (omega arith) (omega (arith, entries.ensures, p.3)))
-
-pub slice_bounds-tables-end-2 : goal.slice_bounds-tables-end-2
-slice_bounds-tables-end-2 c =
-    let x = c.fill_parts in
-    let entries = c.entries-tables in
-    let all = x.ensures.1 ∙ part_length entries.result 0 c.args.due c.args.due (omega arith) (omega (arith, entries.ensures, c.requires.3)) in
-    part-fits x.new.tables _ _ all
 
 pub fill_both-requires : goal.fill_both-requires
 fill_both-requires c =

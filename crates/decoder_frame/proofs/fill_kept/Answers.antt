@@ -1,14 +1,13 @@
 -- The numbers stand first in what is kept.
 use native.Mathlib.Omega.{arith}
-use mathlib.Core.Path.{◌≡◌, ◌∙◌, subst⁻¹, subst₂}
+use mathlib.Core.Path.{◌∙◌, subst⁻¹, subst₂}
 use mathlib.Core.Bool.{false}
-use Prim.Native.Nat.{ℕ, ◌-◌, ◌*◌}
-use lib.ListN.{length}
+use Prim.Native.Nat.{ℕ, ◌*◌}
 use Rattle.bch.specs.Code.{generator}
 use Rattle.bch.specs.Powers.{PositionPowers}
 use Rattle.design.specs.Sizes.{params_of}
 use Rattle.layout.proofs.Layouts.{bits_highest, code_in, size_highest}
-use Rattle.words_positions.proofs.Parts.{part-fits, part-is}
+use Rattle.words_positions.proofs.Parts.{part-is}
 use Rattle.words_blocks.proofs.Sums.{part_length}
 use Rattle.words_lines.specs.Words.{ReadTable}
 use Rattle.words_lines.proofs.Tables.{ahead_table}
@@ -29,16 +28,6 @@ pub fill_code-requires : goal.fill_code-requires
 fill_code-requires c =
     let g = c.args.frames in
     rw (c.m-m.ensures, c.t-t.ensures) (code_in g.shape g.d c.requires.0.tail.allowed)
-
-pub slice_bounds-fill_numbers-end : goal.slice_bounds-fill_numbers-end
-slice_bounds-fill_numbers-end c =
-    let x = c.fill_code in
-    let all : length x.new.positions ≡ c.word_bits-bits.result = omega arith in
-    part-fits x.new.positions _ _ all
-
-pub slice_bounds-fill_numbers-end-2 : goal.slice_bounds-fill_numbers-end-2
-slice_bounds-fill_numbers-end-2 c =
-    omega (arith, c.number_bytes-n.ensures.0, c.requires.1)
 
 pub fill_numbers-requires : goal.fill_numbers-requires
 fill_numbers-requires c =

@@ -1,5 +1,5 @@
 use mathlib.Core.Path.{◌≡◌, sym, ◌∙◌}
-use Prim.Native.Nat.{◌-◌, ◌<◌}
+use Prim.Native.Nat.{◌<◌}
 use native.Mathlib.Omega.{arith}
 use Rattle.staircase.specs.Frame.{frame_of}
 use Rattle.staircase.specs.Decoder.{run_each}
@@ -25,24 +25,6 @@ loop-k-init c =
       λ y M. M,
     )
 
-pub correct_lines-more-requires : goal.correct_lines-more-requires
-correct_lines-more-requires c = (c.requires.0, c.requires.1, c.loop-k.invariant.2)
-
-pub overflow_add-flips : goal.overflow_add-flips
-overflow_add-flips c = omega (arith, c.correct_lines-more.ensures.2, c.loop-k.invariant.0, c.loop-k.invariant.3, c.loop-k-test.true, c.requires.3)
-
-pub overflow_add-result : goal.overflow_add-result
-overflow_add-result c = omega (arith, c.loop-k-test.true, c.requires.3)
-
-pub shape_of-info-then-more-eq0 : goal.shape_of-info-then-more-eq0
-shape_of-info-then-more-eq0 c = omega (arith, c.correct_lines-more.ensures.1.frame.info_length, c.requires.4.frame.info_length)
-
-pub shape_of-red-then-more-eq0 : goal.shape_of-red-then-more-eq0
-shape_of-red-then-more-eq0 c = omega (arith, c.correct_lines-more.ensures.1.frame.red_length, c.requires.4.frame.red_length)
-
-pub shape_of-kept-then-more-eq0 : goal.shape_of-kept-then-more-eq0
-shape_of-kept-then-more-eq0 c = omega (arith, c.correct_lines-more.ensures.1.long, c.requires.4.long)
-
 pub returns-then-more-eq0 : goal.returns-then-more-eq0
 returns-then-more-eq0 c =
     let h : c.loop-k.k < c.args.stretch.limit = omega (arith, c.loop-k-test.true) in
@@ -63,12 +45,6 @@ returns-then-more-eq0 c =
       omega (arith, r.2, l.invariant.0, l.invariant.3, h, c.requires.3),
       λ y M. r.5 y (l.invariant.6 y M),
     )
-
-pub overflow_step-k : goal.overflow_step-k
-overflow_step-k c = omega (arith, c.loop-k-test.true, c.requires.3)
-
-pub loop-k-smaller : goal.loop-k-smaller
-loop-k-smaller c = omega (arith, c.loop-k-test.true)
 
 pub loop-k-preserved : goal.loop-k-preserved
 loop-k-preserved c =
@@ -91,15 +67,6 @@ loop-k-preserved c =
       last_more ws (last_stuck ws a.stretch.limit f) a.stretch.limit l.k l.stuck g l.invariant.5 h _ e _ k c.if-more-eq0.false,
       λ y M. r.5 y (l.invariant.6 y M),
     )
-
-pub shape_of-info : goal.shape_of-info
-shape_of-info c = omega (arith, c.loop-k.invariant.2.frame.info_length, c.requires.4.frame.info_length)
-
-pub shape_of-red : goal.shape_of-red
-shape_of-red c = omega (arith, c.loop-k.invariant.2.frame.red_length, c.requires.4.frame.red_length)
-
-pub shape_of-kept : goal.shape_of-kept
-shape_of-kept c = omega (arith, c.loop-k.invariant.2.long, c.requires.4.long)
 
 pub returns : goal.returns
 returns c =

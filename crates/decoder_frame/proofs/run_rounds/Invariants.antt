@@ -1,5 +1,5 @@
 -- The loop's invariant: the rounds before `k` are made, and those that are left end as all do; the stuck words of the last round made are those of the
--- last round of these, or `stuck` where all are made. The measure is the number of rounds left.
+-- last round of these, or `stuck` where all are made.
 use mathlib.Core.Path.{◌≡◌}
 use Prim.Native.Nat.{◌-◌, ◌*◌, ◌≤◌}
 use Rattle.staircase.specs.Frame.{frame_of}
@@ -16,6 +16,3 @@ invariant-loop-k l =
     × (run_each (stretch_words l.line l.links l.lines) l.limit (frame_of l.initial.info l.initial.red) ≡ after l.k l.flips (run_each (stretch_words l.line l.links l.lines) (l.limit - l.k) (frame_of l.info l.red)))
     × Last (stretch_words l.line l.links l.lines) (last_stuck (stretch_words l.line l.links l.lines) l.limit (frame_of l.initial.info l.initial.red)) l.limit l.k l.stuck (frame_of l.info l.red)
     × LineMarks l.line.frames l.initial.info l.initial.red l.initial.kept l.info l.red l.kept
-
-abbrev pub decreases-loop-k : goal.decreases-loop-k
-decreases-loop-k l = l.limit - l.k

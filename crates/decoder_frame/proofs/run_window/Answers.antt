@@ -21,9 +21,6 @@ use Rattle.decoder_frame.proofs.Positions.{window-at, slide_none, slide_next, st
 use Rattle.decoder_frame.proofs.Feed.{feed_lines}
 use Rattle.decoder_frame.proofs.run_window.Goals as goal
 
-pub position_count-count-requires : goal.position_count-count-requires
-position_count-count-requires c = (c.requires.0.fits.few-blocks, c.requires.1)
-
 pub loop-p-init : goal.loop-p-init
 loop-p-init c =
     let k = c.position_count-count.ensures in
@@ -41,9 +38,6 @@ loop-p-init c =
       λ y M. M,
     )
 
-pub overflow_mul-p : goal.overflow_mul-p
-overflow_mul-p c = omega (arith, c.loop-p-test.true, c.loop-p.invariant.1)
-
 pub run_rounds-made-requires : goal.run_rounds-made-requires
 run_rounds-made-requires c =
     let p = c.requires in
@@ -60,26 +54,6 @@ run_rounds-made-requires c =
     subst⁻¹ (P c.line_at-here.result) c.stretch_of.ensures
     (subst⁻¹ (λ (z : Line). P z y) at
     (p.0, fit, p.1.some-rounds, p.1.few-rounds, l.invariant.3))
-
-pub stretch_of-requires : goal.stretch_of-requires
-stretch_of-requires c =
-    omega (arith, c.requires.1.all-groups, c.requires.0.fits.few-blocks)
-
-pub overflow_add-rounds : goal.overflow_add-rounds
-overflow_add-rounds c =
-    omega (arith, c.run_rounds-made.ensures.3, c.loop-p.invariant.4, c.loop-p.invariant.1, c.loop-p-test.true)
-
-pub overflow_add-flips : goal.overflow_add-flips
-overflow_add-flips c =
-    omega (arith, c.run_rounds-made.ensures.4, c.loop-p.invariant.5, c.loop-p.invariant.1, c.loop-p-test.true)
-
-pub overflow_step-p : goal.overflow_step-p
-overflow_step-p c =
-    omega (arith, c.loop-p-test.true, c.loop-p.invariant.1)
-
-pub loop-p-smaller : goal.loop-p-smaller
-loop-p-smaller c =
-    omega (arith, c.loop-p-test.true)
 
 pub loop-p-preserved : goal.loop-p-preserved
 loop-p-preserved c =
@@ -114,18 +88,6 @@ loop-p-preserved c =
       stuck_next W K f l.p x l.invariant.6 r.stuck (here.1 ∙ ap (λ (ws : List Word). last_stuck ws K (frame_of l.info l.red)) same),
       λ y M. here.3 y (l.invariant.8 y M),
     )
-
-pub shape_of-info : goal.shape_of-info
-shape_of-info c =
-    omega (arith, c.loop-p.invariant.3.frame.info_length, c.requires.2.frame.info_length)
-
-pub shape_of-red : goal.shape_of-red
-shape_of-red c =
-    omega (arith, c.loop-p.invariant.3.frame.red_length, c.requires.2.frame.red_length)
-
-pub shape_of-kept : goal.shape_of-kept
-shape_of-kept c =
-    omega (arith, c.loop-p.invariant.3.long, c.requires.2.long)
 
 pub returns : goal.returns
 returns c =

@@ -1,5 +1,4 @@
--- The loop's invariant: the positions before `p` are made, and `stuck` are the stuck words of the last of their rounds. The measure is the number of
--- positions left.
+-- The loop's invariant: the positions before `p` are made, and `stuck` are the stuck words of the last of their rounds.
 use mathlib.Core.Path.{◌≡◌}
 use Prim.Native.Nat.{ℕ, ◌+◌, ◌-◌, ◌*◌, ◌≤◌}
 use Rattle.staircase.specs.Frame.{frame_of, groups}
@@ -20,6 +19,3 @@ invariant-loop-p l =
     × ((q : ℕ) → l.p ≡ q + 1
     → l.stuck ≡ slide_stuck (read_window (params_of l.frames.d) (lists_in l.frames.d l.links) l.frames.blocks l.window.groups) q l.window.limit (frame_of l.initial.info l.initial.red))
     × LineMarks (feed_frames l.frames.d l.frames.blocks) l.initial.info l.initial.red l.initial.kept l.info l.red l.kept
-
-abbrev pub decreases-loop-p : goal.decreases-loop-p
-decreases-loop-p l = l.count - l.p

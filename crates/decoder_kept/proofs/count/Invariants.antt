@@ -1,11 +1,8 @@
--- The loop's invariant: the numbers before `k` are counted. The measure is the number of numbers left.
+-- The loop's invariant: the numbers before `k` are counted.
 use mathlib.Core.Path.{◌≡◌}
-use Prim.Native.Nat.{◌-◌, ◌≤◌}
+use Prim.Native.Nat.{◌≤◌}
 use Rattle.decoder_kept.specs.Numbers.{nonzero_numbers}
 use Rattle.decoder_kept.proofs.count.Given as goal
 
 abbrev pub invariant-loop-k : goal.invariant-loop-k
-invariant-loop-k l = (l.k ≤ l.n) × (l.numbers ≤ l.k) × (l.numbers ≡ nonzero_numbers l.kept l.k)
-
-abbrev pub decreases-loop-k : goal.decreases-loop-k
-decreases-loop-k l = l.n - l.k
+invariant-loop-k l = (l.numbers ≤ l.k) × (l.numbers ≡ nonzero_numbers l.kept l.k)

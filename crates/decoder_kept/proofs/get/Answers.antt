@@ -4,4 +4,4 @@ use Rattle.decoder_kept.proofs.get.Goals as goal
 
 pub returns : goal.returns
 unfolding kept_at
-returns c = omega arith
+returns c = omega (arith, c.from_le_bytes.ensures)

@@ -8,14 +8,6 @@ use Rattle.decoder_lines.proofs.Layouts.{size-high, bits-high}
 use Rattle.decoder_lines.proofs.CrossingWord.{crossing-word, crossing-position, power_added, none_added}
 use Rattle.decoder_lines.proofs.add_power.Goals as goal
 
-pub crossing_word-c-requires : goal.crossing_word-c-requires
-crossing_word-c-requires c =
-    let p = c.requires in
-    (p.0, p.2, p.3, p.5)
-
-pub line_count-requires : goal.line_count-requires
-line_count-requires c = c.requires.0.frames.few-blocks
-
 pub place-w-requires : goal.place-w-requires
 place-w-requires c =
     let a = c.args in

@@ -1,12 +1,10 @@
 -- No block stands before the first, and none after the last.
-use native.Mathlib.Omega.{arith}
 use mathlib.Core.Path.{◌≡◌, sym, ap, ◌∙◌, subst}
 use mathlib.Core.List.{[], ◌∷◌}
 use Prim.Native.Nat.{ℕ, ◌+◌, ◌-◌, ◌*◌, ◌<◌}
 use lib.Arith.{digits_lt}
 use Rattle.staircase.specs.Frame.{Site}
 use Rattle.staircase.specs.Frame.Site.{in_info}
-use Rattle.staircase.proofs.Bounds.{small_product}
 use Rattle.design.specs.Sizes.{params_of}
 use Rattle.decoder_flips.specs.Sites.{sites_of, Inside}
 use Rattle.decoder_lines.proofs.Places.{block_none, block-past, block_one}
@@ -21,14 +19,6 @@ pub returns-then-blocks-b : goal.returns-then-blocks-b
 unfolding sites_of Inside
 returns-then-blocks-b c =
     let a = c.args in (ap (λ (z : Site). z ∷ []) (block-past (params_of a.d) a.blocks a.b a.c c.if-blocks-b.true c.if-b-lt1.false), λ n. tt)
-
-pub overflow_mul-result : goal.overflow_mul-result
-overflow_mul-result c =
-    let a = c.args in omega (arith, small_product (a.b - 1) c.area.result 4098 4294967296 (omega arith) (omega arith))
-
-pub overflow_add-result : goal.overflow_add-result
-overflow_add-result c =
-    let a = c.args in omega (arith, small_product (a.b - 1) c.area.result 4098 4294967296 (omega arith) (omega arith), c.area.ensures)
 
 pub returns : goal.returns
 unfolding sites_of Inside

@@ -1,6 +1,6 @@
--- The loop's invariant: the entries of places below `q` are filled, and those that name them. The measure is the number of places left.
+-- The loop's invariant: the entries of places below `q` are filled, and those that name them.
 use mathlib.Core.Path.{◌≡◌}
-use Prim.Native.Nat.{◌-◌, ◌*◌, ◌≤◌}
+use Prim.Native.Nat.{◌*◌, ◌≤◌}
 use lib.ListN.{length}
 use Rattle.design.specs.Sizes.{params_of, order_of, lists_of}
 use Rattle.decoder_lines.proofs.Links.{HalfFilled}
@@ -9,6 +9,3 @@ use Rattle.decoder_lines.proofs.fill_links.Given as goal
 abbrev pub invariant-loop-q : goal.invariant-loop-q
 invariant-loop-q l =
     (l.half ≡ 2 * order_of l.d) × (l.q ≤ l.half) × (length l.links ≡ 4 * order_of l.d) × HalfFilled (params_of l.d) (lists_of l.d l.own l.parity) l.links l.q
-
-abbrev pub decreases-loop-q : goal.decreases-loop-q
-decreases-loop-q l = l.half - l.q

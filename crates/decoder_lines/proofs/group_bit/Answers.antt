@@ -3,7 +3,7 @@ use mathlib.Core.Path.{sym, ap, ◌∙◌}
 use mathlib.Core.Bool.{Bool, true, cond}
 use Prim.Native.Nat.{◌%◌}
 use native.Mathlib.Omega.{arith}
-use borrow.Author.Tests.{eq-eqb, ne_eqb}
+use borrow.Author.Tests.{eq-eqb}
 use Rattle.staircase.specs.Lines.{partner}
 use Rattle.design.specs.Sizes.{params_of}
 use Rattle.decoder_lines.specs.Links.{lists_in}
@@ -20,9 +20,3 @@ returns-then-k-eq0 c =
     let f = partner (params_of a.d) (lists_in a.d a.links.now) true a.q in
     let e = c.link_at.ensures.0 ∙ link_row p.0 a.q p.1 in
     (e ∙ sym (ap (λ (z : Bool). cond z f a.q) (eq-eqb (a.k % 2) 0 c.if-k-eq0.true)), omega (arith, e, link_below p.0 a.q p.1))
-
-pub returns : goal.returns
-returns c =
-    let a = c.args in
-    let f = partner (params_of a.d) (lists_in a.d a.links.now) true a.q in
-    (sym (ap (λ (z : Bool). cond z f a.q) (ne_eqb (a.k % 2) 0 c.if-k-eq0.false)), c.requires.1)

@@ -1,23 +1,13 @@
 -- The group is stretch i of the redundancy.
-use native.Mathlib.Omega.{arith}
 use mathlib.Core.Path.{◌≡◌, sym, ap, subst}
 use mathlib.Core.List.{[], ◌∷◌}
 use Prim.Native.Nat.{ℕ, ◌+◌, ◌*◌, ◌<◌}
 use Rattle.staircase.specs.Frame.{groups}
 use Rattle.staircase.specs.Frame.Site.{in_red}
 use lib.Arith.{digits_lt}
-use Rattle.staircase.proofs.Bounds.{small_product}
 use Rattle.design.specs.Sizes.{order_of}
 use Rattle.decoder_flips.specs.Sites.{sites_of, Inside}
 use Rattle.decoder_lines.proofs.group_site.Goals as goal
-
-pub overflow_mul-result-2 : goal.overflow_mul-result-2
-overflow_mul-result-2 c =
-    let a = c.args in omega (arith, small_product a.i (2 * c.order.result) 4096 8589934592 (omega arith) (omega arith))
-
-pub overflow_add-result : goal.overflow_add-result
-overflow_add-result c =
-    let a = c.args in omega (arith, small_product a.i (2 * c.order.result) 4096 8589934592 (omega arith) (omega arith), c.order.ensures)
 
 pub returns : goal.returns
 unfolding sites_of Inside

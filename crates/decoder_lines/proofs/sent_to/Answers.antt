@@ -8,9 +8,6 @@ use Rattle.rules.proofs.Entries.{entry-at}
 use Rattle.decoder_lines.proofs.Links.{partner-first, partner-second}
 use Rattle.decoder_lines.proofs.sent_to.Goals as goal
 
-pub entry-requires : goal.entry-requires
-entry-requires c = omega (arith, c.if-q-n.true, c.order-n.ensures.0, c.requires.1.own_length)
-
 pub returns-then-q-n : goal.returns-then-q-n
 returns-then-q-n c =
     let a = c.args in
@@ -20,9 +17,6 @@ returns-then-q-n c =
       e ∙ sym (partner-first (params_of a.d) (lists_of a.d a.own.now a.parity.now) true a.q h),
       omega (arith, e, c.requires.1.own_permutes.below a.q h),
     )
-
-pub entry-requires-2 : goal.entry-requires-2
-entry-requires-2 c = omega (arith, c.if-q-n.false, c.order-n.ensures.0, c.requires.1.parity_length, c.requires.2)
 
 pub returns : goal.returns
 returns c =

@@ -12,9 +12,6 @@ use Rattle.decoder_lines.proofs.Layouts.{size-high, bits-high, lines-few, lawful
 use Rattle.decoder_lines.proofs.CrossingWord.{red-place, at_row, at-column}
 use Rattle.decoder_lines.proofs.straight_crossing.Goals as goal
 
-pub overflow_sub-result : goal.overflow_sub-result
-overflow_sub-result c = c.requires.3 (omega (arith, c.if-p-size.true, c.size-size.ensures))
-
 pub returns-then-p-size : goal.returns-then-p-size
 returns-then-p-size c =
     let a = c.args in

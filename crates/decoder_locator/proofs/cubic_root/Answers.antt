@@ -18,10 +18,6 @@ solution_at-g-requires c =
     let n = length c.args.field.now / 4 - 1 in
     (F, omega arith, omega arith, within F (c.log_of-u.result + 6 * n - 3 * c.half_exponent-h.result))
 
-pub power_at-requires : goal.power_at-requires
-power_at-requires c =
-    let F = c.requires.0 in (F, within F (c.half_exponent-h.result + c.solution_at-g.result))
-
 pub log_of-requires-2 : goal.log_of-requires-2
 unfolding ◌⊕◌
 log_of-requires-2 c =

@@ -1,5 +1,5 @@
 use mathlib.Core.Path.{◌≡◌, refl, sym, ap, ap₂, ◌∙◌}
-use Prim.Native.Nat.{ℕ, ◌-◌, ◌*◌, ◌/◌, ◌%◌, ◌^◌, ◌≤◌}
+use Prim.Native.Nat.{ℕ, ◌*◌, ◌/◌, ◌%◌, ◌^◌, ◌≤◌}
 use native.Mathlib.Nat.{mul-le-mul, le_refl}
 use native.Mathlib.Numerals.{add-one}
 use native.Mathlib.Omega.{arith}
@@ -11,19 +11,10 @@ use Rattle.decoder_locator.proofs.Roots.{count-is, count-size}
 use Rattle.decoder_locator.proofs.Cubics.{fifth_next}
 use Rattle.decoder_locator.proofs.fifth_of.Goals as goal
 
-pub overflow_sub-n : goal.overflow_sub-n
-overflow_sub-n c = omega (arith, count-size c.requires.0)
-
 pub loop-k-init : goal.loop-k-init
 unfolding xor_sum
 loop-k-init c =
     let n = count-size c.requires.0 in (omega arith, omega (arith, n.0, count-is c.requires.0), refl, refl)
-
-pub overflow_shr-acc : goal.overflow_shr-acc
-overflow_shr-acc c = omega arith
-
-pub power_at-requires : goal.power_at-requires
-power_at-requires c = (c.requires.0, c.loop-k.invariant.1)
 
 pub overflow_mul-acc : goal.overflow_mul-acc
 overflow_mul-acc c =
@@ -32,19 +23,9 @@ overflow_mul-acc c =
     let v = c.power_at.result in
     omega (arith, mul-le-mul b (le_refl v), c.power_at.ensures.1, count-is F, count-size F)
 
-pub overflow_add-e : goal.overflow_add-e
-overflow_add-e c =
-    omega (arith, c.loop-k.invariant.1, count-is c.requires.0, count-size c.requires.0)
-
 pub wrap-e-requires : goal.wrap-e-requires
 wrap-e-requires c =
     omega (arith, c.loop-k.invariant.1, count-is c.requires.0, count-size c.requires.0)
-
-pub overflow_step-k : goal.overflow_step-k
-overflow_step-k c = omega arith
-
-pub loop-k-smaller : goal.loop-k-smaller
-loop-k-smaller c = omega arith
 
 pub loop-k-preserved : goal.loop-k-preserved
 unfolding xor_sum ◌⊕◌

@@ -1,4 +1,4 @@
--- The loop's invariant: `acc` is the sum of the values of the first `k` bits, and power e is that of 5 k. The measure is the number of bits left.
+-- The loop's invariant: `acc` is the sum of the values of the first `k` bits, and power e is that of 5 k.
 use mathlib.Core.Path.{◌≡◌}
 use Prim.Native.Nat.{◌-◌, ◌*◌, ◌/◌, ◌%◌, ◌^◌, ◌≤◌, ◌<◌}
 use Rattle.bch.specs.Field.{power}
@@ -8,6 +8,3 @@ use Rattle.decoder_locator.proofs.fifth_of.Given as goal
 abbrev pub invariant-loop-k : goal.invariant-loop-k
 invariant-loop-k l =
     (l.k ≤ l.r) × (l.e < 2 ^ l.m - 1) × (power l.m l.e ≡ power l.m (5 * l.k)) × (l.acc ≡ xor_sum l.k (λ i. (l.x / 2 ^ i % 2) * power l.m (5 * i)))
-
-abbrev pub decreases-loop-k : goal.decreases-loop-k
-decreases-loop-k l = l.r - l.k

@@ -1,95 +1,54 @@
-use mathlib.Core.Path.{◌≡◌, refl, ap, ◌∙◌, subst⁻¹}
-use Prim.Native.Nat.{ℕ, ◌+◌, ◌-◌, ◌*◌, ◌/◌, ◌%◌}
+use mathlib.Core.Path.{◌≡◌, sym, ap, ◌∙◌, subst, subst⁻¹}
+use mathlib.Core.List.{List, ◌++◌}
+use Prim.Native.Nat.{ℕ, ◌+◌, ◌*◌, ◌/◌, ◌%◌, ◌≤◌}
 use native.Mathlib.Omega.{arith}
-use lib.ListN.{take, length-set}
-use lib.Seq.{length-take-le, take-set-le}
+use lib.ListN.{length, take, drop, length-append, length-drop}
+use lib.Seq.{length-take-le, take-append_seam, drop-append_seam}
 use Rattle.bch.specs.Locator.{SyndromeTable, syndromes}
-use Rattle.decoder_locator.proofs.Fours.{four_fits, filled_more, filled-all}
+use Rattle.decoder_locator.specs.Located.{SumTable}
+use Rattle.decoder_locator.proofs.Fours.{Filled, four_fits, filled_more, filled-all}
 use Rattle.decoder_locator.proofs.fill_sums.Goals as goal
 
-pub overflow_add-count : goal.overflow_add-count
-overflow_add-count c = omega arith
+-- as many entries as are filled
+part : (r : ℕ) (back : List ℕ) → r ≤ 30 → length back ≡ 128 → length (take (16 * ((r + 3) / 4)) back) ≡ 16 * ((r + 3) / 4)
+part r back h b = length-take-le (16 * ((r + 3) / 4)) back (omega arith)
 
-pub overflow_mul-count : goal.overflow_mul-count
-overflow_mul-count c = omega arith
-
-pub loop-p-init : goal.loop-p-init
-loop-p-init c = (omega arith, refl, refl, λ k a b. absurd (omega arith))
-
-pub overflow_mul-low : goal.overflow_mul-low
-overflow_mul-low c = omega arith
-
-pub overflow_add-low : goal.overflow_add-low
-overflow_add-low c = omega arith
-
-pub overflow_cast-p : goal.overflow_cast-p
-overflow_cast-p c = omega arith
-
-pub overflow_cast-low : goal.overflow_cast-low
-overflow_cast-low c = omega arith
-
-pub overflow_shl-p : goal.overflow_shl-p
-overflow_shl-p c = omega arith
-
-pub slice_bounds-values_by_bits-count : goal.slice_bounds-values_by_bits-count
-slice_bounds-values_by_bits-count c = omega arith
-
-pub slice_bounds-values_by_bits-start : goal.slice_bounds-values_by_bits-start
-slice_bounds-values_by_bits-start c = omega arith
-
-pub slice_bounds-values_by_bits-end : goal.slice_bounds-values_by_bits-end
-slice_bounds-values_by_bits-end c = omega arith
-
-pub values_by_bits-v-requires : goal.values_by_bits-v-requires
-values_by_bits-v-requires c =
+pub values_by_bits-requires : goal.values_by_bits-requires
+values_by_bits-requires c =
     let s = c.requires in
-    let a = c.args in
-    let l = c.loop-p in
-    let p = l.p in
-    let e : a.n - 0 ≡ a.n = omega arith in (
+    let e = c.split_at_mut-entries.ensures in
+    let long = part c.args.r c.split_at_mut-entries.result.1.now s.2 (omega arith) in
+    let p = c.loop-p.p in (
       s.0,
       s.1,
-      omega arith,
-      omega (arith, length-take-le (a.n - 0) l.table (omega arith)),
-      (four_fits (p % 16) (4 * (p / 16)) (omega arith) (omega arith)).1,
-      subst⁻¹ (λ (z : ℕ). SyndromeTable a.m (take z l.table)) e (subst⁻¹ (SyndromeTable a.m) l.invariant.2 s.5),
+      omega (arith, long),
+      omega (arith, long, e.front_len),
+      (four_fits (p % 16) (4 * (p / 16)) (omega arith) (omega (arith, long))).1,
+      subst⁻¹ (SyndromeTable c.args.m) e.front s.5,
     )
-
-pub overflow_add-table : goal.overflow_add-table
-overflow_add-table c = omega arith
-
-pub offset_bounds-table-n : goal.offset_bounds-table-n
-offset_bounds-table-n c = omega arith
-
-pub bounds-table-n : goal.bounds-table-n
-bounds-table-n c = omega arith
-
-pub overflow_step-p : goal.overflow_step-p
-overflow_step-p c = omega arith
-
-pub loop-p-smaller : goal.loop-p-smaller
-loop-p-smaller c = omega arith
 
 pub loop-p-preserved : goal.loop-p-preserved
 loop-p-preserved c =
     let a = c.args in
     let l = c.loop-p in
-    let p = l.p in (
-      omega arith,
-      simp length-set (omega arith),
-      take-set-le a.n l.table (a.n + p) _ (omega arith) ∙ l.invariant.2,
-      filled_more a.m a.n p _ l.table (omega arith) l.invariant.3
-          (c.values_by_bits-v.ensures ∙ ap (syndromes a.m) (four_fits (p % 16) (4 * (p / 16)) (omega arith) (omega arith)).0),
-    )
-
-pub shape_of-table : goal.shape_of-table
-shape_of-table c = omega arith
+    let long = part a.r c.split_at_mut-entries.result.1.now c.requires.2 (omega arith) in
+    filled_more a.m l.p _ l.sum-items (omega arith) l.invariant
+    (c.values_by_bits.ensures ∙ ap (syndromes a.m) (four_fits (l.p % 16) (4 * (l.p / 16)) (omega arith) (omega (arith, long))).0)
 
 pub returns : goal.returns
 returns c =
     let a = c.args in
-    let l = c.loop-p in (
-      subst⁻¹ (SyndromeTable a.m) l.invariant.2 c.requires.5,
-      filled-all a.m a.r a.n l.p l.table (omega arith) (omega arith) l.invariant.3,
-      l.invariant.1,
+    let s = c.requires in
+    let l = c.loop-p in
+    let e = c.split_at_mut-entries.ensures in
+    let count = 16 * ((a.r + 3) / 4) in
+    let long = part c.args.r c.split_at_mut-entries.result.1.now s.2 (omega arith) in
+    let front = c.split_at_mut-entries.result.0.now in
+    let back = c.split_at_mut-entries.result.1.now in
+    let rest = l.sum-items ++ drop count back in
+    let filled : Filled a.m (length l.sum-items) l.sum-items = subst (λ (z : ℕ). Filled a.m z l.sum-items) (omega (arith, long)) l.invariant in (
+      subst⁻¹ (SyndromeTable a.m) (ap (λ (z : ℕ). take z (front ++ rest)) (sym e.front_len) ∙ take-append_seam front rest ∙ e.front) s.5,
+      subst⁻¹ (SumTable a.m a.r) (ap (λ (z : ℕ). drop z (front ++ rest)) (sym e.front_len) ∙ drop-append_seam front rest)
+          (filled-all a.m a.r l.sum-items (drop count back) (omega (arith, long)) (omega (arith, long)) filled),
+      simp (length-append, length-drop) (omega (arith, long, e.front_len, e.back_len)),
     )

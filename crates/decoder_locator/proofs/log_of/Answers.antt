@@ -4,4 +4,4 @@ use Rattle.decoder_locator.proofs.log_of.Goals as goal
 
 pub returns : goal.returns
 returns c =
-    log-read c.requires.0 c.requires.1 c.wide.ensures
+    log-read c.requires.0 c.requires.1 c.from.ensures

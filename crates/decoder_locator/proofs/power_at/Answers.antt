@@ -4,4 +4,4 @@ use Rattle.decoder_locator.proofs.power_at.Goals as goal
 
 pub returns : goal.returns
 returns c =
-    power-read c.requires.0 c.requires.1 c.wide.ensures
+    power-read c.requires.0 c.requires.1 c.from.ensures

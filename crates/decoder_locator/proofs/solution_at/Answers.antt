@@ -33,4 +33,4 @@ slice_bounds-solutions-end c =
 pub returns : goal.returns
 returns c =
     let p = c.requires in
-    solution_read p.0 c.args.k p.1 p.2 p.3 c.wide.ensures
+    solution_read p.0 c.args.k p.1 p.2 p.3 c.from.ensures

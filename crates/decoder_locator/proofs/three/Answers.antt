@@ -7,7 +7,7 @@ use Rattle.bch.specs.Polynomial.{◌⊕◌}
 use Rattle.bch.proofs.Sum.{⊕-below}
 use Rattle.bch.proofs.Syndromes.{value-below}
 use Rattle.decoder_locator.specs.Steps.{TripleIs, CubicRootOf}
-use Rattle.decoder_locator.proofs.Values.{field_of, degree_small, low_below, high-below}
+use Rattle.decoder_locator.proofs.Values.{field_of, low_below, high-below}
 use Rattle.decoder_locator.proofs.Triples.{with_one}
 use Rattle.decoder_locator.proofs.Answers.{no_defect, one_of_three, beyond}
 use Rattle.decoder_locator.proofs.three.Goals as goal
@@ -26,16 +26,6 @@ returns-then-d-eq0 c =
 pub power_of-requires-2 : goal.power_of-requires-2
 power_of-requires-2 c =
     let s = c.requires in (field_of s.0.words s.0.tables, omega arith, low_below s.0.words c.args.x s.2)
-
-pub fifth_of-requires : goal.fifth_of-requires
-fifth_of-requires c =
-    let s = c.requires in (field_of s.0.words s.0.tables, degree_small s.0.words, s.4)
-
-pub three_by_trial-requires : goal.three_by_trial-requires
-three_by_trial-requires c = let s = c.requires in (s.0, omega arith, s.2, s.3)
-
-pub returns-then-e-eq0 : goal.returns-then-e-eq0
-returns-then-e-eq0 c = c.three_by_trial.ensures
 
 pub cubic_root-k-requires : goal.cubic_root-k-requires
 unfolding ◌⊕◌
@@ -66,9 +56,6 @@ returns-then-n-k c =
     subst (λ (z : ℕ). CubicRootOf c.args.m (c.args.s % 65536) (power-of.result ⊕ c.args.s / 65536) (power-of2.result ⊕ z) c.cubic_root-k.result) fifth-of.ensures
     c.cubic_root-k.ensures in
     beyond W s.1 c.args.x s.2 power-of.ensures.1 power-of2.ensures.1 R c.if-n-k.true
-
-pub three_with-requires : goal.three_with-requires
-three_with-requires c = let s = c.requires in (s.0, omega arith, s.2, s.3, omega arith)
 
 pub returns : goal.returns
 unfolding ◌⊕◌

@@ -1,45 +1,12 @@
 use mathlib.Core.Path.{◌∙◌}
-use Prim.Native.Nat.{◌-◌, ◌*◌, ◌/◌, ◌%◌, ◌^◌}
+use Prim.Native.Nat.{◌*◌, ◌/◌, ◌%◌, ◌^◌}
 use native.Mathlib.Omega.{arith}
 use Rattle.bch.specs.Polynomial.{◌⊕◌}
 use Rattle.decoder_locator.proofs.Fours.{values-none, values-more, values-all}
 use Rattle.decoder_locator.proofs.values_of.Goals as goal
 
-pub overflow_add-k-end : goal.overflow_add-k-end
-overflow_add-k-end c = omega arith
-
 pub loop-k-init : goal.loop-k-init
 loop-k-init c = let s = c.requires in (omega arith, omega arith, values-none c.args.m s.0 s.1 c.args.x)
-
-pub overflow_mul-acc : goal.overflow_mul-acc
-overflow_mul-acc c = omega arith
-
-pub overflow_mul-acc-in-loop-k : goal.overflow_mul-acc-in-loop-k
-overflow_mul-acc-in-loop-k c = omega arith
-
-pub overflow_cast-acc : goal.overflow_cast-acc
-overflow_cast-acc c = omega arith
-
-pub overflow_shr-acc : goal.overflow_shr-acc
-overflow_shr-acc c = omega arith
-
-pub overflow_cast-acc-in-loop-k : goal.overflow_cast-acc-in-loop-k
-overflow_cast-acc-in-loop-k c = omega arith
-
-pub overflow_add-acc : goal.overflow_add-acc
-overflow_add-acc c = omega arith
-
-pub offset_bounds-sums-k : goal.offset_bounds-sums-k
-offset_bounds-sums-k c = omega arith
-
-pub bounds-sums-k : goal.bounds-sums-k
-bounds-sums-k c = omega arith
-
-pub overflow_step-k : goal.overflow_step-k
-overflow_step-k c = omega arith
-
-pub loop-k-smaller : goal.loop-k-smaller
-loop-k-smaller c = omega arith
 
 pub loop-k-preserved : goal.loop-k-preserved
 unfolding ◌⊕◌

@@ -1,11 +1,8 @@
--- The loop's invariant: `acc` has the values of the lowest 4 k bits. The measure is the number of entries left to read.
+-- The loop's invariant: `acc` has the values of the lowest 4 k bits.
 use mathlib.Core.Path.{◌≡◌}
-use Prim.Native.Nat.{◌+◌, ◌-◌, ◌*◌, ◌/◌, ◌%◌, ◌^◌, ◌≤◌}
+use Prim.Native.Nat.{◌+◌, ◌*◌, ◌/◌, ◌%◌, ◌^◌, ◌≤◌}
 use Rattle.bch.specs.Locator.{syndromes}
 use Rattle.decoder_locator.proofs.values_of.Given as goal
 
 abbrev pub invariant-loop-k : goal.invariant-loop-k
 invariant-loop-k l = (l.k-end ≡ (l.r + 3) / 4) × (l.k ≤ l.k-end) × (l.acc ≡ syndromes l.m (l.x % 2 ^ (4 * l.k)))
-
-abbrev pub decreases-loop-k : goal.decreases-loop-k
-decreases-loop-k l = l.k-end - l.k

@@ -1,5 +1,5 @@
 use mathlib.Core.Path.{◌≡◌, ap, ◌∙◌}
-use Prim.Native.Nat.{ℕ, ◌+◌, ◌-◌, ◌<◌, ◌≤◌}
+use Prim.Native.Nat.{ℕ, ◌+◌, ◌<◌, ◌≤◌}
 use native.Mathlib.Omega.{arith}
 use Rattle.staircase.specs.Lists.{tabulate}
 use Rattle.staircase.specs.Frame.{frame_of}
@@ -20,12 +20,6 @@ loop-a-init c =
     let W = line_word a.line a.links.now in
     let f = frame_of a.info.now a.red.now in
     (c.size-size.ensures, omega arith, pass-none s W f, p.1, stuck-none s W f, omega arith, λ g M. M)
-
-pub visit_word-told-requires : goal.visit_word-told-requires
-visit_word-told-requires c =
-    let l = c.loop-a in
-    let h : l.a < c.args.line.frames.d.size = omega (arith, c.loop-a-test.true, l.invariant.0) in
-    (c.requires.0, h, l.invariant.3)
 
 pub overflow_add-flips : goal.overflow_add-flips
 overflow_add-flips c =
@@ -53,12 +47,6 @@ overflow_add-stuck c =
       size-high c.requires.0.fits.frames,
     )
 
-pub overflow_step-a : goal.overflow_step-a
-overflow_step-a c = omega (arith, c.loop-a-test.true, c.loop-a.invariant.0, size-high c.requires.0.fits.frames)
-
-pub loop-a-smaller : goal.loop-a-smaller
-loop-a-smaller c = omega (arith, c.loop-a-test.true)
-
 pub loop-a-preserved : goal.loop-a-preserved
 loop-a-preserved c =
     let l = c.loop-a in
@@ -80,15 +68,6 @@ loop-a-preserved c =
       omega (arith, l.invariant.5, k.1),
       λ g M. v.3 g (l.invariant.6 g M),
     )
-
-pub shape_of-info : goal.shape_of-info
-shape_of-info c = omega (arith, c.loop-a.invariant.3.frame.info_length, c.requires.1.frame.info_length)
-
-pub shape_of-red : goal.shape_of-red
-shape_of-red c = omega (arith, c.loop-a.invariant.3.frame.red_length, c.requires.1.frame.red_length)
-
-pub shape_of-kept : goal.shape_of-kept
-shape_of-kept c = omega (arith, c.loop-a.invariant.3.long, c.requires.1.long)
 
 pub returns : goal.returns
 returns c =

@@ -1,7 +1,6 @@
--- The loop's invariant: the words before `a` are corrected, `stuck` of them were stuck, and all kept numbers are right. The measure is the number of
--- words left.
+-- The loop's invariant: the words before `a` are corrected, `stuck` of them were stuck, and all kept numbers are right.
 use mathlib.Core.Path.{◌≡◌}
-use Prim.Native.Nat.{◌-◌, ◌≤◌}
+use Prim.Native.Nat.{◌≤◌}
 use Rattle.staircase.specs.Lists.{tabulate}
 use Rattle.staircase.specs.Frame.{frame_of}
 use Rattle.staircase.specs.Decoder.{round}
@@ -18,6 +17,3 @@ invariant-loop-a l =
     × FrameKept l.line.frames l.links l.info l.red l.kept
     × (l.stuck ≡ stuck_among (params_of l.line.frames.d) (frame_of l.initial.info l.initial.red) (tabulate l.a (line_word l.line l.links))) × (l.stuck ≤ l.a)
     × LineMarks l.line.frames l.initial.info l.initial.red l.initial.kept l.info l.red l.kept
-
-abbrev pub decreases-loop-a : goal.decreases-loop-a
-decreases-loop-a l = l.line.frames.d.size - l.a

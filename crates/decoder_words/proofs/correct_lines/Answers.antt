@@ -1,6 +1,6 @@
 use mathlib.Core.Path.{◌≡◌, sym, ap, ◌∙◌, subst}
 use mathlib.Core.List.{List}
-use Prim.Native.Nat.{ℕ, ◌+◌, ◌-◌, ◌<◌}
+use Prim.Native.Nat.{ℕ, ◌+◌, ◌<◌}
 use native.Mathlib.Omega.{arith}
 use Rattle.staircase.specs.Lists.{tabulate, concat}
 use Rattle.staircase.specs.Frame.{Site, frame_of}
@@ -60,12 +60,6 @@ overflow_add-stuck c =
       lines-few c.requires.0.fits,
     )
 
-pub overflow_step-i : goal.overflow_step-i
-overflow_step-i c = omega (arith, c.loop-i-test.true, c.requires.1, lines-few c.requires.0.fits)
-
-pub loop-i-smaller : goal.loop-i-smaller
-loop-i-smaller c = omega (arith, c.loop-i-test.true)
-
 pub loop-i-preserved : goal.loop-i-preserved
 loop-i-preserved c =
     let p = c.requires in
@@ -92,15 +86,6 @@ loop-i-preserved c =
       omega (arith, l.invariant.5, v.4),
       λ g M. here.3 g (l.invariant.6 g M),
     )
-
-pub shape_of-info : goal.shape_of-info
-shape_of-info c = omega (arith, c.loop-i.invariant.2.frame.info_length, c.requires.2.frame.info_length)
-
-pub shape_of-red : goal.shape_of-red
-shape_of-red c = omega (arith, c.loop-i.invariant.2.frame.red_length, c.requires.2.frame.red_length)
-
-pub shape_of-kept : goal.shape_of-kept
-shape_of-kept c = omega (arith, c.loop-i.invariant.2.long, c.requires.2.long)
 
 pub returns : goal.returns
 returns c =

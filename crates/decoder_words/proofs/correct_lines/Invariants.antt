@@ -1,7 +1,6 @@
--- The loop's invariant: the lines before line `k + i` are corrected, `stuck` of their words were stuck, and all kept numbers are right. The measure is
--- the number of lines left.
+-- The loop's invariant: the lines before line `k + i` are corrected, `stuck` of their words were stuck, and all kept numbers are right.
 use mathlib.Core.Path.{◌≡◌}
-use Prim.Native.Nat.{◌+◌, ◌-◌, ◌*◌, ◌≤◌}
+use Prim.Native.Nat.{◌+◌, ◌*◌, ◌≤◌}
 use Rattle.staircase.specs.Lists.{tabulate, concat}
 use Rattle.staircase.specs.Frame.{frame_of}
 use Rattle.staircase.specs.Decoder.{round}
@@ -20,6 +19,3 @@ invariant-loop-i l =
     × (l.stuck ≡ stuck_among (params_of l.line.frames.d) (frame_of l.initial.info l.initial.red)
     (concat l.i (λ j. tabulate l.line.frames.d.size ((layout_of l.line.frames l.links).sites (l.line.k + j)))))
     × (l.stuck ≤ 500 * l.i) × LineMarks l.line.frames l.initial.info l.initial.red l.initial.kept l.info l.red l.kept
-
-abbrev pub decreases-loop-i : goal.decreases-loop-i
-decreases-loop-i l = l.count - l.i

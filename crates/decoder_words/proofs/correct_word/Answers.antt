@@ -2,7 +2,6 @@
 use mathlib.Core.Path.{sym, ap, ◌∙◌, subst, subst⁻¹}
 use mathlib.Core.List.{List}
 use Prim.Native.Nat.{ℕ, ◌+◌, ◌*◌, ◌%◌}
-use native.Mathlib.Omega.{arith}
 use Rattle.decoder_flips.proofs.Positions.{sent_found, flips-is}
 use Rattle.layout.specs.Layouts.{lines_in, bits_in}
 use Rattle.decoder_lines.specs.Layouts.{line_word, PowersFit}
@@ -20,12 +19,6 @@ use Rattle.decoder_words.proofs.correct_word.Goals as goal
 pub word_number-w-requires : goal.word_number-w-requires
 word_number-w-requires c =
     let F = c.requires.0.fits in (F.within, F.frames.few-blocks, size-high F.frames, c.requires.1)
-
-pub get-x-requires : goal.get-x-requires
-get-x-requires c = omega (arith, c.word_number-w.ensures.1, numbers-within c.flip_found-found.ensures.3)
-
-pub put-requires : goal.put-requires
-put-requires c = omega (arith, c.word_number-w.ensures.1, numbers-within c.flip_found-found.ensures.3)
 
 pub returns-then-count-eq0 : goal.returns-then-count-eq0
 returns-then-count-eq0 c =
@@ -46,9 +39,6 @@ returns-then-count-eq0 c =
       marks_stay a.line.frames a.kept.now b put.new.kept ff.ensures.4 (only-behind (lines_in a.line.frames.shape a.line.frames.blocks * a.line.frames.d.size) w.ensures.1 put.ensures),
     )
 
-pub slice_bounds-add_powers-end : goal.slice_bounds-add_powers-end
-slice_bounds-add_powers-end c = omega (arith, c.word_bits-n.ensures.0, c.requires.0.word-tables.long)
-
 pub add_powers-requires : goal.add_powers-requires
 add_powers-requires c =
     let p = c.requires in
@@ -56,9 +46,6 @@ add_powers-requires c =
     let ff = c.flip_found-found in
     let P = subst⁻¹ (λ (l : List ℕ). PowersFit a.line.frames l) (first_part a.tables.now c.word_bits-n.result (bits_in a.line.frames.shape (params_of a.line.frames.d)) c.word_bits-n.ensures.0) (table_powers p.0.word-tables) in
     (p.0.fits, P, p.1, sent_found _ _ (line_word a.line a.links.now a.a) ff.result ff.ensures.1 _ ff.ensures.2, numbers-within ff.ensures.3)
-
-pub put-requires-2 : goal.put-requires-2
-put-requires-2 c = omega (arith, c.word_number-w.ensures.1, c.add_powers.ensures.1, numbers-within c.flip_found-found.ensures.3)
 
 pub returns : goal.returns
 returns c =

@@ -1,20 +1,16 @@
 -- The located bits are flipped where all of them are sent, in the buffers and in the marks behind the numbers.
 use mathlib.Core.Path.{sym, ap, ◌∙◌}
-use native.Mathlib.Omega.{arith}
 use Rattle.decoder_kept.specs.Numbers.{kept_at}
 use Rattle.decoder_kept.proofs.Words.{number_is}
 use Rattle.decoder_lines.proofs.Layouts.{size-high}
 use Rattle.decoder_words.proofs.Word.{word-remainder, located-line, inside_frame, none_found, all_found}
 use Rattle.decoder_words.proofs.Corrected.{word_kept}
-use Rattle.decoder_words.proofs.Marks.{numbers-within, flippable, flipped_kept, flipped_marks}
+use Rattle.decoder_words.proofs.Marks.{flippable, flipped_kept, flipped_marks}
 use Rattle.decoder_words.proofs.flip_found.Goals as goal
 
 pub word_number-w-requires : goal.word_number-w-requires
 word_number-w-requires c =
     let F = c.requires.0.fits in (F.within, F.frames.few-blocks, size-high F.frames, c.requires.1)
-
-pub get-x-requires : goal.get-x-requires
-get-x-requires c = omega (arith, c.word_number-w.ensures.1, numbers-within c.requires.2)
 
 pub locate_errors-found-requires : goal.locate_errors-found-requires
 locate_errors-found-requires c =
@@ -45,12 +41,6 @@ returns-then-not-all_sent c =
 
 pub number_bytes-n-requires : goal.number_bytes-n-requires
 number_bytes-n-requires c = let F = c.requires.0.fits.frames in (F.few-blocks, size-high F)
-
-pub slice_bounds-flip_all-count : goal.slice_bounds-flip_all-count
-slice_bounds-flip_all-count c = omega (arith, c.number_bytes-n.ensures.0, numbers-within c.requires.2)
-
-pub slice_bounds-flip_all-start : goal.slice_bounds-flip_all-start
-slice_bounds-flip_all-start c = omega (arith, c.number_bytes-n.ensures.0, numbers-within c.requires.2)
 
 pub flip_all-requires : goal.flip_all-requires
 flip_all-requires c =

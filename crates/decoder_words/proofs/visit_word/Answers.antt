@@ -1,19 +1,14 @@
 -- A word that is passed over is clean or stuck; any other is what its correction says.
 use mathlib.Core.Path.{ap, ◌∙◌}
-use native.Mathlib.Omega.{arith}
 use Rattle.decoder_kept.specs.Numbers.{kept_at}
 use Rattle.decoder_kept.proofs.Words.{zero-clean, other_outcome, marked_stuck}
 use Rattle.decoder_lines.proofs.Layouts.{size-high}
 use Rattle.decoder_words.proofs.Corrected.{word_kept}
-use Rattle.decoder_words.proofs.Marks.{numbers-within}
 use Rattle.decoder_words.proofs.visit_word.Goals as goal
 
 pub word_number-w-requires : goal.word_number-w-requires
 word_number-w-requires c =
     let F = c.requires.0.fits in (F.within, F.frames.few-blocks, size-high F.frames, c.requires.1)
-
-pub get-x-requires : goal.get-x-requires
-get-x-requires c = omega (arith, c.word_number-w.ensures.1, numbers-within c.requires.2)
 
 pub returns-then-x-eq0 : goal.returns-then-x-eq0
 returns-then-x-eq0 c =

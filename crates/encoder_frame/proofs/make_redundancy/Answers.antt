@@ -6,16 +6,9 @@ use Prim.Native.Nat.{ℕ, ◌-◌}
 use lib.ListN.{length, get_or, drop, replicate}
 use Rattle.staircase.specs.Rules.{entries}
 use Rattle.staircase.specs.Demand2.{Permutes}
-use Rattle.words_positions.proofs.Parts.{part-fits, part-is}
-use Rattle.design.proofs.Allowed.{bits_small}
+use Rattle.words_positions.proofs.Parts.{part-is}
 use Rattle.encoder_frame.proofs.WholeFrame.{red-long, frames_ready, tables_ready, frames-made}
 use Rattle.encoder_frame.proofs.make_redundancy.Goals as goal
-
-pub slice_bounds-columns-end : goal.slice_bounds-columns-end
-slice_bounds-columns-end c = omega (arith, bits_small c.args.d c.requires.allowed)
-
-pub slice_bounds-positions-end : goal.slice_bounds-positions-end
-slice_bounds-positions-end c = omega (arith, bits_small c.args.d c.requires.allowed)
 
 pub fill_preimages-requires : goal.fill_preimages-requires
 fill_preimages-requires c =
@@ -25,21 +18,6 @@ fill_preimages-requires c =
       omega (arith, c.requires.allowed.order-high, order.ensures.0),
       subst⁻¹ (λ (k : ℕ). Permutes k (λ p. get_or (entries k c.args.parity.now) p 0)) order.ensures.0 c.requires.parity_permutes,
     )
-
-pub slice_bounds-make_stretches-end : goal.slice_bounds-make_stretches-end
-slice_bounds-make_stretches-end c =
-    let x = c.fill_columns in
-    let all : length x.new.positions ≡ c.n-bits.result = omega arith in
-    part-fits x.new.positions _ _ all
-
-pub slice_bounds-make_stretches-end-2 : goal.slice_bounds-make_stretches-end-2
-slice_bounds-make_stretches-end-2 c =
-    let x = c.fill_table in
-    let all : length x.new.positions ≡ c.n-bits.result = omega arith in
-    part-fits x.new.positions _ _ all
-
-pub slice_bounds-make_stretches-end-3 : goal.slice_bounds-make_stretches-end-3
-slice_bounds-make_stretches-end-3 c = let f = c.fill_preimages in part-fits f.new.out _ _ f.ensures.0
 
 pub make_stretches-requires : goal.make_stretches-requires
 make_stretches-requires c =

@@ -1,6 +1,6 @@
 use mathlib.Core.Path.{◌≡◌, ap, ◌∙◌}
 use mathlib.Core.List.{List}
-use Prim.Native.Nat.{ℕ, ◌-◌}
+use Prim.Native.Nat.{ℕ}
 use native.Mathlib.Omega.{arith}
 use lib.ListN.{get_or, set, length-set}
 use Rattle.staircase.specs.Lists.{bit_sum}
@@ -23,8 +23,8 @@ loop-q-preserved c =
           ∙ ap (λ (t : List ℕ). set t l.q (f l.q)) l.invariant.3 ∙ filled_more f a.out.now l.q (omega arith),
     )
 
-pub overflow_add-out : goal.overflow_add-out
-overflow_add-out c =
+pub overflow_add-sum : goal.overflow_add-sum
+overflow_add-sum c =
     let a = c.args in
     let l = c.loop-q in
     let f : ℕ → ℕ = λ k. bit_sum (get_or a.out.now k 0) (get_or a.bits.now k 0) in

@@ -1,6 +1,6 @@
-use mathlib.Core.Path.{◌≡◌, refl, ap, ap₂, ◌∙◌}
+use mathlib.Core.Path.{◌≡◌, ap, ap₂, ◌∙◌}
 use mathlib.Core.Bool.{cond}
-use Prim.Native.Nat.{ℕ, ◌+◌, ◌-◌, ◌≤◌, ◌<◌}
+use Prim.Native.Nat.{ℕ, ◌+◌, ◌≤◌, ◌<◌}
 use native.Mathlib.Omega.{arith}
 use lib.Dec.{eqb}
 use lib.ListN.{length, get_or, length-set}
@@ -9,14 +9,6 @@ use Rattle.staircase.specs.Lists.{bit_sum}
 use Rattle.matrix.proofs.Bits.{bit, bit_added}
 use Rattle.encoder_solution.specs.Bits.{place_constant}
 use Rattle.encoder_solution.proofs.add_constant.Goals as goal
-
-pub loop-q-init : goal.loop-q-init
-loop-q-init c = (omega arith, omega arith, omega arith, λ k. (λ h. absurd (omega arith), λ h. refl))
-
-pub constant_at-requires : goal.constant_at-requires
-constant_at-requires c =
-    let l = c.loop-q in
-    (omega arith, c.requires.2, omega arith, omega (arith, c.requires.4 l.q (omega arith)))
 
 pub loop-q-preserved : goal.loop-q-preserved
 loop-q-preserved c =
@@ -39,10 +31,3 @@ loop-q-preserved c =
           )
           (λ k d. (λ h. (l.invariant.3 k).0 (omega arith), λ h. (l.invariant.3 k).1 (omega arith))),
     )
-
-pub returns : goal.returns
-returns c = let i = c.loop-q.invariant in (i.2, λ q j h. (i.3 q).0 (omega arith) j)
-
-pub bounds-words-q-in-loop-q : goal.bounds-words-q-in-loop-q
-bounds-words-q-in-loop-q c = omega
-    arith

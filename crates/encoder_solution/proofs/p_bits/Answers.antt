@@ -1,5 +1,5 @@
 use mathlib.Core.Path.{◌≡◌, sym, ap, ◌∙◌}
-use Prim.Native.Nat.{ℕ, ◌+◌, ◌-◌, ◌*◌, ◌/◌, ◌%◌}
+use Prim.Native.Nat.{ℕ, ◌+◌, ◌*◌, ◌/◌, ◌%◌}
 use native.Mathlib.Nat.{zero-mul, mul_comm, add-mul, one-mul}
 use native.Mathlib.Omega.{arith}
 use lib.ListN.{length, get_or}
@@ -16,44 +16,11 @@ loop-a-init c =
     let f : ℕ → ℕ = λ q. remainder_digit (get_or a.columns.now (q % a.size) 0) a.r (q / a.size) in
     (omega arith, long, long, filled_none f a.out.now ∙ ap (filled f a.out.now) (sym (zero-mul a.size)))
 
-pub overflow_mul-from : goal.overflow_mul-from
-overflow_mul-from c =
-    let a = c.args in
-    omega (arith, row_end c.loop-a.a a.r a.size (omega arith))
-
-pub overflow_sub-r : goal.overflow_sub-r
-overflow_sub-r c = omega arith
-
-pub overflow_sub-r-in-loop-a : goal.overflow_sub-r-in-loop-a
-overflow_sub-r-in-loop-a c = omega arith
-
-pub overflow_add-from : goal.overflow_add-from
-overflow_add-from c =
-    let a = c.args in
-    omega (arith, row_end c.loop-a.a a.r a.size (omega arith))
-
-pub slice_bounds-digits-count : goal.slice_bounds-digits-count
-slice_bounds-digits-count c = omega arith
-
-pub slice_bounds-digits-start : goal.slice_bounds-digits-start
-slice_bounds-digits-start c = omega arith
-
-pub slice_bounds-digits-end : goal.slice_bounds-digits-end
-slice_bounds-digits-end c =
-    let a = c.args in
-    omega (arith, row_end c.loop-a.a a.r a.size (omega arith))
-
 pub digits-requires : goal.digits-requires
 digits-requires c =
     let a = c.args in
     let l = c.loop-a in
     (row-length l.out (l.a * a.size) a.size (omega (arith, row_end l.a a.r a.size (omega arith))) ∙ sym c.requires.0, omega arith)
-
-pub overflow_step-a : goal.overflow_step-a
-overflow_step-a c = omega arith
-
-pub loop-a-smaller : goal.loop-a-smaller
-loop-a-smaller c = omega arith
 
 pub loop-a-preserved : goal.loop-a-preserved
 loop-a-preserved c =
@@ -71,9 +38,6 @@ loop-a-preserved c =
           c.requires.0 row.ensures)
           ∙ ap (filled f a.out.now) next,
     )
-
-pub shape_of-out : goal.shape_of-out
-shape_of-out c = omega arith
 
 pub returns : goal.returns
 returns c =

@@ -1,5 +1,4 @@
 use mathlib.Core.Path.{◌∙◌}
-use Prim.Native.Nat.{◌-◌}
 use native.Mathlib.Nat.{mul_comm}
 use native.Mathlib.Omega.{arith}
 use lib.ListN.{length-set}
@@ -10,14 +9,14 @@ use Rattle.encoder_solution.proofs.transpose.Goals as goal
 pub loop-k-init : goal.loop-k-init
 loop-k-init c = (omega arith, omega arith, omega arith, omega arith, filled_none _ _)
 
-pub overflow_mul-to : goal.overflow_mul-to
-overflow_mul-to c =
+pub overflow_mul-entry : goal.overflow_mul-entry
+overflow_mul-entry c =
     let a = c.args in
     let p = stack-entry a.n a.m c.loop-k.k (omega arith) (omega arith) in
     omega (arith, p, mul_comm a.m a.n)
 
-pub overflow_add-to : goal.overflow_add-to
-overflow_add-to c =
+pub overflow_add-entry : goal.overflow_add-entry
+overflow_add-entry c =
     let a = c.args in
     let p = stack-entry a.n a.m c.loop-k.k (omega arith) (omega arith) in
     omega (arith, p, mul_comm a.m a.n)

@@ -1,5 +1,4 @@
 use mathlib.Core.Path.{◌∙◌}
-use Prim.Native.Nat.{◌-◌}
 use native.Mathlib.Omega.{arith}
 use lib.ListN.{length-set}
 use Rattle.staircase.proofs.Fill.{filled_none, filled_more, filled-all}
@@ -17,7 +16,3 @@ pub returns : goal.returns
 returns c =
     let l = c.loop-q in
     l.invariant.4 ∙ filled-all _ _ _ _ (omega arith) l.invariant.3
-
-pub overflow_step-q : goal.overflow_step-q
-overflow_step-q c = omega
-    arith

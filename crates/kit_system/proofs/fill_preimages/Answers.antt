@@ -1,5 +1,5 @@
 use mathlib.Core.Path.{◌≡◌, sym, ap, ◌∙◌}
-use Prim.Native.Nat.{ℕ, ◌-◌, ◌<◌}
+use Prim.Native.Nat.{ℕ, ◌<◌}
 use native.Mathlib.Omega.{arith}
 use lib.ListN.{get_or, length-set}
 use Rattle.staircase.specs.Rules.{entries}
@@ -9,18 +9,6 @@ use Rattle.staircase.proofs.Fill.{placed_next}
 use Rattle.rules.proofs.Entries.{entry-at}
 use Rattle.kit_system.proofs.fill_preimages.Goals as goal
 
-pub loop-p-init : goal.loop-p-init
-loop-p-init c = (omega arith, omega arith, λ q h l. absurd (omega arith))
-
-pub entry-e-requires : goal.entry-e-requires
-entry-e-requires c = omega arith
-
-pub overflow_cast-out : goal.overflow_cast-out
-overflow_cast-out c = omega arith
-
-pub offset_bounds-out-e : goal.offset_bounds-out-e
-offset_bounds-out-e c = omega arith
-
 pub bounds-out-e : goal.bounds-out-e
 bounds-out-e c =
     let a = c.args in
@@ -28,12 +16,6 @@ bounds-out-e c =
     let y : c.entry-e.result ≡ get_or (entries a.n a.list.now) l.p 0 = c.entry-e.ensures.0 ∙ entry-at a.n a.list.now l.p (omega arith) in
     let q : get_or (entries a.n a.list.now) l.p 0 < a.n = c.requires.3.below l.p (omega arith) in
     omega arith
-
-pub overflow_step-p : goal.overflow_step-p
-overflow_step-p c = omega arith
-
-pub loop-p-smaller : goal.loop-p-smaller
-loop-p-smaller c = omega arith
 
 pub loop-p-preserved : goal.loop-p-preserved
 loop-p-preserved c =
@@ -48,9 +30,6 @@ loop-p-preserved c =
           (λ j h i. sym (preimage-sent list n c.requires.3 j h).1 ∙ ap (λ (z : ℕ). get_or list z 0) i ∙ sym y) l.invariant.2
           (sym (preimage-of list n c.requires.3 l.p (omega arith)) ∙ ap (preimage list n) (sym y)),
     )
-
-pub shape_of-out : goal.shape_of-out
-shape_of-out c = omega arith
 
 pub returns : goal.returns
 returns c =

@@ -19,29 +19,6 @@ entry-is list n size r b a y d hb ha small e =
     let i : y ≡ get_or (entries n list) (b * size + a) 0 = e ∙ entry-at n list (b * size + a) p in
     (i, omega (arith, stack_of-below size r y (omega arith) (omega (arith, small (b * size + a) p))))
 
-pub overflow_mul-b : goal.overflow_mul-b
-overflow_mul-b c = let a = c.args in omega (arith, place_below a.size a.r a.b a.a (omega arith) (omega arith))
-
-pub overflow_add-b : goal.overflow_add-b
-overflow_add-b c = let a = c.args in omega (arith, place_below a.size a.r a.b a.a (omega arith) (omega arith))
-
-pub entry-y-requires : goal.entry-y-requires
-entry-y-requires c = let a = c.args in omega (arith, place_below a.size a.r a.b a.a (omega arith) (omega arith))
-
-pub overflow_mul-result : goal.overflow_mul-result
-overflow_mul-result c =
-    let a = c.args in
-    let h = c.requires in
-    let z = entry-is a.list.now a.n a.size a.r a.b a.a _ h.0 h.1 h.2 h.5 c.entry-y.ensures.0 in
-    omega arith
-
-pub overflow_add-result : goal.overflow_add-result
-overflow_add-result c =
-    let a = c.args in
-    let h = c.requires in
-    let z = entry-is a.list.now a.n a.size a.r a.b a.a _ h.0 h.1 h.2 h.5 c.entry-y.ensures.0 in
-    omega arith
-
 pub returns : goal.returns
 returns c =
     let a = c.args in

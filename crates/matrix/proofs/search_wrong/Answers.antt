@@ -1,9 +1,8 @@
 use mathlib.Core.Path.{◌≡◌, sym, ◌∙◌}
 use mathlib.Core.Bool.{true, false}
 use mathlib.Core.List.{List}
-use Prim.Native.Nat.{ℕ, ◌-◌, ◌%◌}
+use Prim.Native.Nat.{ℕ, ◌%◌}
 use native.Mathlib.Omega.{arith}
-use borrow.Author.Count.{below_none, below_more}
 use borrow.Author.Tests.{eq-eqb, ne_eqb}
 use lib.Count.{ones}
 use lib.ListN.{length, get_or}
@@ -18,42 +17,17 @@ is-wrong acc e x u q h = rw (ne_eqb (ones (get_or acc x 0) % 2) (identity e x) (
 is_right : (acc : List ℕ) (e x u : ℕ) → u ≡ identity e x → ones (get_or acc x 0) % 2 ≡ u → wrong_at acc e x ≡ false
 is_right acc e x u q h = rw (eq-eqb (ones (get_or acc x 0) % 2) (identity e x) (h ∙ q))
 
-pub loop-x-init : goal.loop-x-init
-loop-x-init c = (omega arith, omega arith, below_none _)
-
-pub bounds-acc-x : goal.bounds-acc-x
-bounds-acc-x c = omega arith
-
-pub identity_entry-requires : goal.identity_entry-requires
-identity_entry-requires c = tt
-
 pub returns-then-odd-identity_entry : goal.returns-then-odd-identity_entry
 returns-then-odd-identity_entry c =
     let a = c.args in
     let l = c.loop-x in
     sym
     (first_where-is _ (wrong_at a.acc.now a.e) l.x (omega arith)
-    (is-wrong a.acc.now a.e l.x _ c.identity_entry.ensures c.if-odd-identity_entry.true) l.invariant.2)
-
-pub overflow_step-x : goal.overflow_step-x
-overflow_step-x c = omega arith
-
-pub loop-x-smaller : goal.loop-x-smaller
-loop-x-smaller c = omega arith
-
-pub loop-x-preserved : goal.loop-x-preserved
-loop-x-preserved c =
-    let a = c.args in
-    let l = c.loop-x in (
-      omega arith,
-      omega arith,
-      below_more (λ k. wrong_at a.acc.now a.e k ≡ false) l.x l.invariant.2
-          (is_right a.acc.now a.e l.x _ c.identity_entry.ensures c.if-odd-identity_entry.false),
-    )
+    (is-wrong a.acc.now a.e l.x _ c.identity_entry.ensures c.if-odd-identity_entry.true) l.invariant)
 
 pub returns : goal.returns
 returns c =
     let a = c.args in
     let l = c.loop-x in
     let e : l.x ≡ length a.acc.now = omega arith in
-    sym (first_where-none _ (wrong_at a.acc.now a.e) (rw e at l.invariant.2))
+    sym (first_where-none _ (wrong_at a.acc.now a.e) (rw e at l.invariant))

@@ -1,13 +1,8 @@
--- The loop's invariant: the first lo columns are the identity's. The measure is the number of columns left.
-use mathlib.Core.Path.{◌≡◌}
-use Prim.Native.Nat.{◌-◌, ◌%◌, ◌≤◌}
-use lib.ListN.{length}
+-- The loop's invariant: the columns of the first b bytes of the rows are the identity's.
+use Prim.Native.Nat.{◌*◌, ◌≤◌}
 use Rattle.staircase.specs.Square.{Units}
 use Rattle.matrix_elimination.specs.Steps.{left, RowSteps}
 use Rattle.matrix_elimination.proofs.eliminate.Given as goal
 
-abbrev pub invariant-loop-lo : goal.invariant-loop-lo
-invariant-loop-lo l = (l.lo ≤ l.n) × (l.lo % 8 ≡ 0) × (length l.m ≡ length l.initial.m) × Units l.n l.lo (left l.n l.m) × RowSteps l.n l.initial.m l.m
-
-abbrev pub decreases-loop-lo : goal.decreases-loop-lo
-decreases-loop-lo l = l.n - l.lo
+abbrev pub invariant-loop-b : goal.invariant-loop-b
+invariant-loop-b l = (8 * l.b ≤ l.n) × Units l.n (8 * l.b) (left l.n l.m) × RowSteps l.n l.initial.m l.m

@@ -1,26 +1,15 @@
 -- An empty block adds nothing; another adds what `add_columns` or `add_rows` does.
-use mathlib.Core.Path.{◌≡◌, refl, ◌∙◌}
-use Prim.Native.Nat.{◌*◌}
+use mathlib.Core.Path.{◌∙◌}
 use native.Mathlib.Omega.{arith}
 use lib.ListN.{length}
 use Rattle.bch_remainders.proofs.Rows.{row-length}
-use Rattle.words_blocks.proofs.Sums.{square, none_added, column_added, row_added, unread, read_whole, read_each, part-sums}
+use Rattle.words_blocks.proofs.Sums.{none_added, column_added, row_added, unread, read_whole, read_each}
 use Rattle.words_blocks.proofs.add_block.Goals as goal
 
 pub returns-then-block-eq0 : goal.returns-then-block-eq0
 returns-then-block-eq0 c =
     let a = c.args in
     (none_added a.column a.block.now a.positions.now a.sums.now a.from c.if-block-eq0.true, unread a.block.now (length a.sums.now) c.if-block-eq0.true)
-
-pub add_columns-requires : goal.add_columns-requires
-add_columns-requires c =
-    let a = c.args in
-    let p = c.requires in
-    let n = length a.sums.now in
-    let long = row-length a.positions.now a.from n p.1 in
-    let sums = part-sums a.positions.now a.from n a.tables.now p.2 in
-    let area : length a.block.now ≡ n * n = p.0.0 (omega (arith, c.if-block-eq0.false)) in
-    (square _ _ n n area long refl, p.0.1, λ some. omega (arith, (sums some).few, long), sums)
 
 pub returns-then-column : goal.returns-then-column
 returns-then-column c =
@@ -31,15 +20,6 @@ returns-then-column c =
       column_added a.column a.block.now a.positions.now a.sums.now a.from added.new.sums p.1 c.if-column.true (added.ensures.0, added.ensures.1),
       read_whole a.block.now n c.if-block-eq0.false (added.ensures.2 ∙ row-length a.positions.now a.from n p.1),
     )
-
-pub add_rows-requires : goal.add_rows-requires
-add_rows-requires c =
-    let a = c.args in
-    let p = c.requires in
-    let n = length a.sums.now in
-    let long = row-length a.positions.now a.from n p.1 in
-    let area : length a.block.now ≡ n * n = p.0.0 (omega (arith, c.if-block-eq0.false)) in
-    (square _ n _ n area refl long, p.0.1, part-sums a.positions.now a.from n a.tables.now p.2)
 
 pub returns : goal.returns
 returns c =

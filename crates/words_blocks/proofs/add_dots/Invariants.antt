@@ -1,6 +1,6 @@
--- The loop's invariant: each entry before `a` has the sum over its row added. The measure is the number of rows left.
+-- The loop's invariant: each entry before `a` has the sum over its row added.
 use mathlib.Core.Path.{◌≡◌}
-use Prim.Native.Nat.{ℕ, ◌+◌, ◌-◌, ◌*◌, ◌≤◌, ◌<◌}
+use Prim.Native.Nat.{ℕ, ◌+◌, ◌*◌, ◌≤◌, ◌<◌}
 use lib.ListN.{length, get_or}
 use Rattle.bch.specs.Powers.{xor_sum}
 use Rattle.bch_remainders.proofs.Powers.{Added}
@@ -8,9 +8,5 @@ use Rattle.words_blocks.proofs.add_dots.Given as goal
 
 abbrev pub invariant-loop-a : goal.invariant-loop-a
 invariant-loop-a l =
-    (l.a-end ≡ length l.initial.acc) × (l.a ≤ length l.initial.acc) × (length l.acc ≡ length l.initial.acc)
-    × Added l.initial.acc (λ k. xor_sum (length l.part) (λ j. get_or l.block (k * length l.part + j) 0 * get_or l.part j 0)) l.a l.acc
+    Added l.initial.acc (λ k. xor_sum (length l.part) (λ j. get_or l.block (k * length l.part + j) 0 * get_or l.part j 0)) l.a l.acc
     × ((k : ℕ) → k < l.a → l.reads ≡ length l.part) × (l.reads ≤ length l.part)
-
-abbrev pub decreases-loop-a : goal.decreases-loop-a
-decreases-loop-a l = length l.initial.acc - l.a

@@ -1,14 +1,7 @@
 -- The halves of the bits, of the powers and of the tables are as `add_stretch` asks.
 use mathlib.Core.Path.{refl}
-use Rattle.words_lines.proofs.Columns.{first_asked, second_asked, ends_added}
+use Rattle.words_lines.proofs.Columns.{ends_added}
 use Rattle.words_lines.proofs.add_ends.Goals as goal
-
-pub add_stretch-first-requires : goal.add_stretch-first-requires
-add_stretch-first-requires c = first_asked c.requires
-
-pub add_stretch-second-requires : goal.add_stretch-second-requires
-add_stretch-second-requires c =
-    second_asked c.requires c.add_stretch-first.ensures.0
 
 pub returns : goal.returns
 returns c =

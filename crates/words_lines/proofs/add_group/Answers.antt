@@ -1,24 +1,12 @@
 -- The parts of the redundancy and of the table of powers are those of the line.
 use native.Mathlib.Omega.{arith}
 use mathlib.Core.Path.{refl}
-use Rattle.words_lines.proofs.Tail.{red-ends, table_ends, ends_lent, tail-made}
+use Rattle.words_lines.proofs.Tail.{red-ends, ends_lent, tail-made}
 use Rattle.words_lines.proofs.add_group.Goals as goal
-
-pub overflow_mul-y : goal.overflow_mul-y
-overflow_mul-y c =
-    omega (arith, red-ends c.requires c.order-n.ensures.0)
-
-pub overflow_add-y : goal.overflow_add-y
-overflow_add-y c =
-    omega (arith, red-ends c.requires c.order-n.ensures.0)
 
 pub slice_bounds-add_ends-end : goal.slice_bounds-add_ends-end
 slice_bounds-add_ends-end c =
     omega (arith, red-ends c.requires c.order-n.ensures.0)
-
-pub slice_bounds-add_ends-end-2 : goal.slice_bounds-add_ends-end-2
-slice_bounds-add_ends-end-2 c =
-    omega (arith, table_ends c.requires c.size-x.ensures c.r-r.ensures.0)
 
 pub add_ends-requires : goal.add_ends-requires
 add_ends-requires c =

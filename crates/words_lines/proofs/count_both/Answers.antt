@@ -1,5 +1,4 @@
 -- Where no line is read backwards, the first pass takes them all.
-use native.Mathlib.Omega.{arith}
 use mathlib.Core.Path.{sym, ◌∙◌}
 use Rattle.staircase.specs.Frame.{frame_of}
 use Rattle.design.specs.Sizes.{params_of}
@@ -14,9 +13,6 @@ returns-then-not-turns c =
     let g = a.frames in
     one_pass g.shape (layout_with g a.own.now a.parity.now) (frame_of a.info.now a.red.now)
     (turned_none g.shape (params_of g.d) (sym c.turns-turns.ensures ∙ c.if-not-turns.true)) c.count_pass-ahead.ensures.0
-
-pub overflow_add-result : goal.overflow_add-result
-overflow_add-result c = omega (arith, c.count_pass-ahead.ensures.1, c.count_back.ensures.1)
 
 pub returns : goal.returns
 returns c =

@@ -10,7 +10,7 @@ use Rattle.staircase.proofs.Tabulate.{tabulate-length}
 use Rattle.design.specs.Sizes.{params_of}
 use Rattle.layout.specs.declared.Line.{Line}
 use Rattle.layout.proofs.Layouts.{size_highest, taken_turned}
-use Rattle.words_positions.proofs.Parts.{part-fits, part-is}
+use Rattle.words_positions.proofs.Parts.{part-is}
 use Rattle.words_lines.specs.Words.{nonzeros, layout_with, line_remainders, ReadTable}
 use Rattle.words_lines.proofs.Lines.{LineLent}
 use Rattle.words_lines.proofs.Count.{remainders_outside, not_taken, line_taken}
@@ -42,15 +42,6 @@ line_remainders-requires c =
     let is = taken_turned g.shape (params_of g.d) a.at.pass.back a.at.k (sym c.taken.ensures ∙ c.if-not-taken.false) in
     subst (λ (z : Line). LineLent z a.own.now a.parity.now a.info.now a.red.now a.positions.now a.tables.now (length (take (size.result - 0) entries.result))) (sym c.line_at-line.ensures)
     (p.0, p.1, subst (λ (b : Bool). ReadTable g.shape (params_of g.d) b a.positions.now) is p.2, omega (arith, long, size.ensures), p.3)
-
-pub slice_bounds-count_nonzero-end : goal.slice_bounds-count_nonzero-end
-slice_bounds-count_nonzero-end c =
-    let made = c.line_remainders in
-    let S = made.new.sums in
-    let line = c.line_at-line in
-    let size = c.size-size in
-    let long : length S ≡ size.result = ap length made.ensures.0 ∙ tabulate-length _ _ ∙ ap (λ (z : Line). z.frames.d.size) line.ensures ∙ sym size.ensures in
-    part-fits S _ _ long
 
 pub returns : goal.returns
 returns c =

@@ -8,7 +8,7 @@ use Rattle.bch.specs.Code.{generator}
 use Rattle.bch.specs.Powers.{PositionPowers}
 use Rattle.design.specs.Sizes.{params_of}
 use Rattle.layout.proofs.Layouts.{bits_highest, code_in}
-use Rattle.words_positions.proofs.Parts.{part-fits, part-is}
+use Rattle.words_positions.proofs.Parts.{part-is}
 use Rattle.words_lines.specs.Words.{ReadTable}
 use Rattle.words_lines.proofs.Tables.{ahead_table}
 use Rattle.words_lines.proofs.count_outside.Goals as goal
@@ -22,12 +22,6 @@ pub fill_code-requires : goal.fill_code-requires
 fill_code-requires c =
     let g = c.args.frames in
     rw (c.m-m.ensures, c.t-t.ensures) (code_in g.shape g.d c.requires.tail.allowed)
-
-pub slice_bounds-count_filled-end : goal.slice_bounds-count_filled-end
-slice_bounds-count_filled-end c =
-    let x = c.fill_code in
-    let all : length x.new.positions ≡ c.word_bits-bits.result = omega arith in
-    part-fits x.new.positions _ _ all
 
 pub count_filled-requires : goal.count_filled-requires
 count_filled-requires c =

@@ -4,16 +4,10 @@ use mathlib.Core.Path.{ap₂, ◌∙◌}
 use mathlib.Core.List.{List}
 use Prim.Native.Nat.{◌+◌}
 use lib.ListN.{length}
-use Rattle.staircase.proofs.Bounds.{small_product}
 use Rattle.layout.proofs.Layouts.{lines-most}
 use Rattle.words_blocks.specs.Blocks.{block_reads}
 use Rattle.words_lines.proofs.Lines.{lent_block, blocks_of_line}
 use Rattle.words_lines.proofs.line_blocks.Goals as goal
-
-pub overflow_mul-area : goal.overflow_mul-area
-overflow_mul-area c =
-    let n = length c.args.sums.now in
-    omega (arith, small_product n n 512 512 c.requires.0.few-columns c.requires.0.few-columns)
 
 pub overflow_add-line : goal.overflow_add-line
 overflow_add-line c =

@@ -1,10 +1,8 @@
 -- The tables of sums are those of the parts of the words.
 use native.Mathlib.Omega.{arith}
-use lib.ListN.{length}
 use Rattle.design.specs.Sizes.{params_of}
 use Rattle.layout.proofs.Layouts.{size_highest, r_highest, tail-most}
-use Rattle.words_lines.specs.Words.{line_blocks}
-use Rattle.words_lines.proofs.Lines.{tables-fit, blocks_asked, tail_asked, reads-few, line-done}
+use Rattle.words_lines.proofs.Lines.{blocks_asked, reads-few, line-done}
 use Rattle.words_lines.proofs.line_remainders.Goals as goal
 
 pub table_length-b-requires : goal.table_length-b-requires
@@ -17,25 +15,9 @@ table_length-e-requires c =
     let f = c.args.line.frames in
     omega (arith, c.tail_bits-tail.ensures.0, tail-most f.shape (params_of f.d), r_highest f.shape f.d c.requires.0.tail.allowed)
 
-pub part-halves-requires : goal.part-halves-requires
-part-halves-requires c =
-    λ h. omega (arith, tables-fit c.requires c.size-size.ensures c.tail_bits-tail.ensures.0 c.table_length-b.ensures.0 c.table_length-e.ensures.0 h)
-
-pub part-ends-requires : goal.part-ends-requires
-part-ends-requires c =
-    λ h. omega (arith, tables-fit c.requires c.size-size.ensures c.tail_bits-tail.ensures.0 c.table_length-b.ensures.0 c.table_length-e.ensures.0 h)
-
 pub line_blocks-blocks-requires : goal.line_blocks-blocks-requires
 line_blocks-blocks-requires c =
     blocks_asked c.requires c.size-size.ensures c.tail_bits-tail.ensures.0 c.table_length-b.ensures.0 c.table_length-e.ensures.0 c.part-halves.ensures
-
-pub add_tail-behind-requires : goal.add_tail-behind-requires
-add_tail-behind-requires c =
-    let a = c.args in
-    let f = a.line.frames in
-    let made = c.line_blocks-blocks in
-    tail_asked c.requires c.size-size.ensures c.tail_bits-tail.ensures.0 c.table_length-b.ensures.0 c.table_length-e.ensures.0 made.new.sums c.part-ends.result.now
-    (line_blocks f.shape a.positions.now (length a.sums.now) f.blocks a.info.now a.line.k) made.ensures.0 c.part-ends.ensures
 
 pub overflow_add-result : goal.overflow_add-result
 overflow_add-result c =

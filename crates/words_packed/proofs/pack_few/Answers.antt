@@ -6,48 +6,30 @@ use lib.ListN.{length, get_or, take, drop}
 use lib.Pow.{pow_mono, pow_pos}
 use Rattle.bch.proofs.Store.{zeros-at}
 use Rattle.bch_remainders.proofs.Rows.{row_end, row-length, row_at, row-bits}
-use Rattle.words_packed.proofs.Packed.{packs-none, packs-more, packs-all, doubled_below}
+use Rattle.words_packed.proofs.Packed.{packs-none, packs-more, doubled_below}
 use Rattle.words_packed.proofs.pack_few.Goals as goal
 
 pub loop-i-init : goal.loop-i-init
 loop-i-init c =
-    let e = c.clear in
-    let w = length e.new.bytes in
-    let long : length c.args.rows.now ≡ c.args.count * w = c.requires.0 ∙ ap (λ (z : ℕ). c.args.count * z) (omega arith) in
-    let zero-at : (k : ℕ) → get_or e.new.bytes k 0 ≡ 0 = λ k. ap (λ (z : List ℕ). get_or z k 0) e.ensures ∙ zeros-at (length c.args.packed.now) k in (
+    let e = c.fill in
+    let w = length c.args.packed.now in
+    let zero-at : (k : ℕ) → get_or e.new.self k 0 ≡ 0 = λ k. ap (λ (z : List ℕ). get_or z k 0) (e.ensures.after (λ y h. h)) ∙ zeros-at w k in (
       omega arith,
-      omega arith,
-      long,
       λ h. absurd (omega arith),
       λ k. rw (zero-at k) (pow_pos (8 - c.args.count)),
-      λ k h. packs-none c.args.rows.now w k c.args.count _ long (zero-at k),
+      λ k h. packs-none c.args.rows.now w k c.args.count _ c.requires.0 (zero-at k),
     )
-
-pub overflow_mul-from : goal.overflow_mul-from
-overflow_mul-from c =
-    let l = c.loop-i in
-    omega (arith, row_end (l.i - 1) c.args.count (length c.clear.new.bytes) (omega arith))
-
-pub overflow_add-from : goal.overflow_add-from
-overflow_add-from c =
-    let l = c.loop-i in
-    omega (arith, row_end (l.i - 1) c.args.count (length c.clear.new.bytes) (omega arith))
-
-pub slice_bounds-double_in-end : goal.slice_bounds-double_in-end
-slice_bounds-double_in-end c =
-    let l = c.loop-i in
-    omega (arith, row_end (l.i - 1) c.args.count (length c.clear.new.bytes) (omega arith))
 
 pub double_in-reads-requires : goal.double_in-reads-requires
 double_in-reads-requires c =
     let l = c.loop-i in
     let r = c.args.rows.now in
-    let w = length c.clear.new.bytes in
+    let w = length c.args.packed.now in
     let from = (l.i - 1) * w in
     let end = row_end (l.i - 1) c.args.count w (omega arith) in (
-      row-length r from w (omega arith) ∙ sym l.invariant.1,
+      row-length r from w (omega arith) ∙ sym l.invariant.0,
       row-bits r from (from + w - from) c.requires.3,
-      λ k. omega (arith, l.invariant.4 k, pow_mono {i = 8 - l.i} {j = 7} (omega arith)),
+      λ k. omega (arith, l.invariant.2 k, pow_mono {i = 8 - l.i} {j = 7} (omega arith)),
     )
 
 pub loop-i-preserved : goal.loop-i-preserved
@@ -55,26 +37,13 @@ loop-i-preserved c =
     let l = c.loop-i in
     let d = c.double_in-reads in
     let r = c.args.rows.now in
-    let w = length c.clear.new.bytes in
+    let w = length c.args.packed.now in
     let i = l.i - 1 in
     let row = take (i * w + w - i * w) (drop (i * w) r) in (
-      omega arith,
-      d.ensures.0 ∙ l.invariant.1,
-      l.invariant.2,
-      λ h. d.ensures.2 ∙ l.invariant.1,
+      d.ensures.0 ∙ l.invariant.0,
+      λ h. d.ensures.2 ∙ l.invariant.0,
       doubled_below d.new.packed l.packed row (8 - l.i) (8 - i) d.ensures.0 (row-bits r (i * w) (i * w + w - i * w) c.requires.3) d.ensures.1
-          (omega arith) l.invariant.4,
+          (omega arith) l.invariant.2,
       λ k h. packs-more r w k i l.i (get_or l.packed k 0) (get_or row k 0) _ c.requires.3 (row_at r (i * w) w k h) (omega arith)
-          (d.ensures.1 k (omega arith)) (l.invariant.5 k h),
-    )
-
-pub returns : goal.returns
-returns c =
-    let l = c.loop-i in
-    let r = c.args.rows.now in
-    let w = length c.clear.new.bytes in
-    let e : w ≡ length c.args.packed.now = omega arith in (
-      omega arith,
-      λ k i h j. packs-all r w k l.i _ (omega arith) (l.invariant.5 k (omega arith)) i ∙ ap (λ (z : ℕ). get_or r (i * z + k) 0) e,
-      l.invariant.3 (omega arith) ∙ e,
+          (d.ensures.1 k (omega arith)) (l.invariant.3 k h),
     )

@@ -1,24 +1,20 @@
-use mathlib.Core.Path.{refl}
-use Prim.Native.Nat.{◌-◌}
+use mathlib.Core.Path.{◌≡◌, ap, ◌∙◌}
+use mathlib.Core.List.{List}
+use Prim.Native.Nat.{ℕ}
 use native.Mathlib.Omega.{arith}
-use lib.ListN.{length-set}
-use Rattle.words_tables.proofs.Tables.{doubled_none, doubled_more}
+use lib.Bits.{bit_xor}
+use lib.ListN.{get_or}
+use lib.Seq.{get_or-take}
+use Rattle.staircase.proofs.Fill.{each_more}
+use Rattle.bch.specs.Polynomial.{◌⊕◌}
 use Rattle.words_tables.proofs.double.Goals as goal
 
-pub loop-v-init : goal.loop-v-init
-loop-v-init c = let a = c.args in (omega arith, refl, doubled_none a.table.now a.w a.x)
-
 pub loop-v-preserved : goal.loop-v-preserved
+unfolding ◌⊕◌
 loop-v-preserved c =
     let a = c.args in
     let l = c.loop-v in
-    (omega arith, simp length-set (omega arith), doubled_more a.table.now l.table a.w a.x l.v (omega arith) (omega arith) l.invariant.2)
-
-pub returns : goal.returns
-returns c =
-    let l = c.loop-v in
-    (l.invariant.1, λ v h. (l.invariant.2 v).0 h, λ v h. (l.invariant.2 _).1 v refl (omega arith))
-
-pub overflow_step-v : goal.overflow_step-v
-overflow_step-v c = omega
-    arith
+    let parts = c.split_at_mut-sums in
+    each_more (λ k z. z ≡ get_or a.table.now k 0 ⊕ a.x) l.more l.v _ (omega arith) l.invariant
+    (ap (λ (z : ℕ). bit_xor z a.x)
+    (ap (λ (z : List ℕ). get_or z l.v 0) parts.ensures.front ∙ get_or-take a.w a.table.now l.v 0 (omega arith)))

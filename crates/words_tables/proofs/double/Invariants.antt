@@ -1,12 +1,9 @@
--- The loop's invariant: `v` entries behind the first w are made, and those are as they were. The measure is the number of entries left.
+-- The loop's invariant: the first `v` sums behind are made.
 use mathlib.Core.Path.{◌≡◌}
-use Prim.Native.Nat.{◌-◌, ◌≤◌}
-use lib.ListN.{length}
-use Rattle.words_tables.proofs.Tables.{Doubled}
+use Prim.Native.Nat.{ℕ, ◌<◌}
+use lib.ListN.{get_or}
+use Rattle.bch.specs.Polynomial.{◌⊕◌}
 use Rattle.words_tables.proofs.double.Given as goal
 
 abbrev pub invariant-loop-v : goal.invariant-loop-v
-invariant-loop-v l = (l.v ≤ l.w) × (length l.table ≡ length l.initial.table) × Doubled l.initial.table l.w l.x l.v l.table
-
-abbrev pub decreases-loop-v : goal.decreases-loop-v
-decreases-loop-v l = l.w - l.v
+invariant-loop-v l = (k : ℕ) → k < l.v → get_or l.more k 0 ≡ get_or l.fn.table k 0 ⊕ l.x

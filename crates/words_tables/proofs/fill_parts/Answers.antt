@@ -4,7 +4,7 @@ use Prim.Native.Nat.{ℕ, ◌+◌, ◌*◌}
 use native.Mathlib.Omega.{arith}
 use borrow.Rule.Slice.PartMut.{mid_len}
 use Rattle.words_tables.specs.Tables.{table_length}
-use Rattle.words_tables.proofs.Tables.{parts_rest, parts_made}
+use Rattle.words_tables.proofs.Tables.{parts_rest}
 use Rattle.words_tables.proofs.fill_parts.Goals as goal
 
 pub fill_halves-requires : goal.fill_halves-requires
@@ -28,14 +28,3 @@ fill_halves-requires-2 c =
       parts_rest a.positions.now a.tables.now one.new.tables a.size a.r (2 * b.result) (2 * e.result) c.requires.3 eb ee
           one.ensures.1 ∙ ee,
     )
-
-pub returns : goal.returns
-returns c =
-    let a = c.args in
-    let b = c.table_length-b in
-    let e = c.table_length-e in
-    let one = c.fill_halves in
-    let two = c.fill_halves-2 in
-    parts_made a.positions.now a.tables.now one.new.tables a.size a.r (2 * b.result) (2 * e.result) c.requires.3
-    (ap (λ (n : ℕ). 2 * n) b.ensures.0) (ap (λ (n : ℕ). 2 * n) e.ensures.0) one.ensures.1 two.new.tables one.ensures.0 two.ensures.0
-    two.ensures.1

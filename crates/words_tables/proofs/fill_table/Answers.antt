@@ -1,11 +1,9 @@
-use mathlib.Core.Path.{◌≡◌, refl, sym, ap, ◌∙◌}
-use Prim.Native.Nat.{ℕ, ◌+◌, ◌-◌, ◌*◌, ◌^◌, ◌≤◌}
+use mathlib.Core.Path.{refl, sym, ap, ◌∙◌}
+use Prim.Native.Nat.{ℕ, ◌+◌, ◌*◌, ◌^◌}
 use native.Mathlib.Numerals.{add-one}
 use native.Mathlib.Omega.{arith}
-use lib.Pow.{pow_mono}
 use lib.ListN.{get_or, length-set}
 use Rattle.bch.specs.Polynomial.{◌⊕◌}
-use Rattle.words_tables.specs.Tables.{sum_at}
 use Rattle.words_tables.proofs.Tables.{sums_none, sums_doubled}
 use Rattle.words_tables.proofs.fill_table.Goals as goal
 
@@ -13,18 +11,6 @@ pub loop-i-init : goal.loop-i-init
 loop-i-init c =
     let a = c.args in
     (omega arith, refl, simp length-set (omega arith), sums_none (λ k. get_or a.part.now (a.from + k) 0) a.table.now (omega arith))
-
-pub double-requires : goal.double-requires
-double-requires c =
-    let l = c.loop-i in
-    let few : 2 ^ l.i ≤ 2 ^ 7 = pow_mono {j = 7} (omega arith) in
-    omega (arith, few, l.invariant.1)
-
-pub overflow_mul-w : goal.overflow_mul-w
-overflow_mul-w c =
-    let l = c.loop-i in
-    let few : 2 ^ l.i ≤ 2 ^ 7 = pow_mono {j = 7} (omega arith) in
-    omega (arith, few, l.invariant.1)
 
 pub loop-i-preserved : goal.loop-i-preserved
 loop-i-preserved c =
@@ -38,15 +24,3 @@ loop-i-preserved c =
       sums_doubled (λ k. get_or a.part.now (a.from + k) 0) l.i l.table r.new.table l.w l.invariant.1 l.invariant.3 r.ensures.1
           (λ v h. r.ensures.2 v h ∙ ap (λ (z : ℕ). get_or l.table v 0 ⊕ z) x.ensures),
     )
-
-pub returns : goal.returns
-returns c =
-    let a = c.args in
-    let l = c.loop-i in
-    let e : l.i ≡ 8 = omega arith in
-    let all : l.w ≡ 256 = l.invariant.1 ∙ ap (λ (z : ℕ). 2 ^ z) e in
-    (omega arith, λ v h. l.invariant.3 v (omega arith) ∙ ap (λ (z : ℕ). sum_at (λ k. get_or a.part.now (a.from + k) 0) z v) e)
-
-pub loop-i-smaller : goal.loop-i-smaller
-loop-i-smaller c = omega
-    arith

@@ -8,14 +8,6 @@ use Rattle.words_tables.specs.Tables.{table_entry}
 use Rattle.words_tables.proofs.Tables.{table_is}
 use Rattle.words_tables.proofs.fill_tables.Goals as goal
 
-pub loop-j-init : goal.loop-j-init
-loop-j-init c = (omega arith, omega arith, λ q h. absurd (omega arith))
-
-pub fill_table-requires : goal.fill_table-requires
-fill_table-requires c =
-    let l = c.loop-j in
-    (row-length l.tables (256 * l.j) 256 (omega arith), omega arith)
-
 pub loop-j-preserved : goal.loop-j-preserved
 loop-j-preserved c =
     let a = c.args in
@@ -30,13 +22,3 @@ loop-j-preserved c =
       λ q h. each_part (λ q z. z ≡ table_entry entries q) l.tables r.new.table (256 * l.j) k (omega arith) long l.invariant.2
           (λ s m. r.ensures.1 s (omega arith) ∙ table_is entries l.j s (omega arith)) q (omega arith),
     )
-
-pub returns : goal.returns
-returns c =
-    let p = c.requires in
-    let i = c.loop-j.invariant in
-    record { few = p.0; long = omega arith; sums = λ q h. i.2 q (omega arith) }
-
-pub slice_bounds-fill_table-count : goal.slice_bounds-fill_table-count
-slice_bounds-fill_table-count c = omega
-    arith

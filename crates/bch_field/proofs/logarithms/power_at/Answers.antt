@@ -5,15 +5,9 @@ use Rattle.bch.proofs.Powers.{powers-length, powers-at}
 use Rattle.bch_field.proofs.Solved.{sizes}
 use Rattle.bch_field.proofs.logarithms.power_at.Goals as goal
 
-pub offset_bounds-powers-e : goal.offset_bounds-powers-e
-offset_bounds-powers-e c = omega (arith, sizes c.args.m c.requires.0 c.requires.1)
-
 pub bounds-powers-e : goal.bounds-powers-e
 bounds-powers-e c =
     let a = c.args in omega (arith, powers-length a.m a.powers.now c.requires.2)
-
-pub overflow_cast-result : goal.overflow_cast-result
-overflow_cast-result c = omega (arith, (c.type_inv.powers c.args.e).fits)
 
 pub returns : goal.returns
 returns c =

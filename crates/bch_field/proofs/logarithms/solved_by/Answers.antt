@@ -7,12 +7,6 @@ use Rattle.bch.proofs.Powers.{powers-length}
 use Rattle.bch_field.proofs.Solved.{sizes, solution_made}
 use Rattle.bch_field.proofs.logarithms.solved_by.Goals as goal
 
-pub overflow_mul-k : goal.overflow_mul-k
-overflow_mul-k c =
-    let a = c.args in
-    let p = c.requires in
-    omega (arith, mul-le-mul p.3 (le_refl a.e), sizes a.m p.0 p.1)
-
 pub reduced-d-requires : goal.reduced-d-requires
 reduced-d-requires c =
     let a = c.args in
@@ -25,14 +19,6 @@ power_at-requires c =
     let p = c.requires in
     (p.0, p.1, p.4, omega (arith, c.reduced-d.ensures.1, powers-length a.m a.powers.now p.4))
 
-pub offset_bounds-logs-power_at : goal.offset_bounds-logs-power_at
-offset_bounds-logs-power_at c =
-    let a = c.args in
-    let p = c.requires in
-    let x = c.power_at in
-    let h = xor_lt a.m x.result 1 x.ensures.1 (omega (arith, sizes a.m p.0 p.1)) in
-    omega (arith, h, sizes a.m p.0 p.1)
-
 pub bounds-logs-power_at : goal.bounds-logs-power_at
 bounds-logs-power_at c =
     let a = c.args in
@@ -40,18 +26,6 @@ bounds-logs-power_at c =
     let x = c.power_at in
     let h = xor_lt a.m x.result 1 x.ensures.1 (omega (arith, sizes a.m p.0 p.1)) in
     omega (arith, h, p.5.long)
-
-pub overflow_cast-f : goal.overflow_cast-f
-overflow_cast-f c =
-    let a = c.args in
-    let p = c.requires in
-    omega (arith, p.5.below (bit_xor c.power_at.result 1), sizes a.m p.0 p.1)
-
-pub overflow_add-e : goal.overflow_add-e
-overflow_add-e c =
-    let a = c.args in
-    let p = c.requires in
-    omega (arith, p.5.below (bit_xor c.power_at.result 1), sizes a.m p.0 p.1)
 
 pub reduced-requires : goal.reduced-requires
 reduced-requires c =

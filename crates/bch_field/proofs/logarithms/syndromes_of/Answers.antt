@@ -4,20 +4,11 @@ use Prim.Native.Nat.{ℕ, ◌+◌, ◌*◌}
 use native.Mathlib.Omega.{arith}
 use lib.ListN.{length}
 use Rattle.bch.proofs.Powers.{powers-length}
-use Rattle.bch_field.proofs.Solved.{sizes, cube_exponent}
+use Rattle.bch_field.proofs.Solved.{cube_exponent}
 use Rattle.bch_field.proofs.logarithms.syndromes_of.Goals as goal
-
-pub overflow_mul-e : goal.overflow_mul-e
-overflow_mul-e c = omega (arith, sizes c.args.m c.requires.0 c.requires.1)
 
 pub reduced-twice-requires : goal.reduced-twice-requires
 reduced-twice-requires c = omega (arith, powers-length c.args.m c.args.powers.now c.requires.2)
-
-pub overflow_add-twice : goal.overflow_add-twice
-overflow_add-twice c =
-    let a = c.args in
-    let p = c.requires in
-    omega (arith, c.reduced-twice.ensures, powers-length a.m a.powers.now p.2, sizes a.m p.0 p.1)
 
 pub reduced-thrice-requires : goal.reduced-thrice-requires
 reduced-thrice-requires c =

@@ -3,11 +3,10 @@ use mathlib.Core.Path.{sym, ap, ◌∙◌, subst⁻¹}
 use mathlib.Core.List.{◌++◌}
 use Prim.Native.Nat.{◌-◌, ◌*◌}
 use native.Mathlib.Omega.{arith}
-use borrow.Author.Rules.{rules}
 use lib.ListN.{length, take, drop, replicate}
 use Rattle.bch.specs.Polynomial.{Bits}
 use Rattle.staircase.proofs.Tabulate.{tabulate-length}
-use Rattle.words_positions.proofs.Parts.{part-fits, part-is}
+use Rattle.words_positions.proofs.Parts.{part-is}
 use Rattle.words_blocks.proofs.Sums.{part_length}
 use Rattle.encoder_solution.proofs.Stack.{parity-binary}
 use Rattle.encoder_solution.proofs.Solution.{zeros-part}
@@ -22,19 +21,6 @@ add_rows-requires c =
     let y = c.y_bits in
     front_half a.words.now a.part.now a.out.now y.new.out a.g a.size a.r p.5 p.2 p.0 p.3 y.ensures (take
     (a.size - 0) (drop 0 (replicate 512 0))) (part_length (replicate 512 0) 0 a.size a.size (omega arith) (omega arith))
-
-pub slice_bounds-p_bits-end : goal.slice_bounds-p_bits-end
-slice_bounds-p_bits-end c =
-    let a = c.args in
-    let x = c.add_rows in
-    part-fits x.new.acc _ _ (x.ensures.0 ∙ part_length (replicate 512 0) 0 a.size a.size (omega arith) (omega arith))
-
-pub slice_bounds-add_bits-end : goal.slice_bounds-add_bits-end
-slice_bounds-add_bits-end c =
-    let a =
-    c.args in
-    let x = c.p_bits in
-    part-fits x.new.out _ _ (ap length x.ensures ∙ tabulate-length (a.size * a.r) _)
 
 pub add_bits-requires : goal.add_bits-requires
 add_bits-requires c =
@@ -71,7 +57,3 @@ returns c =
     (take (a.size - 0) (drop 0 (replicate 512 0))) x.new.acc _ d.new.out _ b.new.out few (λ k. zeros-part 512 (a.size - 0) k) x.ensures.1
     (part-is x.new.acc (drop (a.size - 0) (replicate 512 0)) a.size many) d.ensures (part-is d.new.out (drop (n - 0) (replicate
     4096 0)) n long) b.ensures
-
-pub slice_bounds-columns-start : goal.slice_bounds-columns-start
-slice_bounds-columns-start c = search
-    rules

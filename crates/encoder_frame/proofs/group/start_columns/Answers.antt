@@ -1,12 +1,10 @@
 -- The remainders of the column words are a part of a local array, and their digits are P.
-use mathlib.Core.Path.{◌≡◌, ap, ◌∙◌, subst}
+use mathlib.Core.Path.{◌≡◌, subst}
 use mathlib.Core.List.{List}
 use Prim.Native.Nat.{ℕ}
 use native.Mathlib.Omega.{arith}
-use lib.ListN.{length, get_or, replicate}
+use lib.ListN.{get_or, replicate}
 use Rattle.staircase.specs.Lists.{tabulate}
-use Rattle.staircase.proofs.Tabulate.{tabulate-length}
-use Rattle.words_positions.proofs.Parts.{part-fits}
 use Rattle.words_blocks.specs.Blocks.{column_sum}
 use Rattle.words_blocks.proofs.Sums.{part_length, square}
 use Rattle.encoder_frame.proofs.Lending.{digits-made}
@@ -19,12 +17,6 @@ column_sums-requires c =
     let zeros : List ℕ = replicate 512 0 in
     let few = part_length zeros 0 n n (omega arith) (omega arith) in
     ((λ e. square _ _ _ n (p.1.0 e) few few, p.1.1), (λ e. square _ _ _ n (p.2.0 e) few few, p.2.1), omega (arith, few, p.0.powers))
-
-pub slice_bounds-p_bits-end : goal.slice_bounds-p_bits-end
-slice_bounds-p_bits-end c =
-    let x = c.column_sums in
-    let n = c.args.size in
-    part-fits x.new.columns _ _ (ap length x.ensures ∙ tabulate-length _ _ ∙ part_length _ 0 n n (omega arith) (omega arith))
 
 pub returns : goal.returns
 returns c =

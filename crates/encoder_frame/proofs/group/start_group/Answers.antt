@@ -5,15 +5,9 @@ use native.Mathlib.Omega.{arith}
 use lib.ListN.{length}
 use Rattle.staircase.proofs.Tabulate.{tabulate-length}
 use Rattle.staircase.proofs.Fill.{front_length}
-use Rattle.staircase.proofs.Bounds.{small_product}
 use Rattle.words_blocks.proofs.Sums.{part_length}
 use Rattle.encoder_frame.proofs.Lending.{lent_fits, start_made}
 use Rattle.encoder_frame.proofs.group.start_group.Goals as goal
-
-pub overflow_mul-area : goal.overflow_mul-area
-overflow_mul-area c =
-    let few = c.requires.0.tables.few-columns in
-    omega (arith, small_product c.args.sizes.size c.args.sizes.size 512 512 few few)
 
 pub start_rows-requires : goal.start_rows-requires
 start_rows-requires c =

@@ -11,15 +11,9 @@ use Rattle.staircase.specs.Batch.{frame_at}
 use Rattle.staircase.proofs.Bounds.{stretch-end}
 use Rattle.bch_remainders.proofs.Rows.{row-length, row-bits}
 use Rattle.encoder_solution.specs.Bits.{place_constant}
-use Rattle.encoder_solution.proofs.Gathered.{gathered_none, gathered_more}
+use Rattle.encoder_solution.proofs.Gathered.{gathered_more}
 use Rattle.encoder_frame.proofs.Lending.{part_of}
 use Rattle.encoder_frame.proofs.stretch.add_constants.Goals as goal
-
-pub loop-g-init : goal.loop-g-init
-loop-g-init c =
-    let a = c.args in
-    let n = length a.words.now in
-    (omega arith, omega arith, omega arith, λ q h. gathered_none (λ j. place_constant (frame_at (2 * n) a.red.now j) a.preimages.now n q) (get_or a.words.now q 0) (c.requires.5 q))
 
 pub add_constant-requires : goal.add_constant-requires
 add_constant-requires c =
@@ -29,21 +23,6 @@ add_constant-requires c =
     let w = 2 * length a.words.now in
     let few = row-length a.red.now (l.g * w) w (omega (arith, stretch-end l.g a.count w (omega arith))) in
     (omega arith, omega (arith, few), row-bits a.red.now (l.g * w) (l.g * w + w - l.g * w) p.3, omega arith, λ q h. omega (arith, p.4 q (omega arith)))
-
-pub overflow_mul-from : goal.overflow_mul-from
-overflow_mul-from c =
-    let a = c.args in
-    omega (arith, stretch-end c.loop-g.g a.count (2 * length a.words.now) (omega arith))
-
-pub overflow_add-from : goal.overflow_add-from
-overflow_add-from c =
-    let a = c.args in
-    omega (arith, stretch-end c.loop-g.g a.count (2 * length a.words.now) (omega arith))
-
-pub slice_bounds-add_constant-end : goal.slice_bounds-add_constant-end
-slice_bounds-add_constant-end c =
-    let a = c.args in
-    omega (arith, stretch-end c.loop-g.g a.count (2 * length a.words.now) (omega arith))
 
 pub loop-g-preserved : goal.loop-g-preserved
 loop-g-preserved c =
@@ -61,6 +40,3 @@ loop-g-preserved c =
           ∙ ap₂ (λ (x : List ℕ) (k : ℕ). bit_sum (get_or l.words q 0 / 2 ^ j % 2) (cond (eqb l.g j) (place_constant x a.preimages.now k q) 0))
           (part_of a.red.now l.g w) l.invariant.2),
     )
-
-pub returns : goal.returns
-returns c = let i = c.loop-g.invariant in (i.2, λ g q h l. (i.3 q l g).0 (omega arith), λ g q h l. (i.3 q l g).1 (omega arith))

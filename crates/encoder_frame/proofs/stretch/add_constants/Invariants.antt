@@ -1,6 +1,6 @@
--- The loop's invariant: the constants of the groups before `g` are in the words, whose other bits are 0. The measure is the number of groups left.
+-- The loop's invariant: the constants of the groups before `g` are in the words, whose other bits are 0.
 use mathlib.Core.Path.{◌≡◌}
-use Prim.Native.Nat.{ℕ, ◌-◌, ◌*◌, ◌≤◌, ◌<◌}
+use Prim.Native.Nat.{ℕ, ◌*◌, ◌≤◌, ◌<◌}
 use lib.ListN.{length, get_or}
 use Rattle.staircase.specs.Batch.{frame_at}
 use Rattle.encoder_solution.specs.Bits.{place_constant}
@@ -11,6 +11,3 @@ abbrev pub invariant-loop-g : goal.invariant-loop-g
 invariant-loop-g l =
     (l.w ≡ 2 * length l.initial.words) × (l.g ≤ l.count) × (length l.words ≡ length l.initial.words)
     × ((q : ℕ) → q < length l.initial.words → Gathered (λ j. place_constant (frame_at (2 * length l.initial.words) l.red j) l.preimages (length l.initial.words) q) (get_or l.words q 0) l.g)
-
-abbrev pub decreases-loop-g : goal.decreases-loop-g
-decreases-loop-g l = l.count - l.g

@@ -1,6 +1,6 @@
 use mathlib.Core.Path.{◌≡◌, ap, ◌∙◌, subst⁻¹}
 use mathlib.Core.List.{List}
-use Prim.Native.Nat.{ℕ, ◌-◌, ◌*◌}
+use Prim.Native.Nat.{ℕ, ◌*◌}
 use native.Mathlib.Omega.{arith}
 use lib.ListN.{length}
 use Rattle.bch.specs.Polynomial.{Bits}
@@ -46,21 +46,6 @@ finish_group-requires c =
       p.8,
       p.9,
     )
-
-pub overflow_mul-from : goal.overflow_mul-from
-overflow_mul-from c =
-    let a = c.args in
-    omega (arith, stretch-end c.loop-g.g a.count (2 * (a.size * a.r)) (omega arith))
-
-pub overflow_add-from : goal.overflow_add-from
-overflow_add-from c =
-    let a = c.args in
-    omega (arith, stretch-end c.loop-g.g a.count (2 * (a.size * a.r)) (omega arith))
-
-pub slice_bounds-finish_group-end : goal.slice_bounds-finish_group-end
-slice_bounds-finish_group-end c =
-    let a = c.args in
-    omega (arith, stretch-end c.loop-g.g a.count (2 * (a.size * a.r)) (omega arith))
 
 pub loop-g-preserved : goal.loop-g-preserved
 loop-g-preserved c =

@@ -1,6 +1,6 @@
--- The loop's invariant: the groups before `g` are finished, the others as they were. The measure is the number of groups left.
+-- The loop's invariant: the groups before `g` are finished, the others as they were.
 use mathlib.Core.Path.{◌≡◌}
-use Prim.Native.Nat.{◌-◌, ◌*◌, ◌≤◌}
+use Prim.Native.Nat.{◌*◌, ◌≤◌}
 use lib.ListN.{length}
 use Rattle.staircase.specs.Batch.{frame_at}
 use Rattle.staircase.proofs.Fill.{stretches}
@@ -11,6 +11,3 @@ abbrev pub invariant-loop-g : goal.invariant-loop-g
 invariant-loop-g l =
     (l.w ≡ 2 * (l.size * l.r)) × (l.g ≤ l.count) × (length l.red ≡ l.count * (2 * (l.size * l.r)))
     × (l.red ≡ stretches (λ k. finished_of l.words k l.part l.size l.r (frame_at (2 * (l.size * l.r)) l.initial.red k)) l.initial.red (2 * (l.size * l.r)) l.g)
-
-abbrev pub decreases-loop-g : goal.decreases-loop-g
-decreases-loop-g l = l.count - l.g

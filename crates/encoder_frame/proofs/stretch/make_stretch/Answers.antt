@@ -3,7 +3,6 @@ use mathlib.Core.Path.{ap, ◌∙◌, subst⁻¹}
 use mathlib.Core.List.{List}
 use Prim.Native.Nat.{ℕ, ◌+◌, ◌-◌, ◌*◌}
 use native.Mathlib.Omega.{arith}
-use borrow.Author.Rules.{rules}
 use lib.ListN.{length, replicate}
 use Rattle.bch.specs.Polynomial.{Bits}
 use Rattle.staircase.proofs.Tabulate.{concat-length}
@@ -39,7 +38,3 @@ returns c =
     let x = c.start_groups in
     stretch-made a.columns.now a.positions.now a.preimages.now a.inverse.now z.size z.r z.blocks a.info.now a.first a.count c.requires.1
     x.new.red _ x.ensures c.solve_groups.ensures
-
-pub shape_of-red : goal.shape_of-red
-shape_of-red c = search
-    rules

@@ -1,6 +1,6 @@
 -- The constants go into the words, the words are solved, and the groups finished.
 use mathlib.Core.Path.{sym, ap, ◌∙◌}
-use Prim.Native.Nat.{ℕ, ◌+◌, ◌-◌, ◌*◌}
+use Prim.Native.Nat.{ℕ, ◌+◌, ◌*◌}
 use native.Mathlib.Omega.{arith}
 use lib.ListN.{length}
 use Rattle.staircase.proofs.Tabulate.{tabulate-length}
@@ -22,13 +22,6 @@ add_constants-requires c =
       p.3,
       omega (arith, T.words.small, p.2),
     )
-
-pub solve-requires : goal.solve-requires
-solve-requires c =
-    let p = c.requires in
-    let T = p.0 in
-    let x = c.add_constants.ensures in
-    (T.packed, x.0 ∙ p.2, T.words.some-columns, T.words.some-rows, T.words.small, λ q j h l. x.2 j q l (omega (arith, p.2)))
 
 pub finish_groups-requires : goal.finish_groups-requires
 finish_groups-requires c =

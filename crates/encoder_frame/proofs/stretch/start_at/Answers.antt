@@ -1,33 +1,13 @@
 -- The frame of the group is lent.
-use mathlib.Core.Path.{subst, subst⁻¹}
+use mathlib.Core.Path.{subst⁻¹}
 use mathlib.Core.List.{List}
 use Prim.Native.Nat.{ℕ, ◌*◌, ◌/◌, ◌%◌, ◌<◌}
 use native.Mathlib.Omega.{arith}
 use Rattle.staircase.specs.Frame.{groups}
-use Rattle.staircase.proofs.Bounds.{small_product, stretch-end}
+use Rattle.staircase.proofs.Bounds.{stretch-end}
 use Rattle.encoder_frame.specs.Groups.{FrameReady}
 use Rattle.encoder_frame.proofs.Lending.{frame-of, part_of, group-number, start-at}
 use Rattle.encoder_frame.proofs.stretch.start_at.Goals as goal
-
-pub overflow_mul-area : goal.overflow_mul-area
-overflow_mul-area c =
-    let few = c.requires.0.tables.few-columns in
-    omega (arith, small_product c.args.sizes.size c.args.sizes.size 512 512 few few)
-
-pub overflow_mul-area-2 : goal.overflow_mul-area-2
-overflow_mul-area-2 c =
-    let z = c.args.sizes in
-    let few = c.requires.0.tables.few-columns in
-    let one = small_product z.size z.size 512 512 few few in
-    omega (arith, small_product z.blocks (z.size * z.size) 4096 262144 c.requires.0.few-blocks (omega (arith, one)))
-
-pub nonzero_div-from : goal.nonzero_div-from
-nonzero_div-from c =
-    omega (arith, group-number c.args.sizes.frames (groups c.args.sizes.blocks) c.args.q c.requires.1, c.group_count-count.ensures)
-
-pub nonzero_rem-q : goal.nonzero_rem-q
-nonzero_rem-q c =
-    omega (arith, group-number c.args.sizes.frames (groups c.args.sizes.blocks) c.args.q c.requires.1, c.group_count-count.ensures)
 
 pub overflow_mul-from : goal.overflow_mul-from
 overflow_mul-from c =

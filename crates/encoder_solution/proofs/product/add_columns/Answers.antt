@@ -1,4 +1,4 @@
-use mathlib.Core.Path.{refl, ap, ◌∙◌}
+use mathlib.Core.Path.{ap, ◌∙◌}
 use Prim.Native.Nat.{ℕ, ◌+◌, ◌-◌, ◌*◌}
 use native.Mathlib.Omega.{arith}
 use lib.ListN.{length, get_or, take, drop, length-set}
@@ -7,21 +7,6 @@ use Rattle.bch.proofs.PowerSum.{xor_sum-same}
 use Rattle.bch_remainders.proofs.Powers.{added_more}
 use Rattle.bch_remainders.proofs.Rows.{row_end, row-length, row_at}
 use Rattle.encoder_solution.proofs.product.add_columns.Goals as goal
-
-pub loop-e-init : goal.loop-e-init
-loop-e-init c = (omega arith, omega arith, omega arith, λ k. (λ l. absurd (omega arith), λ l. refl))
-
-pub overflow_mul-from : goal.overflow_mul-from
-overflow_mul-from c = let a = c.args in omega (arith, row_end c.loop-e.e (length a.products.now) a.w (omega arith))
-
-pub overflow_add-from : goal.overflow_add-from
-overflow_add-from c = let a = c.args in omega (arith, row_end c.loop-e.e (length a.products.now) a.w (omega arith))
-
-pub overflow_add-from-in-loop-e : goal.overflow_add-from-in-loop-e
-overflow_add-from-in-loop-e c = let a = c.args in omega (arith, row_end c.loop-e.e (length a.products.now) a.w (omega arith))
-
-pub slice_bounds-row_sum-end : goal.slice_bounds-row_sum-end
-slice_bounds-row_sum-end c = let a = c.args in omega (arith, row_end c.loop-e.e (length a.products.now) a.w (omega arith))
 
 pub row_sum-requires : goal.row_sum-requires
 row_sum-requires c =
@@ -47,6 +32,3 @@ loop-e-preserved c =
           (λ j. get_or a.tables.now (256 * j + get_or a.inverse.now (from + j) 0) 0)
           (λ j h. ap (λ (x : ℕ). get_or a.tables.now (256 * j + x) 0) (row_at a.inverse.now from a.c j h))),
     )
-
-pub returns : goal.returns
-returns c = let i = c.loop-e.invariant in (i.2, λ e h. (i.3 e).0 (omega arith))

@@ -1,5 +1,5 @@
 use mathlib.Core.Path.{◌≡◌, refl, sym, ap, ◌∙◌}
-use Prim.Native.Nat.{ℕ, ◌-◌, ◌*◌, ◌^◌, ◌≤◌}
+use Prim.Native.Nat.{ℕ, ◌*◌, ◌^◌, ◌≤◌}
 use native.Mathlib.Numerals.{add-one}
 use native.Mathlib.Omega.{arith}
 use lib.Pow.{pow_mono}
@@ -8,43 +8,37 @@ use Rattle.words_tables.specs.Tables.{sum_at}
 use Rattle.words_tables.proofs.Tables.{sums_none, sums_doubled}
 use Rattle.encoder_solution.proofs.product.fill_table.Goals as goal
 
-pub loop-i-init : goal.loop-i-init
-loop-i-init c =
+pub loop-word-init : goal.loop-word-init
+loop-word-init c =
     let a = c.args in
-    (omega arith, omega arith, refl, simp length-set (omega arith), sums_none (λ k. get_or a.words.now k 0) a.table.now (omega arith))
+    (refl, simp length-set (omega arith), sums_none (λ k. get_or a.words.now k 0) a.table.now (omega arith))
 
 pub double-requires : goal.double-requires
 double-requires c =
-    let l = c.loop-i in
-    let few : 2 ^ l.i ≤ 2 ^ 7 = pow_mono {j = 7} (omega arith) in
-    omega (arith, few, l.invariant.2)
+    let l = c.loop-word in
+    let few : 2 ^ l.word-index ≤ 2 ^ 7 = pow_mono {j = 7} (omega arith) in
+    omega (arith, few, l.invariant.0)
 
 pub overflow_mul-w : goal.overflow_mul-w
 overflow_mul-w c =
-    let l = c.loop-i in
-    let few : 2 ^ l.i ≤ 2 ^ 7 = pow_mono {j = 7} (omega arith) in
-    omega (arith, few, l.invariant.2)
+    let l = c.loop-word in
+    let few : 2 ^ l.word-index ≤ 2 ^ 7 = pow_mono {j = 7} (omega arith) in
+    omega (arith, few, l.invariant.0)
 
-pub loop-i-preserved : goal.loop-i-preserved
-loop-i-preserved c =
+pub loop-word-preserved : goal.loop-word-preserved
+loop-word-preserved c =
     let a = c.args in
-    let l = c.loop-i in
+    let l = c.loop-word in
     let r = c.double in (
-      omega arith,
-      omega arith,
-      ap (λ (z : ℕ). z * 2) l.invariant.2 ∙ sym (ap (λ (z : ℕ). 2 ^ z) (add-one l.i) ∙ omega arith),
-      r.ensures.0 ∙ l.invariant.3,
-      sums_doubled (λ k. get_or a.words.now k 0) l.i l.table r.new.table l.w l.invariant.2 l.invariant.4 r.ensures.1 r.ensures.2,
+      ap (λ (z : ℕ). z * 2) l.invariant.0 ∙ sym (ap (λ (z : ℕ). 2 ^ z) (add-one l.word-index) ∙ omega arith),
+      r.ensures.0 ∙ l.invariant.1,
+      sums_doubled (λ k. get_or a.words.now k 0) l.word-index l.table r.new.table l.w l.invariant.0 l.invariant.2 r.ensures.1 r.ensures.2,
     )
 
 pub returns : goal.returns
 returns c =
     let a = c.args in
-    let l = c.loop-i in
-    let e : l.i ≡ 8 = omega arith in
-    let all : l.w ≡ 256 = l.invariant.2 ∙ ap (λ (z : ℕ). 2 ^ z) e in
-    (omega arith, λ v h. l.invariant.4 v (omega arith) ∙ ap (λ (z : ℕ). sum_at (λ k. get_or a.words.now k 0) z v) e)
-
-pub loop-i-smaller : goal.loop-i-smaller
-loop-i-smaller c = omega
-    arith
+    let l = c.loop-word in
+    let e : l.word-index ≡ 8 = omega arith in
+    let all : l.w ≡ 256 = l.invariant.0 ∙ ap (λ (z : ℕ). 2 ^ z) e in
+    (omega arith, λ v h. l.invariant.2 v (omega arith) ∙ ap (λ (z : ℕ). sum_at (λ k. get_or a.words.now k 0) z v) e)

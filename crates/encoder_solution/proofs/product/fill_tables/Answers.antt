@@ -8,9 +8,6 @@ use Rattle.words_tables.specs.Tables.{table_entry}
 use Rattle.encoder_solution.proofs.Words.{table_of_part}
 use Rattle.encoder_solution.proofs.product.fill_tables.Goals as goal
 
-pub loop-j-init : goal.loop-j-init
-loop-j-init c = (omega arith, omega arith, λ q h. absurd (omega arith))
-
 pub fill_table-requires : goal.fill_table-requires
 fill_table-requires c =
     let a = c.args in
@@ -30,10 +27,3 @@ loop-j-preserved c =
       λ q h. each_part (λ q z. z ≡ table_entry (λ k. get_or a.words.now k 0) q) l.tables r.new.table (256 * l.j) k (omega arith) long l.invariant.2
           (λ s m. r.ensures.1 s (omega arith) ∙ table_of_part a.words.now l.j s (omega arith)) q (omega arith),
     )
-
-pub returns : goal.returns
-returns c = let i = c.loop-j.invariant in (i.1, λ q h. i.2 q (omega arith))
-
-pub slice_bounds-fill_table-start : goal.slice_bounds-fill_table-start
-slice_bounds-fill_table-start c = omega
-    arith

@@ -1,16 +1,11 @@
-use mathlib.Core.Path.{◌≡◌, refl, sym, ap, ◌∙◌}
-use Prim.Native.Nat.{ℕ, ◌+◌, ◌-◌, ◌*◌}
+use mathlib.Core.Path.{◌≡◌, refl, ap, ◌∙◌}
+use Prim.Native.Nat.{ℕ, ◌+◌, ◌*◌}
 use native.Mathlib.Omega.{arith}
 use lib.Bits.{bit_xor}
 use lib.ListN.{length, get_or}
 use Rattle.bch.specs.Powers.{xor_sum}
 use Rattle.bch_remainders.proofs.Powers.{xor_sum-more}
 use Rattle.encoder_solution.proofs.product.row_sum.Goals as goal
-
-pub returns-then-row-eq8 : goal.returns-then-row-eq8
-returns-then-row-eq8 c =
-    let a = c.args in
-    c.eight_sum.ensures ∙ ap (λ (n : ℕ). xor_sum n (λ k. get_or a.tables.now (256 * k + get_or a.row.now k 0) 0)) (sym c.if-row-eq8.true)
 
 pub loop-j-init : goal.loop-j-init
 unfolding xor_sum

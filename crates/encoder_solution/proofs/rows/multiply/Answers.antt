@@ -6,16 +6,6 @@ use Rattle.staircase.proofs.Bounds.{small_product}
 use Rattle.words_blocks.proofs.Sums.{part_length}
 use Rattle.encoder_solution.proofs.rows.multiply.Goals as goal
 
-pub overflow_mul-count : goal.overflow_mul-count
-overflow_mul-count c =
-    let a = c.args in
-    omega (arith, small_product a.count a.p 32 512 (omega arith) (omega arith))
-
-pub slice_bounds-packed-end : goal.slice_bounds-packed-end
-slice_bounds-packed-end c =
-    let a = c.args in
-    omega (arith, small_product a.count a.p 32 512 (omega arith) (omega arith))
-
 pub multiply_in-requires : goal.multiply_in-requires
 multiply_in-requires c =
     let p = c.requires in

@@ -1,4 +1,4 @@
-use mathlib.Core.Path.{refl, ◌∙◌}
+use mathlib.Core.Path.{◌∙◌}
 use Prim.Native.Nat.{ℕ, ◌-◌, ◌*◌}
 use native.Mathlib.Omega.{arith}
 use lib.ListN.{length, get_or, length-set}
@@ -9,28 +9,12 @@ use Rattle.encoder_solution.specs.Words.{row_product}
 use Rattle.encoder_solution.proofs.Masked.{row-product}
 use Rattle.encoder_solution.proofs.rows.multiply_in.Goals as goal
 
-pub pack_groups-requires : goal.pack_groups-requires
-pack_groups-requires c = omega arith
-
-pub loop-e-init : goal.loop-e-init
-loop-e-init c = (omega arith, omega arith, omega arith, λ k. (λ l. absurd (omega arith), λ l. refl))
-
-pub overflow_mul-from : goal.overflow_mul-from
-overflow_mul-from c =
-    let a = c.args in
-    omega (arith, row_end c.loop-e.e (length a.products.now) a.w (omega arith))
-
-pub part_end-end-requires : goal.part_end-end-requires
-part_end-end-requires c =
-    let a = c.args in
-    omega (arith, row_end c.loop-e.e (length a.products.now) a.w (omega arith))
-
 pub row_word-requires : goal.row_word-requires
 row_word-requires c =
     let a = c.args in
     let l = c.loop-e in
     let y = c.pack_groups in
-    let end = c.part_end-end in
+    let end = c.min-end in
     let long = mid_len (l.e * a.w) end.result a.inverse.now (omega arith) in
     (y.ensures.0 ∙ c.requires.6, omega (arith, long, end.ensures), c.requires.3, c.requires.5)
 
@@ -39,7 +23,7 @@ loop-e-preserved c =
     let a = c.args in
     let l = c.loop-e in
     let y = c.pack_groups in
-    let end = c.part_end-end in
+    let end = c.min-end in
     let from : ℕ = l.e * a.w in
     let inside = row_end l.e (length a.products.now) a.w (omega arith) in
     let n : ℕ = end.result - from in
@@ -50,12 +34,5 @@ loop-e-preserved c =
       simp length-set (omega arith),
       added_more a.products.now l.products f l.e _ (omega arith) l.invariant.3
           (row-product a.inverse.now a.constants.now y.new.packed a.w a.p a.count y.ensures.1 c.requires.7 c.requires.8
-          l.e n _ (omega (arith, end.ensures.3 a.w c.requires.2 (omega (arith, inside, c.requires.0)))) (omega (arith, end.ensures.2)) long c.row_word.ensures),
+          l.e n _ (omega (arith, end.ensures, inside, c.requires.0, c.requires.2)) (omega (arith, end.ensures)) long c.row_word.ensures),
     )
-
-pub returns : goal.returns
-returns c = let i = c.loop-e.invariant in (i.2, λ e h. (i.3 e).0 (omega arith))
-
-pub shape_of-packed : goal.shape_of-packed
-shape_of-packed c = omega
-    arith

@@ -1,14 +1,11 @@
 use mathlib.Core.Path.{◌≡◌, ap, ◌∙◌}
-use Prim.Native.Nat.{ℕ, ◌+◌, ◌-◌, ◌*◌, ◌<◌}
+use Prim.Native.Nat.{ℕ, ◌+◌, ◌*◌, ◌<◌}
 use native.Mathlib.Omega.{arith}
 use lib.ListN.{get_or, length-set}
 use Rattle.staircase.proofs.Fill.{each_more}
 use Rattle.bch_remainders.proofs.Rows.{row-length, row_at}
 use Rattle.matrix.proofs.Bits.{bit}
 use Rattle.encoder_solution.proofs.rows.pack_group.Goals as goal
-
-pub loop-b-init : goal.loop-b-init
-loop-b-init c = (omega arith, omega arith, omega arith, λ q h. absurd (omega arith))
 
 pub byte_of-requires : goal.byte_of-requires
 byte_of-requires c =
@@ -26,10 +23,3 @@ loop-b-preserved c =
       each_more (λ q v. (i : ℕ) → i < 8 → bit v i ≡ bit (get_or a.words.now (8 * q + i) 0) a.g) l.out l.b _ (omega arith) l.invariant.3
           (λ i h. c.byte_of.ensures i h ∙ ap (λ (x : ℕ). bit x a.g) (row_at a.words.now (8 * l.b) 8 i h)),
     )
-
-pub returns : goal.returns
-returns c = let l = c.loop-b in (l.invariant.2, λ q i h k. l.invariant.3 q (omega arith) i k)
-
-pub slice_bounds-byte_of-end : goal.slice_bounds-byte_of-end
-slice_bounds-byte_of-end c = omega
-    arith

@@ -10,18 +10,6 @@ use Rattle.matrix.proofs.Bits.{bit}
 use Rattle.encoder_solution.proofs.Masked.{group-byte}
 use Rattle.encoder_solution.proofs.rows.pack_groups.Goals as goal
 
-pub loop-g-init : goal.loop-g-init
-loop-g-init c = (omega arith, c.requires.4, λ q h. absurd (omega arith))
-
-pub overflow_mul-from : goal.overflow_mul-from
-overflow_mul-from c = let a = c.args in omega (arith, stretch-end c.loop-g.g a.count a.p (omega arith))
-
-pub overflow_add-from : goal.overflow_add-from
-overflow_add-from c = let a = c.args in omega (arith, stretch-end c.loop-g.g a.count a.p (omega arith))
-
-pub slice_bounds-pack_group-end : goal.slice_bounds-pack_group-end
-slice_bounds-pack_group-end c = let a = c.args in omega (arith, stretch-end c.loop-g.g a.count a.p (omega arith))
-
 pub pack_group-requires : goal.pack_group-requires
 pack_group-requires c =
     let a = c.args in

@@ -1,4 +1,4 @@
-use mathlib.Core.Path.{◌≡◌, refl, sym, ap, ◌∙◌}
+use mathlib.Core.Path.{◌≡◌, sym, ap, ◌∙◌}
 use mathlib.Core.Bool.{cond}
 use mathlib.Core.List.{List}
 use Prim.Native.Nat.{ℕ, ◌+◌, ◌-◌, ◌*◌, ◌<◌}
@@ -11,7 +11,7 @@ use Rattle.staircase.proofs.Matrix.{sum_bits-lt, sum_bits-same}
 use Rattle.bch_remainders.proofs.Rows.{row-length}
 use Rattle.matrix.specs.Packed.{packed_bit}
 use Rattle.matrix.proofs.Bits.{bit, bit_added}
-use Rattle.encoder_solution.proofs.Gathered.{gathered_none, gathered_more}
+use Rattle.encoder_solution.proofs.Gathered.{gathered_more}
 use Rattle.encoder_solution.proofs.Masked.{packed-front}
 use Rattle.encoder_solution.proofs.rows.row_word.Invariants.{entry}
 use Rattle.encoder_solution.proofs.rows.row_word.Goals as goal
@@ -25,18 +25,6 @@ lent-entry row packed p g v is =
     ∙ sum_bits-same (8 * length row) (λ k. packed_bit row k * packed_bit (take n (drop (g * p) packed)) k) (λ k. packed_bit row k * packed_bit (drop (g * p) packed) k)
     (λ k h. ap (λ (x : ℕ). packed_bit row k * x) (packed-front (drop (g * p) packed) n k (omega arith)))
 
-pub loop-g-init : goal.loop-g-init
-loop-g-init c = let a = c.args in (omega arith, gathered_none (entry a.row.now a.packed.now a.p) 0 refl)
-
-pub overflow_mul-from : goal.overflow_mul-from
-overflow_mul-from c = let a = c.args in omega (arith, stretch-end c.loop-g.g a.count a.p (omega arith))
-
-pub overflow_add-from : goal.overflow_add-from
-overflow_add-from c = let a = c.args in omega (arith, stretch-end c.loop-g.g a.count a.p (omega arith))
-
-pub slice_bounds-shared_odd-end : goal.slice_bounds-shared_odd-end
-slice_bounds-shared_odd-end c = let a = c.args in omega (arith, stretch-end c.loop-g.g a.count a.p (omega arith))
-
 pub shared_odd-requires : goal.shared_odd-requires
 shared_odd-requires c =
     let a = c.args in
@@ -48,15 +36,10 @@ loop-g-preserved c =
     let a = c.args in
     let l = c.loop-g in
     let f : ℕ → ℕ = entry a.row.now a.packed.now a.p in
-    let v = c.shared_odd in
-    let is : v.result ≡ f l.g = lent-entry a.row.now a.packed.now a.p l.g v.result v.ensures in
+    let v = c.from in
+    let is : v.result ≡ f l.g = v.ensures ∙ lent-entry a.row.now a.packed.now a.p l.g _ c.shared_odd.ensures in
     let small : f l.g < 2 = sum_bits-lt (8 * length a.row.now) (λ k. packed_bit a.row.now k * packed_bit (drop (l.g * a.p) a.packed.now) k) in (
       omega arith,
       gathered_more f l.x _ l.g small l.invariant.1
           (λ j. bit_added 64 l.x v.result l.g j (omega (arith, is, small)) (omega arith) ∙ ap (λ (z : ℕ). bit_sum (bit l.x j) (cond (eqb l.g j) z 0)) is),
     )
-
-pub returns : goal.returns
-returns c g =
-    let l = c.loop-g in
-    (λ h. (l.invariant.1 g).0 (omega arith), λ h. (l.invariant.1 g).1 (omega arith))

@@ -1,6 +1,6 @@
--- The loop's invariant: the bits of the groups before `g` are in `x`, whose other bits are 0. The measure is the number of groups left.
+-- The loop's invariant: the bits of the groups before `g` are in `x`, whose other bits are 0.
 use mathlib.Core.List.{List}
-use Prim.Native.Nat.{ℕ, ◌-◌, ◌*◌, ◌≤◌}
+use Prim.Native.Nat.{ℕ, ◌*◌, ◌≤◌}
 use lib.ListN.{length, drop}
 use Rattle.staircase.specs.Lists.{sum_bits}
 use Rattle.matrix.specs.Packed.{packed_bit}
@@ -13,6 +13,3 @@ entry row packed p g = sum_bits (8 * length row) (λ k. packed_bit row k * packe
 
 abbrev pub invariant-loop-g : goal.invariant-loop-g
 invariant-loop-g l = (l.g ≤ l.count) × Gathered (entry l.row l.packed l.p) l.x l.g
-
-abbrev pub decreases-loop-g : goal.decreases-loop-g
-decreases-loop-g l = l.count - l.g

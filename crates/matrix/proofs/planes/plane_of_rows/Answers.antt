@@ -15,41 +15,6 @@ block-column : (w : List ℕ) (n b c q y s v : ℕ) → s < 8 → ((r : ℕ) →
     → ((r s : ℕ) → r < 8 → s < 8 → bit q (8 * r + s) ≡ padded_entry w n (8 * b + r) (8 * c + s)) → Column w n b (8 * c + s) v
 block-column w n b c q y s v h put transposed block in-n r g = put r g ∙ transposed r s g h ∙ block r s g h
 
-pub loop-c-init : goal.loop-c-init
-loop-c-init c = (omega arith, omega arith, λ x h. absurd (omega arith))
-
-pub block_at-requires : goal.block_at-requires
-block_at-requires c = omega arith
-
-pub transpose_block-q-requires : goal.transpose_block-q-requires
-transpose_block-q-requires c = tt
-
-pub overflow_mul-x : goal.overflow_mul-x
-overflow_mul-x c = omega arith
-
-pub block_end-e-requires : goal.block_end-e-requires
-block_end-e-requires c = omega arith
-
-pub slice_bounds-put_block-count : goal.slice_bounds-put_block-count
-slice_bounds-put_block-count c = omega arith
-
-pub slice_bounds-put_block-start : goal.slice_bounds-put_block-start
-slice_bounds-put_block-start c = omega arith
-
-pub slice_bounds-put_block-end : goal.slice_bounds-put_block-end
-slice_bounds-put_block-end c = omega arith
-
-pub put_block-requires : goal.put_block-requires
-put_block-requires c =
-    let l = c.loop-c in
-    omega (arith, mid_len (8 * l.c) c.block_end-e.result l.plane (omega arith))
-
-pub overflow_step-c : goal.overflow_step-c
-overflow_step-c c = omega arith
-
-pub loop-c-smaller : goal.loop-c-smaller
-loop-c-smaller c = omega arith
-
 pub loop-c-preserved : goal.loop-c-preserved
 loop-c-preserved c =
     let a = c.args in
@@ -68,9 +33,3 @@ loop-c-preserved c =
           c.transpose_block-q.ensures c.block_at.ensures)
           x (omega (arith, end.ensures.3 x (omega arith) in-n)) in-n,
     )
-
-pub shape_of-plane : goal.shape_of-plane
-shape_of-plane c = omega arith
-
-pub returns : goal.returns
-returns c = (omega arith, λ x h. c.loop-c.invariant.2 x (omega arith) h)

@@ -5,48 +5,8 @@ use native.Mathlib.Omega.{arith}
 use borrow.Rule.Slice.PartMut.{same_len_mid}
 use Rattle.staircase.specs.System.{row_bytes}
 use Rattle.matrix.specs.Packed.{padded_entry}
-use Rattle.matrix.proofs.Packed.{plane_end, plane_length}
 use Rattle.matrix.proofs.Filled.{planes_more, planes_all}
 use Rattle.matrix.proofs.planes.planes_of_rows.Goals as goal
-
-pub overflow_add-rb : goal.overflow_add-rb
-overflow_add-rb c = omega arith
-
-pub loop-b-init : goal.loop-b-init
-loop-b-init c = (omega arith, omega arith, λ q h. absurd (omega arith))
-
-pub overflow_mul-a : goal.overflow_mul-a
-overflow_mul-a c =
-    let n = c.args.n in
-    omega (arith, plane_end c.loop-b.b n (row_bytes n) (omega arith))
-
-pub overflow_add-e : goal.overflow_add-e
-overflow_add-e c =
-    let n = c.args.n in
-    omega (arith, plane_end c.loop-b.b n (row_bytes n) (omega arith))
-
-pub slice_bounds-plane_of_rows-count : goal.slice_bounds-plane_of_rows-count
-slice_bounds-plane_of_rows-count c = omega arith
-
-pub slice_bounds-plane_of_rows-start : goal.slice_bounds-plane_of_rows-start
-slice_bounds-plane_of_rows-start c = omega arith
-
-pub slice_bounds-plane_of_rows-end : goal.slice_bounds-plane_of_rows-end
-slice_bounds-plane_of_rows-end c =
-    let n = c.args.n in
-    omega (arith, plane_end c.loop-b.b n (row_bytes n) (omega arith))
-
-pub plane_of_rows-requires : goal.plane_of_rows-requires
-plane_of_rows-requires c =
-    let n = c.args.n in
-    let l = c.loop-b in
-    omega (arith, plane_length l.t l.b n (row_bytes n) (omega arith) (omega arith))
-
-pub overflow_step-b : goal.overflow_step-b
-overflow_step-b c = omega arith
-
-pub loop-b-smaller : goal.loop-b-smaller
-loop-b-smaller c = omega arith
 
 pub loop-b-preserved : goal.loop-b-preserved
 loop-b-preserved c =
@@ -58,9 +18,6 @@ loop-b-preserved c =
       planes_more a.n (row_bytes a.n) (padded_entry a.w.now a.n) l.t filled.new.plane l.b (omega arith) (omega arith)
           filled.ensures.0 l.invariant.2 filled.ensures.1,
     )
-
-pub shape_of-t : goal.shape_of-t
-shape_of-t c = omega arith
 
 pub returns : goal.returns
 returns c =

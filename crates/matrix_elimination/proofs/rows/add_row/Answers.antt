@@ -1,17 +1,11 @@
 use mathlib.Core.Path.{◌≡◌, ap₂, subst}
-use Prim.Native.Nat.{ℕ, ◌+◌, ◌-◌, ◌*◌}
+use Prim.Native.Nat.{ℕ, ◌+◌, ◌*◌}
 use native.Mathlib.Omega.{arith}
 use lib.Bits.{bit_xor}
 use lib.ListN.{get_or}
 use Rattle.staircase.proofs.Bounds.{small_product, stretch-end}
 use Rattle.matrix_elimination.proofs.RowLoop.{Written, written_none, written_next, written-rows, other_byte, rows_apart}
 use Rattle.matrix_elimination.proofs.rows.add_row.Goals as goal
-
-pub overflow_mul-x : goal.overflow_mul-x
-overflow_mul-x c = omega (arith, small_product c.args.to c.args.w 4352 1024 (omega arith) (omega arith))
-
-pub overflow_mul-y : goal.overflow_mul-y
-overflow_mul-y c = omega (arith, small_product c.args.from c.args.w 4352 1024 (omega arith) (omega arith))
 
 pub loop-c-init : goal.loop-c-init
 loop-c-init c =
@@ -23,15 +17,6 @@ loop-c-init c =
       rows_apart a.to a.from a.w c.requires.5,
       written_none _ _ _,
     )
-
-pub bounds-m-x : goal.bounds-m-x
-bounds-m-x c = omega (arith, c.loop-c.invariant.5.long)
-
-pub bounds-m-y : goal.bounds-m-y
-bounds-m-y c = omega (arith, c.loop-c.invariant.5.long)
-
-pub bounds-m-x-in-loop-c : goal.bounds-m-x-in-loop-c
-bounds-m-x-in-loop-c c = omega (arith, c.loop-c.invariant.5.long)
 
 pub loop-c-preserved : goal.loop-c-preserved
 loop-c-preserved c =
@@ -46,9 +31,6 @@ loop-c-preserved c =
       written_next _ _ _ _ _ _ (omega arith)
           (ap₂ bit_xor (h.rest (a.to * a.w + l.c) (omega arith)) (other_byte _ _ _ _ a.w _ _ h (omega arith) l.invariant.4)) h,
     )
-
-pub shape_of-m : goal.shape_of-m
-shape_of-m c = omega (arith, c.loop-c.invariant.5.long)
 
 pub returns : goal.returns
 returns c =

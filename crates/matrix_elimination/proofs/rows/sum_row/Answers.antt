@@ -1,20 +1,11 @@
 use mathlib.Core.Path.{◌≡◌, ap₂, subst}
-use Prim.Native.Nat.{ℕ, ◌+◌, ◌-◌, ◌*◌}
+use Prim.Native.Nat.{ℕ, ◌+◌, ◌*◌}
 use native.Mathlib.Omega.{arith}
 use lib.Bits.{bit_xor}
 use lib.ListN.{get_or}
 use Rattle.staircase.proofs.Bounds.{small_product, stretch-end}
 use Rattle.matrix_elimination.proofs.RowLoop.{Written, written_none, written_next, written-rows, other_byte, rows_apart}
 use Rattle.matrix_elimination.proofs.rows.sum_row.Goals as goal
-
-pub overflow_mul-t : goal.overflow_mul-t
-overflow_mul-t c = omega (arith, small_product c.args.to c.args.w 4352 1024 (omega arith) (omega arith))
-
-pub overflow_mul-p : goal.overflow_mul-p
-overflow_mul-p c = omega (arith, small_product c.args.x c.args.w 4352 1024 (omega arith) (omega arith))
-
-pub overflow_mul-q : goal.overflow_mul-q
-overflow_mul-q c = omega (arith, small_product c.args.y c.args.w 4352 1024 (omega arith) (omega arith))
 
 pub loop-c-init : goal.loop-c-init
 loop-c-init c =
@@ -28,15 +19,6 @@ loop-c-init c =
       rows_apart a.to a.y a.w c.requires.7,
       written_none _ _ _,
     )
-
-pub bounds-m-p : goal.bounds-m-p
-bounds-m-p c = omega (arith, c.loop-c.invariant.7.long)
-
-pub bounds-m-q : goal.bounds-m-q
-bounds-m-q c = omega (arith, c.loop-c.invariant.7.long)
-
-pub bounds-m-t : goal.bounds-m-t
-bounds-m-t c = omega (arith, c.loop-c.invariant.7.long)
 
 pub loop-c-preserved : goal.loop-c-preserved
 loop-c-preserved c =
@@ -53,9 +35,6 @@ loop-c-preserved c =
       written_next _ _ _ _ _ _ (omega arith)
           (ap₂ bit_xor (other_byte _ _ _ _ a.w _ _ h (omega arith) l.invariant.5) (other_byte _ _ _ _ a.w _ _ h (omega arith) l.invariant.6)) h,
     )
-
-pub shape_of-m : goal.shape_of-m
-shape_of-m c = omega (arith, c.loop-c.invariant.7.long)
 
 pub returns : goal.returns
 returns c =

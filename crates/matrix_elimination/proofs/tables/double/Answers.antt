@@ -1,22 +1,8 @@
-use mathlib.Core.Path.{◌≡◌, refl, sym, ◌∙◌, subst}
-use Prim.Native.Nat.{ℕ, ◌+◌, ◌-◌, ◌^◌}
+use mathlib.Core.Path.{◌≡◌, ◌∙◌, subst}
+use Prim.Native.Nat.{ℕ, ◌+◌, ◌^◌}
 use native.Mathlib.Omega.{arith}
-use Rattle.matrix_elimination.proofs.Doubling.{SumsOf, Doubled, doubled_none, doubled_next, doubled_all}
+use Rattle.matrix_elimination.proofs.Doubling.{SumsOf, Doubled, doubled_next, doubled_all}
 use Rattle.matrix_elimination.proofs.tables.double.Goals as goal
-
-pub loop-x-init : goal.loop-x-init
-loop-x-init c =
-    let a = c.args in
-    let h = c.requires in (
-      omega arith,
-      refl,
-      doubled_none a.m.now a.n a.w a.lo a.p
-          (subst (λ (z : ℕ). SumsOf a.n z a.m.now a.lo a.p) (sym h.1) h.6),
-    )
-
-pub sum_row-requires : goal.sum_row-requires
-sum_row-requires c =
-    (omega arith, omega arith, omega arith, omega arith, omega arith, omega arith, λ d. omega (arith, d), λ d. omega (arith, d))
 
 pub loop-x-preserved : goal.loop-x-preserved
 loop-x-preserved c =

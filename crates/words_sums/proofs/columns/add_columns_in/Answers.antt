@@ -1,83 +1,43 @@
 use mathlib.Core.Path.{sym, ap, ◌∙◌}
-use Prim.Native.Nat.{ℕ, ◌+◌, ◌-◌, ◌*◌}
+use Prim.Native.Nat.{ℕ, ◌+◌, ◌*◌}
 use native.Mathlib.Omega.{arith}
 use lib.ListN.{length, get_or}
 use Rattle.bch.specs.Polynomial.{◌⊕◌}
 use Rattle.bch.specs.Powers.{xor_sum}
 use Rattle.bch.proofs.Sum.{⊕-zero-right}
-use Rattle.bch_remainders.proofs.Rows.{row-length, row-bits, column-more}
+use Rattle.bch_remainders.proofs.Rows.{column-more}
 use Rattle.words_tables.proofs.Tables.{sum_of_eights}
 use Rattle.words_sums.proofs.Groups.{sum_padded, byte-names, part-behind, rows-read, rows_end, rows_term}
 use Rattle.words_sums.proofs.columns.add_columns_in.Goals as goal
-
-pub overflow_add-groups : goal.overflow_add-groups
-overflow_add-groups c = omega (arith, c.requires.2.few)
 
 pub loop-g-init : goal.loop-g-init
 unfolding xor_sum
 loop-g-init c = (omega arith, omega arith, omega arith, omega arith, λ a h. sym (⊕-zero-right _))
 
-pub overflow_mul-from-in-loop-g : goal.overflow_mul-from-in-loop-g
-overflow_mul-from-in-loop-g c =
-    let a = c.args in
-    let r = c.rows_left-count in
-    omega (arith, rows_end c.loop-g.g r.result (length a.part.now) (length a.acc.now) r.ensures.0)
-
-pub overflow_mul-count : goal.overflow_mul-count
-overflow_mul-count c =
-    let a = c.args in
-    let r = c.rows_left-count in
-    omega (arith, rows_end c.loop-g.g r.result (length a.part.now) (length a.acc.now) r.ensures.0)
-
-pub overflow_add-from : goal.overflow_add-from
-overflow_add-from c =
-    let a = c.args in
-    let r = c.rows_left-count in
-    omega (arith, rows_end c.loop-g.g r.result (length a.part.now) (length a.acc.now) r.ensures.0)
-
 pub slice_bounds-pack-end : goal.slice_bounds-pack-end
 slice_bounds-pack-end c =
     let a = c.args in
-    let r = c.rows_left-count in
-    omega (arith, rows_end c.loop-g.g r.result (length a.part.now) (length a.acc.now) r.ensures.0)
-
-pub pack-requires : goal.pack-requires
-pack-requires c =
-    let a = c.args in
-    let w = length a.acc.now in
-    let l = c.loop-g in
-    let r = c.rows_left-count in
-    let e = rows_end l.g r.result (length a.part.now) w r.ensures.0 in (
-      row-length a.block.now (8 * l.g * w) (r.result * w) (omega arith) ∙ ap (λ (z : ℕ). r.result * z) (sym l.invariant.3),
-      omega arith,
-      omega arith,
-      row-bits a.block.now (8 * l.g * w) (8 * l.g * w + r.result * w - 8 * l.g * w) c.requires.1,
-    )
-
-pub look_up-requires : goal.look_up-requires
-look_up-requires c =
-    let a = c.args in
-    let l = c.loop-g in
-    (c.pack.ensures.0 ∙ l.invariant.3 ∙ sym l.invariant.2, row-length a.tables.now (256 * l.g) 256 (omega arith))
+    let r = c.min-count in
+    omega (arith, rows_end c.loop-g.g r.result (length a.part.now) (length a.acc.now) (omega arith))
 
 pub loop-g-preserved : goal.loop-g-preserved
 loop-g-preserved c =
     let a = c.args in
     let w = length a.acc.now in
     let l = c.loop-g in
-    let r = c.rows_left-count in
+    let r = c.min-count in
     let p = c.pack.ensures in
     let e = c.look_up.ensures in
     let f : ℕ → ℕ → ℕ = λ k j. get_or a.block.now (j * w + k) 0 * get_or a.part.now j 0 in (
       omega arith,
-      omega (arith, rows-read l.g r.result (length a.part.now) r.ensures.0 r.ensures.2 r.ensures.3),
+      omega (arith, rows-read l.g r.result (length a.part.now) (omega arith) (omega arith) (λ h. omega arith)),
       e.0 ∙ l.invariant.2,
       p.0 ∙ l.invariant.3,
       λ k h. e.1 k (omega arith)
           ∙ column-more l.g _ _ _ (λ j. xor_sum 8 (λ i. f k (8 * j + i))) (l.invariant.4 k h)
           (byte-names a.part.now a.tables.now c.requires.2 l.g _ (f k)
           (grind arith) (omega arith)
-          (λ i m. rows_term a.block.now l.g r.result w i k h a.part.now _ r.ensures.3 m
+          (λ i m. rows_term a.block.now l.g r.result w i k h a.part.now _ (λ h. omega arith) m
           (rw l.invariant.3 at (p.1 k i (omega arith) m)))),
     )
 

@@ -1,5 +1,5 @@
 use mathlib.Core.Path.{sym, ap, ◌∙◌}
-use Prim.Native.Nat.{ℕ, ◌+◌, ◌-◌, ◌*◌}
+use Prim.Native.Nat.{ℕ, ◌+◌, ◌*◌}
 use native.Mathlib.Omega.{arith}
 use lib.ListN.{length, get_or}
 use Rattle.bch.specs.Polynomial.{◌⊕◌}
@@ -12,39 +12,30 @@ use Rattle.words_sums.proofs.Groups.{sum_padded, part-behind, rows-read, rows_en
 use Rattle.words_sums.proofs.ListedBits.{listed-group}
 use Rattle.words_sums.proofs.listed.add_listed.Goals as goal
 
-pub overflow_add-groups : goal.overflow_add-groups
-overflow_add-groups c = omega (arith, c.requires.3.few)
-
 pub loop-g-init : goal.loop-g-init
 unfolding xor_sum
 loop-g-init c = (omega arith, omega arith, omega arith, λ a h. sym (⊕-zero-right _))
-
-pub overflow_mul-g-in-loop-g : goal.overflow_mul-g-in-loop-g
-overflow_mul-g-in-loop-g c =
-    let a = c.args in
-    let r = c.rows_left-count in
-    omega (arith, rows_end c.loop-g.g r.result (length a.part.now) (length a.acc.now) r.ensures.0)
 
 pub look_listed-requires : goal.look_listed-requires
 look_listed-requires c =
     let a = c.args in
     let l = c.loop-g in
-    let r = c.rows_left-count in
-    let e = rows_end l.g r.result (length a.part.now) (length a.acc.now) r.ensures.0 in
-    (c.requires.0, c.requires.2, r.ensures.2, rw l.invariant.2 (omega arith), row-length a.tables.now (256 * l.g) 256 (omega arith))
+    let r = c.min-count in
+    let e = rows_end l.g r.result (length a.part.now) (length a.acc.now) (omega arith) in
+    (c.requires.0, c.requires.2, (omega arith), rw l.invariant.2 (omega arith), row-length a.tables.now (256 * l.g) 256 (omega arith))
 
 pub loop-g-preserved : goal.loop-g-preserved
 loop-g-preserved c =
     let a = c.args in
     let w = length a.acc.now in
     let l = c.loop-g in
-    let r = c.rows_left-count in
+    let r = c.min-count in
     let e = c.look_listed.ensures in (
       omega arith,
-      omega (arith, rows-read l.g r.result (length a.part.now) r.ensures.0 r.ensures.2 r.ensures.3),
+      omega (arith, rows-read l.g r.result (length a.part.now) (omega arith) (omega arith) (λ h. omega arith)),
       e.0 ∙ l.invariant.2,
-      λ k h. listed-group a.list.now a.bits.now c.requires.2 a.part.now a.tables.now c.requires.3 l.g w r.result k _ _ _ r.ensures.2
-          r.ensures.3 (omega arith) (l.invariant.3 k h) (rw l.invariant.2 at (e.1 k (omega arith))),
+      λ k h. listed-group a.list.now a.bits.now c.requires.2 a.part.now a.tables.now c.requires.3 l.g w r.result k _ _ _ (omega arith)
+          (λ h. omega arith) (omega arith) (l.invariant.3 k h) (rw l.invariant.2 at (e.1 k (omega arith))),
     )
 
 pub returns : goal.returns

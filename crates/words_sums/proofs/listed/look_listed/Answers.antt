@@ -1,14 +1,13 @@
--- Where `count` is 8, the byte of `count` bits is that of eight.
-use mathlib.Core.Path.{ap}
-use Prim.Native.Nat.{ℕ, ◌*◌}
+use Prim.Native.Nat.{◌+◌}
 use native.Mathlib.Omega.{arith}
-use lib.ListN.{length}
+use lib.ListN.{length, get_or}
+use Rattle.bch_remainders.proofs.Powers.{added_more}
+use Rattle.words_sums.specs.Listed.{listed_byte}
 use Rattle.words_sums.proofs.listed.look_listed.Goals as goal
 
-pub look_eight-requires : goal.look_eight-requires
-look_eight-requires c =
-    let e = ap (λ (n : ℕ). n * length c.args.acc.now) c.if-count-eq8.true in
-    (c.requires.0, c.requires.1, omega (arith, e, c.requires.3), c.requires.4)
-
-pub returns-then-count-eq8 : goal.returns-then-count-eq8
-returns-then-count-eq8 c = rw c.if-count-eq8.true c.look_eight.ensures
+pub loop-a-preserved : goal.loop-a-preserved
+loop-a-preserved c =
+    let l = c.loop-a in
+    let a = c.args in
+    added_more a.acc.now l.acc (λ k. get_or a.table.now (listed_byte a.list.now a.bits.now (a.p + k) (length a.acc.now) a.count) 0)
+    l.a _ (omega arith) l.invariant (rw c.bits_of.ensures at c.entry.ensures)
