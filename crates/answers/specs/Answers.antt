@@ -8,7 +8,7 @@
 --   buffer_result, buffer_decoded the same for the buffer of an original frame
 --   written_of                   the answer of an encoder of original frames and the buffer that it leaves
 -- Assumes nothing.
-use Rattle.std.specs.Prelude.{List, ℕ}
+use Rattle.std.specs.Prelude.{List, ℕ, Result, Ok, Err}
 use Rattle.staircase.specs.Frame.{Frame}
 use Rattle.staircase.specs.Rules.{Verdict}
 use Rattle.staircase.specs.Rules.Verdict.{accepted, refused}
@@ -17,13 +17,7 @@ use Rattle.original.specs.Frame.{buffer_of}
 use Rattle.original.specs.Calls.{Written, CorrectedBuffer}
 use Rattle.answers.specs.declared.Refusal.{Refusal}
 use Rattle.answers.specs.declared.Refusal.TheVariants.{Size, Long, Large, Count, Rounds, Length, List as NotAList, Spare, Inverse, Bit, Singular, Narrow, Full, Batch, Window, Thin}
-use Rattle.answers.specs.declared.Check.{Check}
-use Rattle.answers.specs.declared.Check.TheVariants as check
-use Rattle.answers.specs.declared.WordCount.{WordCount}
-use Rattle.answers.specs.declared.WordCount.TheVariants as count
 use Rattle.answers.specs.declared.Counts as told
-use Rattle.answers.specs.declared.Decoding.{Decoding}
-use Rattle.answers.specs.declared.Decoding.TheVariants as decoding
 
 unfoldable pub refusal_verdict : Refusal → Verdict
 refusal_verdict (Size p) = refused 1 p
@@ -43,14 +37,14 @@ refusal_verdict (Batch p) = refused 17 p
 refusal_verdict (Window p) = refused 18 p
 refusal_verdict (Thin p) = refused 19 p
 
-unfoldable pub verdict_of : Check → Verdict
-verdict_of check.Passed = accepted
-verdict_of (check.Refused r) = refusal_verdict r
+unfoldable pub verdict_of : {A : Type 0} → Result A Refusal → Verdict
+verdict_of (Ok x) = accepted
+verdict_of (Err r) = refusal_verdict r
 
 -- a refused call counts nothing
-unfoldable pub counted_of : WordCount → Counted
-counted_of (count.Counted n) = record { verdict = accepted; outside = n }
-counted_of (count.Refused r) = record { verdict = refusal_verdict r; outside = 0 }
+unfoldable pub counted_of : Result ℕ Refusal → Counted
+counted_of (Ok n) = record { verdict = accepted; outside = n }
+counted_of (Err r) = record { verdict = refusal_verdict r; outside = 0 }
 
 abbrev pub counts_told : told.Counts → Counts
 counts_told c = record { rounds = c.rounds; turned = c.turned; outside = c.outside; stuck = c.stuck }
@@ -58,15 +52,15 @@ counts_told c = record { rounds = c.rounds; turned = c.turned; outside = c.outsi
 unfoldable pub refused_frame : Verdict → Frame → Corrected
 refused_frame v f = record { verdict = v; frame = f; counts = no_counts }
 
-unfoldable pub corrected_of : Decoding → Frame → Corrected
-corrected_of (decoding.Decoded c) f = corrected_by accepted f f (counts_told c)
-corrected_of (decoding.Refused r) f = refused_frame (refusal_verdict r) f
+unfoldable pub corrected_of : Result told.Counts Refusal → Frame → Corrected
+corrected_of (Ok c) f = corrected_by accepted f f (counts_told c)
+corrected_of (Err r) f = refused_frame (refusal_verdict r) f
 
 abbrev pub buffer_result : Corrected → CorrectedBuffer
 buffer_result c = record { verdict = c.verdict; buffer = c.frame.info; counts = c.counts }
 
-unfoldable pub buffer_decoded : Decoding → List ℕ → CorrectedBuffer
+unfoldable pub buffer_decoded : Result told.Counts Refusal → List ℕ → CorrectedBuffer
 buffer_decoded a l = buffer_result (corrected_of a (buffer_of l))
 
-abbrev pub written_of : Check → List ℕ → Written
+abbrev pub written_of : {A : Type 0} → Result A Refusal → List ℕ → Written
 written_of c l = record { verdict = verdict_of c; buffer = l }

@@ -4,17 +4,17 @@
 --   show_told                         showing
 --   part-block, part-group            what is shown
 --   accepted-told, refused-told       a call that tells some numbers, accepted and refused
---   pasted-none                       a stretch that does not fit
---   pasted-more, pasted-all           a turn of the loop that copies one, and its end
+--   refusal_of                        a refusal as its answer's verdict
+--   last_refused, last_passed         the last of some checks
+--   pasted_none, pasted_all           a stretch that does not fit, and one that does
 -- Assumes nothing.
+use Rattle.answers.specs.declared.Counts.{Counts}
+use Rattle.std.specs.Prelude.{Err, Ok, Result, IsErr, IsErrAnd}
 use mathlib.Core.Path.{◌≡◌, refl, sym, ap, ◌∙◌, subst}
 use mathlib.Core.Logic.{◌≢◌}
-use mathlib.Core.List.{List, [], ◌∷◌}
+use mathlib.Core.List.{List, [], ◌∷◌, ◌++◌}
 use Prim.Native.Nat.{ℕ, ◌+◌, ◌*◌, ◌≤◌, ◌<◌}
-use native.Mathlib.Numerals.{add-one}
-use native.Mathlib.Omega.{arith}
-use lib.ListN.{length, set, get_or}
-use lib.Seq.{paste, paste-suc, take-length}
+use lib.ListN.{length, drop}
 use borrow.Author.Tests.{lt-leb, le-leb, eq-eqb, ne_eqb}
 use Rattle.staircase.specs.Design.{params}
 use Rattle.staircase.specs.Frame.{Frame}
@@ -23,13 +23,10 @@ use Rattle.staircase.specs.Calls.{Corrected, Shown}
 use Rattle.staircase.specs.Rules.Verdict.{accepted, refused}
 use Rattle.staircase.specs.Rules.Part.{block, group}
 use Rattle.design.specs.declared.Design.{Design}
-use Rattle.design.specs.declared.Designed.{Designed}
-use Rattle.design.specs.declared.Designed.TheVariants as designed
 use Rattle.answers.specs.declared.Refusal.{Refusal}
-use Rattle.design.specs.Answers.{design_verdict, DesignIs}
-use Rattle.answers.specs.declared.Decoding.{Decoding}
-use Rattle.answers.specs.declared.Decoding.TheVariants as decoding
-use Rattle.answers.specs.Answers.{refusal_verdict, refused_frame, corrected_of}
+use Rattle.design.specs.Answers.{DesignIs}
+use Rattle.answers.specs.Answers.{refusal_verdict, refused_frame, corrected_of, verdict_of}
+use Rattle.answers.proofs.Checks.{handed_on}
 use Rattle.rules_verdict.specs.declared.Judged.{Judged}
 use Rattle.rules_verdict.specs.Number.{number, place_of, judged_of, told}
 use Rattle.rules_verdict.proofs.Refused.{refusal_whole}
@@ -38,36 +35,36 @@ use Rattle.bauchleton.specs.Answers.{design_answer, show_answer, shown_part, pas
 
 -- ---- designs
 
-pub design-made : (a : Designed) (d : Design) (m t M r n k : ℕ) → a ≡ designed.Made d → design_verdict a ≡ design_rules m t M 0 → DesignIs a m t M 0
+pub design-made : (a : Result Design Refusal) (d : Design) (m t M r n k : ℕ) → a ≡ Ok d → verdict_of a ≡ design_rules m t M 0 → DesignIs a m t M 0
     → r ≡ d.m * d.t → n ≡ 2 * d.size + 2 * (d.m * d.t) → k ≡ 2 * d.size + d.m * d.t
     → (0 ≡ number (design_rules m t M 0)) × (0 ∷ r ∷ n ∷ k ∷ [] ≡ design_answer (design_rules m t M 0) (params m t M 0))
-unfolding number design_answer design_verdict DesignIs
+unfolding number design_answer verdict_of DesignIs
 design-made a d m t M r n k e v is hr hn hk =
-    let w : accepted ≡ design_rules m t M 0 = sym (ap design_verdict e) ∙ v in
-    let q : (d.m ≡ m) × (d.t ≡ t) × (d.size ≡ M) × (d.col ≡ 0) = subst (λ (x : Designed). DesignIs x m t M 0) e is in
+    let w : accepted ≡ design_rules m t M 0 = sym (ap verdict_of e) ∙ v in
+    let q : (d.m ≡ m) × (d.t ≡ t) × (d.size ≡ M) × (d.col ≡ 0) = subst (λ (x : Result Design Refusal). DesignIs x m t M 0) e is in
     let em : d.m ≡ m = q.0 in
     let et : d.t ≡ t = q.1 in
     let e_m : d.size ≡ M = q.2 in
     let l : 0 ∷ r ∷ n ∷ k ∷ [] ≡ 0 ∷ (m * t) ∷ (2 * M + 2 * (m * t)) ∷ (2 * M + m * t) ∷ [] = cc in
     (ap number w, l ∙ ap (λ (x : Verdict). design_answer x (params m t M 0)) w)
 
-pub design-refused : (a : Designed) (r : Refusal) (m t M : ℕ) → a ≡ designed.Refused r → design_verdict a ≡ design_rules m t M 0
+pub design-refused : (a : Result Design Refusal) (r : Refusal) (m t M : ℕ) → a ≡ Err r → verdict_of a ≡ design_rules m t M 0
     → (number (refusal_verdict r) ≡ number (design_rules m t M 0))
     × (place_of (refusal_verdict r) ∷ 0 ∷ 0 ∷ 0 ∷ [] ≡ design_answer (design_rules m t M 0) (params m t M 0))
-unfolding design_answer design_verdict
+unfolding design_answer verdict_of
 design-refused a r m t M e v =
-    let w : refusal_verdict r ≡ design_rules m t M 0 = sym (ap design_verdict e) ∙ v in
+    let w : refusal_verdict r ≡ design_rules m t M 0 = sym (ap verdict_of e) ∙ v in
     (ap number w, ap (λ (x : Verdict). design_answer x (params m t M 0)) (sym (refusal_whole r) ∙ w))
 
 -- ---- from what a call answers to what a host is told
 
 -- the frame of the decoder's result is the one that the call leaves
-pub corrected-left : (d : Decoding) (f : Frame) → (corrected_of d f).frame ≡ f
+pub corrected-left : (d : Result Counts Refusal) (f : Frame) → (corrected_of d f).frame ≡ f
 unfolding corrected_of refused_frame
-corrected-left (decoding.Decoded c) f = refl
-corrected-left (decoding.Refused r) f = refl
+corrected-left (Ok c) f = refl
+corrected-left (Err r) f = refl
 
-pub corrected-told : (answer : Corrected → List ℕ) (l : List ℕ) (d : Decoding) {f : Frame} {y : Corrected} {a : ℕ} {k : List ℕ} → corrected_of d f ≡ y
+pub corrected-told : (answer : Corrected → List ℕ) (l : List ℕ) (d : Result Counts Refusal) {f : Frame} {y : Corrected} {a : ℕ} {k : List ℕ} → corrected_of d f ≡ y
     → (a ≡ number (corrected_of d f).verdict) × (k ≡ told (answer (corrected_of d f)) l)
     → (a ≡ number y.verdict) × (f ≡ y.frame) × (k ≡ told (answer y) l)
 corrected-told answer l d {f = f} e h =
@@ -91,6 +88,20 @@ module _ (l old : List ℕ) {a : ℕ} {k : List ℕ} where
       → (a ≡ number v) × (k ≡ told (answer_by v l) old)
   refused-told u h e t = told_alike number (λ (v : Verdict). answer_by v l) old e (t.0, t.1 ∙ ap (λ (z : List ℕ). told z old) (refused-by u l h))
 
+pub refusal_of : {A : Type 0} {x : Result A Refusal} {r : Refusal} → x ≡ Err r → refusal_verdict r ≡ verdict_of x
+unfolding verdict_of
+refusal_of e = sym (ap verdict_of e)
+
+-- the last of some checks: x is its answer, and y that of a call which hands it on, or which it lets pass
+pub last_refused : {A B : Type 0} (x : Result A Refusal) (y : Result B Refusal) {r : Refusal} {v : Verdict} → x ≡ Err r → verdict_of x ≡ v
+    → IsErr y × IsErrAnd y (λ (e : Refusal). e ≡ r) → verdict_of y ≡ v
+unfolding verdict_of
+last_refused x y e is h = ap verdict_of (handed_on y h.1) ∙ sym (ap verdict_of e) ∙ is
+
+pub last_passed : {A B : Type 0} (x : Result A Refusal) (b : B) {a : A} {v : Verdict} → x ≡ Ok a → verdict_of x ≡ v → verdict_of (Ok b) ≡ v
+unfolding verdict_of
+last_passed x b e is = sym (ap verdict_of e) ∙ is
+
 -- ---- showing
 
 pub show_told : (shown : Part → Shown) (out l : List ℕ) {p q : Part} {j : Judged} {v : Verdict} {s left k : List ℕ} {a : ℕ} → p ≡ q → v ≡ (shown p).verdict
@@ -109,18 +120,10 @@ pub part-group : (kind n : ℕ) → kind ≢ 0 → group n ≡ shown_part kind n
 unfolding shown_part
 part-group kind n h = rw (ne_eqb kind 0 h)
 
-pub pasted-none : (s old : List ℕ) → length old < length s → old ≡ pasted s old
+pub pasted_none : (s old : List ℕ) → length old < length s → old ≡ pasted s old
 unfolding pasted
-pasted-none s old h = rw (lt-leb (length s) (length old) h)
+pasted_none s old h = rw (lt-leb (length s) (length old) h)
 
-pub pasted-more : (old s : List ℕ) (k : ℕ) → k < length old → k < length s → set (paste old 0 s k) k (get_or s k 0) ≡ paste old 0 s (k + 1)
-pasted-more old s k h g =
-    let e : k ≡ 0 + k = omega arith in
-    ap (λ (i : ℕ). set (paste old 0 s k) i (get_or s k 0)) e
-    ∙ paste-suc old 0 s k 0 (omega arith) g ∙ ap (λ (n : ℕ). paste old 0 s n) (sym (add-one k))
-
-pub pasted-all : (s old : List ℕ) (n : ℕ) → n ≡ length s → length s ≤ length old → paste old 0 s n ≡ pasted s old
+pub pasted_all : (s old : List ℕ) → length s ≤ length old → s ++ drop (length s) old ≡ pasted s old
 unfolding pasted
-pasted-all s old n e h =
-    let z : 0 + length s ≡ length s = omega arith in
-    rw (le-leb (length s) (length old) h, e, take-length s, z)
+pasted_all s old h = rw (le-leb (length s) (length old) h)

@@ -4,6 +4,9 @@
 --   sizes-none, sizes-some      what is told where rules 1 to 4 refuse, and where they accept
 --   bauchleton_sizes_demand1    demand 1 of the call
 -- Assumes nothing.
+use Rattle.answers.specs.Answers.{verdict_of}
+use Rattle.answers.specs.declared.Refusal.{Refusal}
+use Rattle.std.specs.Prelude.{Ok, Result}
 use mathlib.Core.Path.{◌≡◌, refl, sym, ap, ◌∙◌}
 use mathlib.Core.Logic.{◌≢◌}
 use mathlib.Core.List.{List, [], ◌∷◌}
@@ -13,15 +16,14 @@ use native.Mathlib.Omega.{arith}
 use Rattle.staircase.specs.Design.{Params, params, order}
 use Rattle.staircase.specs.Frame.{groups}
 use Rattle.staircase.specs.System.{row_bytes}
-use Rattle.staircase.specs.Rules.{Verdict, ◌then◌, design_rules, count_rule, kit_work, kept_work}
+use Rattle.staircase.specs.Rules.{Verdict, design_rules, count_rule, kit_work, kept_work}
 use Rattle.staircase.specs.Rules.Verdict.{accepted, refused}
 use Rattle.staircase.proofs.Demand1.{by_table_then, design-by_table, count-by_table}
 use Rattle.design.specs.declared.Design.{Design}
-use Rattle.design.specs.declared.Designed.{Designed}
-use Rattle.design.specs.declared.Designed.TheVariants as designed
-use Rattle.design.specs.Answers.{design_verdict, DesignIs, Allowed}
+use Rattle.design.specs.Answers.{DesignIs, Allowed}
 use Rattle.design.specs.Sizes.{params_of}
-use Rattle.design.proofs.Answers.{design-made, made-params}
+use Rattle.answers.proofs.Checks.{check_passed}
+use Rattle.design.proofs.Answers.{made-params}
 use Rattle.rules.specs.declared.lengths.Lengths.{Lengths}
 use Rattle.rules.specs.Lengths.{kit_due, make_due, lists_due, decoder_due, frame_due}
 use Rattle.loopback.specs.Link.{loopback_work}
@@ -66,14 +68,12 @@ module _ (m t M L : ℕ) (l : List ℕ) {a : ℕ} {k : List ℕ} where
       told_alike number (λ (w : Verdict). sizes_answer w (params m t M 0) L) l e
       (told_is.0, told_is.1 ∙ ap (λ (z : List ℕ). told z l) (none_told v (params m t M 0) L h))
 
-  pub sizes-some : (x : Designed) (d : Design) (z : Sizes) → x ≡ designed.Made d → design_verdict x ≡ design_rules m t M 0 → DesignIs x m t M 0
-      → count_rule L ≡ accepted → sizes_told 0 z ≡ sizes_answer accepted (params_of d) L → (a ≡ 0) × (k ≡ told (sizes_told 0 z) l)
+  pub sizes-some : (x : Result Design Refusal) (d : Design) (z : Sizes) → x ≡ Ok d → verdict_of x ≡ sizes_verdict m t M L → DesignIs x m t M 0
+      → sizes_told 0 z ≡ sizes_answer accepted (params_of d) L → (a ≡ 0) × (k ≡ told (sizes_told 0 z) l)
       → (a ≡ number (sizes_verdict m t M L)) × (k ≡ told (sizes_answer (sizes_verdict m t M L) (params m t M 0) L) l)
   unfolding number
-  sizes-some x d z g v is few e told_is =
-      let all : accepted ≡ sizes_verdict m t M L =
-      sym few ∙ ap (λ (w : Verdict). w then count_rule L) (sym (design-made g) ∙ v) in
-      told_alike number (λ (w : Verdict). sizes_answer w (params m t M 0) L) l all
+  sizes-some x d z g v is e told_is =
+      told_alike number (λ (w : Verdict). sizes_answer w (params m t M 0) L) l (sym (check_passed g) ∙ v)
       (told_is.0, told_is.1 ∙ ap (λ (y : List ℕ). told y l) (e ∙ ap (λ (s : Params). sizes_answer accepted s L) (made-params g m t M 0 is)))
 
 -- ---- demand 1

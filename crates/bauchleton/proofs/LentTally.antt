@@ -9,6 +9,9 @@
 --   report_other, report_six    what a report tells
 --   bauchleton_decode_tallied_demand1, bauchleton_report_demand1   demand 1 of both calls
 -- Assumes nothing.
+use Rattle.answers.specs.declared.Counts as declared
+use Rattle.answers.specs.declared.Refusal.{Refusal}
+use Rattle.std.specs.Prelude.{Result}
 use mathlib.Core.Path.{◌≡◌, refl, sym, ap, ap₂, subst, subst⁻¹, ◌∙◌}
 use mathlib.Core.Bool.{Bool, true, false, cond, not, true≢false}
 use mathlib.Core.Logic.{◌≢◌}
@@ -34,7 +37,6 @@ use Rattle.staircase.proofs.Demand1.{by_table_then, by_table-refuse, by_table-mo
 use Rattle.staircase.proofs.Tally.{full-by_table}
 use Rattle.answers.specs.Answers.{corrected_of, refused_frame}
 use Rattle.rules.proofs.Chain.{then_assoc}
-use Rattle.answers.specs.declared.Decoding.{Decoding}
 use Rattle.tally.specs.declared.TallyReport.{TallyReport}
 use Rattle.tally.specs.Answers.{report_of}
 use Rattle.rules_verdict.specs.Number.{number, place_of, told}
@@ -270,7 +272,7 @@ module _ (report l : List ℕ) (x : Decode) where
       )
 
   -- from what the decoder answers
-  pub untallied_is : (n : ℕ) (a d : Decoding) (g : Frame) → corrected_of a g ≡ further_call (refused 6 9) (lending n x)
+  pub untallied_is : (n : ℕ) (a d : Result declared.Counts Refusal) (g : Frame) → corrected_of a g ≡ further_call (refused 6 9) (lending n x)
       → ((o : Frame) → corrected_of d o ≡ refused_frame (length_first (corrected_of a o).verdict) o) → record { corrected = corrected_of d g; tally = l } ≡ untallied n
   unfolding further_call
   untallied_is n a d g e r =
@@ -285,7 +287,7 @@ module _ (report l : List ℕ) (x : Decode) where
 
 pub lent_told : (report : List ℕ) (call : ℕ → LentTally) (work : ℕ) (y : LentTally) → (length report ≡ 40 → y ≡ call work)
     → (length report ≢ 40 → (number (call 0).corrected.verdict ≡ number y.corrected.verdict) × (left (call 0) ≡ left y))
-    → {n : ℕ} → n ≡ lent_length (length report) work → (d : Decoding) {g : Frame} {after : List ℕ} {a : ℕ} {k : List ℕ}
+    → {n : ℕ} → n ≡ lent_length (length report) work → (d : Result declared.Counts Refusal) {g : Frame} {after : List ℕ} {a : ℕ} {k : List ℕ}
     → record { corrected = corrected_of d g; tally = after } ≡ call n
     → (a ≡ number (corrected_of d g).verdict) × (k ≡ told (report_bytes (corrected_answer (corrected_of d g))) report)
     → (a ≡ number y.corrected.verdict) × (g ≡ y.corrected.frame) × (after ≡ y.tally) × (k ≡ told (report_bytes (corrected_answer y.corrected)) report)

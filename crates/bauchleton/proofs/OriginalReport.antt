@@ -9,6 +9,9 @@
 --   original_decode-told              what its host is told, whatever the report's length
 --   buffer-told                       the decoder's answer as the host is told it
 -- Assumes nothing.
+use Rattle.answers.specs.declared.Counts as declared
+use Rattle.answers.specs.declared.Refusal.{Refusal}
+use Rattle.std.specs.Prelude.{Result}
 use mathlib.Core.Path.{◌≡◌, refl, sym, ap, ap₂, ◌∙◌}
 use mathlib.Core.Logic.{◌≢◌}
 use mathlib.Core.List.{List, [], ◌++◌, append-nil}
@@ -23,9 +26,7 @@ use Rattle.staircase.specs.Rules.{Verdict, ◌then◌, count_rule, rounds_rule, 
 use Rattle.staircase.specs.Rules.Verdict.{accepted, refused}
 use Rattle.staircase.specs.Calls.{Counts}
 use Rattle.staircase.proofs.Rules.{then_first, then_rest, count_limits}
-use Rattle.answers.specs.declared.Check.{Check}
 use Rattle.answers.specs.Answers.{verdict_of, corrected_of, buffer_decoded, written_of}
-use Rattle.answers.specs.declared.Decoding.{Decoding}
 use Rattle.original.specs.Frame.{buffer_of, encoded}
 use Rattle.original.specs.Rules.{original_rules, info_bits, original_work}
 use Rattle.original.specs.Calls.{Written, written_by, original_encode_verdict, original_encode_call, original_decode_verdict, original_decoded, original_counts, CorrectedBuffer, corrected_buffer_by, original_decode_call}
@@ -110,7 +111,7 @@ module _ (m t M L : ℕ) where
         (λ n. sym (then_assoc (original_rules m t M 0) (count_rule L) (length_rule 4 n (info_length s L)))) (λ a. (some_bits m t M L a).0)
         (info_bits s []) (info_bits s l) (original_parts []))
 
-    pub original_told : {n a : ℕ} (c : Check) {part k : List ℕ} → n ≡ lent_length (length report) (length l)
+    pub original_told : {n a : ℕ} (c : Result Unit Refusal) {part k : List ℕ} → n ≡ lent_length (length report) (length l)
         → written_of c part ≡ original_encode_call m t M 0 L (take (n - 0) (drop 0 l))
         → (a ≡ number (verdict_of c)) × (k ≡ told (report_bytes (check_report (verdict_of c))) report)
         → (a ≡ number (original_encode_reported report m t M L l).verdict)
@@ -177,7 +178,7 @@ module _ (m t M L k : ℕ) (l : List ℕ) (work : ℕ) (report : List ℕ) where
       report (original_decode_call m t M 0 L k l) work (original_decode_reported report m t M L k l work) (original_decode_forty m t M L k l work report) original_decode_other
 
 -- the report is that of the frame that the buffer is
-pub buffer-told : (report : List ℕ) (d : Decoding) {l : List ℕ} {y : CorrectedBuffer} {a : ℕ} {k : List ℕ} → buffer_decoded d l ≡ y
+pub buffer-told : (report : List ℕ) (d : Result declared.Counts Refusal) {l : List ℕ} {y : CorrectedBuffer} {a : ℕ} {k : List ℕ} → buffer_decoded d l ≡ y
     → (a ≡ number (corrected_of d (buffer_of l)).verdict) × (k ≡ told (report_bytes (corrected_answer (corrected_of d (buffer_of l)))) report)
     → (a ≡ number y.verdict) × (l ≡ y.buffer) × (k ≡ told (report_bytes (corrected_buffer_answer y)) report)
 unfolding buffer_decoded

@@ -1,5 +1,5 @@
 -- Laws of the 40 bytes of a report.
---   stored_all, stored_eight    stores into every place of a slice, and those of a number
+--   bytes_eight                 the bytes of a number
 --   five_parts, told-report, stored_report   five numbers, one after the other; a report of another length is left as it was
 --   judged-reported             a verdict's rule and place
 --   then_deep, then_three, .., then_seven   rules one after another, regrouped
@@ -16,13 +16,15 @@ use mathlib.Core.Path.{◌≡◌, refl, sym, ap, ◌∙◌}
 use mathlib.Core.Bool.{Bool, true, false, cond, not}
 use mathlib.Core.Logic.{◌≢◌}
 use mathlib.Core.List.{List, [], ◌∷◌, ◌++◌, append_assoc}
-use Prim.Native.Nat.{ℕ, ◌+◌, ◌-◌, ◌/◌, ◌%◌, ◌≤◌, ◌<◌}
+use Prim.Native.Nat.{ℕ, ◌-◌, ◌/◌, ◌%◌, ◌≤◌, ◌<◌}
 use native.Mathlib.Nat.{div-one, mul-pos}
 use native.Mathlib.Omega.{arith}
 use borrow.Author.Tests.{eq-eqb, ne_eqb, eqb-true, eqb-false}
 use lib.Dec.{eqb}
+use Rattle.std.proofs.Common.{w64}
+use Rattle.std.specs.Int.{to_le_bytes}
 use lib.ListN.{length, take, drop, length-append, length-drop, drop_of_length-le}
-use lib.Seq.{take_at, drop_at, sets, sets-eq, length-take-le}
+use lib.Seq.{take_at, drop_at, length-take-le}
 use Rattle.staircase.specs.Lists.{tabulate}
 use Rattle.staircase.specs.Design.{Params, Interleavers, params, order}
 use Rattle.staircase.specs.Frame.{Frame, frame_of}
@@ -34,7 +36,6 @@ use Rattle.staircase.specs.Calls.{kit_verdict, Encoded, encoded_by, encode_verdi
 use Rattle.staircase.specs.Batch.{batch_rule, batch_lengths, batch_verdict, batch_redundancy, batch_call}
 use Rattle.staircase.specs.Window.{window_rule, windowed, window_counts, window_verdict, window_call}
 use Rattle.staircase.specs.Tally.{Decode, decode_with, call_of, verdict_for}
-use Rattle.staircase.proofs.Fill.{front-all}
 use Rattle.staircase.proofs.Rules.{then_first, design_limits}
 use Rattle.staircase.proofs.System.{order-positive}
 use Rattle.staircase.proofs.BchCode.{proper_of}
@@ -47,16 +48,10 @@ use Rattle.bauchleton.specs.Report.{eight_bytes, report_bytes, check_report, rep
 
 -- ---- the bytes
 
-pub stored_all : (new old after : List ℕ) → length old ≡ length new → after ≡ sets old 0 new → after ≡ new
-stored_all new old after e h = h ∙ sets-eq new old 0 (omega arith) ∙ front-all new old (0 + length new) (omega arith)
-
-pub stored_eight : (n : ℕ) (old after : List ℕ) → length old ≡ 8
-    → after ≡ sets old 0 (n % 256 ∷ n / 256 % 256 ∷ n / 65536 % 256 ∷ n / 16777216 % 256 ∷ n / 4294967296 % 256 ∷ n / 1099511627776 % 256
-    ∷ n / 281474976710656 % 256 ∷ n / 72057594037927936 % 256 ∷ []) → after ≡ eight_bytes n
+pub bytes_eight : (n : ℕ) → to_le_bytes w64 n ≡ eight_bytes n
 unfolding eight_bytes tabulate
-stored_eight n old after e h =
-    stored_all _ old after e h
-    ∙ ap (λ (x : ℕ). x % 256 ∷ n / 256 % 256 ∷ n / 65536 % 256 ∷ n / 16777216 % 256 ∷ n / 4294967296 % 256 ∷ n / 1099511627776 % 256
+bytes_eight n =
+    ap (λ (x : ℕ). x % 256 ∷ n / 256 % 256 ∷ n / 65536 % 256 ∷ n / 16777216 % 256 ∷ n / 4294967296 % 256 ∷ n / 1099511627776 % 256
     ∷ n / 281474976710656 % 256 ∷ n / 72057594037927936 % 256 ∷ []) (sym (div-one n))
 
 pub eight_length : (n : ℕ) → length (eight_bytes n) ≡ 8

@@ -10,8 +10,7 @@ ghost use Rattle.rules_verdict.specs.Number.{number, place_of, told};
 ghost use Rattle.bauchleton.specs.Buffers.{differences_verdict, differences_answer};
 
 use crate::tells::tell_load;
-use answers::Check;
-use rules_verdict::{Judged, of_check, tell_two};
+use rules_verdict::{Judged, tell};
 
 // Counts the places in which two buffers of one length differ. `answer` has two entries: the place of a refusal and the number.
 #[unsafe(no_mangle)]
@@ -19,15 +18,10 @@ pub extern "C" fn bauchleton_differences(a: &[u8], b: &[u8], answer: &mut [u64])
     ensures { (result ≡ number (differences_verdict a.now b.now))
         × (answer.new ≡ told (differences_answer a.now b.now) answer.old) }
 {
-    let lengths = rules::check_length(rules::INFORMATION, b.len(), a.len());
-    let Check::Passed = lengths else {
-        return tell_two(of_check(lengths), 0, answer);
-    };
-    tell_two(
-        Judged { rule: 0, place: 0 },
-        differences::differences(a, b),
-        answer,
-    )
+    match rules::check_length(rules::INFORMATION, b.len(), a.len()) {
+        Ok(()) => tell(Judged::ACCEPTED, &[differences::differences(a, b)], answer),
+        Err(r) => tell(Judged::from(r), &[0], answer),
+    }
 }
 
 // Fills a buffer, a step of the generator a bit. No rule refuses. `answer` has two entries: 0 and the last state.
@@ -37,7 +31,7 @@ pub extern "C" fn bauchleton_load_fill_buffer(seed: u32, bits: &mut [u8], answer
         (result ≡ 0) × (bits.new ≡ tabulate n (load_bit seed)) × (answer.new ≡ told (0 ∷ state_after seed n ∷ []) answer.old) }
 {
     let last = load::fill_buffer(seed, bits);
-    tell_two(Judged { rule: 0, place: 0 }, last as u64, answer)
+    tell(Judged::ACCEPTED, &[u64::from(last)], answer)
 }
 
 // Turns the bits of a buffer whose draws are below `limit`. `answer` has two entries: the place and the last state.

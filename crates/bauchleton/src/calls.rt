@@ -19,7 +19,7 @@ ghost use Rattle.bauchleton.specs.Report.{encode_reported, batch_reported, decod
 use crate::reports::{lent_length, report_check, report_decoding};
 use crate::tells::{tell_decoding, tell_words};
 use encoder_batch::encode_batch;
-use rules_verdict::{of_check, tell_two};
+use rules_verdict::{Judged, tell};
 use show::Part;
 
 // Block `which` where `kind` is 0, else group `which`.
@@ -36,11 +36,8 @@ fn part_of(kind: u64, which: u64) -> Part
 pub fn paste(stretch: &[u8], out: &mut [u8])
     ensures { out.new ≡ pasted stretch.now out.old }
 {
-    if out.len() < stretch.len() {
-        return;
-    }
-    for k in 0..stretch.len() {
-        out[k] = stretch[k];
+    if stretch.len() <= out.len() {
+        out[..stretch.len()].copy_from_slice(stretch);
     }
 }
 
@@ -276,5 +273,5 @@ pub extern "C" fn bauchleton_show<'a>(
     let c = show::check_show(m, t, size, blocks, part, info, red);
     let stretch = show::show(m, t, size, blocks, part, info, red);
     paste(stretch, out);
-    tell_two(of_check(c), stretch.len() as u64, answer)
+    tell(Judged::from(c), &[stretch.len() as u64], answer)
 }

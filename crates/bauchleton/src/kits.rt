@@ -16,8 +16,8 @@ ghost use Rattle.bauchleton.specs.Report.{kit_reported, check_report, report_byt
 
 use crate::reports::{lent_length, report_check};
 use crate::tells::{tell_check, tell_load};
-use design::{Design, Designed};
-use rules_verdict::{Judged, of_refusal, tell_four};
+use design::Design;
+use rules_verdict::{Judged, tell};
 
 // Judges a design. `answer` has four entries: the place, r, n and k.
 #[unsafe(no_mangle)]
@@ -26,14 +26,12 @@ pub extern "C" fn bauchleton_design(m: u64, t: u64, size: u64, answer: &mut [u64
         × (answer.new ≡ told (design_answer (design_rules m t size 0) (params m t size 0)) answer.old) }
 {
     match Design::new(m, t, size) {
-        Designed::Made(d) => tell_four(
-            Judged { rule: 0, place: 0 },
-            d.r() as u64,
-            d.n() as u64,
-            d.k() as u64,
+        Ok(d) => tell(
+            Judged::ACCEPTED,
+            &[d.r() as u64, d.n() as u64, d.k() as u64],
             answer,
         ),
-        Designed::Refused(r) => tell_four(of_refusal(r), 0, 0, 0, answer),
+        Err(r) => tell(Judged::from(r), &[0; 3], answer),
     }
 }
 

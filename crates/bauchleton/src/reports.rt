@@ -16,8 +16,8 @@ ghost use Rattle.rules_verdict.specs.Number.{number, told};
 ghost use Rattle.bauchleton.specs.Answers.{corrected_answer};
 ghost use Rattle.bauchleton.specs.Report.{eight_bytes, report_bytes, check_report, lent_length};
 
-use answers::{Check, Counts, Decoding};
-use rules_verdict::{of_check, of_refusal};
+use answers::{Counts, Refusal};
+use rules_verdict::Judged;
 
 // The bytes of a report.
 const REPORT: usize = 40;
@@ -37,14 +37,7 @@ fn put_number(part: &mut [u8], n: u64)
     requires { length part.old ≡ 8 }
     ensures { part.new ≡ eight_bytes n }
 {
-    part[0] = (n % 256) as u8;
-    part[1] = (n / 256 % 256) as u8;
-    part[2] = (n / 65536 % 256) as u8;
-    part[3] = (n / 16777216 % 256) as u8;
-    part[4] = (n / 4294967296 % 256) as u8;
-    part[5] = (n / 1099511627776 % 256) as u8;
-    part[6] = (n / 281474976710656 % 256) as u8;
-    part[7] = (n / 72057594037927936 % 256) as u8;
+    part.copy_from_slice(&n.to_le_bytes());
 }
 
 // Stores a place and what a decode counts into a report.
@@ -75,26 +68,26 @@ fn put_place(place: u64, report: &mut [u8])
 }
 
 // Reports a check's verdict: its place, and no counts. Answers the number of the rule that refuses, or 0.
-pub fn report_check(c: Check, report: &mut [u8]) -> u64
+pub fn report_check(c: Result<(), Refusal>, report: &mut [u8]) -> u64
     ensures { (result ≡ number (verdict_of c)) × (report.new ≡ told (report_bytes (check_report (verdict_of c))) report.old) }
 {
-    let judged = of_check(c);
+    let judged = Judged::from(c);
     put_place(judged.place, report);
     judged.rule
 }
 
 // Reports the answer of a call that decodes. Answers the number of the rule that refuses, or 0.
-pub fn report_decoding(a: Decoding, report: &mut [u8]) -> u64
+pub fn report_decoding(a: Result<Counts, Refusal>, report: &mut [u8]) -> u64
     ensures { (f : Frame) → (result ≡ number (corrected_of a f).verdict)
         × (report.new ≡ told (report_bytes (corrected_answer (corrected_of a f))) report.old) }
 {
     match a {
-        Decoding::Decoded(c) => {
+        Ok(c) => {
             put_report(0, c, report);
             0
         }
-        Decoding::Refused(r) => {
-            let judged = of_refusal(r);
+        Err(r) => {
+            let judged = Judged::from(r);
             put_place(judged.place, report);
             judged.rule
         }

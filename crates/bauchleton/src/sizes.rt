@@ -1,17 +1,17 @@
 // The sizes of a design and of a frame, and the lengths of the slices that the calls are lent, for a host in C.
 //   bauchleton_sizes   rules 1 to 4, and all of them
-ghost use Rattle.std.specs.Prelude.{◌≡◌, ◌∷◌, ◌≤◌};
+ghost use Rattle.std.specs.Prelude.{◌≡◌, ◌≤◌, OnOk};
 ghost use Rattle.staircase.specs.Design.{params, most-blocks};
 ghost use Rattle.staircase.specs.Rules.Verdict.{accepted};
-ghost use Rattle.design.specs.Answers.{Allowed};
+ghost use Rattle.design.specs.Answers.{DesignIs, Allowed, DesignAllowed};
 ghost use Rattle.design.specs.Sizes.{params_of};
-ghost use Rattle.rules_verdict.specs.Number.{number, place_of, told};
-ghost use Rattle.bauchleton.specs.FrameSizes.{no_sizes, sizes_verdict, sizes_answer, sizes_told};
+ghost use Rattle.rules_verdict.specs.Number.{number, told};
+ghost use Rattle.bauchleton.specs.FrameSizes.{sizes_verdict, sizes_answer, sizes_told};
 ghost use Rattle.answers.specs.Answers.{verdict_of};
 
-use answers::Check;
-use design::{Design, Designed};
-use rules_verdict::{Judged, of_check};
+use answers::Refusal;
+use design::Design;
+use rules_verdict::{Judged, tell};
 
 // Of a word r, n and k; groups of a frame; bytes of a list, of the inverse, of the information and of the redundancy; working bytes of the kit checker, of
 // the maker of an inverse, of the encoders, of the word checker, of the decoders and of the self test; bytes of a row of the inverse.
@@ -69,50 +69,23 @@ fn sizes_of(d: Design, blocks: u64) -> Sizes
 fn tell_sizes(j: Judged, s: Sizes, answer: &mut [u64]) -> u64
     ensures { (result ≡ j.rule) × (answer.new ≡ told (sizes_told j.place s) answer.old) }
 {
-    if answer.len() != 16 {
-        return j.rule;
-    }
-    answer[0] = j.place;
-    answer[1] = s.r;
-    answer[2] = s.n;
-    answer[3] = s.k;
-    answer[4] = s.groups;
-    answer[5] = s.list;
-    answer[6] = s.inverse;
-    answer[7] = s.info;
-    answer[8] = s.red;
-    answer[9] = s.kit;
-    answer[10] = s.make;
-    answer[11] = s.encode;
-    answer[12] = s.words;
-    answer[13] = s.decode;
-    answer[14] = s.loopback;
-    answer[15] = s.row;
-    j.rule
+    let sizes = [
+        s.r, s.n, s.k, s.groups, s.list, s.inverse, s.info, s.red, s.kit, s.make, s.encode,
+        s.words, s.decode, s.loopback, s.row,
+    ];
+    tell(j, &sizes, answer)
 }
 
-// Tells the place of a refusal, and no sizes.
-fn tell_no_sizes(c: Check, answer: &mut [u64]) -> u64
-    ensures { (result ≡ number (verdict_of c)) × (answer.new ≡ told (place_of (verdict_of c) ∷ no_sizes) answer.old) }
+// The design of a feed-forward code for frames of `blocks` blocks.
+fn design_for(m: u64, t: u64, size: u64, blocks: u64) -> Result<Design, Refusal>
+    ensures verdict { verdict_of result ≡ sizes_verdict m t size blocks }
+    ensures numbers { DesignIs result m t size 0 }
+    ensures allowed { DesignAllowed result }
+    ensures count { OnOk result (blocks ≤ most-blocks) }
 {
-    let none = Sizes {
-        r: 0,
-        n: 0,
-        k: 0,
-        groups: 0,
-        list: 0,
-        inverse: 0,
-        info: 0,
-        red: 0,
-        kit: 0,
-        make: 0,
-        encode: 0,
-        words: 0,
-        decode: 0,
-        loopback: 0,
-        row: 0,
-    };
-    tell_sizes(of_check(c), none, answer)
+    let d = Design::new(m, t, size)?;
+    design::check_count(blocks)?;
+    Ok(d)
 }
 
 // Judges a design and a number of blocks. `answer` has 16 entries: the place, and the sizes in the order of `Sizes`.
@@ -127,13 +100,8 @@ pub extern "C" fn bauchleton_sizes(
     ensures { let v = sizes_verdict m t size blocks in
         (result ≡ number v) × (answer.new ≡ told (sizes_answer v (params m t size 0) blocks) answer.old) }
 {
-    let designed = Design::new(m, t, size);
-    let Designed::Made(d) = designed else {
-        return tell_no_sizes(design::design_check(designed), answer);
-    };
-    let count = design::check_count(blocks);
-    let Check::Passed = count else {
-        return tell_no_sizes(count, answer);
-    };
-    tell_sizes(Judged { rule: 0, place: 0 }, sizes_of(d, blocks), answer)
+    match design_for(m, t, size, blocks) {
+        Ok(d) => tell_sizes(Judged::ACCEPTED, sizes_of(d, blocks), answer),
+        Err(r) => tell(Judged::from(r), &[0; 15], answer),
+    }
 }

@@ -15,8 +15,8 @@ ghost use Rattle.bauchleton.specs.Report.{report_bytes};
 ghost use Rattle.bauchleton.specs.LentTally.{tally_in, tally_length, length_first, lent_tally_call, report_answer};
 
 use crate::reports::{lent_length, report_decoding};
-use answers::{Check, Decoding, Refusal};
-use rules_verdict::{Judged, of_refusal};
+use answers::{Counts, Refusal};
+use rules_verdict::{Judged, tell};
 use tally::{Tally, TallyReport};
 
 // The totals of a tally, and the number of the rule on lengths, with the place of its slice there.
@@ -46,23 +46,25 @@ fn put_totals(tally: Tally, out: &mut [u64])
     requires { length out.old ≡ 6 }
     ensures { out.new ≡ totals (totals_of tally) }
 {
-    out[0] = tally.frames;
-    out[1] = tally.bits;
-    out[2] = tally.turned;
-    out[3] = tally.rounds;
-    out[4] = tally.outside;
-    out[5] = tally.stuck;
+    out.copy_from_slice(&[
+        tally.frames,
+        tally.bits,
+        tally.turned,
+        tally.rounds,
+        tally.outside,
+        tally.stuck,
+    ]);
 }
 
 // What a decode answers whose tally has another length, from what it answers with that refusal as its last: a rule after 6 comes too late.
-fn length_first(a: Decoding) -> Decoding
+fn length_first(a: Result<Counts, Refusal>) -> Result<Counts, Refusal>
     ensures { (f : Frame) → corrected_of result f ≡ refused_frame (length_first (corrected_of a f).verdict) f }
 {
-    let Decoding::Refused(r) = a else {
-        return Decoding::Refused(Refusal::Length(PLACE));
+    let Err(r) = a else {
+        return Err(Refusal::Length(PLACE));
     };
-    if LENGTH < of_refusal(r).rule {
-        return Decoding::Refused(Refusal::Length(PLACE));
+    if LENGTH < Judged::from(r).rule {
+        return Err(Refusal::Length(PLACE));
     }
     a
 }
@@ -90,7 +92,7 @@ pub extern "C" fn bauchleton_decode_tallied(
 {
     let n = lent_length(work.len(), report.len());
     if tally.len() != TOTALS {
-        let last = Check::Refused(Refusal::Length(PLACE));
+        let last = Err(Refusal::Length(PLACE));
         let a = decoder::decode_with_col(
             last,
             m,
@@ -130,19 +132,17 @@ fn tell_report(j: Judged, r: TallyReport, answer: &mut [u64]) -> u64
     ensures { (result ≡ j.rule) × (answer.new ≡ told (j.place ∷ r.totals.frames ∷ r.totals.bits ∷ r.totals.turned ∷ r.totals.rounds
         ∷ r.totals.outside ∷ r.totals.stuck ∷ r.top ∷ r.bottom ∷ []) answer.old) }
 {
-    if answer.len() != 9 {
-        return j.rule;
-    }
-    answer[0] = j.place;
-    answer[1] = r.totals.frames;
-    answer[2] = r.totals.bits;
-    answer[3] = r.totals.turned;
-    answer[4] = r.totals.rounds;
-    answer[5] = r.totals.outside;
-    answer[6] = r.totals.stuck;
-    answer[7] = r.top;
-    answer[8] = r.bottom;
-    j.rule
+    let numbers = [
+        r.totals.frames,
+        r.totals.bits,
+        r.totals.turned,
+        r.totals.rounds,
+        r.totals.outside,
+        r.totals.stuck,
+        r.top,
+        r.bottom,
+    ];
+    tell(j, &numbers, answer)
 }
 
 // The report of a tally. `answer` has nine entries: the place, the six totals, and the share of turned bits in lowest terms, 0 and 1 for no sent bits.
@@ -152,30 +152,7 @@ pub extern "C" fn bauchleton_report(tally: &[u64], answer: &mut [u64]) -> u64
         (result ≡ number v) × (answer.new ≡ told (report_answer v tally.now) answer.old) }
 {
     if tally.len() != TOTALS {
-        let none = TallyReport {
-            totals: Tally {
-                frames: 0,
-                bits: 0,
-                turned: 0,
-                rounds: 0,
-                outside: 0,
-                stuck: 0,
-            },
-            top: 0,
-            bottom: 0,
-        };
-        return tell_report(
-            Judged {
-                rule: 6,
-                place: PLACE,
-            },
-            none,
-            answer,
-        );
+        return tell(Judged::from(Refusal::Length(PLACE)), &[0; 8], answer);
     }
-    tell_report(
-        Judged { rule: 0, place: 0 },
-        tally::report(tally_in(tally)),
-        answer,
-    )
+    tell_report(Judged::ACCEPTED, tally::report(tally_in(tally)), answer)
 }

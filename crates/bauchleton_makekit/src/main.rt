@@ -6,5 +6,5 @@
 use std::process::ExitCode;
 
 fn main(rt: HostRuntime) -> ExitCode {
-    ExitCode::from(bauchleton_programs::bauchleton_program_makekit(&rt) as u8)
+    ExitCode::from(bauchleton_programs::bauchleton_program_makekit(&rt))
 }

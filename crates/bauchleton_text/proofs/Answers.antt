@@ -1,48 +1,52 @@
 -- Laws of what the calls on texts tell.
 --   told-by                                         equal verdicts are told alike
---   kit-made, kit-refused, kit_broken               a kit reader's answer
---   blocks-counted, blocks-refused, blocks_broken   the answer of a reader of blocks or of a frame
+--   kit-made, kit-error                             a kit reader's answer
+--   blocks-counted, blocks-error                    the answer of a reader of blocks or of a frame
 --   Fits, made-fits, refused-design                 what a new design says of m, t and M
 --   behind-refused, behind-made, kept-old, kept_on  any reader behind a design that is refused and behind one that is made
 --   scan-blocks-*, read-blocks-*                    the readers of block text
 --   scan-frame-*, read-frame-*                      those of frame text
 -- Assumes nothing.
+use Rattle.std.specs.Prelude.{Err, Ok, Result}
 use mathlib.Core.Path.{◌≡◌, sym, ap, ◌∙◌, subst}
 use mathlib.Core.List.{List, [], ◌∷◌}
 use Prim.Native.Nat.{ℕ, ◌*◌}
 use Rattle.staircase.specs.Rules.{Verdict, ◌then◌, design_rules}
 use Rattle.staircase.specs.Rules.Verdict.{accepted, refused}
 use Rattle.design.specs.declared.Design.{Design}
-use Rattle.design.specs.declared.Designed.{Designed}
-use Rattle.design.specs.declared.Designed.TheVariants as designed
 use Rattle.answers.specs.declared.Refusal.{Refusal}
-use Rattle.design.specs.Answers.{design_verdict, DesignIs, Allowed}
+use Rattle.answers.specs.declared.TextError.{TextError}
+use Rattle.answers.specs.declared.TextError.TheVariants.{Refused, Broken}
+use Rattle.text_items.specs.Answers.{error_verdict}
+use Rattle.design.specs.Answers.{DesignIs, Allowed}
 use Rattle.rules_verdict.specs.declared.Judged.{Judged}
-use Rattle.rules_verdict.specs.Number.{number, judged_of, told}
+use Rattle.rules_verdict.specs.Number.{number, place_of, judged_of, told}
 use Rattle.rules_verdict.proofs.Refused.{refusal_judged}
-use Rattle.text_kit.specs.declared.KitScan.{KitScan}
-use Rattle.text_kit.specs.declared.KitScan.TheVariants as scan
 use Rattle.text_kit.specs.Answers.{kit_scan_verdict, KitDesign}
 use Rattle.text.specs.KitReader.{head_number}
-use Rattle.text_frame.specs.declared.Blocks.{Blocks}
-use Rattle.text_frame.specs.declared.Blocks.TheVariants as blocks
 use Rattle.text_frame.specs.Answers.{blocks_verdict, CountIs}
 use Rattle.text.specs.FrameReader.{block_rule, block_count, block_info, read_blocks_call, frame_rule, frame_count, frame_info, frame_red, read_frame_call}
 use Rattle.text.specs.Rules.{kept}
 use Rattle.bauchleton_text.specs.Answers.{kit_answer, blocks_answer, scan_blocks_for, read_blocks_for, scan_frame_for, read_frame_for}
-use Rattle.answers.specs.Answers.{refusal_verdict}
+use Rattle.answers.specs.Answers.{refusal_verdict, verdict_of}
 
 pub told-by : (answer : Verdict → List ℕ) (l : List ℕ) {u v : Verdict} {n : ℕ} {k : List ℕ} → u ≡ v → (n ≡ number u) × (k ≡ told (answer u) l)
     → (n ≡ number v) × (k ≡ told (answer v) l)
 told-by answer l e (hn, hk) = (hn ∙ ap number e, hk ∙ ap (λ (x : Verdict). told (answer x) l) e)
 
+-- a text's error refuses
+error_judged : (rule : ℕ) (e : TextError) (j : Judged) → j ≡ judged_of (error_verdict rule e) → error_verdict rule e ≡ refused j.rule j.place
+unfolding number place_of
+error_judged rule (Refused r) j i = refusal_judged r j i
+error_judged rule (Broken p) j i = rw i
+
 -- ---- kit text
 
-pub kit-made : (l : List ℕ) {a : KitScan} (d : Design) {n : ℕ} {k : List ℕ} → a ≡ scan.Kit d → (n ≡ 0) × (k ≡ told (0 ∷ d.m ∷ d.t ∷ d.size ∷ []) l)
+pub kit-made : (l : List ℕ) {a : Result Design TextError} (d : Design) {n : ℕ} {k : List ℕ} → a ≡ Ok d → (n ≡ 0) × (k ≡ told (0 ∷ d.m ∷ d.t ∷ d.size ∷ []) l)
     → (s : List ℕ) → KitDesign a s → (n ≡ number (kit_scan_verdict a)) × (k ≡ told (kit_answer (kit_scan_verdict a) s) l)
 unfolding number kit_scan_verdict KitDesign kit_answer
 kit-made l d e (hn, hk) s is =
-    let q : (d.m ≡ head_number s 0) × (d.t ≡ head_number s 1) × (d.size ≡ head_number s 2) × (d.col ≡ 0) × Allowed d = subst (λ (x : KitScan). KitDesign x s) e is in
+    let q : (d.m ≡ head_number s 0) × (d.t ≡ head_number s 1) × (d.size ≡ head_number s 2) × (d.col ≡ 0) × Allowed d = subst (λ (x : Result Design TextError). KitDesign x s) e is in
     let em : d.m ≡ head_number s 0 = q.0 in
     let et : d.t ≡ head_number s 1 = q.1 in
     let e_m : d.size ≡ head_number s 2 = q.2 in
@@ -54,24 +58,19 @@ kit-rule : (l : List ℕ) (v : Verdict) {rule place n : ℕ} {k : List ℕ} → 
 unfolding number kit_answer
 kit-rule l v e h s = told-by (λ (x : Verdict). kit_answer x s) l (sym e) h
 
-pub kit-refused : (l : List ℕ) {a : KitScan} (r : Refusal) (j : Judged) {n : ℕ} {k : List ℕ} → a ≡ scan.Refused r → j ≡ judged_of (refusal_verdict r)
+pub kit-error : (l : List ℕ) {a : Result Design TextError} (e : TextError) (j : Judged) {n : ℕ} {k : List ℕ} → a ≡ Err e → j ≡ judged_of (error_verdict 11 e)
     → (n ≡ j.rule) × (k ≡ told (j.place ∷ 0 ∷ 0 ∷ 0 ∷ []) l)
     → (s : List ℕ) → (n ≡ number (kit_scan_verdict a)) × (k ≡ told (kit_answer (kit_scan_verdict a) s) l)
 unfolding kit_scan_verdict
-kit-refused l {a = a} r j e i h s = kit-rule l (kit_scan_verdict a) (ap kit_scan_verdict e ∙ refusal_judged r j i) h s
-
-pub kit_broken : (l : List ℕ) {a : KitScan} (p : ℕ) {n : ℕ} {k : List ℕ} → a ≡ scan.Broken p → (n ≡ 11) × (k ≡ told (p ∷ 0 ∷ 0 ∷ 0 ∷ []) l)
-    → (s : List ℕ) → (n ≡ number (kit_scan_verdict a)) × (k ≡ told (kit_answer (kit_scan_verdict a) s) l)
-unfolding kit_scan_verdict
-kit_broken l {a = a} p e h s = kit-rule l (kit_scan_verdict a) (ap kit_scan_verdict e) h s
+kit-error l {a = a} e j q i h s = kit-rule l (kit_scan_verdict a) (ap kit_scan_verdict q ∙ error_judged 11 e j i) h s
 
 -- ---- block text and frame text
 
-pub blocks-counted : (l : List ℕ) {a : Blocks} (b : ℕ) {n : ℕ} {k : List ℕ} → a ≡ blocks.Read b → (n ≡ 0) × (k ≡ told (0 ∷ b ∷ []) l)
+pub blocks-counted : (l : List ℕ) {a : Result ℕ TextError} (b : ℕ) {n : ℕ} {k : List ℕ} → a ≡ Ok b → (n ≡ 0) × (k ≡ told (0 ∷ b ∷ []) l)
     → (L : ℕ) → CountIs a L → (n ≡ number (blocks_verdict a)) × (k ≡ told (blocks_answer (blocks_verdict a) L) l)
 unfolding number blocks_verdict CountIs blocks_answer
 blocks-counted l b e (hn, hk) L is =
-    let q : b ≡ L = subst (λ (x : Blocks). CountIs x L) e is in
+    let q : b ≡ L = subst (λ (x : Result ℕ TextError). CountIs x L) e is in
     told-by (λ (v : Verdict). blocks_answer v L) l (sym (ap blocks_verdict e)) (hn, hk ∙ ap (λ (x : ℕ). told (0 ∷ x ∷ []) l) q)
 
 blocks_rule : (l : List ℕ) (v : Verdict) {rule place n : ℕ} {k : List ℕ} → v ≡ refused rule place → (n ≡ rule) × (k ≡ told (place ∷ 0 ∷ []) l)
@@ -79,16 +78,11 @@ blocks_rule : (l : List ℕ) (v : Verdict) {rule place n : ℕ} {k : List ℕ} �
 unfolding number blocks_answer
 blocks_rule l v e h L = told-by (λ (x : Verdict). blocks_answer x L) l (sym e) h
 
-pub blocks-refused : (l : List ℕ) {a : Blocks} (r : Refusal) (j : Judged) {n : ℕ} {k : List ℕ} → a ≡ blocks.Refused r → j ≡ judged_of (refusal_verdict r)
+pub blocks-error : (l : List ℕ) {a : Result ℕ TextError} (e : TextError) (j : Judged) {n : ℕ} {k : List ℕ} → a ≡ Err e → j ≡ judged_of (error_verdict 12 e)
     → (n ≡ j.rule) × (k ≡ told (j.place ∷ 0 ∷ []) l)
     → (L : ℕ) → (n ≡ number (blocks_verdict a)) × (k ≡ told (blocks_answer (blocks_verdict a) L) l)
 unfolding blocks_verdict
-blocks-refused l {a = a} r j e i h L = blocks_rule l (blocks_verdict a) (ap blocks_verdict e ∙ refusal_judged r j i) h L
-
-pub blocks_broken : (l : List ℕ) {a : Blocks} (p : ℕ) {n : ℕ} {k : List ℕ} → a ≡ blocks.Broken p → (n ≡ 12) × (k ≡ told (p ∷ 0 ∷ []) l)
-    → (L : ℕ) → (n ≡ number (blocks_verdict a)) × (k ≡ told (blocks_answer (blocks_verdict a) L) l)
-unfolding blocks_verdict
-blocks_broken l {a = a} p e h L = blocks_rule l (blocks_verdict a) (ap blocks_verdict e) h L
+blocks-error l {a = a} e j q i h L = blocks_rule l (blocks_verdict a) (ap blocks_verdict q ∙ error_judged 12 e j i) h L
 
 -- ---- rules 1 to 3
 
@@ -97,23 +91,23 @@ pub record Fits (d : Design) (m t M : ℕ) : Type 0 where
   pub r : d.m * d.t ≡ m * t
   pub size : d.size ≡ M
 
-pub made-fits : {x : Designed} (d : Design) (m t M : ℕ) → x ≡ designed.Made d → design_verdict x ≡ design_rules m t M 0 → DesignIs x m t M 0 → Fits d m t M
-unfolding design_verdict DesignIs
+pub made-fits : {x : Result Design Refusal} (d : Design) (m t M : ℕ) → x ≡ Ok d → verdict_of x ≡ design_rules m t M 0 → DesignIs x m t M 0 → Fits d m t M
+unfolding verdict_of DesignIs
 made-fits d m t M e v is =
-    let q : (d.m ≡ m) × (d.t ≡ t) × (d.size ≡ M) × (d.col ≡ 0) = subst (λ (x : Designed). DesignIs x m t M 0) e is in
+    let q : (d.m ≡ m) × (d.t ≡ t) × (d.size ≡ M) × (d.col ≡ 0) = subst (λ (x : Result Design Refusal). DesignIs x m t M 0) e is in
     let em : d.m ≡ m = q.0 in
     let et : d.t ≡ t = q.1 in
-    record { allowed = sym v ∙ ap design_verdict e; r = cc; size = q.2 }
+    record { allowed = sym v ∙ ap verdict_of e; r = cc; size = q.2 }
 
-pub refused-design : {x : Designed} (r : Refusal) (j : Judged) (m t M : ℕ) → x ≡ designed.Refused r → design_verdict x ≡ design_rules m t M 0
+pub refused-design : {x : Result Design Refusal} (r : Refusal) (j : Judged) (m t M : ℕ) → x ≡ Err r → verdict_of x ≡ design_rules m t M 0
     → j ≡ judged_of (refusal_verdict r) → design_rules m t M 0 ≡ refused j.rule j.place
-unfolding design_verdict
-refused-design r j m t M e v i = sym v ∙ ap design_verdict e ∙ refusal_judged r j i
+unfolding verdict_of
+refused-design r j m t M e v i = sym v ∙ ap verdict_of e ∙ refusal_judged r j i
 
 -- ---- a reader behind rules 1 to 3: u is their verdict, v the reader's
 
 -- what tell_blocks ensures
-abbrev pub Tells : Blocks → ℕ → List ℕ → List ℕ → Type 0
+abbrev pub Tells : Result ℕ TextError → ℕ → List ℕ → List ℕ → Type 0
 Tells b n k l = (L : ℕ) → CountIs b L → (n ≡ number (blocks_verdict b)) × (k ≡ told (blocks_answer (blocks_verdict b) L) l)
 
 module _ (l : List ℕ) (u v : Verdict) (L : ℕ) {n : ℕ} {k : List ℕ} where
@@ -121,7 +115,7 @@ module _ (l : List ℕ) (u v : Verdict) (L : ℕ) {n : ℕ} {k : List ℕ} where
       → (n ≡ number (u then v)) × (k ≡ told (blocks_answer (u then v) L) l)
   behind-refused e h = blocks_rule l (u then v) (ap (λ (x : Verdict). x then v) e) h L
 
-  behind-made : (b : Blocks) → u ≡ accepted → blocks_verdict b ≡ v → CountIs b L → Tells b n k l
+  behind-made : (b : Result ℕ TextError) → u ≡ accepted → blocks_verdict b ≡ v → CountIs b L → Tells b n k l
       → (n ≡ number (u then v)) × (k ≡ told (blocks_answer (u then v) L) l)
   behind-made b e f is tell = told-by (λ (x : Verdict). blocks_answer x L) l (f ∙ sym (ap (λ (x : Verdict). x then v) e)) (tell L is)
 
@@ -146,7 +140,7 @@ module _ (l s : List ℕ) where
   unfolding scan_blocks_for
   scan-blocks-refused m t M e h = behind-refused l (design_rules m t M 0) (block_rule M s) (block_count M s) e h
 
-  pub scan-blocks-made : (b : Blocks) {d : Design} {m t M : ℕ} {n : ℕ} {k : List ℕ} → Fits d m t M → blocks_verdict b ≡ block_rule d.size s
+  pub scan-blocks-made : (b : Result ℕ TextError) {d : Design} {m t M : ℕ} {n : ℕ} {k : List ℕ} → Fits d m t M → blocks_verdict b ≡ block_rule d.size s
       → CountIs b (block_count d.size s) → Tells b n k l
       → (n ≡ number (scan_blocks_for m t M s)) × (k ≡ told (blocks_answer (scan_blocks_for m t M s) (block_count M s)) l)
   unfolding scan_blocks_for
@@ -165,7 +159,7 @@ module _ (l s : List ℕ) where
         let q = behind-refused l (design_rules m t M 0) v (block_count M s) e h in
         (q.0, kept_old (design_rules m t M 0) v (block_info M s) info e, q.1)
 
-    pub read-blocks-made : (b : Blocks) {left : List ℕ} {d : Design} {m t M : ℕ} {n : ℕ} {k : List ℕ} → Fits d m t M
+    pub read-blocks-made : (b : Result ℕ TextError) {left : List ℕ} {d : Design} {m t M : ℕ} {n : ℕ} {k : List ℕ} → Fits d m t M
         → blocks_verdict b ≡ (read_blocks_call d.size s info).verdict → CountIs b (block_count d.size s)
         → left ≡ (read_blocks_call d.size s info).info → Tells b n k l
         → (n ≡ number (read_blocks_for m t M s info).verdict) × (left ≡ (read_blocks_for m t M s info).info)
@@ -185,7 +179,7 @@ module _ (l s : List ℕ) where
   unfolding scan_frame_for
   scan-frame-refused m t M e h = behind-refused l (design_rules m t M 0) (frame_rule M (m * t) s) (frame_count M (m * t) s) e h
 
-  pub scan-frame-made : (b : Blocks) {d : Design} {m t M : ℕ} {n : ℕ} {k : List ℕ} → Fits d m t M
+  pub scan-frame-made : (b : Result ℕ TextError) {d : Design} {m t M : ℕ} {n : ℕ} {k : List ℕ} → Fits d m t M
       → blocks_verdict b ≡ frame_rule d.size (d.m * d.t) s → CountIs b (frame_count d.size (d.m * d.t) s) → Tells b n k l
       → (n ≡ number (scan_frame_for m t M s)) × (k ≡ told (blocks_answer (scan_frame_for m t M s) (frame_count M (m * t) s)) l)
   unfolding scan_frame_for
@@ -205,7 +199,7 @@ module _ (l s : List ℕ) where
         let q = behind-refused l u v (frame_count M (m * t) s) e h in
         (q.0, kept_old u v (frame_info M (m * t) s) info e, kept_old u v (frame_red M (m * t) s) red e, q.1)
 
-    pub read-frame-made : (b : Blocks) {info' red' : List ℕ} {d : Design} {m t M : ℕ} {n : ℕ} {k : List ℕ} → Fits d m t M
+    pub read-frame-made : (b : Result ℕ TextError) {info' red' : List ℕ} {d : Design} {m t M : ℕ} {n : ℕ} {k : List ℕ} → Fits d m t M
         → blocks_verdict b ≡ (read_frame_call d.size (d.m * d.t) s info red).verdict → CountIs b (frame_count d.size (d.m * d.t) s)
         → info' ≡ (read_frame_call d.size (d.m * d.t) s info red).info → red' ≡ (read_frame_call d.size (d.m * d.t) s info red).red → Tells b n k l
         → (n ≡ number (read_frame_for m t M s info red).verdict) × (info' ≡ (read_frame_for m t M s info red).info)

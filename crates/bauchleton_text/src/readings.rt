@@ -10,37 +10,32 @@ ghost use Rattle.text.specs.FrameReader.{block_count, frame_count};
 ghost use Rattle.rules_verdict.specs.Number.{number, told};
 ghost use Rattle.bauchleton_text.specs.Answers.{kit_answer, blocks_answer, scan_blocks_for, read_blocks_for, scan_frame_for, read_frame_for};
 
-use design::{Design, Designed};
-use rules_verdict::{Judged, of_refusal, tell_four, tell_two};
-use text_frame::Blocks;
-use text_kit::KitScan;
+use answers::TextError;
+use design::Design;
+use rules_verdict::{Judged, tell};
 
 // Tells a kit reader's answer.
-fn tell_kit(a: KitScan, answer: &mut [u64]) -> u64
+fn tell_kit(a: Result<Design, TextError>, answer: &mut [u64]) -> u64
     ensures { (s : List ℕ) → KitDesign a s → (result ≡ number (kit_scan_verdict a))
         × (answer.new ≡ told (kit_answer (kit_scan_verdict a) s) answer.old) }
 {
     match a {
-        KitScan::Kit(d) => {
-            let m = d.m() as u64;
-            let t = d.t() as u64;
-            let size = d.size() as u64;
-            tell_four(Judged { rule: 0, place: 0 }, m, t, size, answer)
+        Ok(d) => {
+            let numbers = [d.m() as u64, d.t() as u64, d.size() as u64];
+            tell(Judged::ACCEPTED, &numbers, answer)
         }
-        KitScan::Refused(r) => tell_four(of_refusal(r), 0, 0, 0, answer),
-        KitScan::Broken(p) => tell_four(Judged { rule: 11, place: p }, 0, 0, 0, answer),
+        Err(e) => tell(program::judge_error(11, e), &[0; 3], answer),
     }
 }
 
 // Tells the answer of a reader of blocks or of a frame.
-fn tell_blocks(a: Blocks, answer: &mut [u64]) -> u64
+fn tell_blocks(a: Result<u64, TextError>, answer: &mut [u64]) -> u64
     ensures { (L : ℕ) → CountIs a L → (result ≡ number (blocks_verdict a))
         × (answer.new ≡ told (blocks_answer (blocks_verdict a) L) answer.old) }
 {
     match a {
-        Blocks::Read(n) => tell_two(Judged { rule: 0, place: 0 }, n, answer),
-        Blocks::Refused(r) => tell_two(of_refusal(r), 0, answer),
-        Blocks::Broken(p) => tell_two(Judged { rule: 12, place: p }, 0, answer),
+        Ok(n) => tell(Judged::ACCEPTED, &[n], answer),
+        Err(e) => tell(program::judge_error(12, e), &[0], answer),
     }
 }
 
@@ -84,8 +79,8 @@ pub extern "C" fn bauchleton_scan_blocks(
         (result ≡ number v) × (answer.new ≡ told (blocks_answer v (block_count size text.now)) answer.old) }
 {
     match Design::new(m, t, size) {
-        Designed::Refused(r) => tell_two(of_refusal(r), 0, answer),
-        Designed::Made(d) => {
+        Err(r) => tell(Judged::from(r), &[0], answer),
+        Ok(d) => {
             let a = text_frame::scan_blocks(text, d);
             tell_blocks(a, answer)
         }
@@ -107,8 +102,8 @@ pub extern "C" fn bauchleton_read_blocks(
         × (answer.new ≡ told (blocks_answer b.verdict (block_count size text.now)) answer.old) }
 {
     match Design::new(m, t, size) {
-        Designed::Refused(r) => tell_two(of_refusal(r), 0, answer),
-        Designed::Made(d) => {
+        Err(r) => tell(Judged::from(r), &[0], answer),
+        Ok(d) => {
             let a = text_frame::read_blocks(text, d, info);
             tell_blocks(a, answer)
         }
@@ -128,8 +123,8 @@ pub extern "C" fn bauchleton_scan_frame(
         (result ≡ number v) × (answer.new ≡ told (blocks_answer v (frame_count size (m * t) text.now)) answer.old) }
 {
     match Design::new(m, t, size) {
-        Designed::Refused(r) => tell_two(of_refusal(r), 0, answer),
-        Designed::Made(d) => {
+        Err(r) => tell(Judged::from(r), &[0], answer),
+        Ok(d) => {
             let a = text_frame::scan_frame(text, d);
             tell_blocks(a, answer)
         }
@@ -152,8 +147,8 @@ pub extern "C" fn bauchleton_read_frame(
         × (answer.new ≡ told (blocks_answer f.verdict (frame_count size (m * t) text.now)) answer.old) }
 {
     match Design::new(m, t, size) {
-        Designed::Refused(r) => tell_two(of_refusal(r), 0, answer),
-        Designed::Made(d) => {
+        Err(r) => tell(Judged::from(r), &[0], answer),
+        Ok(d) => {
             let a = text_frame::read_frame(text, d, info, red);
             tell_blocks(a, answer)
         }

@@ -7,16 +7,16 @@ ghost use Rattle.text_kit_write.specs.Checks.{measured_of};
 ghost use Rattle.rules_verdict.specs.Number.{number, place_of, told};
 ghost use Rattle.bauchleton_text.specs.Answers.{length_answer};
 
-use rules_verdict::{Judged, of_check, of_refusal, tell_place, tell_two};
-use text_kit_write::TextLength;
+use answers::Refusal;
+use rules_verdict::{Judged, tell};
 
 // Tells the length of a text.
-fn tell_length(a: TextLength, answer: &mut [u64]) -> u64
+fn tell_length(a: Result<u64, Refusal>, answer: &mut [u64]) -> u64
     ensures { (result ≡ number (measured_of a).verdict) × (answer.new ≡ told (length_answer (measured_of a)) answer.old) }
 {
     match a {
-        TextLength::Length(n) => tell_two(Judged { rule: 0, place: 0 }, n, answer),
-        TextLength::Refused(r) => tell_two(of_refusal(r), 0, answer),
+        Ok(n) => tell(Judged::ACCEPTED, &[n], answer),
+        Err(r) => tell(Judged::from(r), &[0], answer),
     }
 }
 
@@ -53,5 +53,5 @@ pub extern "C" fn bauchleton_write_kit(
         (result ≡ number c.verdict) × (text.new ≡ c.text) × (answer.new ≡ told (place_of c.verdict ∷ []) answer.old) }
 {
     let c = text_kit_write::write_kit(m, t, size, own, parity, inverse, text);
-    tell_place(of_check(c), answer)
+    tell(Judged::from(c), &[], answer)
 }

@@ -2,10 +2,11 @@
 --   refused-is                                 a refused call leaves the frame and counts nothing
 --   frame-window                               what is left and counted of a frame that no rule refuses
 --   answer_design, answer_frame, answer_done   the answer at a refused design, at a refused frame, and after the rounds
---   judged_call, call_accepted, window-fits    what the checks say, and what they leave of a frame and of a window
+--   last_refused, call_accepted, window-fits   the last check, checks that all passed, and what they leave of a window
 --   answered_with                              the call that has one more check behind its rules
 --   answered-window, numbers-some              the call with a window
 -- Assumes nothing.
+use Rattle.std.specs.Prelude.{Err, Ok, Result, IsErr, IsErrAnd}
 use mathlib.Core.Path.{◌≡◌, refl, sym, ap, ap₂, ◌∙◌}
 use mathlib.Core.Logic.{◌≢◌}
 use mathlib.Core.List.{List, []}
@@ -20,27 +21,23 @@ use Rattle.staircase.specs.Rules.Verdict.{accepted, refused}
 use Rattle.staircase.specs.Calls.{Counts, counts_of, Corrected, corrected_by, decode_verdict, decode_call}
 use Rattle.staircase.specs.Tally.{decode_with, further_call}
 use Rattle.staircase.specs.Window.{window_rule, positions, window_groups, window_words, slide, slide_stuck, windowed, window_stuck, window_counts, window_verdict, window_call}
-use Rattle.staircase.proofs.Rules.{then_first, then_rest}
+use Rattle.staircase.proofs.Rules.{then_rest}
 use Rattle.staircase.proofs.Window.{windowed_least, window_limits, whole-rounds, whole-counts}
+use Rattle.answers.specs.declared.Counts as told
 use Rattle.answers.specs.declared.Refusal.{Refusal}
-use Rattle.answers.specs.declared.Check.{Check}
-use Rattle.answers.specs.declared.Check.TheVariants as check
 use Rattle.design.specs.declared.Design.{Design}
-use Rattle.design.specs.declared.Designed.{Designed}
-use Rattle.design.specs.declared.Designed.TheVariants as designed
-use Rattle.design.specs.Answers.{design_verdict, DesignIs}
+use Rattle.design.specs.Answers.{DesignIs}
 use Rattle.design.specs.Sizes.{params_of, lists_of}
-use Rattle.design.proofs.Answers.{made-params, refused-design, made-design}
+use Rattle.design.proofs.Answers.{made-params, made-design}
 use Rattle.rules.specs.Lengths.{lengths_of, decoder_due, frame_rules}
 use Rattle.rules.proofs.Chain.{then_assoc, decoder_rules, received_bytes}
 use Rattle.words.specs.Checks.{received_rules}
 use Rattle.decoder_frame.specs.declared.Window.{Window}
 use Rattle.decoder_frame.specs.Stretch.{WindowFits}
 use Rattle.decoder.specs.declared.Call.{Call}
-use Rattle.answers.specs.declared.Decoding.{Decoding}
 use Rattle.decoder.specs.Answers.{copy_rules, window_numbers, corrected_frame, call_rules, answered}
-use Rattle.answers.specs.Answers.{verdict_of, corrected_of, refused_frame}
-use Rattle.answers.proofs.Checks.{check_refused, check_passed}
+use Rattle.answers.specs.Answers.{refusal_verdict, verdict_of, corrected_of, refused_frame}
+use Rattle.answers.proofs.Checks.{handed_on, refused_on, passed_then, refusal_refuses, check_passed}
 
 pub refused-is : (v : Verdict) (old new : Frame) (c : Counts) → v ≢ accepted → refused_frame v old ≡ corrected_by v old new c
 unfolding refused_frame
@@ -94,52 +91,52 @@ module _ (call : Call) (own parity info red : List ℕ) (work : ℕ) where
   abbrev asked : Params
   asked = params call.m call.t call.size call.col
 
-  refused_answer : (x : Verdict) → x ≢ accepted → x ≡ (design_rules call.m call.t call.size call.col then rules asked)
-      → refused_frame x f ≡ answered call own parity info red work
-  unfolding answered
-  refused_answer x other e =
-      refused-is x f (new asked) (counts asked) other ∙ ap (λ (v : Verdict). corrected_by v f (new asked) (counts asked)) e
+  abbrev judged : Verdict
+  judged = design_rules call.m call.t call.size call.col then rules asked
 
-  module _ (a : Designed) (n : design_verdict a ≡ design_rules call.m call.t call.size call.col) where
-    pub answer_design : (c : Decoding) (x : Check) (r : Refusal) → ((g : Frame) → corrected_of c g ≡ refused_frame (verdict_of x) g) → a ≡ designed.Refused r
-        → verdict_of x ≡ design_verdict a → corrected_of c (frame_of info red) ≡ answered call own parity info red work
-    answer_design c x r h g e =
-        let q = refused-design call.m call.t call.size call.col rules a n x g e in h f ∙ refused_answer (verdict_of x) q.0 q.1
+  refused_answer : (c : Result told.Counts Refusal) {r : Refusal} → c ≡ Err r → verdict_of c ≡ judged → corrected_of c f ≡ answered call own parity info red work
+  unfolding corrected_of verdict_of answered
+  refused_answer c {r} k e =
+      ap (λ (z : Result told.Counts Refusal). corrected_of z f) k ∙ refused-is (refusal_verdict r) f (new asked) (counts asked) (refusal_refuses r)
+      ∙ ap (λ (v : Verdict). corrected_by v f (new asked) (counts asked)) (sym (ap verdict_of k) ∙ e)
 
-    module _ (i : DesignIs a call.m call.t call.size call.col) (d : Design) (g : a ≡ designed.Made d) (x : Check)
-        (e : verdict_of x ≡ call_rules call (params_of d) own parity info red work) where
-      verdict-is : verdict_of x ≡ (design_rules call.m call.t call.size call.col then rules asked)
-      verdict-is = made-design call.m call.t call.size call.col rules a n x i g e
+  module _ (a : Result Design Refusal) (n : verdict_of a ≡ design_rules call.m call.t call.size call.col) where
+    -- c is what the call hands on
+    pub answer_design : (c : Result told.Counts Refusal) {r : Refusal} → a ≡ Err r → IsErr c × IsErrAnd c (λ (e : Refusal). e ≡ r)
+        → corrected_of c (frame_of info red) ≡ answered call own parity info red work
+    answer_design c g h = refused_answer c (handed_on c h.1) (refused_on (rules asked) n c g h)
 
-      pub answer_frame : (c : Decoding) (r : Refusal) → ((z : Frame) → corrected_of c z ≡ refused_frame (verdict_of x) z) → x ≡ check.Refused r
+    module _ (i : DesignIs a call.m call.t call.size call.col) (d : Design) (g : a ≡ Ok d) where
+      verdict-is : {A : Type 0} (x : Result A Refusal) → verdict_of x ≡ rules (params_of d) → verdict_of x ≡ judged
+      verdict-is x e = made-design call.m call.t call.size call.col rules a n x i g e
+
+      pub answer_frame : (c : Result told.Counts Refusal) (r : Refusal) → IsErrAnd c (λ (e : Refusal). e ≡ r) → verdict_of c ≡ call_rules call (params_of d) own parity info red work
           → corrected_of c (frame_of info red) ≡ answered call own parity info red work
-      answer_frame c r h q = h f ∙ refused_answer (verdict_of x) (check_refused q) verdict-is
+      answer_frame c r h e = refused_answer c (handed_on c h) (verdict-is c e)
 
-      pub answer_done : (y : Corrected) (w : Window) → x ≡ check.Passed
+      pub answer_done : (y : Corrected) (w : Window) → call_rules call (params_of d) own parity info red work ≡ accepted
           → w ≡ record { groups = window_groups (groups call.blocks) call.window; limit = rounds_allowed call.rounds }
           → y ≡ corrected_frame (params_of d) (lists_of d own parity) call.blocks w.groups w.limit (frame_of info red)
           → y ≡ answered call own parity info red work
-      unfolding answered
+      unfolding answered verdict_of
       answer_done y w q z h =
+          let done : Result Unit Refusal = Ok tt in
           h ∙ frame-window (params_of d) (lists_of d own parity) call.blocks call.rounds f w call.window z
           ∙ ap (λ (s : Params). corrected_by accepted f (new s) (counts s)) (made-params g call.m call.t call.size call.col i)
-          ∙ ap (λ (v : Verdict). corrected_by v f (new asked) (counts asked)) (sym (check_passed q) ∙ verdict-is)
+          ∙ ap (λ (v : Verdict). corrected_by v f (new asked) (counts asked)) (verdict-is done (sym q))
 
--- a frame's rules between the two checks
-pub judged_call : (call : Call) (s : Params) (own parity info red : List ℕ) (work : ℕ) (x y z : Check)
-    → verdict_of z ≡ (verdict_of call.first then verdict_of y) → verdict_of y ≡ (verdict_of x then verdict_of call.last)
-    → verdict_of x ≡ copy_rules s call.blocks call.rounds own parity info red work → verdict_of z ≡ call_rules call s own parity info red work
-judged_call call s own parity info red work x y z h j e =
-    h ∙ ap (λ (v : Verdict). verdict_of call.first then v) (j ∙ ap (λ (v : Verdict). v then verdict_of call.last) e)
+-- the last check's refusal, handed on
+pub last_refused : {A B : Type 0} {x : Result A Refusal} {r : Refusal} (y : Result B Refusal) → x ≡ Err r → IsErrAnd y (λ (e : Refusal). e ≡ r) → verdict_of y ≡ verdict_of x
+unfolding verdict_of
+last_refused y e h = ap verdict_of (handed_on y h) ∙ sym (ap verdict_of e)
 
-pub call_accepted : (call : Call) (s : Params) (own parity info red : List ℕ) (work : ℕ) (x : Check) → verdict_of x ≡ call_rules call s own parity info red work
-    → x ≡ check.Passed → (verdict_of call.first ≡ accepted) × (copy_rules s call.blocks call.rounds own parity info red work ≡ accepted)
-call_accepted call s own parity info red work x j p =
-    let rest : Verdict = copy_rules s call.blocks call.rounds own parity info red work then verdict_of call.last in
-    let all : (verdict_of call.first then rest) ≡ accepted = sym j ∙ check_passed p in (
-      then_first (verdict_of call.first) rest all,
-      then_first (copy_rules s call.blocks call.rounds own parity info red work) (verdict_of call.last) (then_rest (verdict_of call.first) rest all),
-    )
+-- a frame's rules between two checks that passed
+pub call_accepted : (call : Call) (s : Params) (own parity info red : List ℕ) (work : ℕ) (x : Result Unit Refusal)
+    → verdict_of x ≡ copy_rules s call.blocks call.rounds own parity info red work
+    → call.first ≡ Ok tt → x ≡ Ok tt → call.last ≡ Ok tt → call_rules call s own parity info red work ≡ accepted
+call_accepted call s own parity info red work x e first passed last =
+    sym (sym (check_passed last) ∙ passed_then (verdict_of call.last) e passed
+    ∙ passed_then (copy_rules s call.blocks call.rounds own parity info red work then verdict_of call.last) refl first)
 
 pub window-fits : (L k v : ℕ) (w : Window) → w ≡ record { groups = window_groups (groups L) v; limit = rounds_allowed k } → 1 ≤ L → 1 ≤ v
     → 1 ≤ w.limit → w.limit ≤ most-rounds → WindowFits L w
@@ -172,8 +169,8 @@ module _ (m t M col L k : ℕ) (own parity info red : List ℕ) (work : ℕ) whe
       ap (λ (z : Verdict). frame_rules s L k (lengths_of own parity [] info red work) (decoder_due s L) then z) (received_bytes s (interleavers s own parity) info red)
       ∙ decoder_rules s own parity work (list_rule s (interleavers s own parity) then frame_bits info red) L k info red
 
-  pub answered_with : (last : Check)
-      → answered (record { m = m; t = t; size = M; col = col; blocks = L; rounds = k; window = L; first = check.Passed; last = last }) own parity info red work
+  pub answered_with : (last : Result Unit Refusal)
+      → answered (record { m = m; t = t; size = M; col = col; blocks = L; rounds = k; window = L; first = (Ok tt); last = last }) own parity info red work
       ≡ further_call (verdict_of last) (decode_with m t M col L k own parity info red work)
   unfolding answered further_call decode_call decode_verdict verdict_of
   answered_with last =
@@ -189,8 +186,8 @@ module _ (m t M col L k : ℕ) (own parity info red : List ℕ) (work : ℕ) whe
       (λ i. corrected_by (judged i) f (whole-rounds s l L L k f room i).frame (whole-counts s l L L k f room i))
       ∙ further_same rules (verdict_of last) f (decoded s l L k f).frame (counts_of s l L k f)
 
-  pub answered-window : (v : ℕ) (first : Check) → verdict_of first ≡ window_numbers L k v
-      → answered (record { m = m; t = t; size = M; col = col; blocks = L; rounds = k; window = v; first = first; last = check.Passed }) own parity info red work
+  pub answered-window : (v : ℕ) (first : Result Unit Refusal) → verdict_of first ≡ window_numbers L k v
+      → answered (record { m = m; t = t; size = M; col = col; blocks = L; rounds = k; window = v; first = first; last = (Ok tt) }) own parity info red work
       ≡ window_call m t M col L k v own parity info red work
   unfolding answered window_call window_verdict window_numbers verdict_of
   answered-window v first e =

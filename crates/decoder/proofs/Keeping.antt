@@ -5,6 +5,7 @@
 --   corrected-made    the counts of a frame that was corrected
 --   corrected-idle    those of a frame whose words are all in the code
 -- Assumes nothing.
+use Rattle.std.specs.Prelude.{Ok}
 use mathlib.Core.Path.{◌≡◌, sym, ap, ◌∙◌, subst⁻¹}
 use mathlib.Core.Bool.{true}
 use mathlib.Core.List.{List, ◌++◌}
@@ -43,7 +44,6 @@ use Rattle.decoder_frame.specs.Stretch.{read_window}
 use Rattle.decoder_frame.proofs.Feed.{feed_total}
 use Rattle.decoder_frame.proofs.Limit.{allowed_itself}
 use Rattle.answers.specs.declared.Counts.{Counts}
-use Rattle.answers.specs.declared.Decoding.TheVariants as decoding
 use Rattle.decoder.specs.Answers.{corrected_frame}
 use Rattle.answers.specs.Answers.{corrected_of}
 
@@ -82,7 +82,7 @@ module _ (d : Design) (L : ℕ) {links info red kept : List ℕ} (F : FramesFit 
 made_in : (s : Params) (l : Interleavers) (L v k : ℕ) (f : Frame) (flips : ℕ) (g : Frame) (c : Counts) → 1 ≤ k
     → record { frame = g; rounds = c.rounds; flips = flips } ≡ slide (window_words s l L v) (positions (groups L) v) k f → c.turned ≡ line_errors f g
     → c.outside ≡ outside s l L g → c.stuck ≡ slide_stuck (window_words s l L v) (groups L - v) k f
-    → corrected_of (decoding.Decoded c) g ≡ corrected_frame s l L v k f
+    → corrected_of (Ok c) g ≡ corrected_frame s l L v k f
 unfolding corrected_of corrected_frame window_counts windowed window_stuck
 made_in s l L v k f flips g c some e t o z =
     let same : k ≡ rounds_allowed k = allowed_itself k (λ n. omega (arith, some, n)) in
@@ -94,11 +94,11 @@ made_in s l L v k f flips g c some e t o z =
     λ i. record { verdict = accepted; frame = (m i).frame; counts = record { rounds = (m i).rounds; turned = t' i; outside = o' i; stuck = z' i } }
 
 idle_in : (s : Params) (l : Interleavers) (L v k : ℕ) (f : Frame) (c : Counts) → c ≡ record { rounds = positions (groups L) v; turned = 0; outside = 0; stuck = 0 }
-    → outside s l L f ≡ 0 → corrected_of (decoding.Decoded c) f ≡ corrected_frame s l L v k f
+    → outside s l L f ≡ 0 → corrected_of (Ok c) f ≡ corrected_frame s l L v k f
 unfolding corrected_of corrected_frame outside
 idle_in s l L v k f c q e =
     let h : (w : Word) → In w (words s l L) → in_code w.code f w.sites ≡ true = each_inside f (words s l L) e in
-    ap (λ (z : Counts). corrected_of (decoding.Decoded z) f) q
+    ap (λ (z : Counts). corrected_of (Ok z) f) q
     ∙ sym (λ i. record { verdict = accepted; frame = (windowed-stays s l L v k f h i).frame; counts = window_counts-stays s l L v k f h i })
 
 -- the words as they are read leave and count what those of the frame do
@@ -114,7 +114,7 @@ module _ (d : Design) (L v k : ℕ) (l : Interleavers) (A : Allowed d) (ps : Per
       → record { frame = g; rounds = c.rounds; flips = flips } ≡ slide (read_window (params_of d) l L v) (positions (groups L) v) k f
       → c.turned ≡ line_errors f g → c.outside ≡ outside_among (params_of d) g (read_from (params_of d) l L 0 (2 * groups L))
       → c.stuck ≡ slide_stuck (read_window (params_of d) l L v) (groups L - v) k f
-      → corrected_of (decoding.Decoded c) g ≡ corrected_frame (params_of d) l L v k f
+      → corrected_of (Ok c) g ≡ corrected_frame (params_of d) l L v k f
   corrected-made flips g c there some e t o z =
       made_in (params_of d) l L v k f flips g c some
       (e ∙ sym (slide_alike f (window_words (params_of d) l L v) (read_window (params_of d) l L v) (positions (groups L) v) k f here (λ p h. alike f p))) t
@@ -123,5 +123,5 @@ module _ (d : Design) (L v k : ℕ) (l : Interleavers) (A : Allowed d) (ps : Per
 
   pub corrected-idle : (c : Counts) → c ≡ record { rounds = positions (groups L) v; turned = 0; outside = 0; stuck = 0 }
       → outside_among (params_of d) f (read_from (params_of d) l L 0 (2 * groups L)) ≡ 0
-      → corrected_of (decoding.Decoded c) f ≡ corrected_frame (params_of d) l L v k f
+      → corrected_of (Ok c) f ≡ corrected_frame (params_of d) l L v k f
   corrected-idle c q e = idle_in (params_of d) l L v k f c q (outside-is f here ∙ e)

@@ -1,5 +1,5 @@
 -- The working entries are as many as a design needs.
---   tables-room, links_room                      for the positions of a word with their values and those of four bits, for the table of links
+--   tables-room                                  for the positions of a word with their values and those of four bits
 --   field_is, field_room                         for a field: four tables of 2^m
 -- Assumes nothing.
 use mathlib.Core.Path.{◌≡◌, ap}
@@ -9,7 +9,7 @@ use lib.Pow.{pow_mono}
 use Rattle.staircase.specs.Design.{word_length}
 use Rattle.design.specs.declared.Design.{Design}
 use Rattle.design.specs.Answers.{Allowed}
-use Rattle.design.specs.Sizes.{params_of, order_of}
+use Rattle.design.specs.Sizes.{params_of}
 use Rattle.design.proofs.Sizes.{shl_one}
 use Rattle.design.proofs.Allowed.{bits_small}
 
@@ -22,6 +22,3 @@ module _ (d : Design) (h : Allowed d) where
 
   pub field_room : (m : ℕ) → m ≡ d.m → 4 * ((1 * 2 ^ m) % 2 ^ 64) ≤ 4096
   field_room m e = omega (arith, field_is m e, pow_mono {i = d.m} {j = 10} h.m-high)
-
-  pub links_room : (n : ℕ) → n ≡ order_of d → 4 * n ≤ 16384
-  links_room n e = omega (arith, h.order-high)

@@ -1,19 +1,15 @@
 -- The rounds of a received frame, and their counts.
 --   ready_lent, kept_lent   the tables, and the kept numbers under a table of links, each in the part of its buffer that is lent
---   feed-kept, kept-length  the working bytes of what the decoder keeps
---   corrected_in            the result under the lists that a table of links holds
+--   feed_kept               the working bytes of what the decoder keeps
 -- Assumes nothing.
 use mathlib.Core.Path.{◌≡◌, sym, ap, ◌∙◌, subst⁻¹}
 use mathlib.Core.List.{List, ◌++◌}
-use Prim.Native.Nat.{ℕ, ◌+◌, ◌-◌}
-use native.Mathlib.Omega.{arith}
-use lib.ListN.{length, take, drop, length-drop}
-use lib.Seq.{length-take-le}
-use Rattle.staircase.specs.Design.{Params, Interleavers}
-use Rattle.staircase.specs.Frame.{Frame, frame_of}
+use Prim.Native.Nat.{ℕ, ◌-◌}
+use lib.ListN.{length, take, drop}
+use Rattle.staircase.specs.Design.{Interleavers}
+use Rattle.staircase.specs.Frame.{frame_of}
 use Rattle.staircase.specs.Layout.{kept_length}
 use Rattle.staircase.specs.Rules.{kept_work}
-use Rattle.staircase.specs.Calls.{Corrected}
 use Rattle.design.specs.declared.Design.{Design}
 use Rattle.design.specs.Sizes.{params_of, lists_of}
 use Rattle.rules.specs.Received.{Received}
@@ -27,7 +23,6 @@ use Rattle.decoder_words.specs.Ready.{FramesReady, FrameKept}
 use Rattle.layout.specs.Layouts.{feed_frames, lines_in, sites_in, red_in}
 use Rattle.decoder_frame.specs.Filled.{Filled}
 use Rattle.decoder_frame.proofs.Numbers.{kept-split, filled_keeps}
-use Rattle.decoder.specs.Answers.{corrected_frame}
 
 -- each table came back as it is filled, and is lent again
 pub ready_lent : (g : Frames) (K K' T T' F F' : List ℕ) (k t f : ℕ) → length K ≡ k → length T ≡ t → length F ≡ f → FramesReady g K T F
@@ -48,12 +43,3 @@ pub kept_lent : (d : Design) (L : ℕ) (own parity K K' : List ℕ) {info red ke
 kept_lent d L own parity K K' {info} {red} {kept} k lk R same long H =
     subst⁻¹ (λ (x : List ℕ). FrameKept (feed_frames d L) x info red kept) (part-is K K' k lk)
     (filled_keeps (received_lent R) kept H K (λ i a. ap (λ (l : Interleavers). sites_in FeedForward (params_of d) l L i a) (sym same)) (feed_kept d L own parity long))
-
--- what the decoder keeps stands behind the first n working bytes
-pub kept-length : (work : List ℕ) (n order k : ℕ) → n ≡ order → length work ≡ order + k → length (take (length work - n) (drop n work)) ≡ k
-kept-length work n order k e long =
-    length-take-le (length work - n) (drop n work) (omega (arith, length-drop n work)) ∙ omega (arith, e, long)
-
-pub corrected_in : (s : Params) (l l' : Interleavers) (L v k : ℕ) (f : Frame) (x : Corrected) → l' ≡ l → x ≡ corrected_frame s l' L v k f
-    → x ≡ corrected_frame s l L v k f
-corrected_in s l l' L v k f x q e = e ∙ ap (λ (z : Interleavers). corrected_frame s z L v k f) q

@@ -7,7 +7,7 @@
 //   decode_col, decode_window_col   `decode` and `decode_window` with a column code
 #![tactic(auto)]
 
-ghost use Rattle.std.specs.Prelude.{◌≡◌, ◌+◌, ◌≤◌, length};
+ghost use Rattle.std.specs.Prelude.{◌≡◌, ◌+◌, ◌≤◌, length, Ok};
 ghost use Rattle.staircase.specs.Design.{most-blocks, most-rounds};
 ghost use Rattle.staircase.specs.Frame.{frame_of, groups};
 ghost use Rattle.staircase.specs.Decoder.{rounds_allowed};
@@ -25,12 +25,11 @@ ghost use Rattle.decoder_frame.specs.Filled.{Filled};
 ghost use Rattle.layout.specs.Layouts.{feed_frames};
 ghost use Rattle.decoder_frame.specs.Stretch.{WindowFits};
 ghost use Rattle.decoder.specs.Answers.{copy_rules, window_numbers, corrected_frame, answered};
-ghost use Rattle.answers.specs.declared.Decoding.TheVariants as Decoding;
 ghost use Rattle.answers.specs.Answers.{verdict_of, corrected_of};
 
-use answers::{Check, Counts, Decoding};
+use answers::{Counts, Refusal};
 use decoder_frame::Window;
-use design::{Design, Designed};
+use design::Design;
 use layout::{Frames, Shape};
 use words::Asked;
 
@@ -44,8 +43,8 @@ struct Call {
     blocks: u64,
     rounds: u64,
     window: u64,
-    first: Check,
-    last: Check,
+    first: Result<(), Refusal>,
+    last: Result<(), Refusal>,
 }
 
 // Working entries for the table of links. Only their number is told: a list has at most 4,096 entries.
@@ -83,7 +82,7 @@ fn correct_lines(
     requires { FramesReady (feed_frames frames.d frames.blocks) links.now tables.now field.now × WindowFits frames.blocks window
         × FrameKept (feed_frames frames.d frames.blocks) links.now info.old red.old kept.old
         × (frames ≡ feed_frames frames.d frames.blocks) }
-    ensures { corrected_of (Decoding.Decoded result) (frame_of info.new red.new)
+    ensures { corrected_of (Ok result) (frame_of info.new red.new)
         ≡ corrected_frame (params_of frames.d) (lists_in frames.d links.now) frames.blocks window.groups window.limit
         (frame_of info.old red.old) }
 {
@@ -95,8 +94,8 @@ fn correct_lines(
     let outside = decoder_kept::count(&kept[..], n / 4);
     Counts {
         rounds: made.rounds as u64,
-        turned: turned,
-        outside: outside,
+        turned,
+        outside,
         stuck: made.stuck as u64,
     }
 }
@@ -115,7 +114,7 @@ fn correct_words(
     requires { Received frames.d frames.blocks own.now parity.now info.old red.old × (frames ≡ feed_frames frames.d frames.blocks) × WindowFits frames.blocks window
         × (length kept.old ≡ kept_work (params_of frames.d) frames.blocks)
         × Filled frames own.now parity.now (frame_of info.old red.old) kept.old }
-    ensures { corrected_of (Decoding.Decoded result) (frame_of info.new red.new)
+    ensures { corrected_of (Ok result) (frame_of info.new red.new)
         ≡ corrected_frame (params_of frames.d) (lists_of frames.d own.now parity.now) frames.blocks window.groups window.limit
         (frame_of info.old red.old) }
 {
@@ -153,7 +152,7 @@ fn correct_kept(
 ) -> Counts
     requires { Received frames.d frames.blocks own.now parity.now info.old red.old × (frames ≡ feed_frames frames.d frames.blocks) × WindowFits frames.blocks window
         × (length kept.old ≡ kept_work (params_of frames.d) frames.blocks) }
-    ensures { corrected_of (Decoding.Decoded result) (frame_of info.new red.new)
+    ensures { corrected_of (Ok result) (frame_of info.new red.new)
         ≡ corrected_frame (params_of frames.d) (lists_of frames.d own.now parity.now) frames.blocks window.groups window.limit
         (frame_of info.old red.old) }
 {
@@ -179,14 +178,14 @@ fn correct_frame(
 ) -> Counts
     requires { Received d blocks own.now parity.now info.old red.old
         × (length work.old ≡ order_of d + kept_work (params_of d) blocks) × WindowFits blocks window }
-    ensures { corrected_of (Decoding.Decoded result) (frame_of info.new red.new)
+    ensures { corrected_of (Ok result) (frame_of info.new red.new)
         ≡ corrected_frame (params_of d) (lists_of d own.now parity.now) blocks window.groups window.limit
         (frame_of info.old red.old) }
 {
     let frames = Frames {
-        d: d,
+        d,
         shape: Shape::FeedForward,
-        blocks: blocks,
+        blocks,
     };
     let n = d.order();
     let all = work.len();
@@ -204,12 +203,12 @@ fn window_of(blocks: u64, rounds: u64, window: u64) -> Window
     if window < count {
         return Window {
             groups: window as usize,
-            limit: limit,
+            limit,
         };
     }
     Window {
         groups: count as usize,
-        limit: limit,
+        limit,
     }
 }
 
@@ -223,14 +222,14 @@ fn check_copy(
     info: &[u8],
     red: &[u8],
     work: &mut [u8],
-) -> Check
+) -> Result<(), Refusal>
     requires { Allowed d }
     ensures { verdict_of result ≡ copy_rules (params_of d) blocks rounds own.now parity.now info.now red.now
         (length work.old) }
 {
     let asked = Asked {
-        blocks: blocks,
-        rounds: rounds,
+        blocks,
+        rounds,
         due: rules::decoder_due(d, blocks),
     };
     words::check_received(d, asked, own, parity, info, red, work)
@@ -245,16 +244,14 @@ fn answer_call(
     info: &mut [u8],
     red: &mut [u8],
     work: &mut [u8],
-) -> Decoding
+) -> Result<Counts, Refusal>
     requires { (verdict_of call.first ≡ accepted) → (1 ≤ call.blocks) → (1 ≤ call.window) }
     ensures { corrected_of result (frame_of info.new red.new)
         ≡ answered call own.now parity.now info.old red.old (length work.old) }
 {
-    let designed = Design::new_col(call.m, call.t, call.size, call.col);
-    let Designed::Made(d) = designed else {
-        return answers::refused_frame(design::design_check(designed));
-    };
-    let received = check_copy(
+    let d = Design::new_col(call.m, call.t, call.size, call.col)?;
+    call.first?;
+    check_copy(
         d,
         call.blocks,
         call.rounds,
@@ -263,15 +260,10 @@ fn answer_call(
         &info[..],
         &red[..],
         work,
-    );
-    let first = call.first;
-    let last = call.last;
-    let judged = rules::first(first, rules::first(received, last));
-    let Check::Passed = judged else {
-        return answers::refused_frame(judged);
-    };
+    )?;
+    call.last?;
     let window = window_of(call.blocks, call.rounds, call.window);
-    Decoding::Decoded(correct_frame(
+    Ok(correct_frame(
         d,
         call.blocks as usize,
         window,
@@ -286,7 +278,7 @@ fn answer_call(
 // Corrects a frame as `decode` does, with one more check behind its rules: where none of them refuses, `last` may. The check is asked before a bit is
 // flipped. A window of as many groups as there are blocks has all groups.
 pub fn decode_with_col(
-    last: Check,
+    last: Result<(), Refusal>,
     m: u64,
     t: u64,
     size: u64,
@@ -298,32 +290,32 @@ pub fn decode_with_col(
     info: &mut [u8],
     red: &mut [u8],
     work: &mut [u8],
-) -> Decoding
+) -> Result<Counts, Refusal>
     ensures { corrected_of result (frame_of info.new red.new)
         ≡ further_call (verdict_of last) (decode_with m t size col blocks rounds own.now parity.now info.old red.old
         (length work.old)) }
 {
     let call = Call {
-        m: m,
-        t: t,
-        size: size,
-        col: col,
-        blocks: blocks,
-        rounds: rounds,
+        m,
+        t,
+        size,
+        col,
+        blocks,
+        rounds,
         window: blocks,
-        first: Check::Passed,
-        last: last,
+        first: Ok(()),
+        last,
     };
     answer_call(call, own, parity, info, red, work)
 }
 
 // Rules 4, 5 and 18: the numbers of a call with a window.
-fn check_numbers(blocks: u64, rounds: u64, window: u64) -> Check
+fn check_numbers(blocks: u64, rounds: u64, window: u64) -> Result<(), Refusal>
     ensures { verdict_of result ≡ window_numbers blocks rounds window }
 {
-    let count = design::check_count(blocks);
-    let limit = design::check_rounds(rounds);
-    rules::first(count, rules::first(limit, design::check_window(window)))
+    design::check_count(blocks)?;
+    design::check_rounds(rounds)?;
+    design::check_window(window)
 }
 
 // Corrects the lent frame as `decode` does, but with a window of `window` groups that slides over it: the rounds are those of its groups, and begin anew,
@@ -343,22 +335,22 @@ pub fn decode_window_col(
     info: &mut [u8],
     red: &mut [u8],
     work: &mut [u8],
-) -> Decoding
+) -> Result<Counts, Refusal>
     ensures { corrected_of result (frame_of info.new red.new)
         ≡ window_call m t size col blocks rounds window own.now parity.now info.old red.old
         (length work.old) }
 {
     let numbers = check_numbers(blocks, rounds, window);
     let call = Call {
-        m: m,
-        t: t,
-        size: size,
-        col: col,
-        blocks: blocks,
-        rounds: rounds,
-        window: window,
+        m,
+        t,
+        size,
+        col,
+        blocks,
+        rounds,
+        window,
         first: numbers,
-        last: Check::Passed,
+        last: Ok(()),
     };
     answer_call(call, own, parity, info, red, work)
 }
@@ -376,7 +368,7 @@ pub fn decode_window(
     info: &mut [u8],
     red: &mut [u8],
     work: &mut [u8],
-) -> Decoding
+) -> Result<Counts, Refusal>
     ensures { corrected_of result (frame_of info.new red.new)
         ≡ window_call m t size 0 blocks rounds window own.now parity.now info.old red.old
         (length work.old) }
@@ -401,12 +393,12 @@ pub fn decode_col(
     info: &mut [u8],
     red: &mut [u8],
     work: &mut [u8],
-) -> Decoding
+) -> Result<Counts, Refusal>
     ensures { corrected_of result (frame_of info.new red.new)
         ≡ decode_call m t size col blocks rounds own.now parity.now info.old red.old (length work.old) }
 {
     decode_with_col(
-        Check::Passed,
+        Ok(()),
         m,
         t,
         size,
@@ -433,7 +425,7 @@ pub fn decode(
     info: &mut [u8],
     red: &mut [u8],
     work: &mut [u8],
-) -> Decoding
+) -> Result<Counts, Refusal>
     ensures { corrected_of result (frame_of info.new red.new)
         ≡ decode_call m t size 0 blocks rounds own.now parity.now info.old red.old (length work.old) }
 {

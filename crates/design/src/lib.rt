@@ -7,11 +7,10 @@
 //   check_count(blocks), check_rounds(rounds)   rules 4 and 5
 //   check_batch(frames)                         rule 17
 //   check_window(window)                        rule 18
-//   design_check(a)                             the answer of `Design::new` as a check's
 //   MOST_BLOCKS, group_count                    the most blocks of a frame; the groups of a frame
 //   MOST_FRAMES                                 the most frames of a batch
 //
-// `design_verdict` of specs/ gives the table's number and place of each answer, and each contract says that the answer is the verdict of the rule in the
+// `verdict_of` of specs/ gives the table's number and place of each answer, and each contract says that the answer is the verdict of the rule in the
 // crates `staircase` and `original`, for every argument that the `requires` line lets in.
 //
 // The ranges are tested before anything is multiplied, so any numbers may be given. A design's fields are private, so another crate has no design but
@@ -28,25 +27,18 @@ ghost use Rattle.staircase.specs.Batch.{batch_rule};
 ghost use Rattle.staircase.specs.Window.{window_rule};
 ghost use Rattle.original.specs.Rules.{row_long_rule, thin_rule, original_rules};
 ghost use Rattle.answers.specs.Answers.{refusal_verdict, verdict_of};
-ghost use Rattle.design.specs.Answers.{design_verdict, DesignIs, DesignAllowed, DesignOriginal};
+ghost use Rattle.design.specs.Answers.{DesignIs, DesignAllowed, DesignOriginal};
 
-use answers::{Check, Refusal};
+use answers::Refusal;
 
 // A design: its field's degree m, the errors t that a word may have, M, the rows and columns of a block, as `size`, and the column code, 0 for the same code
 // as that of row words, 1 for the mirrored one.
-#[derive(Clone, Copy)]
+#[derive(Clone, Copy, Debug, PartialEq, Eq)]
 pub struct Design {
     m: u8,
     t: u8,
     size: u16,
     col: u8,
-}
-
-// The answer of a new design.
-#[derive(Clone, Copy)]
-pub enum Designed {
-    Made(Design),
-    Refused(Refusal),
 }
 
 // "L from 1 to 4,096"
@@ -72,22 +64,22 @@ pub fn out_of_range(low: u64, high: u64, x: u64) -> bool
 }
 
 // Rule 1 for the four numbers of a design. Constant work, as in the three functions below.
-fn check_size(m: u64, t: u64, size: u64, col: u64) -> Check
+fn check_size(m: u64, t: u64, size: u64, col: u64) -> Result<(), Refusal>
     ensures { verdict_of result ≡ size_rule m t size col }
 {
     if out_of_range(Design::LEAST_M, Design::MOST_M, m) {
-        return Check::Refused(Refusal::Size(1));
+        return Err(Refusal::Size(1));
     }
     if out_of_range(1, Design::MOST_T, t) {
-        return Check::Refused(Refusal::Size(2));
+        return Err(Refusal::Size(2));
     }
     if out_of_range(1, Design::MOST_SIZE, size) {
-        return Check::Refused(Refusal::Size(3));
+        return Err(Refusal::Size(3));
     }
     if Design::MOST_COL < col {
-        return Check::Refused(Refusal::Size(4));
+        return Err(Refusal::Size(4));
     }
-    Check::Passed
+    Ok(())
 }
 
 // The design of four numbers that rule 1 accepts, as they are.
@@ -104,38 +96,38 @@ fn design_of(m: u64, t: u64, size: u64, col: u64) -> Design
 }
 
 // The design of a feed-forward code of numbers that rule 1 accepts, or the first of rules 2 and 3 that refuses it.
-fn feed_forward(m: u64, t: u64, size: u64, col: u64) -> Designed
+fn feed_forward(m: u64, t: u64, size: u64, col: u64) -> Result<Design, Refusal>
     requires { size_rule m t size col ≡ accepted }
-    ensures { (design_verdict result ≡ (long_rule m (params m t size col) then large_rule (params m t size col))) × DesignIs result m t size col × DesignAllowed result }
+    ensures { (verdict_of result ≡ (long_rule m (params m t size col) then large_rule (params m t size col))) × DesignIs result m t size col × DesignAllowed result }
 {
     let r = m * t;
     let n = 2 * size + 2 * r;
     let longest = (1 << m) - 1;
     if longest < n {
-        return Designed::Refused(Refusal::Long(n));
+        return Err(Refusal::Long(n));
     }
     let order = size * r;
     if Design::MOST_ORDER < order {
-        return Designed::Refused(Refusal::Large(order));
+        return Err(Refusal::Large(order));
     }
-    Designed::Made(design_of(m, t, size, col))
+    Ok(design_of(m, t, size, col))
 }
 
 // The design of an original staircase code of numbers that rule 1 accepts, or the first of rules 2, which reads 2M for n, and 19 that refuses it.
-fn original(m: u64, t: u64, size: u64, col: u64) -> Designed
+fn original(m: u64, t: u64, size: u64, col: u64) -> Result<Design, Refusal>
     requires { size_rule m t size col ≡ accepted }
-    ensures { (design_verdict result ≡ (row_long_rule m (params m t size col) then thin_rule (params m t size col))) × DesignIs result m t size col × DesignOriginal result }
+    ensures { (verdict_of result ≡ (row_long_rule m (params m t size col) then thin_rule (params m t size col))) × DesignIs result m t size col × DesignOriginal result }
 {
     let n = 2 * size;
     let longest = (1 << m) - 1;
     if longest < n {
-        return Designed::Refused(Refusal::Long(n));
+        return Err(Refusal::Long(n));
     }
     let r = m * t;
     if size <= r {
-        return Designed::Refused(Refusal::Thin(r));
+        return Err(Refusal::Thin(r));
     }
-    Designed::Made(design_of(m, t, size, col))
+    Ok(design_of(m, t, size, col))
 }
 
 // "these limits belong to the design itself"
@@ -154,38 +146,32 @@ impl Design {
 
     // The design of m, t, M = `size` and the column code, or the first of rules 1 to 3 that refuses it. A design that is made keeps to the limits. Constant
     // work, as in the functions below.
-    pub fn new_col(m: u64, t: u64, size: u64, col: u64) -> Designed
-        ensures { (design_verdict result ≡ design_rules m t size col) × DesignIs result m t size col × DesignAllowed result }
+    pub fn new_col(m: u64, t: u64, size: u64, col: u64) -> Result<Design, Refusal>
+        ensures { (verdict_of result ≡ design_rules m t size col) × DesignIs result m t size col × DesignAllowed result }
     {
-        let sized = check_size(m, t, size, col);
-        match sized {
-            Check::Refused(r) => Designed::Refused(r),
-            Check::Passed => feed_forward(m, t, size, col),
-        }
+        check_size(m, t, size, col)?;
+        feed_forward(m, t, size, col)
     }
 
     // The same where rows and columns have one code.
-    pub fn new(m: u64, t: u64, size: u64) -> Designed
-        ensures { (design_verdict result ≡ design_rules m t size 0) × DesignIs result m t size 0 × DesignAllowed result }
+    pub fn new(m: u64, t: u64, size: u64) -> Result<Design, Refusal>
+        ensures { (verdict_of result ≡ design_rules m t size 0) × DesignIs result m t size 0 × DesignAllowed result }
     {
         Design::new_col(m, t, size, 0)
     }
 
     // The design of an original staircase code of m, t and M = `size`, or the first of rules 1, 2 and 19 that refuses it. The column code is judged and has no
     // other effect: all words are rows.
-    pub fn of_original_col(m: u64, t: u64, size: u64, col: u64) -> Designed
-        ensures { (design_verdict result ≡ original_rules m t size col) × DesignIs result m t size col × DesignOriginal result }
+    pub fn of_original_col(m: u64, t: u64, size: u64, col: u64) -> Result<Design, Refusal>
+        ensures { (verdict_of result ≡ original_rules m t size col) × DesignIs result m t size col × DesignOriginal result }
     {
-        let sized = check_size(m, t, size, col);
-        match sized {
-            Check::Refused(r) => Designed::Refused(r),
-            Check::Passed => original(m, t, size, col),
-        }
+        check_size(m, t, size, col)?;
+        original(m, t, size, col)
     }
 
     // The same without a column code.
-    pub fn of_original(m: u64, t: u64, size: u64) -> Designed
-        ensures { (design_verdict result ≡ original_rules m t size 0) × DesignIs result m t size 0 × DesignOriginal result }
+    pub fn of_original(m: u64, t: u64, size: u64) -> Result<Design, Refusal>
+        ensures { (verdict_of result ≡ original_rules m t size 0) × DesignIs result m t size 0 × DesignOriginal result }
     {
         Design::of_original_col(m, t, size, 0)
     }
@@ -269,54 +255,44 @@ impl Design {
 }
 
 // Passed where x is from 1 to `most`, else the refusal. Constant work, as in the functions below.
-fn check_range(most: u64, x: u64, refusal: Refusal) -> Check
+fn check_range(most: u64, x: u64, refusal: Refusal) -> Result<(), Refusal>
     ensures { verdict_of result ≡ cond (out_of_range 1 most x) (refusal_verdict refusal) accepted }
 {
     if out_of_range(1, most, x) {
-        return Check::Refused(refusal);
+        return Err(refusal);
     }
-    Check::Passed
+    Ok(())
 }
 
 // Rule 4 for a number of blocks.
-pub fn check_count(blocks: u64) -> Check
+pub fn check_count(blocks: u64) -> Result<(), Refusal>
     ensures { verdict_of result ≡ count_rule blocks }
 {
     check_range(MOST_BLOCKS, blocks, Refusal::Count(blocks))
 }
 
 // Rule 5 for a number of rounds.
-pub fn check_rounds(rounds: u64) -> Check
+pub fn check_rounds(rounds: u64) -> Result<(), Refusal>
     ensures { verdict_of result ≡ rounds_rule rounds }
 {
     if MOST_ROUNDS < rounds {
-        return Check::Refused(Refusal::Rounds(rounds));
+        return Err(Refusal::Rounds(rounds));
     }
-    Check::Passed
+    Ok(())
 }
 
 // Rule 17 for a number of frames.
-pub fn check_batch(frames: u64) -> Check
+pub fn check_batch(frames: u64) -> Result<(), Refusal>
     ensures { verdict_of result ≡ batch_rule frames }
 {
     check_range(MOST_FRAMES, frames, Refusal::Batch(frames))
 }
 
 // Rule 18 for the groups of a window.
-pub fn check_window(window: u64) -> Check
+pub fn check_window(window: u64) -> Result<(), Refusal>
     ensures { verdict_of result ≡ window_rule window }
 {
     check_range(MOST_WINDOW, window, Refusal::Window(window))
-}
-
-// The answer of a new design as a check's.
-pub fn design_check(a: Designed) -> Check
-    ensures { verdict_of result ≡ design_verdict a }
-{
-    match a {
-        Designed::Made(_) => Check::Passed,
-        Designed::Refused(r) => Check::Refused(r),
-    }
 }
 
 // G, the groups of a frame of `blocks` blocks.

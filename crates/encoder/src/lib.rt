@@ -9,7 +9,7 @@ ghost use Rattle.std.specs.Prelude.{◌≡◌, length};
 ghost use Rattle.staircase.specs.Calls.{encode_call};
 ghost use Rattle.answers.specs.Answers.{verdict_of};
 
-use answers::Check;
+use answers::Refusal;
 
 // Makes the redundancy of a frame of `blocks` blocks from its information, one bit a byte, under the kit: rules 1 to 4 and 6 to 10, with the table's
 // number and place of the first that refuses. What the redundancy held is never read, and a refused call leaves it as it was. The working bytes
@@ -26,7 +26,7 @@ pub fn encode_col(
     info: &[u8],
     red: &mut [u8],
     work: &mut [u8],
-) -> Check
+) -> Result<(), Refusal>
     ensures { (verdict_of result ≡ (encode_call m t size col blocks own.now parity.now inverse.now info.now
         red.old (length work.old)).verdict)
         × (red.new ≡ (encode_call m t size col blocks own.now parity.now inverse.now info.now
@@ -49,7 +49,7 @@ pub fn encode(
     info: &[u8],
     red: &mut [u8],
     work: &mut [u8],
-) -> Check
+) -> Result<(), Refusal>
     ensures { (verdict_of result ≡ (encode_call m t size 0 blocks own.now parity.now inverse.now info.now
         red.old (length work.old)).verdict)
         × (red.new ≡ (encode_call m t size 0 blocks own.now parity.now inverse.now info.now

@@ -2,6 +2,7 @@
 --   frames-sized, encodable                    what the rules say once they accept
 --   batch-design, batch-frames, batch-made     the call's answer at each of its ends
 -- Assumes nothing.
+use Rattle.std.specs.Prelude.{Err, Ok, Result, IsErr, IsErrAnd}
 use mathlib.Core.Path.{◌≡◌, refl, sym, ap, ◌∙◌}
 use mathlib.Core.Logic.{◌≢◌}
 use mathlib.Core.List.{List}
@@ -15,14 +16,10 @@ use Rattle.staircase.specs.Batch.{batch_verdict, batch_redundancy, batch_call}
 use Rattle.staircase.proofs.Rules.{then_first, then_rest, lists_permute, bytes_bits, content_accepted}
 use Rattle.staircase.proofs.Encoded.{encoded_by-verdict}
 use Rattle.answers.specs.declared.Refusal.{Refusal}
-use Rattle.answers.specs.declared.Check.{Check}
-use Rattle.answers.specs.declared.Check.TheVariants as check
 use Rattle.design.specs.declared.Design.{Design}
-use Rattle.design.specs.declared.Designed.{Designed}
-use Rattle.design.specs.declared.Designed.TheVariants as designed
 use Rattle.design.specs.Sizes.{params_of, lists_of}
-use Rattle.design.specs.Answers.{design_verdict, DesignIs, Allowed}
-use Rattle.design.proofs.Answers.{made-params, refused-design, made-design}
+use Rattle.design.specs.Answers.{DesignIs, Allowed}
+use Rattle.design.proofs.Answers.{made-params, made-design}
 use Rattle.encoder_frame.specs.Groups.{Encodable}
 use Rattle.rules.specs.Lengths.{lengths_of, kit_due, batch_due, batch_rules}
 use Rattle.rules.proofs.Chain.{batch-rules}
@@ -30,7 +27,7 @@ use Rattle.rules.proofs.Accepted.{batch-accepted}
 use Rattle.kit_inverse.specs.Fits.{KitSized}
 use Rattle.encoder_batch.specs.Checks.{frames_rules}
 use Rattle.answers.specs.Answers.{verdict_of}
-use Rattle.answers.proofs.Checks.{check_refused, check_passed}
+use Rattle.answers.proofs.Checks.{handed_on, refused_on, check_refused}
 
 module _ (d : Design) (L n : ℕ) (own parity w info red : List ℕ) (work : ℕ) (allowed : Allowed d) where
   abbrev s : Params
@@ -65,19 +62,17 @@ module _ (d : Design) (L n : ℕ) (own parity w info red : List ℕ) (work : ℕ
 
 -- ---- what the call leaves
 
-module _ (v : Verdict) (old new : List ℕ) (x : Check) (e : verdict_of x ≡ v) where
-  left-refused : verdict_of x ≢ accepted → (verdict_of x ≡ (encoded_by v old new).verdict) × (old ≡ (encoded_by v old new).red)
-  left-refused other = (e ∙ sym (encoded_by-verdict v old new), by_old v (λ z. other (e ∙ z)))
+module _ (v : Verdict) (old new : List ℕ) where
+  left-refused : (x : Result Unit Refusal) {r : Refusal} → verdict_of x ≡ v → x ≡ Err r
+      → (verdict_of x ≡ (encoded_by v old new).verdict) × (old ≡ (encoded_by v old new).red)
+  left-refused x e g = (e ∙ sym (encoded_by-verdict v old new), by_old v (λ z. check_refused g (e ∙ z)))
     where
       by_old : (u : Verdict) → u ≢ accepted → old ≡ (encoded_by u old new).red
       by_old accepted h = absurd (h refl)
       by_old (refused n p) h = refl
 
-  left-made : (after : List ℕ) → x ≡ check.Passed → after ≡ new → (verdict_of x ≡ (encoded_by v old new).verdict) × (after ≡ (encoded_by v old new).red)
-  left-made after g a = (
-    e ∙ sym (encoded_by-verdict v old new),
-    a ∙ sym (ap (λ (z : Verdict). (encoded_by z old new).red) (sym e ∙ check_passed g)),
-  )
+  left-made : (after : List ℕ) → accepted ≡ v → after ≡ new → (accepted ≡ (encoded_by v old new).verdict) × (after ≡ (encoded_by v old new).red)
+  left-made after e a = (e ∙ sym (encoded_by-verdict v old new), a ∙ ap (λ (z : Verdict). (encoded_by z old new).red) e)
 
 module _ (m t M col L n : ℕ) (own parity w info red : List ℕ) (work : ℕ) where
   abbrev call : Verdict
@@ -95,23 +90,26 @@ module _ (m t M col L n : ℕ) (own parity w info red : List ℕ) (work : ℕ) w
       ap (λ (z : Verdict). design_rules m t M col then z)
       (batch-rules (params m t M col) own parity work (content_rules (params m t M col) (interleavers (params m t M col) own parity) w info) L 0 info red n w)
 
-  module _ (a : Designed) (j : design_verdict a ≡ design_rules m t M col) where
-    pub batch-design : (x : Check) (r : Refusal) → a ≡ designed.Refused r → verdict_of x ≡ design_verdict a
-        → (verdict_of x ≡ (batch_call m t M col L n own parity w info red work).verdict) × (red ≡ (batch_call m t M col L n own parity w info red work).red)
+  abbrev Calls : Verdict → List ℕ → Type 0
+  Calls v after = (v ≡ (batch_call m t M col L n own parity w info red work).verdict) × (after ≡ (batch_call m t M col L n own parity w info red work).red)
+
+  pub batch-design : (x : Result Unit Refusal) (r : Refusal) → verdict_of {A = Design} (Err r) ≡ design_rules m t M col
+      → IsErr x × IsErrAnd x (λ (e : Refusal). e ≡ r) → Calls (verdict_of x) red
+  unfolding batch_call
+  batch-design x r j h = left-refused call red new x (refused_on (rules (params m t M col)) j x refl h ∙ whole) (handed_on x h.1)
+
+  module _ (d : Design) (j : verdict_of (Ok d) ≡ design_rules m t M col) (i : DesignIs (Ok d) m t M col) where
+    verdict-is : (x : Result Unit Refusal) → verdict_of x ≡ frames_rules (params_of d) L n own parity w info red work → verdict_of x ≡ call
+    verdict-is x e = made-design m t M col rules (Ok d) j x i refl e ∙ whole
+
+    pub batch-frames : (x : Result Unit Refusal) (r : Refusal) → verdict_of {A = Unit} (Err r) ≡ frames_rules (params_of d) L n own parity w info red work
+        → IsErr x × IsErrAnd x (λ (e : Refusal). e ≡ r) → Calls (verdict_of x) red
     unfolding batch_call
-    batch-design x r g e = let q = refused-design m t M col rules a j x g e in left-refused call red new x (q.1 ∙ whole) q.0
+    batch-frames x r e h = let g = handed_on x h.1 in left-refused call red new x (verdict-is x (ap verdict_of g ∙ e)) g
 
-    module _ (i : DesignIs a m t M col) (d : Design) (g : a ≡ designed.Made d) (x : Check) (e : verdict_of x ≡ frames_rules (params_of d) L n own parity w info red work) where
-      verdict-is : verdict_of x ≡ batch_verdict m t M col L n own parity w info red work
-      verdict-is = made-design m t M col rules a j x i g e ∙ whole
-
-      pub batch-frames : (r : Refusal) → x ≡ check.Refused r
-          → (verdict_of x ≡ (batch_call m t M col L n own parity w info red work).verdict) × (red ≡ (batch_call m t M col L n own parity w info red work).red)
-      unfolding batch_call
-      batch-frames r g = left-refused call red new x verdict-is (check_refused g)
-
-      pub batch-made : (after : List ℕ) → x ≡ check.Passed → after ≡ batch_redundancy (params_of d) (lists_of d own parity) w L n info
-          → (verdict_of x ≡ (batch_call m t M col L n own parity w info red work).verdict) × (after ≡ (batch_call m t M col L n own parity w info red work).red)
-      unfolding batch_call
-      batch-made after p b =
-          left-made call red new x verdict-is after p (b ∙ ap (λ (s : Params). batch_redundancy s (interleavers s own parity) w L n info) (made-params g m t M col i))
+    pub batch-made : (after : List ℕ) → accepted ≡ frames_rules (params_of d) L n own parity w info red work
+        → after ≡ batch_redundancy (params_of d) (lists_of d own parity) w L n info → Calls accepted after
+    unfolding batch_call verdict_of
+    batch-made after e b =
+        left-made call red new after (verdict-is (Ok tt) e)
+        (b ∙ ap (λ (s : Params). batch_redundancy s (interleavers s own parity) w L n info) (made-params {a = Ok d} refl m t M col i))

@@ -12,8 +12,8 @@ ghost use Rattle.design.specs.Answers.{Allowed};
 ghost use Rattle.encoder_batch.specs.Checks.{frames_rules};
 ghost use Rattle.answers.specs.Answers.{verdict_of};
 
-use answers::Check;
-use design::{Design, Designed};
+use answers::Refusal;
+use design::Design;
 use rules::Lengths;
 
 // Rules 4, 17 and 6 to 10, for an allowed design.
@@ -27,7 +27,7 @@ fn check_frames(
     info: &[u8],
     red: &[u8],
     work: &mut [u8],
-) -> Check
+) -> Result<(), Refusal>
     requires { Allowed d }
     ensures { verdict_of result ≡ frames_rules (params_of d) blocks frames own.now parity.now inverse.now info.now
         red.now (length work.old) }
@@ -41,10 +41,7 @@ fn check_frames(
         work: work.len(),
     };
     let due = rules::batch_due(d, blocks, frames, rules::kit_due(d));
-    let lengths = rules::check_batch(blocks, frames, have, due);
-    let Check::Passed = lengths else {
-        return lengths;
-    };
+    rules::check_batch(blocks, frames, have, due)?;
     kit::check_content(d, own, parity, inverse, info, work)
 }
 
@@ -65,33 +62,17 @@ pub fn encode_batch_col(
     info: &[u8],
     red: &mut [u8],
     work: &mut [u8],
-) -> Check
+) -> Result<(), Refusal>
     ensures { (verdict_of result ≡ (batch_call m t size col blocks frames own.now parity.now inverse.now info.now
         red.old (length work.old)).verdict)
         × (red.new ≡ (batch_call m t size col blocks frames own.now parity.now inverse.now info.now
         red.old (length work.old)).red) }
 {
-    let designed = Design::new_col(m, t, size, col);
-    let Designed::Made(d) = designed else {
-        return design::design_check(designed);
-    };
-    let checked = check_frames(
-        d,
-        blocks,
-        frames,
-        own,
-        parity,
-        inverse,
-        info,
-        &red[..],
-        work,
-    );
-    let Check::Passed = checked else {
-        return checked;
-    };
+    let d = Design::new_col(m, t, size, col)?;
+    check_frames(d, blocks, frames, own, parity, inverse, info, red, work)?;
     let count = frames as usize;
     encoder_frame::make_redundancy(d, blocks as usize, count, parity, inverse, info, red);
-    checked
+    Ok(())
 }
 
 // The same where rows and columns have one code.
@@ -107,7 +88,7 @@ pub fn encode_batch(
     info: &[u8],
     red: &mut [u8],
     work: &mut [u8],
-) -> Check
+) -> Result<(), Refusal>
     ensures { (verdict_of result ≡ (batch_call m t size 0 blocks frames own.now parity.now inverse.now info.now
         red.old (length work.old)).verdict)
         × (red.new ≡ (batch_call m t size 0 blocks frames own.now parity.now inverse.now info.now

@@ -3,7 +3,8 @@
 
 ghost use Rattle.io.specs.Counts.{IsPrefixLen};
 
-use answers::Check;
+use answers::Refusal;
+use rules_verdict::Judged;
 
 // The lines of the two groups at the start of `line`: each has Y and then P, four bits each. Answers how many bytes they are.
 fn group_lines(red: &[u8; 16], line: &mut [u8]) -> usize
@@ -15,13 +16,13 @@ fn group_lines(red: &[u8; 16], line: &mut [u8]) -> usize
 }
 
 // The lines of what the encoder answers.
-fn answer_lines(answer: Check, red: &[u8; 16], line: &mut [u8]) -> usize
+fn answer_lines(answer: Result<(), Refusal>, red: &[u8; 16], line: &mut [u8]) -> usize
     ensures { IsPrefixLen result line.new }
 {
     match answer {
-        Check::Passed => group_lines(red, line),
-        Check::Refused(refusal) => {
-            let judged = rules_verdict::of_refusal(refusal);
+        Ok(()) => group_lines(red, line),
+        Err(refusal) => {
+            let judged = Judged::from(refusal);
             text_write::refusal_lines(line, 0, judged.rule, judged.place)
         }
     }

@@ -13,8 +13,8 @@ ghost use Rattle.design.specs.Sizes.{params_of, lists_of};
 ghost use Rattle.answers.specs.Answers.{verdict_of};
 ghost use Rattle.kit_inverse.specs.Fits.{KitSized};
 
-use answers::Check;
-use design::{Design, Designed};
+use answers::Refusal;
+use design::Design;
 use rules::Lengths;
 
 // Rules 7, 8, 10 and 9 for a kit of an allowed design, with slices of their lengths, and information of any length.
@@ -25,17 +25,14 @@ pub fn check_content(
     inverse: &[u8],
     info: &[u8],
     work: &mut [u8],
-) -> Check
+) -> Result<(), Refusal>
     requires { KitSized d own.now parity.now inverse.now work.old }
     ensures { verdict_of result
         ≡ content_rules (params_of d) (lists_of d own.now parity.now) inverse.now info.now }
 {
     let n = d.order();
     let mut marks = [0u8; 4096];
-    let bytes = rules::check_bytes(d, own, parity, inverse, info, &info[..0], &mut marks[0..n]);
-    let Check::Passed = bytes else {
-        return bytes;
-    };
+    rules::check_bytes(d, own, parity, inverse, info, &[], &mut marks[0..n])?;
     kit_inverse::check_inverse(d, own, parity, inverse, work)
 }
 
@@ -50,13 +47,10 @@ pub fn check_kit_col(
     parity: &[u8],
     inverse: &[u8],
     work: &mut [u8],
-) -> Check
+) -> Result<(), Refusal>
     ensures { verdict_of result ≡ kit_verdict m t size col own.now parity.now inverse.now (length work.old) }
 {
-    let designed = Design::new_col(m, t, size, col);
-    let Designed::Made(d) = designed else {
-        return design::design_check(designed);
-    };
+    let d = Design::new_col(m, t, size, col)?;
     let have = Lengths {
         own: own.len(),
         parity: parity.len(),
@@ -65,11 +59,8 @@ pub fn check_kit_col(
         red: 0,
         work: work.len(),
     };
-    let lengths = rules::check_lengths(have, rules::kit_due(d));
-    let Check::Passed = lengths else {
-        return lengths;
-    };
-    check_content(d, own, parity, inverse, &own[..0], work)
+    rules::check_lengths(have, rules::kit_due(d))?;
+    check_content(d, own, parity, inverse, &[], work)
 }
 
 // The same where rows and columns have one code.
@@ -81,7 +72,7 @@ pub fn check_kit(
     parity: &[u8],
     inverse: &[u8],
     work: &mut [u8],
-) -> Check
+) -> Result<(), Refusal>
     ensures { verdict_of result ≡ kit_verdict m t size 0 own.now parity.now inverse.now (length work.old) }
 {
     check_kit_col(m, t, size, 0, own, parity, inverse, work)

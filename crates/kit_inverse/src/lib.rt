@@ -17,7 +17,7 @@ ghost use Rattle.answers.specs.Answers.{verdict_of};
 ghost use Rattle.kit_system.specs.Rows.{PartOf};
 ghost use Rattle.kit_inverse.specs.Fits.{KitFits};
 
-use answers::{Check, Refusal};
+use answers::Refusal;
 use design::Design;
 
 // The place of the first wrong entry of A W, or n².
@@ -36,7 +36,7 @@ fn first_wrong(
 {
     let n = d.order();
     matrix::planes_of_rows(inverse, n, work);
-    products::first_wrong(own, parity, n, columns, part, d.size(), &work[..])
+    products::first_wrong(own, parity, n, columns, part, d.size(), work)
 }
 
 // Rule 9 with the powers of x, of column words and of row words.
@@ -48,7 +48,7 @@ fn judge(
     columns: &[u32],
     part: &[u32],
     work: &mut [u8],
-) -> Check
+) -> Result<(), Refusal>
     requires { KitFits d own.now parity.now inverse.now work.old × PartOf (column_code (params_of d)) columns.now × PartOf (params_of d) part.now }
     ensures { verdict_of result ≡ inverse_rule (params_of d) (lists_of d own.now parity.now) inverse.now }
 {
@@ -56,13 +56,19 @@ fn judge(
     let all = n * n;
     let x = first_wrong(d, own, parity, inverse, columns, part, work);
     if x < all {
-        return Check::Refused(Refusal::Inverse(x as u64));
+        return Err(Refusal::Inverse(x as u64));
     }
-    Check::Passed
+    Ok(())
 }
 
 // Rule 9 for a kit that fits. X and Y are the first r of the last 2 r bits of a word.
-pub fn check_inverse(d: Design, own: &[u8], parity: &[u8], inverse: &[u8], work: &mut [u8]) -> Check
+pub fn check_inverse(
+    d: Design,
+    own: &[u8],
+    parity: &[u8],
+    inverse: &[u8],
+    work: &mut [u8],
+) -> Result<(), Refusal>
     requires { KitFits d own.now parity.now inverse.now work.old }
     ensures { verdict_of result ≡ inverse_rule (params_of d) (lists_of d own.now parity.now) inverse.now }
 {

@@ -1,8 +1,9 @@
 -- What the maker's steps answer and leave is what the call does.
---   made-refused       a refusal leaves the inverse's buffer
+--   made-refused       a refusal that is handed on leaves the inverse's buffer
 --   make_sized         the slices' lengths, once rule 6 accepts
 --   call_refused, call_lengths, call_made   the call at a design that is refused, at a refused length, and after both
 -- Assumes nothing.
+use Rattle.std.specs.Prelude.{Err, Ok, Result, IsErr, IsErrAnd}
 use mathlib.Core.Path.{◌≡◌, refl, ap, ◌∙◌}
 use mathlib.Core.Logic.{◌≢◌}
 use mathlib.Core.List.{List, []}
@@ -13,24 +14,24 @@ use Rattle.staircase.specs.Rules.{Verdict, ◌then◌, design_rules, list_rule, 
 use Rattle.staircase.specs.Rules.Verdict.{accepted, refused}
 use Rattle.staircase.specs.Maker.{singular_rule, make_verdict, made_by, make_call}
 use Rattle.answers.specs.declared.Refusal.{Refusal}
-use Rattle.answers.specs.declared.Check.{Check}
-use Rattle.answers.specs.declared.Check.TheVariants as check
 use Rattle.design.specs.declared.Design.{Design}
-use Rattle.design.specs.declared.Designed.{Designed}
-use Rattle.design.specs.declared.Designed.TheVariants as designed
 use Rattle.design.specs.Sizes.{params_of, lists_of}
-use Rattle.design.specs.Answers.{design_verdict, DesignIs, Allowed}
-use Rattle.design.proofs.Answers.{made-params, refused-design, made-design}
+use Rattle.design.specs.Answers.{DesignIs, Allowed}
+use Rattle.design.proofs.Answers.{made-params, made-design}
 use Rattle.rules.specs.Lengths.{lengths_of, lengths_rule, make_due}
 use Rattle.rules.proofs.Chain.{make_lengths_rule}
 use Rattle.rules.proofs.Accepted.{lengths_equal}
 use Rattle.kit_maker.specs.Making.{MakeSized, new_inverse}
 use Rattle.answers.specs.Answers.{verdict_of}
-use Rattle.answers.proofs.Checks.{check_refused, refused_then}
+use Rattle.answers.proofs.Checks.{handed_on, refused_on, check_refused}
 
-pub made-refused : (v : Verdict) (old new : List ℕ) → v ≢ accepted → old ≡ (made_by v old new).inverse
-made-refused accepted old new h = absurd (h refl)
-made-refused (refused n p) old new h = refl
+left_as_it_was : (v : Verdict) (old new : List ℕ) → v ≢ accepted → old ≡ (made_by v old new).inverse
+left_as_it_was accepted old new h = absurd (h refl)
+left_as_it_was (refused n p) old new h = refl
+
+pub made-refused : (x : Result Unit Refusal) (r : Refusal) → IsErr x × IsErrAnd x (λ (e : Refusal). e ≡ r) → (old new : List ℕ)
+    → old ≡ (made_by (verdict_of x) old new).inverse
+made-refused x r h old new = left_as_it_was (verdict_of x) old new (check_refused (handed_on x h.1))
 
 made-verdict : (v : Verdict) (old new : List ℕ) → v ≡ (made_by v old new).verdict
 made-verdict accepted old new = refl
@@ -66,7 +67,7 @@ module _ (own parity old : List ℕ) (work : ℕ) where
         ap (λ (z : Verdict). design_rules m t M col then z) (make_lengths_rule s own parity work (content s) old)
 
     -- the call answers v and leaves w
-    abbrev Calls : Verdict → List ℕ → Type 0
+    abbrev pub Calls : Verdict → List ℕ → Type 0
     Calls v w = (v ≡ (make_call m t M col own parity old work).verdict) × (w ≡ (make_call m t M col own parity old work).inverse)
 
     calls : (v : Verdict) (w : List ℕ) → v ≡ (design_rules m t M col then rest (params m t M col)) → w ≡ (made_by v old (new (params m t M col))).inverse → Calls v w
@@ -76,25 +77,23 @@ module _ (own parity old : List ℕ) (work : ℕ) where
         let d : v ≡ make_verdict m t M col own parity old work = e ∙ whole in
         (d ∙ made-verdict (make_verdict m t M col own parity old work) old (new s), f ∙ ap (λ (z : Verdict). (made_by z old (new s)).inverse) d)
 
-    module _ (a : Designed) (n : design_verdict a ≡ design_rules m t M col) (x : Check) where
-      pub call_refused : {r : Refusal} → a ≡ designed.Refused r → verdict_of x ≡ design_verdict a
-          → (verdict_of x ≡ (make_call m t M col own parity old work).verdict) × (old ≡ (make_call m t M col own parity old work).inverse)
-      call_refused g e =
-          let v = refused-design m t M col rest a n x g e in
-          calls (verdict_of x) old v.1 (made-refused (verdict_of x) old (new (params m t M col)) v.0)
+    module _ (x : Result Unit Refusal) where
+      pub call_refused : (r : Refusal) → verdict_of {A = Design} (Err r) ≡ design_rules m t M col → IsErr x × IsErrAnd x (λ (e : Refusal). e ≡ r)
+          → Calls (verdict_of x) old
+      call_refused r n h = calls (verdict_of x) old (refused_on (rest (params m t M col)) n x refl h) (made-refused x r h old (new (params m t M col)))
 
-      module _ (i : DesignIs a m t M col) {d : Design} (g : a ≡ designed.Made d) where
-        pub call_lengths : {r : Refusal} → verdict_of x ≡ lengths_rule (lengths_of own parity old [] [] work) (make_due (params_of d))
-            → x ≡ check.Refused r → (verdict_of x ≡ (make_call m t M col own parity old work).verdict) × (old ≡ (make_call m t M col own parity old work).inverse)
-        call_lengths e f =
-            calls (verdict_of x) old (made-design m t M col rest a n x i g (refused_then (content (params_of d)) e f))
-            (made-refused (verdict_of x) old (new (params m t M col)) (check_refused f))
+      module _ (d : Design) (n : verdict_of (Ok d) ≡ design_rules m t M col) (i : DesignIs (Ok d) m t M col) where
+        pub call_lengths : (r : Refusal) → verdict_of {A = Unit} (Err r) ≡ lengths_rule (lengths_of own parity old [] [] work) (make_due (params_of d))
+            → IsErr x × IsErrAnd x (λ (e : Refusal). e ≡ r) → Calls (verdict_of x) old
+        call_lengths r e h =
+            calls (verdict_of x) old (made-design m t M col rest (Ok d) n x i refl (refused_on (content (params_of d)) e x refl h))
+            (made-refused x r h old (new (params m t M col)))
 
         pub call_made : (w : List ℕ)
             → verdict_of x ≡ (lengths_rule (lengths_of own parity old [] [] work) (make_due (params_of d))
             then list_rule (params_of d) (lists_of d own parity) then singular_rule (params_of d) (lists_of d own parity))
             → w ≡ (made_by (verdict_of x) old (new_inverse (params_of d) (lists_of d own parity))).inverse
-            → (verdict_of x ≡ (make_call m t M col own parity old work).verdict) × (w ≡ (make_call m t M col own parity old work).inverse)
+            → Calls (verdict_of x) w
         call_made w e f =
-            calls (verdict_of x) w (made-design m t M col rest a n x i g e)
-            (f ∙ ap (λ (s : Params). (made_by (verdict_of x) old (new s)).inverse) (made-params g m t M col i))
+            calls (verdict_of x) w (made-design m t M col rest (Ok d) n x i refl e)
+            (f ∙ ap (λ (s : Params). (made_by (verdict_of x) old (new s)).inverse) (made-params {a = Ok d} refl m t M col i))

@@ -17,8 +17,8 @@ ghost use Rattle.matrix_elimination.specs.Steps.{row_width, left};
 ghost use Rattle.kit_system.specs.Rows.{PartOf};
 ghost use Rattle.kit_maker.specs.Making.{MakeSized, SystemFits, RowsFit, sent_row, new_inverse, right_byte};
 
-use answers::{Check, Refusal};
-use design::{Design, Designed};
+use answers::Refusal;
+use design::Design;
 use rules::Lengths;
 
 // Fills the left halves of the first n rows of m with the rows of A; `preimages` is the inverse of the parity list.
@@ -37,6 +37,7 @@ fn fill_rows(
         ≡ sent_row columns.now part.now (entries n own.now) size preimages.now e k) }
 {
     let half = (n + 7) / 8;
+    // kept as an index loop: a proof cannot tell what a loop over `chunks_exact_mut` has written.
     for e in 0..n {
         let p = kit_system::preimage_of(preimages, size, part.len(), e);
         let a = e * (2 * half);
@@ -80,14 +81,22 @@ fn copy_right(m: &[u8], n: usize, out: &mut [u8])
     ensures { out.new ≡ tabulate (n * row_bytes n) (right_byte m.now n) }
 {
     let half = (n + 7) / 8;
-    for k in 0..out.len() {
-        let row = k / half * (2 * half);
-        out[k] = m[row + (half + k % half)];
+    // kept as an index loop: as in `fill_rows`.
+    for e in 0..n {
+        let to = e * half;
+        let from = e * (2 * half) + half;
+        out[to..to + half].copy_from_slice(&m[from..from + half]);
     }
 }
 
 // Rule 14, for lists that are permutations, and the inverse of A.
-fn invert_system(d: Design, own: &[u8], parity: &[u8], inverse: &mut [u8], work: &mut [u8]) -> Check
+fn invert_system(
+    d: Design,
+    own: &[u8],
+    parity: &[u8],
+    inverse: &mut [u8],
+    work: &mut [u8],
+) -> Result<(), Refusal>
     requires { SystemFits d own.now parity.now work.old × (length inverse.old ≡ order_of d * row_bytes (order_of d)) }
     ensures { (verdict_of result ≡ singular_rule (params_of d) (lists_of d own.now parity.now))
         × (inverse.new ≡ (made_by (verdict_of result) inverse.old
@@ -97,14 +106,20 @@ fn invert_system(d: Design, own: &[u8], parity: &[u8], inverse: &mut [u8], work:
     fill_system(d, own, parity, work);
     let column = matrix_elimination::invert(work, n);
     if column < n {
-        return Check::Refused(Refusal::Singular(column as u64));
+        return Err(Refusal::Singular(column as u64));
     }
-    copy_right(&work[..], n, inverse);
-    Check::Passed
+    copy_right(work, n, inverse);
+    Ok(())
 }
 
 // Rules 7 and 14, for slices of their lengths, and the inverse of A.
-fn make_content(d: Design, own: &[u8], parity: &[u8], inverse: &mut [u8], work: &mut [u8]) -> Check
+fn make_content(
+    d: Design,
+    own: &[u8],
+    parity: &[u8],
+    inverse: &mut [u8],
+    work: &mut [u8],
+) -> Result<(), Refusal>
     requires { MakeSized d own.now parity.now inverse.old work.old }
     ensures { (verdict_of result
         ≡ (list_rule (params_of d) (lists_of d own.now parity.now)
@@ -114,10 +129,7 @@ fn make_content(d: Design, own: &[u8], parity: &[u8], inverse: &mut [u8], work: 
 {
     let n = d.order();
     let mut marks = [0u8; 4096];
-    let lists = rules::check_lists(own, parity, n, &mut marks[0..n]);
-    let Check::Passed = lists else {
-        return lists;
-    };
+    rules::check_lists(own, parity, n, &mut marks[0..n])?;
     invert_system(d, own, parity, inverse, work)
 }
 
@@ -133,16 +145,13 @@ pub fn make_inverse_col(
     parity: &[u8],
     inverse: &mut [u8],
     work: &mut [u8],
-) -> Check
+) -> Result<(), Refusal>
     ensures { (verdict_of result
         ≡ (make_call m t size col own.now parity.now inverse.old (length work.old)).verdict)
         × (inverse.new
         ≡ (make_call m t size col own.now parity.now inverse.old (length work.old)).inverse) }
 {
-    let designed = Design::new_col(m, t, size, col);
-    let Designed::Made(d) = designed else {
-        return design::design_check(designed);
-    };
+    let d = Design::new_col(m, t, size, col)?;
     let have = Lengths {
         own: own.len(),
         parity: parity.len(),
@@ -151,10 +160,7 @@ pub fn make_inverse_col(
         red: 0,
         work: work.len(),
     };
-    let lengths = rules::check_lengths(have, rules::make_due(d));
-    let Check::Passed = lengths else {
-        return lengths;
-    };
+    rules::check_lengths(have, rules::make_due(d))?;
     make_content(d, own, parity, inverse, work)
 }
 
@@ -167,7 +173,7 @@ pub fn make_inverse(
     parity: &[u8],
     inverse: &mut [u8],
     work: &mut [u8],
-) -> Check
+) -> Result<(), Refusal>
     ensures { (verdict_of result
         ≡ (make_call m t size 0 own.now parity.now inverse.old (length work.old)).verdict)
         × (inverse.new

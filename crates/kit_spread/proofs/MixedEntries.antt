@@ -4,7 +4,7 @@
 --   part_length                     the table's part for a column word
 --   rows_by, rows-by, rows-wide      the rows of a column word by r alone
 --   rows_next, state_next           the rows of one column word more, and the state after them
---   table_index, table_bytes        an entry's row in the table of the rows of all column words, and a list by the table
+--   table_bytes                     a list by the table of the rows of all column words
 -- Assumes nothing.
 use mathlib.Core.Path.{◌≡◌, sym, ap, ap₂, ◌∙◌}
 use mathlib.Core.List.{List, [], ◌∷◌}
@@ -12,7 +12,6 @@ use Prim.Native.Nat.{ℕ, zero, suc, ◌+◌, ◌-◌, ◌*◌, ◌/◌, ◌%◌
 use native.Mathlib.Nat.{mul-suc, add-sub_cancel_left}
 use native.Mathlib.Numerals.{add-one}
 use native.Mathlib.Omega.{arith}
-use lib.Arith.{digits_lt}
 use lib.ListN.{length, take, drop, length-drop}
 use lib.Seq.{length-take-le}
 use Rattle.staircase.specs.Lists.{tabulate, concat}
@@ -71,11 +70,6 @@ module _ (r seed c n state : ℕ) (e : n ≡ r) (h : state ≡ state_after seed 
       let g : 16 * ((r - 1) * c) + 16 * (r - 1) ≡ 16 * ((r - 1) * (c + 1)) = omega (arith, f) in g)
 
 -- ---- the table
-
-module _ (s : Params) (ok : Proper s) where
-  -- where the row for place p is in the table
-  pub table_index : (by p size r : ℕ) → size ≡ s.M → r ≡ s.r → p < order s → (p % size + by + p / size) % size * r + p / size < order s
-  table_index by p size r e f h = rw (e, f) (digits_lt (column-of s ok (p % s.M + by + p / s.M)) (row-of s ok p h))
 
 module _ (s : Params) (ok : Proper s) (seed : ℕ) where
   table-entry : (by p : ℕ) → p < order s → table_to s by (concat s.M (rows_in s seed)) p ≡ mixed_to s by seed p

@@ -1,10 +1,11 @@
 -- What the steps answer and leave is what the calls do.
 --   rest           rules 15 and 6
---   design_stops, lists-stop, lists-pass   the design of the lists: where it is refused, where rule 15 or 6 refuses, and where all rules accept
+--   rules_are, lists-judged         the rules on the design of the lists: all of them, and the last ones where it was made
 --   list_refuses, list_passes, lists-sized   what the calls know of it: a refusal, or the verdict, the sizes and the lists' lengths
 --   spread-refused, spread-filled   the call for spread lists at a refusal, and after all
 --   mixed-refused, mixed-filled     the call for mixed lists
 -- Assumes nothing.
+use Rattle.std.specs.Prelude.{Err, Ok, Result, IsErr, IsErrAnd}
 use mathlib.Core.Path.{◌≡◌, refl, sym, ap, ap₂, ◌∙◌, subst⁻¹}
 use mathlib.Core.Logic.{◌≢◌}
 use mathlib.Core.List.{List}
@@ -17,16 +18,12 @@ use Rattle.staircase.specs.Spread.{turned_to, list_bytes, narrow_rule, spread_ve
 use Rattle.staircase.specs.Mixed.{mixed_to, after_list, mixed_by, mixed_call}
 use Rattle.staircase.proofs.Rules.{then_rest, list-lengths}
 use Rattle.answers.specs.declared.Refusal.{Refusal}
-use Rattle.answers.specs.declared.Check.{Check}
-use Rattle.answers.specs.declared.Check.TheVariants as check
 use Rattle.design.specs.declared.Design.{Design}
-use Rattle.design.specs.declared.Designed.{Designed}
-use Rattle.design.specs.declared.Designed.TheVariants as designed
 use Rattle.design.specs.Sizes.{params_of}
-use Rattle.design.specs.Answers.{design_verdict, DesignIs}
-use Rattle.design.proofs.Answers.{design-refused, design-made, made-params, made-design}
+use Rattle.design.specs.Answers.{DesignIs}
+use Rattle.design.proofs.Answers.{made-params, made-design}
 use Rattle.answers.specs.Answers.{verdict_of}
-use Rattle.answers.proofs.Checks.{refused_then, check_refused, check_passed}
+use Rattle.answers.proofs.Checks.{handed_on, check_refused, check_passed}
 
 abbrev pub rest : List ℕ → List ℕ → Params → Verdict
 rest own parity s = narrow_rule s then list_lengths s own parity
@@ -46,41 +43,32 @@ module _ (own parity : List ℕ) where
     abbrev pub Refuses : Verdict → Type 0
     Refuses v = (v ≢ accepted) × (v ≡ spread_verdict m t M col own parity)
 
-    rules_are : (design_rules m t M col then rest own parity (params m t M col)) ≡ spread_verdict m t M col own parity
+    pub rules_are : (design_rules m t M col then rest own parity (params m t M col)) ≡ spread_verdict m t M col own parity
     unfolding spread_verdict
     rules_are = refl
 
     -- ---- the design of the lists
 
-    module _ (a : Designed) (n : design_verdict a ≡ design_rules m t M col) where
-      pub design_stops : {r : Refusal} → a ≡ designed.Refused r → design_verdict a ≡ spread_verdict m t M col own parity
-      design_stops {r} g =
-          design-refused g ∙ refused_then (rest own parity (params m t M col)) (sym (design-refused g) ∙ n) refl ∙ rules_are
+    -- the design d was made, and x is what rules 15 and 6 on it answer
+    pub lists-judged : (d : Design) → verdict_of (Ok d) ≡ design_rules m t M col → DesignIs (Ok d) m t M col → {B : Type 0} (x : Result B Refusal)
+        → verdict_of x ≡ rest own parity (params_of d) → verdict_of x ≡ spread_verdict m t M col own parity
+    lists-judged d n i x e = made-design m t M col (rest own parity) (Ok d) n x i refl e ∙ rules_are
 
-      module _ (i : DesignIs a m t M col) {d : Design} (g : a ≡ designed.Made d) (x : Check) (e : verdict_of x ≡ rest own parity (params_of d)) where
-        judged : verdict_of x ≡ spread_verdict m t M col own parity
-        judged = made-design m t M col (rest own parity) a n x i g e ∙ rules_are
+    -- the refusal r of the design is what a call answers
+    pub list_refuses : {B : Type 0} (x : Result B Refusal) (r : Refusal) → verdict_of {A = Design} (Err r) ≡ spread_verdict m t M col own parity
+        → IsErr x × IsErrAnd x (λ (e : Refusal). e ≡ r) → Refuses (verdict_of x)
+    unfolding verdict_of
+    list_refuses x r n h = let e = handed_on x h.1 in (check_refused e, ap verdict_of e ∙ n)
 
-        pub lists-stop : {r : Refusal} → x ≡ check.Refused r → design_verdict (designed.Refused r) ≡ spread_verdict m t M col own parity
-        lists-stop {r} f = design-refused refl ∙ sym (ap verdict_of f) ∙ judged
+    module _ (d : Design) (n : verdict_of (Ok d) ≡ spread_verdict m t M col own parity) (i : DesignIs (Ok d) m t M col) where
+      pub list_passes : (spread_verdict m t M col own parity ≡ accepted) × (params_of d ≡ params m t M col)
+      list_passes = (sym n ∙ check_passed {x = Ok d} refl, made-params {a = Ok d} refl m t M col i)
 
-        pub lists-pass : x ≡ check.Passed → design_verdict (designed.Made d) ≡ spread_verdict m t M col own parity
-        lists-pass f = design-made refl ∙ sym (check_passed f) ∙ judged
-
-    module _ {a : Designed} (n : design_verdict a ≡ spread_verdict m t M col own parity) where
-      -- the design was refused, and v is told
-      pub list_refuses : {r : Refusal} {v : Verdict} → a ≡ designed.Refused r → v ≡ design_verdict a → Refuses v
-      list_refuses {r} g e = ((λ h. check_refused {r = r} refl (sym (e ∙ design-refused g) ∙ h)), e ∙ n)
-
-      module _ {d : Design} (g : a ≡ designed.Made d) (i : DesignIs a m t M col) where
-        pub list_passes : (spread_verdict m t M col own parity ≡ accepted) × (params_of d ≡ params m t M col)
-        list_passes = (sym n ∙ design-made g, made-params g m t M col i)
-
-        pub lists-sized : (length own ≡ 2 * order (params_of d)) × (length parity ≡ 2 * order (params_of d))
-        lists-sized =
-            let s : Params = params m t M col in
-            let e = then_rest (narrow_rule s) (list_lengths s own parity) (then_rest (design_rules m t M col) (rest own parity s) (rules_are ∙ list_passes.0)) in
-            subst⁻¹ (λ (z : Params). (length own ≡ 2 * order z) × (length parity ≡ 2 * order z)) list_passes.1 (list-lengths s own parity e)
+      pub lists-sized : (length own ≡ 2 * order (params_of d)) × (length parity ≡ 2 * order (params_of d))
+      lists-sized =
+          let s : Params = params m t M col in
+          let e = then_rest (narrow_rule s) (list_lengths s own parity) (then_rest (design_rules m t M col) (rest own parity s) (rules_are ∙ list_passes.0)) in
+          subst⁻¹ (λ (z : Params). (length own ≡ 2 * order z) × (length parity ≡ 2 * order z)) list_passes.1 (list-lengths s own parity e)
 
     -- ---- spread lists
 

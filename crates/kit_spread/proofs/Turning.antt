@@ -1,6 +1,5 @@
 -- A place turned within its column, and the two bytes of an entry.
 --   turned_start   a place without its row is its column's first place
---   row_small      a row is no larger than its place
 --   two_bytes       the bytes of entry p
 --   entry_stored   the list after the two stores of one more entry
 -- Assumes nothing.
@@ -20,9 +19,6 @@ unfolding turned_to
 turned_start s by p size same =
     let e : p - p % size ≡ p / size * size = omega (arith, div-add-mod' p size) in
     ap (λ (z : ℕ). z + (p % size + by + p / size) % size) e ∙ ap (λ (m : ℕ). p / m * m + (p % m + by + p / m) % m) same
-
-pub row_small : (p M : ℕ) → p % M ≤ p
-row_small p M = omega (arith, div-add-mod' p M)
 
 -- ---- bytes
 

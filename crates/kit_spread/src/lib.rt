@@ -11,50 +11,51 @@
 
 mod mixing;
 
-ghost use Rattle.std.specs.Prelude.{◌≡◌, ◌*◌, ◌<◌, length};
+ghost use Rattle.std.specs.Prelude.{◌≡◌, ◌+◌, ◌*◌, ◌/◌, ◌%◌, ◌<◌, length, set};
 ghost use Rattle.staircase.specs.Rules.{◌then◌, list_lengths};
 ghost use Rattle.staircase.specs.Spread.{turned_to, list_bytes, narrow_rule, spread_verdict, spread_call};
 ghost use Rattle.staircase.specs.Mixed.{mixed_call};
-ghost use Rattle.design.specs.Answers.{design_verdict, DesignIs, Allowed, DesignAllowed};
+ghost use Rattle.design.specs.Answers.{DesignIs, Allowed, DesignAllowed};
 ghost use Rattle.design.specs.Sizes.{params_of, order_of};
 ghost use Rattle.answers.specs.Answers.{verdict_of};
-ghost use Rattle.generator.specs.Answers.{load_verdict, load_state};
+ghost use Rattle.generator.specs.Answers.{load_state};
 
-use answers::{Check, Refusal};
-use design::{Design, Designed};
-use generator::{Loaded, refused_load};
+use answers::Refusal;
+use design::Design;
 
 // Rule 15. Constant work.
-fn check_narrow(d: Design) -> Check
+fn check_narrow(d: Design) -> Result<(), Refusal>
     ensures { verdict_of result ≡ narrow_rule (params_of d) }
 {
     let size = d.size();
     if size < 2 * d.r() {
-        return Check::Refused(Refusal::Narrow(size as u64));
+        return Err(Refusal::Narrow(size as u64));
     }
-    Check::Passed
+    Ok(())
 }
 
 // Rules 15 and 6. Constant work.
-fn check_lists(d: Design, own: &[u8], parity: &[u8]) -> Check
+fn check_lists(d: Design, own: &[u8], parity: &[u8]) -> Result<(), Refusal>
     ensures { verdict_of result ≡ (narrow_rule (params_of d) then list_lengths (params_of d) own.now parity.now) }
 {
-    let narrow = check_narrow(d);
-    rules::first(narrow, rules::check_list_lengths(d, own, parity))
+    check_narrow(d)?;
+    rules::check_list_lengths(d, own, parity)
 }
 
 // The design of two lists that are to be filled: rules 1 to 3, 15 and 6. Constant work.
-fn list_design(m: u64, t: u64, size: u64, col: u64, own: &[u8], parity: &[u8]) -> Designed
-    ensures { (design_verdict result ≡ spread_verdict m t size col own.now parity.now) × DesignIs result m t size col × DesignAllowed result }
+fn list_design(
+    m: u64,
+    t: u64,
+    size: u64,
+    col: u64,
+    own: &[u8],
+    parity: &[u8],
+) -> Result<Design, Refusal>
+    ensures { (verdict_of result ≡ spread_verdict m t size col own.now parity.now) × DesignIs result m t size col × DesignAllowed result }
 {
-    let designed = Design::new_col(m, t, size, col);
-    let Designed::Made(d) = designed else {
-        return designed;
-    };
-    match check_lists(d, own, parity) {
-        Check::Passed => designed,
-        Check::Refused(r) => Designed::Refused(r),
-    }
+    let d = Design::new_col(m, t, size, col)?;
+    check_lists(d, own, parity)?;
+    Ok(d)
 }
 
 // The place to which place p goes, where column j is turned down by `by` + j rows.
@@ -67,16 +68,26 @@ fn turned_to(d: Design, by: usize, p: usize) -> usize
     p - row + (row + by + p / size) % size
 }
 
-// Fills a list with the places to which its columns are turned: "two bytes an entry, low byte first".
+// Stores entry p of a list: "two bytes an entry, low byte first".
+fn store_entry(list: &mut [u8], p: usize, e: usize)
+    requires { 2 * p + 1 < length list.old }
+    ensures { list.new ≡ set (set list.old (2 * p) (e % 256)) (2 * p + 1) (e / 256 % 256) }
+{
+    let [low, high, ..] = e.to_le_bytes();
+    list[2 * p] = low;
+    list[2 * p + 1] = high;
+}
+
+// Fills a list with the places to which its columns are turned.
 fn fill_turned(d: Design, by: usize, list: &mut [u8])
     requires { Allowed d × (by < 65536) × (length list.old ≡ 2 * order_of d) }
     ensures { list.new ≡ list_bytes (order_of d) (turned_to (params_of d) by) }
 {
     let n = d.order();
+    // kept as an index loop: a proof cannot tell what a loop over `chunks_exact_mut` has written.
     for p in 0..n {
         let e = turned_to(d, by, p);
-        list[2 * p] = (e % 256) as u8;
-        list[2 * p + 1] = (e / 256 % 256) as u8;
+        store_entry(list, p, e);
     }
 }
 
@@ -89,22 +100,25 @@ pub fn spread_lists_col(
     col: u64,
     own: &mut [u8],
     parity: &mut [u8],
-) -> Check
+) -> Result<(), Refusal>
     ensures { (verdict_of result ≡ (spread_call m t size col own.old parity.old).verdict)
         × (own.new ≡ (spread_call m t size col own.old parity.old).self)
         × (parity.new ≡ (spread_call m t size col own.old parity.old).parity) }
 {
-    let designed = list_design(m, t, size, col, own, parity);
-    let Designed::Made(d) = designed else {
-        return design::design_check(designed);
-    };
+    let d = list_design(m, t, size, col, own, parity)?;
     fill_turned(d, 0, own);
     fill_turned(d, d.r(), parity);
-    Check::Passed
+    Ok(())
 }
 
 // The same where rows and columns have one code.
-pub fn spread_lists(m: u64, t: u64, size: u64, own: &mut [u8], parity: &mut [u8]) -> Check
+pub fn spread_lists(
+    m: u64,
+    t: u64,
+    size: u64,
+    own: &mut [u8],
+    parity: &mut [u8],
+) -> Result<(), Refusal>
     ensures { (verdict_of result ≡ (spread_call m t size 0 own.old parity.old).verdict)
         × (own.new ≡ (spread_call m t size 0 own.old parity.old).self)
         × (parity.new ≡ (spread_call m t size 0 own.old parity.old).parity) }
@@ -123,16 +137,13 @@ pub fn mixed_lists_col(
     seed: u32,
     own: &mut [u8],
     parity: &mut [u8],
-) -> Loaded
+) -> Result<u32, Refusal>
     ensures { let c = mixed_call m t size col seed own.old parity.old in
-        (load_verdict result ≡ c.verdict) × (own.new ≡ c.self) × (parity.new ≡ c.parity) × (load_state result ≡ c.state) }
+        (verdict_of result ≡ c.verdict) × (own.new ≡ c.self) × (parity.new ≡ c.parity) × (load_state result ≡ c.state) }
 {
-    let designed = list_design(m, t, size, col, own, parity);
-    let Designed::Made(d) = designed else {
-        return refused_load(design::design_check(designed));
-    };
+    let d = list_design(m, t, size, col, own, parity)?;
     let between = mixing::mix_list(d, 0, seed, own);
-    Loaded::State(mixing::mix_list(d, d.r(), between, parity))
+    Ok(mixing::mix_list(d, d.r(), between, parity))
 }
 
 // The same where rows and columns have one code.
@@ -143,9 +154,9 @@ pub fn mixed_lists(
     seed: u32,
     own: &mut [u8],
     parity: &mut [u8],
-) -> Loaded
+) -> Result<u32, Refusal>
     ensures { let c = mixed_call m t size 0 seed own.old parity.old in
-        (load_verdict result ≡ c.verdict) × (own.new ≡ c.self) × (parity.new ≡ c.parity) × (load_state result ≡ c.state) }
+        (verdict_of result ≡ c.verdict) × (own.new ≡ c.self) × (parity.new ≡ c.parity) × (load_state result ≡ c.state) }
 {
     mixed_lists_col(m, t, size, 0, seed, own, parity)
 }

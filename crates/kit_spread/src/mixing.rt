@@ -12,6 +12,7 @@ ghost use Rattle.design.specs.Answers.{Allowed};
 ghost use Rattle.design.specs.Sizes.{params_of, order_of};
 ghost use Rattle.kit_spread.specs.Mixing.{table_to};
 
+use crate::store_entry;
 use design::Design;
 
 // Numbers rows: 0, 1, and so on.
@@ -19,8 +20,8 @@ fn number_rows(rows: &mut [u8])
     requires { length rows.old ≤ 256 }
     ensures { rows.new ≡ tabulate (length rows.old) (λ j. j) }
 {
-    for j in 0..rows.len() {
-        rows[j] = j as u8;
+    for (j, row) in rows.iter_mut().enumerate() {
+        *row = j as u8;
     }
 }
 
@@ -30,15 +31,11 @@ fn shuffle_rows(rows: &mut [u8], seed: u32) -> u32
         × (result ≡ state_after seed (16 * (length rows.old - 1))) }
 {
     let mut s = seed;
-    let mut i = rows.len();
-    while 1 < i {
-        i -= 1;
+    for i in (1..rows.len()).rev() {
         let d = generator::draw(s);
         s = d.state;
         let j = (d.number as usize) % (i + 1);
-        let row = rows[i];
-        rows[i] = rows[j];
-        rows[j] = row;
+        rows.swap(i, j);
     }
     s
 }
@@ -60,17 +57,11 @@ fn draw_columns(d: Design, seed: u32, rows: &mut [u8]) -> u32
 {
     let r = d.r();
     let mut s = seed;
+    // kept as an index loop: a proof cannot tell what a loop over `chunks_exact_mut` has written.
     for c in 0..d.size() {
         s = draw_rows(&mut rows[c * r..c * r + r], s);
     }
     s
-}
-
-// A byte as a wider number.
-fn wide(x: u8) -> usize
-    ensures { (result ≡ x) × (result < 256) }
-{
-    x as usize
 }
 
 // The place to which place p goes, where `rows` has the rows of all column words.
@@ -81,20 +72,20 @@ fn mixed_to(d: Design, by: usize, rows: &[u8], p: usize) -> usize
     let size = d.size();
     let j = p / size;
     let c = (p % size + by + j) % size;
-    let row = wide(rows[c * d.r() + j]);
+    let row = usize::from(rows[c * d.r() + j]);
     row * size + c
 }
 
-// Fills a list: "two bytes an entry, low byte first".
+// Fills a list by the table.
 fn fill_mixed(d: Design, by: usize, rows: &[u8], list: &mut [u8])
     requires { Allowed d × (by < 65536) × (length rows.now ≡ order_of d) × (length list.old ≡ 2 * order_of d) }
     ensures { list.new ≡ list_bytes (order_of d) (table_to (params_of d) by rows.now) }
 {
     let n = d.order();
+    // kept as an index loop: as in `fill_turned`.
     for p in 0..n {
         let e = mixed_to(d, by, rows, p);
-        list[2 * p] = (e % 256) as u8;
-        list[2 * p + 1] = (e / 256 % 256) as u8;
+        store_entry(list, p, e);
     }
 }
 

@@ -1,6 +1,5 @@
 -- What the calls answer and leave at each of their ends.
 --   fill-rules, turn-rules                       their verdicts, the design's rules and then the others
---   filled-refused, filled-done                  a call that answers one buffer and a state, where a rule refuses and where all accept
 --   fill_refused, errors-refused, run_refused, buffer-refused   each call where a rule refuses
 --   fill_done, errors-done, run_done, buffer-done               and where all accept
 --   accepted-small                               the lengths of a frame that no rule refuses
@@ -49,31 +48,33 @@ fill_by : (v : Verdict) (old new : List ℕ) (s : ℕ) → v ≢ accepted → fi
 fill_by accepted old new s h = absurd (h refl)
 fill_by (refused n p) old new s h = refl
 
-module _ (old new : List ℕ) (s : ℕ) (v : Verdict) {w : Verdict} (e : v ≡ w) where
-  pub filled-refused : v ≢ accepted → record { verdict = v; info = old; state = 0 } ≡ filled_by w old new s
-  filled-refused h = sym (fill_by v old new s h) ∙ ap (λ (z : Verdict). filled_by z old new s) e
+module _ (old new : List ℕ) (s : ℕ) {w : Verdict} where
+  filled-refused : (v : Verdict) → v ≡ w → v ≢ accepted → record { verdict = v; info = old; state = 0 } ≡ filled_by w old new s
+  filled-refused v e h = sym (fill_by v old new s h) ∙ ap (λ (z : Verdict). filled_by z old new s) e
 
-  pub filled-done : v ≡ accepted → record { verdict = accepted; info = new; state = s } ≡ filled_by w old new s
-  filled-done h = ap (λ (z : Verdict). filled_by z old new s) (sym h ∙ e)
+  filled-done : accepted ≡ w → record { verdict = accepted; info = new; state = s } ≡ filled_by w old new s
+  filled-done e = ap (λ (z : Verdict). filled_by z old new s) e
 
-module _ (m t M col L seed : ℕ) (info : List ℕ) (v : Verdict) (e : v ≡ fill_verdict m t M col L info) where
-  pub fill_refused : v ≢ accepted → record { verdict = v; info = info; state = 0 } ≡ fill_call m t M col L seed info
+module _ (m t M col L seed : ℕ) (info : List ℕ) where
+  pub fill_refused : (v : Verdict) → v ≡ fill_verdict m t M col L info → v ≢ accepted
+      → record { verdict = v; info = info; state = 0 } ≡ fill_call m t M col L seed info
   unfolding fill_call
-  fill_refused = filled-refused info (tabulate (length info) (load_bit seed)) (state_after seed (length info)) v e
+  fill_refused = filled-refused info (tabulate (length info) (load_bit seed)) (state_after seed (length info))
 
-  pub fill_done : v ≡ accepted → record { verdict = accepted; info = tabulate (length info) (load_bit seed); state = state_after seed (length info) } ≡ fill_call m t M col L seed info
+  pub fill_done : accepted ≡ fill_verdict m t M col L info
+      → record { verdict = accepted; info = tabulate (length info) (load_bit seed); state = state_after seed (length info) } ≡ fill_call m t M col L seed info
   unfolding fill_call
-  fill_done = filled-done info (tabulate (length info) (load_bit seed)) (state_after seed (length info)) v e
+  fill_done = filled-done info (tabulate (length info) (load_bit seed)) (state_after seed (length info))
 
-module _ (seed limit : ℕ) (l : List ℕ) (v : Verdict) (e : v ≡ bit_rule 0 l) where
-  pub buffer-refused : v ≢ accepted → record { verdict = v; info = l; state = 0 } ≡ errors_buffer seed limit l
+module _ (seed limit : ℕ) (l : List ℕ) where
+  pub buffer-refused : (v : Verdict) → v ≡ bit_rule 0 l → v ≢ accepted → record { verdict = v; info = l; state = 0 } ≡ errors_buffer seed limit l
   unfolding errors_buffer
-  buffer-refused = filled-refused l (turned_where (random_turns seed limit) l) (state_after seed (16 * length l)) v e
+  buffer-refused = filled-refused l (turned_where (random_turns seed limit) l) (state_after seed (16 * length l))
 
-  pub buffer-done : v ≡ accepted
+  pub buffer-done : accepted ≡ bit_rule 0 l
       → record { verdict = accepted; info = turned_where (random_turns seed limit) l; state = state_after seed (16 * length l) } ≡ errors_buffer seed limit l
   unfolding errors_buffer
-  buffer-done = filled-done l (turned_where (random_turns seed limit) l) (state_after seed (16 * length l)) v e
+  buffer-done = filled-done l (turned_where (random_turns seed limit) l) (state_after seed (16 * length l))
 
 -- ---- turning
 
@@ -85,7 +86,7 @@ run-by : (v : Verdict) (old new : Frame) → v ≢ accepted → run_by v old new
 run-by accepted old new h = absurd (h refl)
 run-by (refused n p) old new h = refl
 
-module _ (m t M col L : ℕ) (info red : List ℕ) (v : Verdict) (e : v ≡ turn_verdict m t M col L info red) where
+module _ (m t M col L : ℕ) (info red : List ℕ) where
   abbrev f : Frame
   f = frame_of info red
 
@@ -93,33 +94,35 @@ module _ (m t M col L : ℕ) (info red : List ℕ) (v : Verdict) (e : v ≡ turn
     abbrev last : ℕ
     last = state_after seed (16 * (length info + length red))
 
-    pub errors-refused : v ≢ accepted → record { verdict = v; frame = frame_of info red; state = 0 } ≡ errors_call m t M col L seed limit info red
+    pub errors-refused : (v : Verdict) → v ≡ turn_verdict m t M col L info red → v ≢ accepted
+        → record { verdict = v; frame = frame_of info red; state = 0 } ≡ errors_call m t M col L seed limit info red
     unfolding errors_call
-    errors-refused h =
+    errors-refused v e h =
         sym (errors-by v f (turned_frame (random_turns seed limit) f) last h) ∙ ap (λ (z : Verdict). errors_by z f (turned_frame (random_turns seed limit) f) last) e
 
     -- the redundancy's draws go on from the state after those of the information
-    pub errors-done : v ≡ accepted → (between end : ℕ) (i r : List ℕ) → between ≡ state_after seed (16 * length info) → i ≡ turned_where (random_turns seed limit) info
+    pub errors-done : accepted ≡ turn_verdict m t M col L info red → (between end : ℕ) (i r : List ℕ) → between ≡ state_after seed (16 * length info) → i ≡ turned_where (random_turns seed limit) info
         → r ≡ turned_where (random_turns between limit) red → end ≡ state_after between (16 * length red)
         → record { verdict = accepted; frame = frame_of i r; state = end } ≡ errors_call m t M col L seed limit info red
     unfolding errors_call
-    errors-done h between end i r b ei er ee =
+    errors-done e between end i r b ei er ee =
         let steps : 16 * length info + 16 * length red ≡ 16 * (length info + length red) = omega arith in
         let turned : frame_of i r ≡ turned_frame (random_turns seed limit) f =
         ap₂ frame_of ei (er ∙ ap (λ (s : ℕ). turned_where (random_turns s limit) red) b ∙ drawn_on seed limit (length info) red) in
         let state : end ≡ last = ee ∙ ap (λ (s : ℕ). state_after s (16 * length red)) b ∙ after-add seed (16 * length info) (16 * length red) ∙ ap (state_after seed) steps in
         ap₂ (λ (g : Frame) (s : ℕ). record { verdict = accepted; frame = g; state = s }) turned state
-        ∙ ap (λ (z : Verdict). errors_by z f (turned_frame (random_turns seed limit) f) last) (sym h ∙ e)
+        ∙ ap (λ (z : Verdict). errors_by z f (turned_frame (random_turns seed limit) f) last) e
 
   module _ (place long : ℕ) where
-    pub run_refused : v ≢ accepted → record { verdict = v; frame = frame_of info red } ≡ run_call m t M col L place long info red
+    pub run_refused : (v : Verdict) → v ≡ turn_verdict m t M col L info red → v ≢ accepted
+        → record { verdict = v; frame = frame_of info red } ≡ run_call m t M col L place long info red
     unfolding run_call
-    run_refused h = sym (run-by v f (turned_frame (run_turns place long) f) h) ∙ ap (λ (z : Verdict). run_by z f (turned_frame (run_turns place long) f)) e
+    run_refused v e h = sym (run-by v f (turned_frame (run_turns place long) f) h) ∙ ap (λ (z : Verdict). run_by z f (turned_frame (run_turns place long) f)) e
 
-    pub run_done : v ≡ accepted → (i r : List ℕ) → i ≡ turned_where (λ k. run_turns place long (0 + k)) info
+    pub run_done : accepted ≡ turn_verdict m t M col L info red → (i r : List ℕ) → i ≡ turned_where (λ k. run_turns place long (0 + k)) info
         → r ≡ turned_where (λ k. run_turns place long (length info + k)) red
         → record { verdict = accepted; frame = frame_of i r } ≡ run_call m t M col L place long info red
     unfolding run_call
-    run_done h i r ei er =
+    run_done e i r ei er =
         ap (λ (g : Frame). record { verdict = accepted; frame = g }) (ap₂ frame_of (ei ∙ run_front place long info) er)
-        ∙ ap (λ (z : Verdict). run_by z f (turned_frame (run_turns place long) f)) (sym h ∙ e)
+        ∙ ap (λ (z : Verdict). run_by z f (turned_frame (run_turns place long) f)) e

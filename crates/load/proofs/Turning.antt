@@ -1,23 +1,20 @@
 -- Laws of bits that turn, as the loops and the calls meet them.
 --   turn_bit                  entry k of a list whose bits turn by a test
 --   turned-all               a list of which all entries are such
---   in-run                   the test of a run, by the distance from its place
 --   drawn_on                 the draws of a list go on where those of the list before it ended
 --   run_front                a run in a list that is counted from 0
 -- Assumes nothing.
-use mathlib.Core.Path.{◌≡◌, refl, sym, ap, ◌∙◌}
+use mathlib.Core.Path.{◌≡◌, refl, ap, ◌∙◌}
 use mathlib.Core.Bool.{Bool, cond}
 use mathlib.Core.List.{List}
-use Prim.Native.Nat.{ℕ, ◌+◌, ◌-◌, ◌*◌, ◌≤◌, ◌<◌}
+use Prim.Native.Nat.{ℕ, ◌+◌, ◌-◌, ◌*◌}
 use native.Mathlib.Nat.{zero-add}
-use native.Mathlib.Decide.{dec_lt}
 use native.Mathlib.Omega.{arith}
 use lib.Dec.{ltb}
 use lib.ListN.{length, get_or}
-use borrow.Author.Tests.{lt-ltb, le-ltb}
 use Rattle.staircase.specs.Load.{state_after, drawn, random_turns, run_turns, turned_where}
 use Rattle.staircase.proofs.Fill.{filled, filled-all}
-use Rattle.staircase.proofs.Load.{turned_same, run_test_in, run_test_behind}
+use Rattle.staircase.proofs.Load.{turned_same}
 use Rattle.generator.proofs.States.{after-add}
 
 abbrev pub turn_bit : (ℕ → Bool) → List ℕ → ℕ → ℕ
@@ -26,13 +23,6 @@ turn_bit test l k = cond (test k) (1 - get_or l k 0) (get_or l k 0)
 pub turned-all : (test : ℕ → Bool) (l : List ℕ) (k : ℕ) → k ≡ length l → filled (turn_bit test l) l k ≡ turned_where test l
 unfolding turned_where
 turned-all test l k e = filled-all (turn_bit test l) l k (length l) e refl
-
-pub in-run : (place long k : ℕ) → place ≤ k → ltb (k - place) long ≡ run_turns place long k
-in-run place long k h = go (dec_lt (k - place) long)
-  where
-    go : Dec (k - place < long) → ltb (k - place) long ≡ run_turns place long k
-    go (yes l) = lt-ltb (k - place) long l ∙ sym (run_test_in place long k h (omega arith))
-    go (no l) = le-ltb (k - place) long (omega arith) ∙ sym (run_test_behind place long k (omega arith))
 
 pub drawn_on : (seed limit n : ℕ) (l : List ℕ)
     → turned_where (random_turns (state_after seed (16 * n)) limit) l ≡ turned_where (λ j. random_turns seed limit (n + j)) l

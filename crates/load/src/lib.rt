@@ -5,7 +5,8 @@
 //   fill_buffer, errors_buffer   the first two on a plain buffer of bits, without a design, as for original frames
 //
 // No call has a `requires`: rules 1 to 4 and 6, and for the two that turn bits rule 10, are asked before a byte is written, so that a refused call leaves
-// the buffers as they were. Bits are counted through the information and on through the redundancy. The generator and the answer `Loaded` are those of the crate `generator`.
+// the buffers as they were. Bits are counted through the information and on through the redundancy. The generator is that of
+// the crate `generator`.
 #![tactic(auto)]
 
 ghost use Rattle.std.specs.Prelude.{◌≡◌, cond, ◌+◌, ◌-◌, ◌*◌, ◌^◌, ◌<◌, length};
@@ -14,45 +15,31 @@ ghost use Rattle.staircase.specs.Frame.{frame_of};
 ghost use Rattle.staircase.specs.Load.{state_after, load_bit, random_turns, run_turns, turned_where, fill_verdict, turn_verdict, fill_call, errors_call, run_call};
 ghost use Rattle.design.specs.Sizes.{params_of};
 ghost use Rattle.design.specs.Answers.{Allowed};
-ghost use Rattle.generator.specs.Answers.{load_verdict, load_state};
+ghost use Rattle.generator.specs.Answers.{load_state};
 ghost use Rattle.load.specs.Buffer.{errors_buffer};
 ghost use Rattle.load.specs.Checks.{fill_rules, turn_rules};
 ghost use Rattle.answers.specs.Answers.{verdict_of};
 
-use answers::Check;
-use design::{Design, Designed};
-use generator::{Loaded, refused_load};
+use answers::Refusal;
+use design::Design;
 
 // Fills the lent bytes with bits, a step each, and answers the last state.
 fn fill_bits(bits: &mut [u8], seed: u32) -> u32
     ensures { (bits.new ≡ tabulate (length bits.old) (load_bit seed)) × (result ≡ state_after seed (length bits.old)) }
 {
     let mut s = seed;
-    for k in 0..bits.len() {
+    for bit in bits.iter_mut() {
         s = generator::next_state(s);
-        bits[k] = generator::output_of(s);
+        *bit = generator::output_of(s);
     }
     s
-}
-
-// The other bit than the lent one.
-fn other_bit(bit: u8) -> u8
-    ensures { result ≡ 1 - bit }
-{
-    if bit == 0 {
-        return 1;
-    }
-    0
 }
 
 // A bit, turned or not.
 fn turned_bit(bit: u8, turn: bool) -> u8
     ensures { result ≡ cond turn (1 - bit) bit }
 {
-    if turn {
-        return other_bit(bit);
-    }
-    bit
+    if turn { 1u8.saturating_sub(bit) } else { bit }
 }
 
 // Turns each of the lent bits whose draw is below `limit`, and answers the state after the last draw.
@@ -61,10 +48,10 @@ fn turn_drawn(bits: &mut [u8], seed: u32, limit: u64) -> u32
         × (result ≡ state_after seed (16 * length bits.old)) }
 {
     let mut s = seed;
-    for k in 0..bits.len() {
+    for bit in bits.iter_mut() {
         let d = generator::draw(s);
         s = d.state;
-        bits[k] = turned_bit(bits[k], (d.number as u64) < limit);
+        *bit = turned_bit(*bit, u64::from(d.number) < limit);
     }
     s
 }
@@ -73,10 +60,7 @@ fn turn_drawn(bits: &mut [u8], seed: u32, limit: u64) -> u32
 fn in_run(place: u64, long: u64, k: u64) -> bool
     ensures { result ≡ run_turns place long k }
 {
-    if k < place {
-        return false;
-    }
-    k - place < long
+    place <= k && k - place < long
 }
 
 // Turns those of the lent bits that are in a run; bit 0 of them has the number `first`.
@@ -84,63 +68,53 @@ fn turn_run(bits: &mut [u8], first: u64, place: u64, long: u64)
     requires { first + length bits.old < 2 ^ 63 }
     ensures { bits.new ≡ turned_where (λ k. run_turns place long (first + k)) bits.old }
 {
-    for k in 0..bits.len() {
+    for (k, bit) in bits.iter_mut().enumerate() {
         let turn = in_run(place, long, first + (k as u64));
-        bits[k] = turned_bit(bits[k], turn);
+        *bit = turned_bit(*bit, turn);
     }
 }
 
 // Rules 4 and 6, for the information of a frame.
-fn check_info(d: Design, blocks: u64, info: &[u8]) -> Check
+fn check_info(d: Design, blocks: u64, info: &[u8]) -> Result<(), Refusal>
     ensures { verdict_of result ≡ fill_rules (params_of d) blocks info.now }
 {
-    let count = design::check_count(blocks);
-    let Check::Passed = count else {
-        return count;
-    };
+    design::check_count(blocks)?;
     let due = rules::frame_due(d, blocks, rules::lists_due(d));
     rules::check_length(rules::INFORMATION, info.len(), due.info)
 }
 
 // Rules 4, 6 and 10, for a frame of an allowed design.
-fn check_frame(d: Design, blocks: u64, info: &[u8], red: &[u8]) -> Check
+fn check_frame(d: Design, blocks: u64, info: &[u8], red: &[u8]) -> Result<(), Refusal>
     requires { Allowed d }
     ensures { verdict_of result ≡ turn_rules (params_of d) blocks info.now red.now }
 {
-    let count = design::check_count(blocks);
-    let Check::Passed = count else {
-        return count;
-    };
-    let lengths = rules::check_frame_lengths(d, blocks, info, red);
-    let Check::Passed = lengths else {
-        return lengths;
-    };
-    let bits = rules::check_bits(info, 0);
-    let Check::Passed = bits else {
-        return bits;
-    };
+    design::check_count(blocks)?;
+    rules::check_frame_lengths(d, blocks, info, red)?;
+    rules::check_bits(info, 0)?;
     rules::check_bits(red, info.len() as u64)
 }
 
 // The rules of `fill`: 1 to 4 and 6.
-fn check_fill(m: u64, t: u64, size: u64, col: u64, blocks: u64, info: &[u8]) -> Check
+fn check_fill(m: u64, t: u64, size: u64, col: u64, blocks: u64, info: &[u8]) -> Result<(), Refusal>
     ensures { verdict_of result ≡ fill_verdict m t size col blocks info.now }
 {
-    let designed = Design::new_col(m, t, size, col);
-    let Designed::Made(d) = designed else {
-        return design::design_check(designed);
-    };
+    let d = Design::new_col(m, t, size, col)?;
     check_info(d, blocks, info)
 }
 
 // The rules of `errors` and `run`: 1 to 4, 6 and 10.
-fn check_turn(m: u64, t: u64, size: u64, col: u64, blocks: u64, info: &[u8], red: &[u8]) -> Check
+fn check_turn(
+    m: u64,
+    t: u64,
+    size: u64,
+    col: u64,
+    blocks: u64,
+    info: &[u8],
+    red: &[u8],
+) -> Result<(), Refusal>
     ensures { verdict_of result ≡ turn_verdict m t size col blocks info.now red.now }
 {
-    let designed = Design::new_col(m, t, size, col);
-    let Designed::Made(d) = designed else {
-        return design::design_check(designed);
-    };
+    let d = Design::new_col(m, t, size, col)?;
     check_frame(d, blocks, info, red)
 }
 
@@ -154,21 +128,25 @@ pub fn fill_col(
     blocks: u64,
     seed: u32,
     info: &mut [u8],
-) -> Loaded
+) -> Result<u32, Refusal>
     ensures { let f = fill_call m t size col blocks seed info.old in
-        (load_verdict result ≡ f.verdict) × (info.new ≡ f.info) × (load_state result ≡ f.state) }
+        (verdict_of result ≡ f.verdict) × (info.new ≡ f.info) × (load_state result ≡ f.state) }
 {
-    let checked = check_fill(m, t, size, col, blocks, &info[..]);
-    let Check::Passed = checked else {
-        return refused_load(checked);
-    };
-    Loaded::State(fill_bits(info, seed))
+    check_fill(m, t, size, col, blocks, info)?;
+    Ok(fill_bits(info, seed))
 }
 
 // The same where rows and columns have one code.
-pub fn fill(m: u64, t: u64, size: u64, blocks: u64, seed: u32, info: &mut [u8]) -> Loaded
+pub fn fill(
+    m: u64,
+    t: u64,
+    size: u64,
+    blocks: u64,
+    seed: u32,
+    info: &mut [u8],
+) -> Result<u32, Refusal>
     ensures { let f = fill_call m t size 0 blocks seed info.old in
-        (load_verdict result ≡ f.verdict) × (info.new ≡ f.info) × (load_state result ≡ f.state) }
+        (verdict_of result ≡ f.verdict) × (info.new ≡ f.info) × (load_state result ≡ f.state) }
 {
     fill_col(m, t, size, 0, blocks, seed, info)
 }
@@ -186,16 +164,13 @@ pub fn errors_col(
     limit: u64,
     info: &mut [u8],
     red: &mut [u8],
-) -> Loaded
+) -> Result<u32, Refusal>
     ensures { let e = errors_call m t size col blocks seed limit info.old red.old in
-        (load_verdict result ≡ e.verdict) × (frame_of info.new red.new ≡ e.frame) × (load_state result ≡ e.state) }
+        (verdict_of result ≡ e.verdict) × (frame_of info.new red.new ≡ e.frame) × (load_state result ≡ e.state) }
 {
-    let checked = check_turn(m, t, size, col, blocks, &info[..], &red[..]);
-    let Check::Passed = checked else {
-        return refused_load(checked);
-    };
+    check_turn(m, t, size, col, blocks, info, red)?;
     let between = turn_drawn(info, seed, limit);
-    Loaded::State(turn_drawn(red, between, limit))
+    Ok(turn_drawn(red, between, limit))
 }
 
 // The same where rows and columns have one code.
@@ -208,9 +183,9 @@ pub fn errors(
     limit: u64,
     info: &mut [u8],
     red: &mut [u8],
-) -> Loaded
+) -> Result<u32, Refusal>
     ensures { let e = errors_call m t size 0 blocks seed limit info.old red.old in
-        (load_verdict result ≡ e.verdict) × (frame_of info.new red.new ≡ e.frame) × (load_state result ≡ e.state) }
+        (verdict_of result ≡ e.verdict) × (frame_of info.new red.new ≡ e.frame) × (load_state result ≡ e.state) }
 {
     errors_col(m, t, size, 0, blocks, seed, limit, info, red)
 }
@@ -227,18 +202,15 @@ pub fn run_col(
     length: u64,
     info: &mut [u8],
     red: &mut [u8],
-) -> Check
+) -> Result<(), Refusal>
     ensures { let r = run_call m t size col blocks place length info.old red.old in
         (verdict_of result ≡ r.verdict) × (frame_of info.new red.new ≡ r.frame) }
 {
-    let checked = check_turn(m, t, size, col, blocks, &info[..], &red[..]);
-    let Check::Passed = checked else {
-        return checked;
-    };
+    check_turn(m, t, size, col, blocks, info, red)?;
     let border = info.len() as u64;
     turn_run(info, 0, place, length);
     turn_run(red, border, place, length);
-    Check::Passed
+    Ok(())
 }
 
 // The same where rows and columns have one code.
@@ -251,7 +223,7 @@ pub fn run(
     length: u64,
     info: &mut [u8],
     red: &mut [u8],
-) -> Check
+) -> Result<(), Refusal>
     ensures { let r = run_call m t size 0 blocks place length info.old red.old in
         (verdict_of result ≡ r.verdict) × (frame_of info.new red.new ≡ r.frame) }
 {
@@ -268,13 +240,10 @@ pub fn fill_buffer(seed: u32, bits: &mut [u8]) -> u32
 
 // Turns each bit of a buffer whose draw, sixteen steps of the generator from `seed` on, is below `limit`, and answers the last state; or rule 10 refuses,
 // and the buffer stays as it was. It may have any length.
-pub fn errors_buffer(seed: u32, limit: u64, bits: &mut [u8]) -> Loaded
+pub fn errors_buffer(seed: u32, limit: u64, bits: &mut [u8]) -> Result<u32, Refusal>
     ensures { let e = errors_buffer seed limit bits.old in
-        (load_verdict result ≡ e.verdict) × (bits.new ≡ e.info) × (load_state result ≡ e.state) }
+        (verdict_of result ≡ e.verdict) × (bits.new ≡ e.info) × (load_state result ≡ e.state) }
 {
-    let checked = rules::check_bits(&bits[..], 0);
-    let Check::Passed = checked else {
-        return refused_load(checked);
-    };
-    Loaded::State(turn_drawn(bits, seed, limit))
+    rules::check_bits(bits, 0)?;
+    Ok(turn_drawn(bits, seed, limit))
 }

@@ -1,19 +1,22 @@
 -- The two calls of the loopback, one after the other.
 --   turned-length, turned-bits   a buffer with some bits turned
+--   accepted_ok                  what the rules accept is made
 --   part_length                  the part at the start of the working bytes that is lent
+--   front_call                   the encoder's call, with its part of the working bytes
 --   numbers-accepted             rules 1 to 5 accept what demand 3 takes for given, at an allowed number of rounds
 --   loopback_numbers             the result where rules 1 to 5 refuse
 --   loopback_encoder             where the encoder does
 --   small-frame                  its design is allowed, its blocks are few, and so are the rows of its inverse
---   own-length, working_fits     the decoder's working bytes are among those that are lent
+--   own-length, working_fits, decoder_lent   the decoder's working bytes are among those that are lent, and how many they are
 --   decode-same                  a decoder's call on the same buffers
 --   loopback_decoded             the result after the decoder, which accepts the frame
 -- Assumes nothing.
+use Rattle.std.specs.Prelude.{Err, Ok, Result, IsOk, IsErr, IsErrAnd}
 use mathlib.Core.Path.{◌≡◌, refl, sym, ap, ap₂, ◌∙◌, subst}
 use mathlib.Core.Bool.{Bool, true, false, not, cond}
 use mathlib.Core.Logic.{◌≢◌}
 use mathlib.Core.List.{List}
-use Prim.Native.Nat.{ℕ, ◌+◌, ◌-◌, ◌*◌, ◌≤◌, ◌<◌}
+use Prim.Native.Nat.{ℕ, ◌+◌, ◌-◌, ◌*◌, ◌/◌, ◌≤◌, ◌<◌}
 use native.Mathlib.Decide.{dec_lt, ℕ_discrete}
 use native.Mathlib.Omega.{arith}
 use borrow.Author.Tests.{le-ltb, ltb-false, eq-eqb, ne_eqb}
@@ -35,11 +38,10 @@ use Rattle.staircase.proofs.Rules.{then_first, then_rest, then_accepted, refuse-
 use Rattle.staircase.proofs.BchCode.{proper_of}
 use Rattle.staircase.proofs.Demand3.{decode_admits, made-length, made_bits}
 use Rattle.staircase.proofs.Encoded.{encoded_by-verdict, encode-accepted, encode-work}
+use Rattle.answers.specs.declared.Counts as told
 use Rattle.answers.specs.declared.Refusal.{Refusal}
-use Rattle.answers.specs.declared.Check.{Check}
-use Rattle.answers.specs.declared.Check.TheVariants as check
-use Rattle.answers.specs.Answers.{verdict_of, refused_frame}
-use Rattle.answers.proofs.Checks.{refused_then, check_refused}
+use Rattle.answers.specs.Answers.{refusal_verdict, verdict_of, corrected_of}
+use Rattle.answers.proofs.Checks.{handed_on, refused_on, refusal_refuses, check_refused}
 use Rattle.decoder.proofs.DecodeCall.{refused-is}
 use Rattle.loopback.specs.Link.{turned, number_rules, loopback_work, loopback_verdict, loopback_call}
 
@@ -61,10 +63,24 @@ turned-bits errors b h k = go (dec_lt k (length b))
     go (yes l) = subst (λ (z : ℕ). z < 2) (sym (tabulate-at (length b) (λ j. cond (eqb (get_or errors j 0) 0) (get_or b j 0) (1 - get_or b j 0)) 0 k l)) (bit (eqb (get_or errors k 0) 0))
     go (no l) = subst (λ (z : ℕ). z < 2) (sym (get_or-eq_default (turned errors b) 0 {n = k} (omega (arith, turned-length errors b)))) (omega arith)
 
+-- ---- a design that the rules accept is made
+
+pub accepted_ok : {A : Type 0} (x : Result A Refusal) → verdict_of x ≡ accepted → IsOk x
+unfolding verdict_of
+accepted_ok (Ok y) e = refl
+accepted_ok (Err r) e = absurd (refusal_refuses r e)
+
 -- ---- working bytes
 
 pub part_length : (l : List ℕ) (n : ℕ) → n ≤ length l → length (take (n - 0) l) ≡ n
 part_length l n h = length-take-le (n - 0) l (omega arith) ∙ omega arith
+
+-- the encoder is lent all but those of what the decoder keeps
+pub front_call : (m t M col L : ℕ) (self parity w info red work : List ℕ) {front kept : ℕ} → front ≡ length work - kept
+    → kept ≡ kept_work (params m t M col) L
+    → encode_call m t M col L self parity w info red (length (take (front - 0) work)) ≡ encode_call m t M col L self parity w info red (length work - kept_work (params m t M col) L)
+front_call m t M col L self parity w info red work {front} f k =
+    ap (encode_call m t M col L self parity w info red) (part_length work front (omega (arith, f)) ∙ f ∙ ap (λ (n : ℕ). length work - n) k)
 
 -- ---- the verdict
 
@@ -106,18 +122,22 @@ module _ (m t M col L k : ℕ) (self parity w info_errors red_errors info red : 
   counts = counts_of s l L k received
 
   -- a refused call counts nothing and leaves the frame
-  refused_result : (v : Verdict) → v ≢ accepted → loopback_verdict m t M col L k self parity w info red work ≡ v
-      → refused_frame v (frame_of info red) ≡ loopback_call m t M col L k self parity w info_errors red_errors info red work
-  unfolding loopback_call
-  refused_result v h e = refused-is v (frame_of info red) done counts h ∙ sym (ap (λ (x : Verdict). corrected_by x (frame_of info red) done counts) e)
+  refused_result : (y : Result told.Counts Refusal) {r : Refusal} → y ≡ Err r → verdict_of y ≡ loopback_verdict m t M col L k self parity w info red work
+      → corrected_of y (frame_of info red) ≡ loopback_call m t M col L k self parity w info_errors red_errors info red work
+  unfolding corrected_of verdict_of loopback_call
+  refused_result y {r} q e =
+      ap (λ (z : Result told.Counts Refusal). corrected_of z (frame_of info red)) q
+      ∙ refused-is (refusal_verdict r) (frame_of info red) done counts (refusal_refuses r)
+      ∙ ap (λ (x : Verdict). corrected_by x (frame_of info red) done counts) (sym (ap verdict_of q) ∙ e)
 
-  -- refused by rules 1 to 5
-  pub loopback_numbers : (x : Check) → verdict_of x ≡ number_rules m t M col L k → {r : Refusal} → x ≡ check.Refused r
-      → refused_frame (verdict_of x) (frame_of info red) ≡ loopback_call m t M col L k self parity w info_errors red_errors info red work
+  -- refused by rules 1 to 5; y is what the call hands on
+  pub loopback_numbers : (y : Result told.Counts Refusal) (x : Result Unit Refusal) → verdict_of x ≡ number_rules m t M col L k → {r : Refusal} → x ≡ Err r
+      → IsErr y × IsErrAnd y (λ (e : Refusal). e ≡ r)
+      → corrected_of y (frame_of info red) ≡ loopback_call m t M col L k self parity w info_errors red_errors info red work
   unfolding loopback_verdict
-  loopback_numbers x v e =
-      refused_result (verdict_of x) (check_refused e)
-      (sym (refused_then (kit_lengths s self parity w then frame_lengths s L info red then length_rule 6 work (loopback_work s L) then content_rules s l w info) v e))
+  loopback_numbers y x v e h =
+      refused_result y (handed_on y h.1)
+      (refused_on (kit_lengths s self parity w then frame_lengths s L info red then length_rule 6 work (loopback_work s L) then content_rules s l w info) v y e h)
 
   module _ (ok : number_rules m t M col L k ≡ accepted) where
     counted : (count_rule L then rounds_rule k) ≡ accepted
@@ -168,15 +188,15 @@ module _ (m t M col L k : ℕ) (self parity w info_errors red_errors info red : 
     encoder-verdict = encoded_by-verdict (encode_verdict m t M col L self parity w info red (work - kept_work (params m t M col) L)) red (redundancy s l w L info)
 
     -- refused by the encoder, which leaves the redundancy
-    pub loopback_encoder : (x : Check) (after : List ℕ) → verdict_of x ≡ (encode_call m t M col L self parity w info red (work - kept_work (params m t M col) L)).verdict
-        → after ≡ (encode_call m t M col L self parity w info red (work - kept_work (params m t M col) L)).red → {r : Refusal} → x ≡ check.Refused r
-        → refused_frame (verdict_of x) (frame_of info after) ≡ loopback_call m t M col L k self parity w info_errors red_errors info red work
-    unfolding encode_call
-    loopback_encoder x after v a e =
-        let n : verdict_of x ≢ accepted = check_refused e in
+    pub loopback_encoder : (y : Result told.Counts Refusal) (x : Result Unit Refusal) (after : List ℕ) → verdict_of x ≡ (encode_call m t M col L self parity w info red (work - kept_work (params m t M col) L)).verdict
+        → after ≡ (encode_call m t M col L self parity w info red (work - kept_work (params m t M col) L)).red → {r : Refusal} → x ≡ Err r → IsErrAnd y (λ (e : Refusal). e ≡ r)
+        → corrected_of y (frame_of info after) ≡ loopback_call m t M col L k self parity w info_errors red_errors info red work
+    unfolding encode_call verdict_of
+    loopback_encoder y x after v a e h =
         let u : Verdict = encode_verdict m t M col L self parity w info red (work - kept_work (params m t M col) L) in
-        ap (λ (z : List ℕ). refused_frame (verdict_of x) (frame_of info z)) (a ∙ red-stays u (λ z. n (v ∙ encoder-verdict ∙ z)))
-        ∙ refused_result (verdict_of x) n (verdict-encodes ∙ sym (v ∙ encoder-verdict))
+        let q = handed_on y h in
+        ap (λ (z : List ℕ). corrected_of y (frame_of info z)) (a ∙ red-stays u (λ z. check_refused e (v ∙ encoder-verdict ∙ z)))
+        ∙ refused_result y q (ap verdict_of q ∙ sym (ap verdict_of e) ∙ v ∙ encoder-verdict ∙ sym verdict-encodes)
       where
         red-stays : (u : Verdict) → u ≢ accepted → (encoded_by u red (redundancy s l w L info)).red ≡ red
         red-stays accepted h = absurd (h refl)
@@ -201,6 +221,10 @@ module _ (m t M col L k : ℕ) (self parity w info_errors red_errors info red : 
       working_fits =
           let e : work - more ≡ kit_work s = encode-work K L info red (work - kept_work (params m t M col) L) accepts in
           omega (arith, e, kit-some.0, kit-some.1)
+
+      -- half of the list and what the decoder keeps
+      pub decoder_lent : {own kept : ℕ} → own ≡ length self → kept ≡ kept_work (params m t M col) L → own / 2 + kept ≡ order (params m t M col) + kept_work (params m t M col) L
+      decoder_lent e k = omega (arith, e, k, own-length)
 
       pub loopback_decoded : (x : Corrected) (after : List ℕ) (n : ℕ) → after ≡ (encode_call m t M col L self parity w info red (work - kept_work (params m t M col) L)).red → n ≡ decoder_work (params m t M col) L
           → x ≡ decode_call m t M col L k self parity (turned info_errors info) (turned red_errors after) n

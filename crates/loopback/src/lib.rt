@@ -14,54 +14,45 @@ ghost use Rattle.staircase.specs.Rules.Verdict.{accepted};
 ghost use Rattle.answers.specs.Answers.{corrected_of, verdict_of};
 ghost use Rattle.loopback.specs.Link.{turned, number_rules, loopback_call};
 
-use answers::{Check, Decoding};
-use design::{Design, Designed};
+use answers::{Counts, Refusal};
+use design::Design;
 
 // Byte k of a pattern, 0 past its end.
 fn error_at(errors: &[u8], k: usize) -> u8
     ensures { result ≡ get_or errors.now k 0 }
 {
-    if k < errors.len() {
-        return errors[k];
-    }
-    0
+    errors.get(k).copied().unwrap_or(0)
 }
 
 // A bit, turned unless e is 0.
 fn turned_bit(e: u8, b: u8) -> u8
     ensures { result ≡ cond (eqb e 0) b (1 - b) }
 {
-    if e == 0 {
-        return b;
-    }
-    if b == 0 {
-        return 1;
-    }
-    0
+    if e == 0 { b } else { u8::from(b == 0) }
 }
 
 // Turns the bits of the lent buffer that the pattern names.
 fn turn_bits(errors: &[u8], bits: &mut [u8])
     ensures { bits.new ≡ turned errors.now bits.old }
 {
-    for k in 0..bits.len() {
-        let e = error_at(errors, k);
-        bits[k] = turned_bit(e, bits[k]);
+    for (k, bit) in bits.iter_mut().enumerate() {
+        *bit = turned_bit(error_at(errors, k), *bit);
     }
 }
 
 // Rules 1 to 5.
-fn check_numbers(m: u64, t: u64, size: u64, col: u64, blocks: u64, rounds: u64) -> Check
+fn check_numbers(
+    m: u64,
+    t: u64,
+    size: u64,
+    col: u64,
+    blocks: u64,
+    rounds: u64,
+) -> Result<(), Refusal>
     ensures { verdict_of result ≡ number_rules m t size col blocks rounds }
 {
-    let designed = design::design_check(Design::new_col(m, t, size, col));
-    let Check::Passed = designed else {
-        return designed;
-    };
-    let count = design::check_count(blocks);
-    let Check::Passed = count else {
-        return count;
-    };
+    Design::new_col(m, t, size, col)?;
+    design::check_count(blocks)?;
     design::check_rounds(rounds)
 }
 
@@ -70,21 +61,8 @@ fn kept_bytes(m: u64, t: u64, size: u64, col: u64, blocks: u64) -> usize
     requires { (design_rules m t size col ≡ accepted) × (blocks ≤ most-blocks) }
     ensures { (result ≡ kept_work (params m t size col) blocks) × (result ≤ 1100000000) }
 {
-    let designed = Design::new_col(m, t, size, col);
-    let Designed::Made(d) = designed else {
-        return 0;
-    };
+    let d = Design::new_col(m, t, size, col).unwrap();
     rules::kept_work(d, blocks)
-}
-
-// How many bytes come before the last `more` of `all`; none where there are not so many.
-fn bytes_before(all: usize, more: usize) -> usize
-    ensures { (result ≡ all - more) × (result ≤ all) }
-{
-    if all < more {
-        return 0;
-    }
-    all - more
 }
 
 // Encodes the lent information, turns the bits of the frame that the two patterns name, and decodes it in at most `rounds` rounds, 0 standing for
@@ -106,18 +84,15 @@ pub fn loopback_col(
     info: &mut [u8],
     red: &mut [u8],
     work: &mut [u8],
-) -> Decoding
+) -> Result<Counts, Refusal>
     ensures { corrected_of result (frame_of info.new red.new)
         ≡ loopback_call m t size col blocks rounds own.now parity.now inverse.now info_errors.now
         red_errors.now info.old red.old (length work.old) }
 {
-    let numbers = check_numbers(m, t, size, col, blocks, rounds);
-    let Check::Passed = numbers else {
-        return answers::refused_frame(numbers);
-    };
+    check_numbers(m, t, size, col, blocks, rounds)?;
     let kept = kept_bytes(m, t, size, col, blocks);
-    let front = bytes_before(work.len(), kept);
-    let encoded = encoder::encode_col(
+    let front = work.len().saturating_sub(kept);
+    encoder::encode_col(
         m,
         t,
         size,
@@ -129,10 +104,7 @@ pub fn loopback_col(
         &info[..],
         red,
         &mut work[0..front],
-    );
-    let Check::Passed = encoded else {
-        return answers::refused_frame(encoded);
-    };
+    )?;
     turn_bits(info_errors, info);
     turn_bits(red_errors, red);
     let n = own.len() / 2 + kept;
@@ -166,7 +138,7 @@ pub fn loopback(
     info: &mut [u8],
     red: &mut [u8],
     work: &mut [u8],
-) -> Decoding
+) -> Result<Counts, Refusal>
     ensures { corrected_of result (frame_of info.new red.new)
         ≡ loopback_call m t size 0 blocks rounds own.now parity.now inverse.now info_errors.now
         red_errors.now info.old red.old (length work.old) }

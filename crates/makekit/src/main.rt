@@ -5,11 +5,9 @@
 
 fn main(rt: HostRuntime) {
     let mut text = program_io::input_bytes();
-    let text_read = program_io::read_text(&rt, &mut text);
-    if !text_read.readable {
+    let Some(n) = program_io::read_text(&rt, &mut text) else {
         return;
-    }
-    let n = text_read.count;
+    };
     let mut out = program_io::output_bytes();
     let m = program_makekit::makekit_output(&text[..n], &mut out);
     program_io::write_output(&rt, &out[..m]);

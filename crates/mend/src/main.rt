@@ -5,17 +5,13 @@
 
 fn main(rt: HostRuntime) {
     let mut kit = program_io::input_bytes();
-    let kit_read = program_io::read_kit(&rt, &mut kit);
-    if !kit_read.readable {
+    let Some(k) = program_io::read_kit(&rt, &mut kit) else {
         return;
-    }
+    };
     let mut text = program_io::input_bytes();
-    let text_read = program_io::read_text(&rt, &mut text);
-    if !text_read.readable {
+    let Some(n) = program_io::read_text(&rt, &mut text) else {
         return;
-    }
-    let k = kit_read.count;
-    let n = text_read.count;
+    };
     let mut out = program_io::output_bytes();
     let m = program_mend::mend_output(&kit[..k], &text[..n], &mut out);
     program_io::write_output(&rt, &out[..m]);

@@ -2,6 +2,7 @@
 --   decoded-made    after rounds
 --   decoded-idle    where all rows are in the code: one idle round
 -- Assumes nothing.
+use Rattle.std.specs.Prelude.{Ok}
 use mathlib.Core.Path.{◌≡◌, sym, ap, ◌∙◌}
 use mathlib.Core.Bool.{true}
 use mathlib.Core.List.{List}
@@ -21,7 +22,6 @@ use Rattle.staircase.proofs.Outcomes.{stuck_each-idle, last_stuck-idle}
 use Rattle.staircase.proofs.Decoded.{rounds_allowed-some}
 use Rattle.decoder_frame.proofs.Limit.{allowed_itself}
 use Rattle.answers.specs.declared.Counts.{Counts}
-use Rattle.answers.specs.declared.Decoding.TheVariants as decoding
 use Rattle.answers.specs.Answers.{corrected_of, buffer_decoded}
 use Rattle.original.specs.Frame.{row_words, buffer_of}
 use Rattle.original.specs.Calls.{original_decoded, original_counts}
@@ -36,7 +36,7 @@ module _ (s : Params) (L k : ℕ) (l : List ℕ) where
 
   pub decoded-made : (flips : ℕ) (g : List ℕ) (c : Counts) → 1 ≤ k → record { frame = buffer_of g; rounds = c.rounds; flips = flips } ≡ run_each (row_words s L) k (buffer_of l)
       → c.turned ≡ line_errors (buffer_of l) (buffer_of g) → c.outside ≡ outside_each (buffer_of g) (row_words s L) → c.stuck ≡ last_stuck (row_words s L) k (buffer_of l)
-      → buffer_decoded (decoding.Decoded c) g ≡ decoded_buffer s L k l
+      → buffer_decoded (Ok c) g ≡ decoded_buffer s L k l
   unfolding buffer_decoded corrected_of decoded_buffer original_decoded original_counts
   decoded-made flips g c some e t o z =
       let same : k ≡ rounds_allowed k = allowed_itself k (λ n. omega (arith, some, n)) in
@@ -47,7 +47,7 @@ module _ (s : Params) (L k : ℕ) (l : List ℕ) where
       λ i. record { verdict = accepted; buffer = (m i).frame.info; counts = record { rounds = (m i).rounds; turned = t' i; outside = o' i; stuck = z' i } }
 
   pub decoded-idle : (c : Counts) → c ≡ record { rounds = 1; turned = 0; outside = 0; stuck = 0 } → outside_each (buffer_of l) (row_words s L) ≡ 0
-      → buffer_decoded (decoding.Decoded c) l ≡ decoded_buffer s L k l
+      → buffer_decoded (Ok c) l ≡ decoded_buffer s L k l
   unfolding buffer_decoded corrected_of decoded_buffer original_decoded original_counts
   decoded-idle c q e =
       let h : (w : Word) → In w ws → in_code w.code f w.sites ≡ true = each_inside f ws e in
@@ -57,5 +57,5 @@ module _ (s : Params) (L k : ℕ) (l : List ℕ) where
       let t : line_errors f (run_each ws (rounds_allowed k) f).frame ≡ 0 = ap (λ (d : Decoded). line_errors f d.frame) m ∙ line_errors-same f in
       let o : outside_each (run_each ws (rounds_allowed k) f).frame ws ≡ 0 = ap (λ (d : Decoded). outside_each d.frame ws) m ∙ e in
       let z : last_stuck ws (rounds_allowed k) f ≡ 0 = ap (λ (n : ℕ). last_stuck ws n f) some ∙ last_stuck-idle ws j f idle ∙ (stuck_each-idle ws f idle).0 ∙ e in
-      ap (λ (x : Counts). buffer_decoded (decoding.Decoded x) l) q
+      ap (λ (x : Counts). buffer_decoded (Ok x) l) q
       ∙ sym (λ i. record { verdict = accepted; buffer = (m i).frame.info; counts = record { rounds = (m i).rounds; turned = t i; outside = o i; stuck = z i } })

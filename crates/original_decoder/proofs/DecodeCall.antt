@@ -3,6 +3,7 @@
 --   decode-fits                 what rules 4 to 6 and 10 leave
 --   decode-design, decode-refused, decode-done   the call's answer at each of its ends
 -- Assumes nothing.
+use Rattle.std.specs.Prelude.{Err, Ok, Result, IsErr, IsErrAnd}
 use mathlib.Core.Path.{◌≡◌, refl, sym, ap, ◌∙◌}
 use mathlib.Core.Logic.{◌≢◌}
 use mathlib.Core.List.{List}
@@ -10,7 +11,7 @@ use Prim.Native.Nat.{ℕ, ◌≤◌}
 use native.Mathlib.Omega.{arith}
 use lib.ListN.{length}
 use Rattle.staircase.specs.Design.{Params, params, most-blocks, most-rounds}
-use Rattle.staircase.specs.Frame.{Frame, outside_each}
+use Rattle.staircase.specs.Frame.{outside_each}
 use Rattle.staircase.specs.Decoder.{Decoded, run_each, rounds_allowed}
 use Rattle.staircase.specs.Outcomes.{last_stuck}
 use Rattle.staircase.specs.LineErrors.{line_errors}
@@ -18,22 +19,18 @@ use Rattle.staircase.specs.Rules.{Verdict, ◌then◌, count_rule, rounds_rule, 
 use Rattle.staircase.specs.Rules.Verdict.{accepted, refused}
 use Rattle.staircase.specs.Calls.{Counts}
 use Rattle.staircase.proofs.Rules.{then_first, then_rest, length_equal, bytes_bits}
+use Rattle.answers.specs.declared.Counts as told
 use Rattle.answers.specs.declared.Refusal.{Refusal}
-use Rattle.answers.specs.declared.Check.{Check}
-use Rattle.answers.specs.declared.Check.TheVariants as check
-use Rattle.answers.specs.Answers.{verdict_of, corrected_of, refused_frame, buffer_result, buffer_decoded}
-use Rattle.answers.proofs.Checks.{refused_then, check_refused, check_passed}
+use Rattle.answers.specs.Answers.{refusal_verdict, verdict_of, corrected_of, refused_frame, buffer_result, buffer_decoded}
+use Rattle.answers.proofs.Checks.{handed_on, refused_on, refusal_refuses, check_passed}
 use Rattle.decoder_frame.proofs.Limit.{allowed_itself}
-use Rattle.answers.specs.declared.Decoding.{Decoding}
-use Rattle.design.specs.Answers.{design_verdict, DesignIs, AllowedOriginal}
+use Rattle.design.specs.Answers.{DesignIs, AllowedOriginal}
 use Rattle.original.specs.Frame.{row_words, buffer_of}
 use Rattle.original.specs.Rules.{original_rules, original_work}
 use Rattle.original.specs.Calls.{original_decode_verdict, original_decoded, original_counts, CorrectedBuffer, corrected_buffer_by, original_decode_call}
 use Rattle.design.specs.declared.Design.{Design}
-use Rattle.design.specs.declared.Designed.{Designed}
-use Rattle.design.specs.declared.Designed.TheVariants as designed
 use Rattle.design.specs.Sizes.{params_of}
-use Rattle.design.proofs.Answers.{design-refused, design-made, made-params}
+use Rattle.design.proofs.Answers.{made-params, made-design}
 use Rattle.rules.specs.declared.lengths.Lengths.{Lengths}
 use Rattle.rules.specs.Lengths.{lengths_rule, buffer_lengths, original_decoder_due, size_rules}
 use Rattle.rules.proofs.Chain.{then_assoc, sizes_where}
@@ -112,33 +109,33 @@ module _ (m t M col L k : ℕ) (l : List ℕ) (work : ℕ) where
       flat accepted (refused n p) w x y = refl
       flat (refused n p) v w x y = refl
 
-  refused_call : (c : Decoding) (x : Check) → ((g : Frame) → corrected_of c g ≡ refused_frame (verdict_of x) g) → verdict_of x ≢ accepted
-      → verdict_of x ≡ original_decode_verdict m t M col L k l work → buffer_decoded c l ≡ original_decode_call m t M col L k l work
-  unfolding buffer_decoded original_decode_call
-  refused_call c x h other e =
-      ap buffer_result (h (buffer_of l)) ∙ refused-is (verdict_of x) l (new asked) (counts asked) other
-      ∙ ap (λ (v : Verdict). corrected_buffer_by v l (new asked) (counts asked)) e
+  -- c is what the call hands on
+  refused_call : (c : Result told.Counts Refusal) {r : Refusal} → c ≡ Err r → verdict_of c ≡ original_decode_verdict m t M col L k l work
+      → buffer_decoded c l ≡ original_decode_call m t M col L k l work
+  unfolding buffer_decoded corrected_of verdict_of original_decode_call
+  refused_call c {r} q e =
+      ap (λ (z : Result told.Counts Refusal). buffer_decoded z l) q ∙ refused-is (refusal_verdict r) l (new asked) (counts asked) (refusal_refuses r)
+      ∙ ap (λ (v : Verdict). corrected_buffer_by v l (new asked) (counts asked)) (sym (ap verdict_of q) ∙ e)
 
-  module _ (a : Designed) (n : design_verdict a ≡ original_rules m t M col) where
-    pub decode-design : (c : Decoding) (x : Check) (r : Refusal) → ((g : Frame) → corrected_of c g ≡ refused_frame (verdict_of x) g) → a ≡ designed.Refused r
-        → verdict_of x ≡ design_verdict a → buffer_decoded c l ≡ original_decode_call m t M col L k l work
-    decode-design c x r h g e =
-        let same : verdict_of x ≡ verdict_of (check.Refused r) = e ∙ design-refused g in
-        refused_call c x h (λ z. check_refused {r = r} refl (sym same ∙ z))
-        (same ∙ refused_then (decode_rules asked L k l work) (sym (design-refused g) ∙ n) refl ∙ whole)
+  abbrev rules : Params → Verdict
+  rules s = decode_rules s L k l work
 
-    module _ (i : DesignIs a m t M col) (d : Design) (g : a ≡ designed.Made d) (x : Check) (e : verdict_of x ≡ decode_rules (params_of d) L k l work) where
+  module _ (a : Result Design Refusal) (n : verdict_of a ≡ original_rules m t M col) where
+    pub decode-design : (c : Result told.Counts Refusal) {r : Refusal} → a ≡ Err r → IsErr c × IsErrAnd c (λ (e : Refusal). e ≡ r)
+        → buffer_decoded c l ≡ original_decode_call m t M col L k l work
+    decode-design c g h = refused_call c (handed_on c h.1) (refused_on (rules asked) n c g h ∙ whole)
+
+    module _ (i : DesignIs a m t M col) (d : Design) (g : a ≡ Ok d) (x : Result Unit Refusal) (e : verdict_of x ≡ decode_rules (params_of d) L k l work) where
       verdict-is : verdict_of x ≡ original_decode_verdict m t M col L k l work
-      verdict-is =
-          e ∙ ap (λ (s : Params). decode_rules s L k l work) (made-params g m t M col i)
-          ∙ ap (λ (z : Verdict). z then decode_rules asked L k l work) (sym (design-made g) ∙ n) ∙ whole
+      verdict-is = made-design m t M col rules a n x i g e ∙ whole
 
-      pub decode-refused : (c : Decoding) (r : Refusal) → ((z : Frame) → corrected_of c z ≡ refused_frame (verdict_of x) z) → x ≡ check.Refused r
+      pub decode-refused : (c : Result told.Counts Refusal) {r : Refusal} → x ≡ Err r → IsErrAnd c (λ (e : Refusal). e ≡ r)
           → buffer_decoded c l ≡ original_decode_call m t M col L k l work
-      decode-refused c r h p = refused_call c x h (check_refused p) verdict-is
+      unfolding verdict_of
+      decode-refused c p h = let q = handed_on c h in refused_call c q (ap verdict_of q ∙ sym (ap verdict_of p) ∙ verdict-is)
 
       -- the rounds that a number stands for
-      pub decode-done : (y : CorrectedBuffer) (limit : ℕ) → x ≡ check.Passed → limit ≡ rounds_allowed k → 1 ≤ limit → y ≡ decoded_buffer (params_of d) L limit l
+      pub decode-done : (y : CorrectedBuffer) (limit : ℕ) → x ≡ (Ok tt) → limit ≡ rounds_allowed k → 1 ≤ limit → y ≡ decoded_buffer (params_of d) L limit l
           → y ≡ original_decode_call m t M col L k l work
       unfolding decoded_buffer original_decode_call original_decoded original_counts
       decode-done y limit p q some b =

@@ -7,13 +7,12 @@
 // whose number is not 0. The bits that differ from those received are marked behind the numbers (crate `decoder_marks`).
 #![tactic(auto)]
 
-ghost use Rattle.std.specs.Prelude.{◌≡◌, ◌+◌, ◌*◌, ◌≤◌, length};
+ghost use Rattle.std.specs.Prelude.{◌≡◌, ◌+◌, ◌*◌, ◌≤◌, length, Ok};
 ghost use Rattle.staircase.specs.Design.{most-rounds};
 ghost use Rattle.staircase.specs.Decoder.{run_each};
 ghost use Rattle.staircase.specs.Outcomes.{last_stuck};
 ghost use Rattle.answers.specs.Answers.{verdict_of, buffer_decoded};
 ghost use Rattle.decoder_marks.specs.Marks.{MarksKept};
-ghost use Rattle.answers.specs.declared.Decoding.TheVariants as Decoding;
 ghost use Rattle.original.specs.Frame.{row_words, buffer_of};
 ghost use Rattle.original.specs.Rules.{original_work};
 ghost use Rattle.original.specs.Calls.{original_decode_call};
@@ -24,13 +23,19 @@ ghost use Rattle.original_decoder.specs.Kept.{marks_in, BufferKept};
 ghost use Rattle.original_decoder.specs.Answers.{decode_rules, decoded_buffer};
 ghost use Rattle.design.specs.Sizes.{params_of};
 
-use answers::{Check, Counts, Decoding};
+use answers::{Counts, Refusal};
 use decoder_frame::{Made, Stretch};
-use design::{Design, Designed};
+use design::Design;
 use layout::{Frames, Line, Shape};
 
 // Rules 4 to 6 and 10 for a buffer of blocks that is to be decoded, with `work` working bytes. One pass over it.
-fn check_received(d: Design, blocks: u64, rounds: u64, buffer: &[u8], work: usize) -> Check
+fn check_received(
+    d: Design,
+    blocks: u64,
+    rounds: u64,
+    buffer: &[u8],
+    work: usize,
+) -> Result<(), Refusal>
     ensures { verdict_of result ≡ decode_rules (params_of d) blocks rounds buffer.now work }
 {
     let due = rules::original_decoder_due(d, blocks);
@@ -56,29 +61,16 @@ fn run_rounds(
         (buffer_of buffer.new) (marks_in d blocks kept.new) }
 {
     let frames = Frames {
-        d: d,
+        d,
         shape: Shape::Original,
-        blocks: blocks,
+        blocks,
     };
-    let line = Line {
-        frames: frames,
-        k: 0,
-    };
+    let line = Line { frames, k: 0 };
     let stretch = Stretch {
         lines: blocks,
-        limit: limit,
+        limit,
     };
-    let mut none = [0u8; 0];
-    decoder_frame::run_rounds(
-        line,
-        stretch,
-        &field[0..0],
-        tables,
-        field,
-        buffer,
-        &mut none,
-        kept,
-    )
+    decoder_frame::run_rounds(line, stretch, &[], tables, field, buffer, &mut [], kept)
 }
 
 // Runs the rounds over a buffer, with the tables of the design lent, and counts. The kept numbers of all rows stand first in `kept`, and behind them is
@@ -93,7 +85,7 @@ fn correct_rows(
     kept: &mut [u8],
 ) -> Counts
     requires { WordTables (row_frames d blocks) tables.now field.now × BufferKept d blocks buffer.old kept.old × (1 ≤ limit) × (limit ≤ most-rounds) }
-    ensures { (buffer_decoded (Decoding.Decoded result) buffer.new ≡ decoded_buffer (params_of d) blocks limit buffer.old)
+    ensures { (buffer_decoded (Ok result) buffer.new ≡ decoded_buffer (params_of d) blocks limit buffer.old)
         × (length buffer.new ≡ length buffer.old) × (length kept.new ≡ length kept.old) }
 {
     let size = d.size();
@@ -106,8 +98,8 @@ fn correct_rows(
     let outside = decoder_kept::count(&kept[0..n], rows);
     Counts {
         rounds: made.rounds as u64,
-        turned: turned,
-        outside: outside,
+        turned,
+        outside,
         stuck: made.stuck as u64,
     }
 }
@@ -121,13 +113,13 @@ fn correct_outside(
     kept: &mut [u8],
 ) -> Counts
     requires { BufferKept d blocks buffer.old kept.old × (1 ≤ limit) × (limit ≤ most-rounds) }
-    ensures { (buffer_decoded (Decoding.Decoded result) buffer.new ≡ decoded_buffer (params_of d) blocks limit buffer.old)
+    ensures { (buffer_decoded (Ok result) buffer.new ≡ decoded_buffer (params_of d) blocks limit buffer.old)
         × (length buffer.new ≡ length buffer.old) × (length kept.new ≡ length kept.old) }
 {
     let frames = Frames {
-        d: d,
+        d,
         shape: Shape::Original,
-        blocks: blocks,
+        blocks,
     };
     let due = 2 * d.row_bits() + 128;
     let powers = 1 << d.m();
@@ -155,17 +147,16 @@ fn correct_buffer(
     work: &mut [u8],
 ) -> Counts
     requires { BufferFits d blocks buffer.old × (length work.old ≡ original_work (params_of d) blocks) × (1 ≤ limit) × (limit ≤ most-rounds) }
-    ensures { buffer_decoded (Decoding.Decoded result) buffer.new ≡ decoded_buffer (params_of d) blocks limit buffer.old }
+    ensures { buffer_decoded (Ok result) buffer.new ≡ decoded_buffer (params_of d) blocks limit buffer.old }
 {
     let size = d.size();
     let rows = blocks * size;
     let frames = Frames {
-        d: d,
+        d,
         shape: Shape::Original,
-        blocks: blocks,
+        blocks,
     };
-    let none = [0u8; 0];
-    decoder_frame::fill_kept(frames, &none, &none, &buffer[..], &none, work);
+    decoder_frame::fill_kept(frames, &[], &[], &buffer[..], &[], work);
     let wrong = decoder_kept::count(&work[0..4 * rows], rows);
     if wrong == 0 {
         return Counts {
@@ -190,19 +181,13 @@ pub fn decode_col(
     rounds: u64,
     buffer: &mut [u8],
     work: &mut [u8],
-) -> Decoding
+) -> Result<Counts, Refusal>
     ensures { buffer_decoded result buffer.new ≡ original_decode_call m t size col blocks rounds buffer.old (length work.old) }
 {
-    let designed = Design::of_original_col(m, t, size, col);
-    let Designed::Made(d) = designed else {
-        return answers::refused_frame(design::design_check(designed));
-    };
-    let received = check_received(d, blocks, rounds, &buffer[..], work.len());
-    let Check::Passed = received else {
-        return answers::refused_frame(received);
-    };
+    let d = Design::of_original_col(m, t, size, col)?;
+    check_received(d, blocks, rounds, &buffer[..], work.len())?;
     let limit = decoder_frame::rounds_allowed(rounds);
-    Decoding::Decoded(correct_buffer(d, blocks as usize, limit, buffer, work))
+    Ok(correct_buffer(d, blocks as usize, limit, buffer, work))
 }
 
 // The same where rows and columns have one code.
@@ -214,7 +199,7 @@ pub fn decode(
     rounds: u64,
     buffer: &mut [u8],
     work: &mut [u8],
-) -> Decoding
+) -> Result<Counts, Refusal>
     ensures { buffer_decoded result buffer.new ≡ original_decode_call m t size 0 blocks rounds buffer.old (length work.old) }
 {
     decode_col(m, t, size, 0, blocks, rounds, buffer, work)

@@ -4,9 +4,9 @@
 --   rows_named          rows written, by other names
 --   remainders_long     as many remainders as rows
 --   Done                the rows of the first b blocks are codewords, the information is as it was, and the blocks behind are untouched
---   done_none, done_next, done_all   no block, one block more, all blocks
+--   done_next, done_all              one block more, all blocks
 -- Assumes nothing.
-use mathlib.Core.Path.{◌≡◌, refl, sym, ap, ap₂, ◌∙◌, subst}
+use mathlib.Core.Path.{◌≡◌, sym, ap, ap₂, ◌∙◌, subst}
 use mathlib.Core.Bool.{Bool, true, cond}
 use mathlib.Core.Logic.{inl, inr}
 use mathlib.Core.List.{List, ◌++◌, map-append}
@@ -115,9 +115,6 @@ module _ (s : Params) (rpos : 0 < s.r) (thin : s.r < s.M) (deg : s.g / 2 ^ s.r �
 
   Mpos : 0 < s.M
   Mpos = omega (arith, thin)
-
-  pub done_none : Done s c 0 c
-  done_none = record { same_length = refl; binary = bits; info = λ k h. refl; rest = λ k h. refl; coded = λ d a h. absurd (omega (arith, h)) }
 
   module _ (b : ℕ) (hb : b < L) (cur new : List ℕ) (D : Done s c b cur)
       (R : RowsAt s.M s.M s.r (b * (s.M * s.M)) (λ a. get_or (row_remainders s cur b) a 0) cur new) where

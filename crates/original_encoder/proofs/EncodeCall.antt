@@ -2,6 +2,7 @@
 --   information_fits            what rules 4, 6 and 10 leave
 --   encode-design, encode-refused, encode-made   the call's answer at each of its ends
 -- Assumes nothing.
+use Rattle.std.specs.Prelude.{Err, Ok, Result, IsErr, IsErrAnd}
 use mathlib.Core.Path.{◌≡◌, refl, sym, ap, ap₂, ◌∙◌}
 use mathlib.Core.Logic.{◌≢◌}
 use mathlib.Core.List.{List}
@@ -12,24 +13,20 @@ use Rattle.staircase.specs.Rules.{Verdict, ◌then◌, count_rule, rounds_rule, 
 use Rattle.staircase.specs.Rules.Verdict.{accepted, refused}
 use Rattle.staircase.proofs.Rules.{then_first, then_rest}
 use Rattle.answers.specs.declared.Refusal.{Refusal}
-use Rattle.answers.specs.declared.Check.{Check}
-use Rattle.answers.specs.declared.Check.TheVariants as check
 use Rattle.answers.specs.Answers.{verdict_of, written_of}
-use Rattle.answers.proofs.Checks.{refused_then, check_refused, check_passed}
+use Rattle.answers.proofs.Checks.{handed_on, refused_on, check_refused, check_passed}
 use Rattle.original.specs.Frame.{encoded}
 use Rattle.original.specs.Rules.{original_rules, info_bits}
 use Rattle.original.specs.Demand.{InfoBits}
 use Rattle.original.specs.Calls.{original_encode_verdict, written_by, original_encode_call}
 use Rattle.original.proofs.Rules.{info_bits-bits}
 use Rattle.design.specs.declared.Design.{Design}
-use Rattle.design.specs.declared.Designed.{Designed}
-use Rattle.design.specs.declared.Designed.TheVariants as designed
-use Rattle.design.specs.Answers.{design_verdict, DesignIs, AllowedOriginal}
+use Rattle.design.specs.Answers.{DesignIs, AllowedOriginal}
 use Rattle.design.specs.Sizes.{params_of}
 use Rattle.original_rows.specs.Rows.{buffer_rules}
 use Rattle.original_rows.proofs.Checked.{buffer_limits}
 use Rattle.original_encoder.specs.Written.{BufferLong, encode_rules}
-use Rattle.design.proofs.Answers.{design-refused, design-made, made-params}
+use Rattle.design.proofs.Answers.{made-params, made-design}
 
 pub information_fits : (d : Design) → AllowedOriginal d → (L : ℕ) (l : List ℕ) → encode_rules (params_of d) L l ≡ accepted → BufferLong d L l × InfoBits (params_of d) l
 unfolding encode_rules
@@ -53,28 +50,27 @@ module _ (m t M col L : ℕ) (l : List ℕ) where
       flat accepted v w = refl
       flat (refused n p) v w = refl
 
-  refused_call : (x : Check) → verdict_of x ≢ accepted → verdict_of x ≡ original_encode_verdict m t M col L l → written_of x l ≡ original_encode_call m t M col L l
+  -- c is what the call hands on
+  refused_call : (c : Result Unit Refusal) {r : Refusal} → c ≡ Err r → verdict_of c ≡ original_encode_verdict m t M col L l → written_of c l ≡ original_encode_call m t M col L l
   unfolding original_encode_call
-  refused_call x other e = by-refused (verdict_of x) l made other ∙ ap (λ (v : Verdict). written_by v l made) e
+  refused_call c k e = by-refused (verdict_of c) l made (check_refused k) ∙ ap (λ (v : Verdict). written_by v l made) e
 
-  module _ (a : Designed) (n : design_verdict a ≡ original_rules m t M col) where
-    pub encode-design : (x : Check) (r : Refusal) → a ≡ designed.Refused r → verdict_of x ≡ design_verdict a → written_of x l ≡ original_encode_call m t M col L l
-    encode-design x r g e =
-        let same : verdict_of x ≡ verdict_of (check.Refused r) = e ∙ design-refused g in
-        refused_call x (λ z. check_refused {r = r} refl (sym same ∙ z))
-        (same ∙ refused_then (encode_rules (params m t M col) L l) (sym (design-refused g) ∙ n) refl ∙ whole)
+  abbrev rules : Params → Verdict
+  rules s = encode_rules s L l
 
-    module _ (i : DesignIs a m t M col) (d : Design) (g : a ≡ designed.Made d) (x : Check) (e : verdict_of x ≡ encode_rules (params_of d) L l) where
+  module _ (a : Result Design Refusal) (n : verdict_of a ≡ original_rules m t M col) where
+    pub encode-design : (c : Result Unit Refusal) {r : Refusal} → a ≡ Err r → IsErr c × IsErrAnd c (λ (e : Refusal). e ≡ r) → written_of c l ≡ original_encode_call m t M col L l
+    encode-design c g h = refused_call c (handed_on c h.1) (refused_on (rules (params m t M col)) n c g h ∙ whole)
+
+    module _ (i : DesignIs a m t M col) (d : Design) (g : a ≡ Ok d) (x : Result Unit Refusal) (e : verdict_of x ≡ encode_rules (params_of d) L l) where
       verdict-is : verdict_of x ≡ original_encode_verdict m t M col L l
-      verdict-is =
-          e ∙ ap (λ (s : Params). encode_rules s L l) (made-params g m t M col i)
-          ∙ ap (λ (z : Verdict). z then encode_rules (params m t M col) L l) (sym (design-made g) ∙ n) ∙ whole
+      verdict-is = made-design m t M col rules a n x i g e ∙ whole
 
-      pub encode-refused : (r : Refusal) → x ≡ check.Refused r → written_of x l ≡ original_encode_call m t M col L l
-      encode-refused r p = refused_call x (check_refused p) verdict-is
+      pub encode-refused : (c : Result Unit Refusal) {r : Refusal} → x ≡ Err r → IsErrAnd c (λ (e : Refusal). e ≡ r) → written_of c l ≡ original_encode_call m t M col L l
+      encode-refused c p h = let k = handed_on c h in refused_call c k (ap verdict_of k ∙ sym (ap verdict_of p) ∙ verdict-is)
 
-      pub encode-made : (new : List ℕ) → x ≡ check.Passed → new ≡ encoded (params_of d) L l → written_of check.Passed new ≡ original_encode_call m t M col L l
+      pub encode-made : (new : List ℕ) → x ≡ (Ok tt) → new ≡ encoded (params_of d) L l → written_of {A = Unit} (Ok tt) new ≡ original_encode_call m t M col L l
       unfolding original_encode_call
       encode-made new p b =
-          ap₂ (λ (v : Verdict) (z : List ℕ). record { verdict = v; buffer = z }) (check_passed {x = check.Passed} refl) (b ∙ ap (λ (s : Params). encoded s L l) (made-params g m t M col i))
+          ap₂ (λ (v : Verdict) (z : List ℕ). record { verdict = v; buffer = z }) (check_passed {A = Unit} {x = Ok tt} refl) (b ∙ ap (λ (s : Params). encoded s L l) (made-params g m t M col i))
           ∙ ap (λ (v : Verdict). written_by v l made) (sym (check_passed p) ∙ verdict-is)

@@ -21,8 +21,8 @@ ghost use Rattle.original_rows.specs.Rows.{BufferFits};
 ghost use Rattle.original_encoder.specs.Written.{row_remainders, DigitsAt, RowsAt, ParityZero, BufferLong, width_bits, encode_rules};
 ghost use Rattle.design.specs.Sizes.{params_of};
 
-use answers::Check;
-use design::{Design, Designed};
+use answers::Refusal;
+use design::Design;
 use layout::{Frames, Line, Shape};
 use rules::Lengths;
 
@@ -32,9 +32,7 @@ fn put_digits(x: u32, r: usize, from: usize, buffer: &mut [u8])
     ensures { DigitsAt r r from x buffer.old buffer.new }
 {
     let mut rest = x;
-    let mut j = r;
-    while 0 < j {
-        j -= 1;
+    for j in (0..r).rev() {
         buffer[from + j] = (rest % 2) as u8;
         rest = rest / 2;
     }
@@ -46,8 +44,8 @@ fn put_rows(sums: &[u32], r: usize, at: usize, buffer: &mut [u8])
     ensures { RowsAt (length sums.now) (length sums.now) r at (λ a. get_or sums.now a 0) buffer.old buffer.new }
 {
     let size = sums.len();
-    for a in 0..size {
-        put_digits(sums[a], r, at + a * size + (size - r), buffer);
+    for (a, &sum) in sums.iter().enumerate() {
+        put_digits(sum, r, at + a * size + (size - r), buffer);
     }
 }
 
@@ -56,6 +54,7 @@ fn clear_parity(size: usize, r: usize, rows: usize, buffer: &mut [u8])
     requires { (r ≤ 30) × (r ≤ size) × (rows * size ≡ length buffer.old) × (length buffer.old ≤ 1073741824) }
     ensures { RowsAt rows size r 0 (λ a. 0) buffer.old buffer.new }
 {
+    // kept as an index loop: chunks_exact_mut would leave `rows`, of which the contract speaks, unread
     for i in 0..rows {
         put_digits(0, r, i * size + (size - r), buffer);
     }
@@ -80,25 +79,12 @@ fn encode_block(
     let area = d.area();
     let r = d.r();
     let frames = Frames {
-        d: d,
+        d,
         shape: Shape::Original,
-        blocks: blocks,
+        blocks,
     };
-    let line = Line {
-        frames: frames,
-        k: b,
-    };
-    let none = [0u8; 0];
-    words_lines::line_remainders(
-        line,
-        &none,
-        &none,
-        &buffer[..],
-        &none,
-        positions,
-        tables,
-        sums,
-    );
+    let line = Line { frames, k: b };
+    words_lines::line_remainders(line, &[], &[], &buffer[..], &[], positions, tables, sums);
     put_rows(&sums[..], r, b * area, buffer);
 }
 
@@ -150,14 +136,7 @@ fn encode_cleared(d: Design, blocks: usize, positions: &[u32], buffer: &mut [u8]
     let due = words_tables::parts_due(blocks, size, 0);
     if due == 0 {
         let mut sums = words_lines::sum_entries();
-        return encode_blocks(
-            d,
-            blocks,
-            positions,
-            &positions[0..0],
-            &mut sums[0..size],
-            buffer,
-        );
+        return encode_blocks(d, blocks, positions, &[], &mut sums[0..size], buffer);
     }
     encode_by_tables(d, blocks, positions, due, buffer)
 }
@@ -179,22 +158,20 @@ fn encode_buffer(d: Design, blocks: usize, buffer: &mut [u8])
 }
 
 // Rule 10 for the information of a buffer of rows.
-fn check_rows(size: usize, width: usize, rows: usize, buffer: &[u8]) -> Check
+fn check_rows(size: usize, width: usize, rows: usize, buffer: &[u8]) -> Result<(), Refusal>
     requires { (width ≤ size) × (0 < size) × (rows * size ≡ length buffer.now) × (length buffer.now ≤ 1073741824) }
     ensures { verdict_of result ≡ width_bits size width buffer.now }
 {
+    // kept as an index loop: rule 10 asks for the byte at which a row begins, and chunks_exact leaves `rows` unread
     for i in 0..rows {
         let at = i * size;
-        let row = rules::check_bits(&buffer[at..at + width], at as u64);
-        let Check::Passed = row else {
-            return row;
-        };
+        rules::check_bits(&buffer[at..at + width], at as u64)?;
     }
-    Check::Passed
+    Ok(())
 }
 
 // Rules 4, 6 and 10 for a buffer that is to be encoded. One pass over its information.
-fn check_information(d: Design, blocks: u64, buffer: &[u8]) -> Check
+fn check_information(d: Design, blocks: u64, buffer: &[u8]) -> Result<(), Refusal>
     requires { AllowedOriginal d }
     ensures { verdict_of result ≡ encode_rules (params_of d) blocks buffer.now }
 {
@@ -207,10 +184,7 @@ fn check_information(d: Design, blocks: u64, buffer: &[u8]) -> Check
         work: 0,
     };
     let due = rules::original_due(d, blocks);
-    let lengths = rules::check_frame(blocks, 0, have, due);
-    let Check::Passed = lengths else {
-        return lengths;
-    };
+    rules::check_frame(blocks, 0, have, due)?;
     let size = d.size();
     let r = d.r();
     check_rows(size, size - r, (blocks as usize) * size, buffer)
@@ -219,23 +193,24 @@ fn check_information(d: Design, blocks: u64, buffer: &[u8]) -> Check
 // The encoder: writes the last r columns of each block of the lent buffer of `blocks` blocks, or refuses it by the first of rules 1, 2, 19, 4, 6 and 10;
 // a refused buffer is left as it was. Rule 10 does not judge what the last r columns held. The work is one step for each bit of the rows, two for each bit
 // of the buffer.
-pub fn encode_col(m: u64, t: u64, size: u64, col: u64, blocks: u64, buffer: &mut [u8]) -> Check
+pub fn encode_col(
+    m: u64,
+    t: u64,
+    size: u64,
+    col: u64,
+    blocks: u64,
+    buffer: &mut [u8],
+) -> Result<(), Refusal>
     ensures { written_of result buffer.new ≡ original_encode_call m t size col blocks buffer.old }
 {
-    let designed = Design::of_original_col(m, t, size, col);
-    let Designed::Made(d) = designed else {
-        return design::design_check(designed);
-    };
-    let information = check_information(d, blocks, &buffer[..]);
-    let Check::Passed = information else {
-        return information;
-    };
+    let d = Design::of_original_col(m, t, size, col)?;
+    check_information(d, blocks, &buffer[..])?;
     encode_buffer(d, blocks as usize, buffer);
-    Check::Passed
+    Ok(())
 }
 
 // The same where rows and columns have one code.
-pub fn encode(m: u64, t: u64, size: u64, blocks: u64, buffer: &mut [u8]) -> Check
+pub fn encode(m: u64, t: u64, size: u64, blocks: u64, buffer: &mut [u8]) -> Result<(), Refusal>
     ensures { written_of result buffer.new ≡ original_encode_call m t size 0 blocks buffer.old }
 {
     encode_col(m, t, size, 0, blocks, buffer)

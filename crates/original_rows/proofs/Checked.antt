@@ -5,8 +5,8 @@
 --   received_fits               what rules 4, 6 and 10 leave
 --   words-design, words_received, words-counted   the call's answer at each of its ends
 -- Assumes nothing.
+use Rattle.std.specs.Prelude.{Err, Ok, Result, IsErr, IsErrAnd}
 use mathlib.Core.Path.{◌≡◌, refl, sym, ap, ap₂, ◌∙◌}
-use mathlib.Core.Logic.{◌≢◌}
 use mathlib.Core.List.{List}
 use Prim.Native.Nat.{ℕ, ◌*◌, ◌≤◌}
 use lib.Dec.{ltb}
@@ -20,13 +20,9 @@ use Rattle.staircase.specs.Calls.{counted_by}
 use Rattle.staircase.proofs.Bounds.{small_product}
 use Rattle.staircase.proofs.Rules.{then_first, then_rest, refuse-false, count_limits, length_equal, bytes_bits}
 use Rattle.answers.specs.declared.Refusal.{Refusal}
-use Rattle.answers.specs.declared.Check.{Check}
-use Rattle.answers.specs.declared.Check.TheVariants as check
-use Rattle.answers.specs.Answers.{verdict_of, counted_of}
-use Rattle.answers.proofs.Checks.{refused_then, check_refused, check_passed}
-use Rattle.answers.specs.declared.WordCount.{WordCount}
-use Rattle.answers.specs.declared.WordCount.TheVariants as count
-use Rattle.design.specs.Answers.{design_verdict, DesignIs, AllowedOriginal}
+use Rattle.answers.specs.Answers.{refusal_verdict, verdict_of, counted_of}
+use Rattle.answers.proofs.Checks.{handed_on, refused_on, check_passed, refusal_refuses, counted-refused}
+use Rattle.design.specs.Answers.{DesignIs, AllowedOriginal}
 use Rattle.rules.specs.declared.lengths.Lengths.{Lengths}
 use Rattle.rules.specs.Lengths.{lengths_rule, buffer_lengths, original_due, size_rules}
 use Rattle.rules.proofs.Chain.{then_none, sizes_where}
@@ -35,10 +31,8 @@ use Rattle.original.specs.Frame.{buffer_of, row_words}
 use Rattle.original.specs.Rules.{original_rules}
 use Rattle.original.specs.Calls.{original_words_verdict, original_words_call}
 use Rattle.design.specs.declared.Design.{Design}
-use Rattle.design.specs.declared.Designed.{Designed}
-use Rattle.design.specs.declared.Designed.TheVariants as designed
 use Rattle.design.specs.Sizes.{params_of}
-use Rattle.design.proofs.Answers.{design-refused, design-made, made-params}
+use Rattle.design.proofs.Answers.{made-params, made-design}
 use Rattle.original_rows.specs.Rows.{BufferFits, buffer_rules, received_rules}
 
 -- what lacks has no bytes, and none are due
@@ -80,30 +74,30 @@ module _ (m t M col L : ℕ) (l : List ℕ) where
       flat accepted v w = refl
       flat (refused n p) v w = refl
 
-  refused_call : (c : WordCount) (x : Check) → counted_of c ≡ counted_by (verdict_of x) 0 → verdict_of x ≢ accepted → verdict_of x ≡ original_words_verdict m t M col L l
-      → counted_of c ≡ original_words_call m t M col L l
-  unfolding original_words_call
-  refused_call c x k other e = k ∙ by-refused (verdict_of x) number other ∙ ap (λ (v : Verdict). counted_by v number) e
+  refused_call : (c : Result ℕ Refusal) {r : Refusal} → c ≡ Err r → verdict_of c ≡ original_words_verdict m t M col L l → counted_of c ≡ original_words_call m t M col L l
+  unfolding counted_of verdict_of original_words_call
+  refused_call c {r} k e =
+      ap counted_of k ∙ counted-refused (refusal_verdict r) ∙ by-refused (refusal_verdict r) number (refusal_refuses r)
+      ∙ ap (λ (v : Verdict). counted_by v number) (sym (ap verdict_of k) ∙ e)
 
-  module _ (a : Designed) (n : design_verdict a ≡ original_rules m t M col) where
-    pub words-design : (c : WordCount) (x : Check) (r : Refusal) → counted_of c ≡ counted_by (verdict_of x) 0 → a ≡ designed.Refused r → verdict_of x ≡ design_verdict a
-        → counted_of c ≡ original_words_call m t M col L l
-    words-design c x r k g e =
-        let same : verdict_of x ≡ verdict_of (check.Refused r) = e ∙ design-refused g in
-        refused_call c x k (λ z. check_refused {r = r} refl (sym same ∙ z))
-        (same ∙ refused_then (received_rules (params m t M col) L l) (sym (design-refused g) ∙ n) refl ∙ whole)
+  abbrev rules : Params → Verdict
+  rules s = received_rules s L l
 
-    module _ (i : DesignIs a m t M col) (d : Design) (g : a ≡ designed.Made d) (x : Check) (e : verdict_of x ≡ received_rules (params_of d) L l) where
+  module _ (a : Result Design Refusal) (n : verdict_of a ≡ original_rules m t M col) where
+    -- c is what the call hands on
+    pub words-design : (c : Result ℕ Refusal) {r : Refusal} → a ≡ Err r → IsErr c × IsErrAnd c (λ (e : Refusal). e ≡ r) → counted_of c ≡ original_words_call m t M col L l
+    words-design c g h = refused_call c (handed_on c h.1) (refused_on (rules (params m t M col)) n c g h ∙ whole)
+
+    module _ (i : DesignIs a m t M col) (d : Design) (g : a ≡ Ok d) (x : Result Unit Refusal) (e : verdict_of x ≡ received_rules (params_of d) L l) where
       verdict-is : verdict_of x ≡ original_words_verdict m t M col L l
-      verdict-is =
-          e ∙ ap (λ (s : Params). received_rules s L l) (made-params g m t M col i)
-          ∙ ap (λ (z : Verdict). z then received_rules (params m t M col) L l) (sym (design-made g) ∙ n) ∙ whole
+      verdict-is = made-design m t M col rules a n x i g e ∙ whole
 
-      pub words_received : (c : WordCount) (r : Refusal) → counted_of c ≡ counted_by (verdict_of x) 0 → x ≡ check.Refused r → counted_of c ≡ original_words_call m t M col L l
-      words_received c r k p = refused_call c x k (check_refused p) verdict-is
+      pub words_received : (c : Result ℕ Refusal) {r : Refusal} → x ≡ Err r → IsErrAnd c (λ (e : Refusal). e ≡ r) → counted_of c ≡ original_words_call m t M col L l
+      unfolding verdict_of
+      words_received c p h = let k = handed_on c h in refused_call c k (ap verdict_of k ∙ sym (ap verdict_of p) ∙ verdict-is)
 
-      pub words-counted : (k : ℕ) → x ≡ check.Passed → k ≡ outside_each (buffer_of l) (row_words (params_of d) L)
-          → counted_of (count.Counted k) ≡ original_words_call m t M col L l
+      pub words-counted : (k : ℕ) → x ≡ (Ok tt) → k ≡ outside_each (buffer_of l) (row_words (params_of d) L)
+          → counted_of (Ok k) ≡ original_words_call m t M col L l
       unfolding counted_of original_words_call
       words-counted k p b =
           ap₂ counted_by (sym (check_passed p) ∙ verdict-is) (b ∙ ap (λ (s : Params). outside_each (buffer_of l) (row_words s L)) (made-params g m t M col i))

@@ -11,8 +11,8 @@ ghost use Rattle.original.specs.Calls.{original_words_call};
 ghost use Rattle.design.specs.Sizes.{params_of};
 ghost use Rattle.original_rows.specs.Rows.{BufferFits, received_rules};
 
-use answers::{Check, WordCount};
-use design::{Design, Designed};
+use answers::Refusal;
+use design::Design;
 use layout::{Frames, Shape};
 
 // How many rows of a buffer of blocks are outside the code. One step for each bit of the rows, or for each eight by tables of sums.
@@ -21,16 +21,15 @@ fn count_outside(d: Design, blocks: usize, buffer: &[u8]) -> u64
     ensures { result ≡ outside_each (buffer_of buffer.now) (row_words (params_of d) blocks) }
 {
     let frames = Frames {
-        d: d,
+        d,
         shape: Shape::Original,
-        blocks: blocks,
+        blocks,
     };
-    let none = &buffer[0..0];
-    words_lines::count_outside(frames, none, none, buffer, none)
+    words_lines::count_outside(frames, &[], &[], buffer, &[])
 }
 
 // Rules 4, 6 and 10 for a buffer of blocks. One pass over it.
-fn check_received(d: Design, blocks: u64, buffer: &[u8]) -> Check
+fn check_received(d: Design, blocks: u64, buffer: &[u8]) -> Result<(), Refusal>
     ensures { verdict_of result ≡ received_rules (params_of d) blocks buffer.now }
 {
     rules::check_buffer(blocks, 0, rules::original_due(d, blocks), buffer, 0)
@@ -38,22 +37,23 @@ fn check_received(d: Design, blocks: u64, buffer: &[u8]) -> Check
 
 // The word checker: how many rows of the lent buffer of `blocks` blocks are outside the code, or the table's number and place of the first of rules 1,
 // 2, 19, 4, 6 and 10 that refuses. The work is one step for each bit of the rows, two for each bit of the buffer.
-pub fn check_words_col(m: u64, t: u64, size: u64, col: u64, blocks: u64, buffer: &[u8]) -> WordCount
+pub fn check_words_col(
+    m: u64,
+    t: u64,
+    size: u64,
+    col: u64,
+    blocks: u64,
+    buffer: &[u8],
+) -> Result<u64, Refusal>
     ensures { counted_of result ≡ original_words_call m t size col blocks buffer.now }
 {
-    let designed = Design::of_original_col(m, t, size, col);
-    let Designed::Made(d) = designed else {
-        return answers::refused_count(design::design_check(designed));
-    };
-    let received = check_received(d, blocks, buffer);
-    let Check::Passed = received else {
-        return answers::refused_count(received);
-    };
-    WordCount::Counted(count_outside(d, blocks as usize, buffer))
+    let d = Design::of_original_col(m, t, size, col)?;
+    check_received(d, blocks, buffer)?;
+    Ok(count_outside(d, blocks as usize, buffer))
 }
 
 // The same where rows and columns have one code.
-pub fn check_words(m: u64, t: u64, size: u64, blocks: u64, buffer: &[u8]) -> WordCount
+pub fn check_words(m: u64, t: u64, size: u64, blocks: u64, buffer: &[u8]) -> Result<u64, Refusal>
     ensures { counted_of result ≡ original_words_call m t size 0 blocks buffer.now }
 {
     check_words_col(m, t, size, 0, blocks, buffer)

@@ -3,6 +3,7 @@
 --   printed-refusal .. refused-prints   the lines of a refusal
 --   output-printed, output-none         what a program prints, where the buffer is long enough and where it is not
 -- Assumes nothing.
+use Rattle.std.specs.Prelude.{Err, Result}
 use mathlib.Core.Path.{◌≡◌, refl, sym, ◌∙◌}
 use mathlib.Core.List.{List}
 use Prim.Native.Nat.{ℕ, ◌+◌, ◌≤◌, ◌<◌}
@@ -10,8 +11,6 @@ use native.Mathlib.Omega.{arith}
 use lib.ListN.{length}
 use lib.Seq.{sets, length-sets, length-take-le}
 use borrow.Author.Tests.{lt-leb, le-leb}
-use Rattle.answers.specs.declared.Check.{Check}
-use Rattle.answers.specs.declared.Check.TheVariants as check
 use Rattle.answers.specs.declared.Refusal.{Refusal}
 use Rattle.answers.specs.Answers.{refusal_verdict, verdict_of}
 use Rattle.rules_verdict.specs.declared.Judged.{Judged}
@@ -47,7 +46,7 @@ unfolding printed
 printed-refused r j t o new n e p = rw (refusal_judged r j e) p
 
 -- the same for the answer of a check
-pub refused-prints : (c : Check) (r : Refusal) (j : Judged) → c ≡ check.Refused r → j ≡ judged_of (refusal_verdict r) → (t o new : List ℕ) (n : ℕ)
+pub refused-prints : (c : Result Unit Refusal) (r : Refusal) (j : Judged) → c ≡ Err r → j ≡ judged_of (refusal_verdict r) → (t o new : List ℕ) (n : ℕ)
     → Printed (refusal_text j.rule j.place) n o new → Printed (printed (verdict_of c) t) n o new
 unfolding verdict_of
 refused-prints c r j f e t o new n p = rw f (printed-refused r j t o new n e p)

@@ -1,6 +1,7 @@
 -- What the steps of a program know of a kit and a text that were scanned.
 --   order_is, few-entries            the design's order, by the kit and at most 181
 --   kit-left                         the kit's reader leaves what the text shows
+--   kit_reads                        and accepts it
 --   blocks-scanned, frame-scanned    what was scanned, as rule 12 of the one text or the other
 --   few-blocks, red-short            a text has at most 4,096 blocks, and their redundancy at most 245,941 bits
 --   list-room .. red-room            the sizes have room in the arrays
@@ -26,6 +27,10 @@ use Rattle.text.specs.KitReader.{kit_params, self_of, parity_of, inverse_of, rea
 use Rattle.text.proofs.KitPromises.{kit-order-small, kit-read}
 use Rattle.text.specs.FrameReader.{block_rule, block_count, frame_rule, frame_count}
 use Rattle.text.proofs.FramePromises.{blocks_hold, frame_holds}
+use Rattle.std.specs.Prelude.{Result, IsOk}
+use Rattle.answers.specs.declared.TextError.{TextError}
+use Rattle.text_kit.specs.Answers.{kit_scan_verdict}
+use Rattle.text_kit.proofs.ScanLaws.{kit_accepted}
 use Rattle.program.specs.Steps.{text_rule, text_count, Started, Scanned, SizesAre, RoomFor, ProgramReady}
 use Rattle.program.specs.declared.Sizes.{Sizes}
 use Rattle.program.proofs.Bounds.{few-rows, few-red}
@@ -48,6 +53,18 @@ module _ (d : Design) (kit text : List ℕ) (S : Started d kit text) where
       kit-read kit own parity w (a ∙ ap (λ (i : ℕ). 2 * i) n) (b ∙ ap (λ (i : ℕ). 2 * i) n) (c ∙ ap (λ (i : ℕ). i * row_bytes i) n) S.read
       in
       (k.1, k.2, k.3)
+
+pub kit_reads : (framed : Bool) (due : ℕ) (d : Design) (L : ℕ) (kit text own parity w : List ℕ) (info red work : ℕ)
+    → ProgramReady framed due d L kit text (length own) (length parity) (length w) info red work
+    → (x : Result Design TextError) → kit_scan_verdict x ≡ (read_kit_call kit own parity w).verdict → IsOk x
+kit_reads framed due d L kit text own parity w info red work R x e =
+    let S = R.scanned.started in
+    let n = order_is d kit text S in
+    let k =
+    kit-read kit own parity w (R.own-length ∙ ap (λ (i : ℕ). 2 * i) n) (R.parity-length ∙ ap (λ (i : ℕ). 2 * i) n)
+    (R.inverse-length ∙ ap (λ (i : ℕ). i * row_bytes i) n) S.read
+    in
+    kit_accepted x (e ∙ k.0)
 
 -- ---- the text
 

@@ -11,7 +11,7 @@
 --   FrameReady, MendReady     the same for `frame` with the encoder and for `mend` with the decoder
 --   GroupsFit, FrameSized      a frame whose groups, or all, are printed: what is printed has room
 -- Assumes nothing.
-use Rattle.std.specs.Prelude.{◌≡◌, Bool, true, false, List, ℕ, ◌+◌, ◌*◌, ◌≤◌, length, take}
+use Rattle.std.specs.Prelude.{◌≡◌, Bool, true, false, List, ℕ, ◌+◌, ◌*◌, ◌≤◌, length, take, Result, Ok, Err}
 use Rattle.staircase.specs.Design.{most-blocks}
 use Rattle.staircase.specs.Frame.{groups}
 use Rattle.staircase.specs.System.{row_bytes}
@@ -24,8 +24,7 @@ use Rattle.text.specs.KitReader.{head_number, scan_kit}
 use Rattle.text.specs.FrameReader.{block_rule, block_count, frame_rule, frame_count}
 use Rattle.text.specs.Programs.{most-input, input_rule}
 use Rattle.program.specs.declared.Sizes.{Sizes}
-use Rattle.program.specs.declared.Start.{Start}
-use Rattle.program.specs.declared.Start.TheVariants.{Go, Stop}
+use Rattle.rules_verdict.specs.declared.Judged.{Judged}
 
 -- ---- the text
 
@@ -58,9 +57,9 @@ pub record Scanned (framed : Bool) (d : Design) (L : ℕ) (kit text : List ℕ) 
   pub accepts : text_rule framed d.size (d.m * d.t) text ≡ accepted
   pub count : L ≡ text_count framed d.size (d.m * d.t) text
 
-unfoldable pub StartIs : Start → Bool → List ℕ → List ℕ → Type 0
-StartIs (Go d L) framed kit text = Scanned framed d L kit text
-StartIs (Stop rule place) framed kit text = start_rule framed kit text ≡ refused rule place
+unfoldable pub StartIs : Result (Design × ℕ) Judged → Bool → List ℕ → List ℕ → Type 0
+StartIs (Ok (d, L)) framed kit text = Scanned framed d L kit text
+StartIs (Err j) framed kit text = start_rule framed kit text ≡ refused j.rule j.place
 
 -- ---- what is lent
 

@@ -2,6 +2,7 @@
 // crates `program_frame`, `program_mend` and `program_makekit` make it, and the programs themselves only read their inputs and write it.
 //   MOST_INPUT, MOST_OUTPUT                the bytes that an input and an output may have
 //   begin(kit, text, framed)               rule 13 for both inputs, then the kit, then the text: the design and the number of blocks, or a refusal
+//   judge_error(rule, e)                   the number and place of a text's error
 //   sizes_of(d, blocks)                    the lengths that readers and calls are lent
 //   list_bytes, matrix_bytes, text_bits    arrays of fixed lengths, for so many bytes
 //   put_refusal(out, rule, place)          a refusal's two lines
@@ -14,26 +15,21 @@
 ghost use Rattle.std.specs.Prelude.{◌≡◌, List, ℕ, ◌*◌, ◌≤◌, length};
 ghost use Rattle.staircase.specs.Design.{most-blocks};
 ghost use Rattle.text.specs.Programs.{refusal_text, most-input};
+ghost use Rattle.rules_verdict.specs.Number.{judged_of};
+ghost use Rattle.text_items.specs.Answers.{error_verdict};
 ghost use Rattle.text_frame.specs.Answers.{blocks_verdict, CountIs};
 ghost use Rattle.program.specs.Output.{Printed, most-output};
 ghost use Rattle.program.specs.Steps.{text_rule, text_count, Started, StartIs, SizesAre, RoomFor};
 
+use answers::TextError;
 use design::Design;
-use text_frame::Blocks;
-use text_kit::KitScan;
+use rules_verdict::Judged;
 
 // Rule 13: "above 32,768 bytes".
 pub const MOST_INPUT: usize = 32768;
 
 // No output of a program is longer.
 pub const MOST_OUTPUT: usize = 262144;
-
-// The design of a program's kit and the number of blocks of its text, or the number and place of a refusal.
-#[derive(Clone, Copy)]
-pub enum Start {
-    Go(Design, u64),
-    Stop(u64, u64),
-}
 
 // M × r, and the bytes of a list, of the inverse, of the information and of the redundancy.
 #[derive(Clone, Copy)]
@@ -46,7 +42,7 @@ pub struct Sizes {
 }
 
 // Rule 12 for a text: frame text where it is framed, else block text.
-fn scan_text(text: &[u8], d: Design, framed: bool) -> Blocks
+fn scan_text(text: &[u8], d: Design, framed: bool) -> Result<u64, TextError>
     ensures result_value { blocks_verdict result ≡ text_rule framed d.size (d.m * d.t) text.now }
     ensures count_is { CountIs result (text_count framed d.size (d.m * d.t) text.now) }
 {
@@ -56,39 +52,40 @@ fn scan_text(text: &[u8], d: Design, framed: bool) -> Blocks
     text_frame::scan_blocks(text, d)
 }
 
-// The text, behind a kit that was scanned.
-fn begin_text(text: &[u8], d: Design, framed: bool) -> Start
-    ensures { (kit : List ℕ) → Started d kit text.now → StartIs result framed kit text.now }
+// The number and place of a text's error, for the rule of the text's format.
+pub fn judge_error(rule: u64, e: TextError) -> Judged
+    ensures { result ≡ judged_of (error_verdict rule e) }
 {
-    let scan = scan_text(text, d, framed);
-    match scan {
-        Blocks::Read(blocks) => Start::Go(d, blocks),
-        Blocks::Refused(r) => {
-            let judged = rules_verdict::of_refusal(r);
-            Start::Stop(judged.rule, judged.place)
-        }
-        Blocks::Broken(p) => Start::Stop(12, p),
+    match e {
+        TextError::Broken(place) => Judged { rule, place },
+        TextError::Refused(r) => Judged::from(r),
     }
 }
 
-// Rule 13 for both inputs, then the kit, then the text.
-pub fn begin(kit: &[u8], text: &[u8], framed: bool) -> Start
+// The text, behind a kit that was scanned.
+fn begin_text(text: &[u8], d: Design, framed: bool) -> Result<(Design, u64), Judged>
+    ensures { (kit : List ℕ) → Started d kit text.now → StartIs result framed kit text.now }
+{
+    // kept as a match: behind map_err no answer could name what the closure gives
+    match scan_text(text, d, framed) {
+        Ok(blocks) => Ok((d, blocks)),
+        Err(e) => Err(judge_error(12, e)),
+    }
+}
+
+// Rule 13 for both inputs, then the kit, then the text: the design and the number of blocks, or the number and place of a refusal.
+pub fn begin(kit: &[u8], text: &[u8], framed: bool) -> Result<(Design, u64), Judged>
     ensures { StartIs result framed kit.now text.now }
 {
     if MOST_INPUT < kit.len() {
-        return Start::Stop(13, 1);
+        return Err(Judged { rule: 13, place: 1 });
     }
     if MOST_INPUT < text.len() {
-        return Start::Stop(13, 2);
+        return Err(Judged { rule: 13, place: 2 });
     }
-    let scan = text_kit::scan_kit(kit);
-    match scan {
-        KitScan::Kit(d) => begin_text(text, d, framed),
-        KitScan::Refused(r) => {
-            let judged = rules_verdict::of_refusal(r);
-            Start::Stop(judged.rule, judged.place)
-        }
-        KitScan::Broken(p) => Start::Stop(11, p),
+    match text_kit::scan_kit(kit) {
+        Ok(d) => begin_text(text, d, framed),
+        Err(e) => Err(judge_error(11, e)),
     }
 }
 
@@ -105,9 +102,9 @@ pub fn sizes_of(d: Design, blocks: u64) -> Sizes
     Sizes {
         order: n,
         list: 2 * n,
-        inverse: inverse,
-        info: info,
-        red: red,
+        inverse,
+        info,
+        red,
     }
 }
 

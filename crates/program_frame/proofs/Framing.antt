@@ -2,8 +2,14 @@
 --   frame_stopped                          the refusal of a rule before the call
 --   group-bits .. passed-groups            the groups that are printed
 --   groups-fit                             they have room behind a text that was scanned
+--   blocks_read                            the blocks are read
 --   frame-printed                          what the encoder's answer prints is what `frame` prints
 -- Assumes nothing.
+use Rattle.answers.specs.declared.Refusal.{Refusal}
+use Rattle.std.specs.Prelude.{Ok, Result, IsOk}
+use Rattle.answers.specs.declared.TextError.{TextError}
+use Rattle.text_frame.specs.Answers.{blocks_verdict}
+use Rattle.text_frame.proofs.Answering.{blocks_accepted}
 use mathlib.Core.Path.{◌≡◌, refl, sym, ap, ap₂, ◌∙◌}
 use mathlib.Core.Bool.{false}
 use mathlib.Core.List.{List}
@@ -17,16 +23,15 @@ use Rattle.staircase.specs.Rules.{Verdict, frame_lengths, kit_work}
 use Rattle.staircase.specs.Rules.Verdict.{accepted, refused}
 use Rattle.staircase.specs.Calls.{Encoded, encode_verdict, encoded_by, encode_call}
 use Rattle.design.specs.declared.Design.{Design}
-use Rattle.answers.specs.declared.Check.{Check}
-use Rattle.answers.specs.declared.Check.TheVariants as check
 use Rattle.answers.specs.Answers.{verdict_of}
 use Rattle.design.specs.Sizes.{order_of}
 use Rattle.text.specs.FrameText.{group_text}
 use Rattle.text.specs.Programs.{refusal_text, printed, frame_call, frame_output}
 use Rattle.text_lines.proofs.Lines.{group-text-length}
 use Rattle.text.specs.KitReader.{head_number, read_kit_call}
-use Rattle.text.specs.FrameReader.{block_rule, block_info, read_blocks_call}
+use Rattle.text.specs.FrameReader.{block_rule, block_count, block_info, read_blocks_call}
 use Rattle.text.proofs.FramePromises.{blocks-left}
+use Rattle.staircase.proofs.Rules.{then_accepted, length-accepted}
 use Rattle.program.specs.Output.{most-output}
 use Rattle.program.specs.Steps.{text_rule, start_rule, Started, Scanned, FrameReady, GroupsFit}
 use Rattle.text.proofs.Programs.{stopped, called}
@@ -53,7 +58,7 @@ module _ (d : Design) (L : ℕ) (red : List ℕ) (F : GroupsFit d L (length red)
       let k : G ≤ 2048 = omega (arith, F.few) in
       omega (arith, group-text-length n G red few-groups group-bits, mul-add G (2 * n) 7, F.short, group-bits)
 
-  pub passed-groups : (c : Check) → c ≡ check.Passed → printed (verdict_of c) (group_text (order_of d) (groups L) red) ≡ group_text n G red
+  pub passed-groups : (c : Result Unit Refusal) → c ≡ (Ok tt) → printed (verdict_of c) (group_text (order_of d) (groups L) red) ≡ group_text n G red
   unfolding verdict_of printed
   passed-groups c f = rw (f, g, e)
 
@@ -65,6 +70,17 @@ groups-fit d L kit text own parity inverse info red work F q e =
       red-length = e ∙ F.red-length;
       short = omega (arith, F.red-length, red-short false d L kit text F.scanned);
     }
+
+-- ---- the text is read
+
+pub blocks_read : (d : Design) (L : ℕ) (kit text info : List ℕ) (own parity inverse red work : ℕ)
+    → FrameReady d L kit text own parity inverse (length info) red work
+    → (x : Result ℕ TextError) → blocks_verdict x ≡ (read_blocks_call d.size text info).verdict → IsOk x
+unfolding read_blocks_call
+blocks_read d L kit text info own parity inverse red work F x e =
+    let (a, c) = blocks-scanned d L kit text F.scanned in
+    let l : length info ≡ block_count d.size text * (d.size * d.size) = F.info-length ∙ ap (λ (j : ℕ). j * (d.size * d.size)) c in
+    blocks_accepted x (e ∙ then_accepted a (length-accepted 4 (length info) (block_count d.size text * (d.size * d.size)) l))
 
 -- ---- the call
 
@@ -123,7 +139,7 @@ module _ (d : Design) (L : ℕ) (kit text o₀ p₀ w₀ i₀ red : List ℕ) (w
       old_apart f (verdict red) (verdict zeros) red zeros _
       (measured d.m d.t d.size L work o p w i red zeros (F.red-length ∙ sym (length-replicate (groups L * (2 * order_of d)) 0)))
 
-  pub frame-printed : (c : Check) (red' : List ℕ) → verdict_of c ≡ (encode_call d.m d.t d.size 0 L o p w i red work).verdict
+  pub frame-printed : (c : Result Unit Refusal) (red' : List ℕ) → verdict_of c ≡ (encode_call d.m d.t d.size 0 L o p w i red work).verdict
       → red' ≡ (encode_call d.m d.t d.size 0 L o p w i red work).red
       → frame_output kit text ≡ printed (verdict_of c) (group_text (order_of d) (groups L) red')
   frame-printed c red' ev er =

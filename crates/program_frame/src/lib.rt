@@ -11,9 +11,9 @@ ghost use Rattle.program.specs.Output.{Printed, most-output, Output};
 ghost use Rattle.text.specs.Programs.{printed, frame_output};
 ghost use Rattle.program.specs.Steps.{Scanned, RoomFor, FrameReady, GroupsFit};
 
-use answers::Check;
+use answers::Refusal;
 use design::Design;
-use program::Start;
+use rules_verdict::Judged;
 
 // Redundancy of as many groups as the longest block text has. Only its room is told: at most 8,192 rows of blocks with r of at most 30 bits each, and
 // M × r, at most 181, more where the number of blocks is odd.
@@ -25,24 +25,30 @@ fn group_bits(n: usize) -> [u8; 245941]
 }
 
 // Writes the groups that the encoder made, or its refusal.
-fn put_encoded(out: &mut [u8], d: Design, blocks: u64, red: &[u8], made: Check) -> usize
+fn put_encoded(
+    out: &mut [u8],
+    d: Design,
+    blocks: u64,
+    red: &[u8],
+    made: Result<(), Refusal>,
+) -> usize
     requires groups_fit { GroupsFit d blocks (length red.now) }
     requires most_output_in_bounds { most-output ≤ length out.old }
     ensures { Printed (printed (verdict_of made) (group_text (order_of d) (groups blocks) red.now)) result out.old out.new }
 {
     match made {
-        Check::Refused(r) => {
-            let judged = rules_verdict::of_refusal(r);
+        Err(r) => {
+            let judged = Judged::from(r);
             program::put_refusal(out, judged.rule, judged.place)
         }
-        Check::Passed => {
+        Ok(()) => {
             let groups = design::group_count(blocks);
             text_lines::put_groups(out, 0, d.order(), groups as usize, red)
         }
     }
 }
 
-// Reads kit and blocks into slices that fit, encodes, and writes the groups or the refusal.
+// Reads kit and blocks, which are accepted, into slices that fit, encodes, and writes the groups or the refusal.
 fn frame_call(
     kit: &[u8],
     text: &[u8],
@@ -61,8 +67,8 @@ fn frame_call(
     requires most_output_in_bounds { most-output ≤ length out.old }
     ensures { Printed (frame_output kit.now text.now) result out.old out.new }
 {
-    text_kit::read_kit(kit, own, parity, inverse);
-    text_frame::read_blocks(text, d, info);
+    text_kit::read_kit(kit, own, parity, inverse).unwrap();
+    text_frame::read_blocks(text, d, info).unwrap();
     let made = encoder::encode(
         d.m() as u64,
         d.t() as u64,
@@ -111,10 +117,9 @@ fn frame_inputs(kit: &[u8], text: &[u8], out: &mut [u8]) -> usize
     requires { most-output ≤ length out.old }
     ensures { Printed (frame_output kit.now text.now) result out.old out.new }
 {
-    let begun = program::begin(kit, text, false);
-    match begun {
-        Start::Go(d, blocks) => frame_arrays(kit, text, d, blocks, out),
-        Start::Stop(rule, place) => program::put_refusal(out, rule, place),
+    match program::begin(kit, text, false) {
+        Ok((d, blocks)) => frame_arrays(kit, text, d, blocks, out),
+        Err(judged) => program::put_refusal(out, judged.rule, judged.place),
     }
 }
 

@@ -11,7 +11,8 @@
 // read and written no contract can say.
 #![tactic(auto)]
 
-ghost use Rattle.std.specs.Prelude.{◌≡◌, length};
+ghost use Rattle.std.specs.Prelude.{◌≡◌, length, IfOk, IfSome};
+ghost use Rattle.std.specs.Result.{result_ok};
 ghost use Rattle.std.specs.Io.{ReadsAtMost, WritesAtMost};
 ghost use Rattle.io.specs.Counts.{IsPrefixLen};
 
@@ -21,13 +22,6 @@ use std::fs::{File, OpenFile};
 use std::io::{ErrorKind, Read};
 use std::rt::{Env, Files};
 use std::{fs, io, str};
-
-// An input: whether it could be read, and how many bytes were.
-#[derive(Clone, Copy)]
-pub struct Input {
-    pub readable: bool,
-    pub count: usize,
-}
 
 // Arrays for an input and for what is printed. Only their lengths are told.
 pub fn input_bytes() -> [u8; 32769]
@@ -86,60 +80,49 @@ fn read_once<F: Read>(from: &mut F, bytes: &mut [u8]) -> io::Result<usize>
     from.read(bytes)
 }
 
-// Whether a read that got no byte met the input's end. If not, it failed, which is told.
-fn ended<R: Eprint>(rt: &R, got: io::Result<usize>, name: &str) -> bool {
-    match got {
-        Ok(_) => true,
-        Err(e) => {
-            tell(rt, name, e);
-            false
-        }
-    }
-}
-
-// Reads an input into the start of `bytes`, to its end or until they are full.
-fn read_input<R: Eprint, F: Read>(rt: &R, from: &mut F, name: &str, bytes: &mut [u8]) -> Input
-    ensures { IsPrefixLen result.count bytes.new }
+// Reads an input into the start of `bytes`, to its end or until they are full, and answers how many bytes were read.
+fn read_input<F: Read>(from: &mut F, bytes: &mut [u8]) -> io::Result<usize>
+    ensures { IfOk result (λ n. IsPrefixLen n bytes.new) }
 {
     let mut count = 0;
     while count < bytes.len() {
-        let got = read_once(from, &mut bytes[count..]);
-        let more = got.unwrap_or(0);
+        let more = read_once(from, &mut bytes[count..])?;
         if more == 0 {
-            return Input {
-                readable: ended(rt, got, name),
-                count: count,
-            };
+            break;
         }
         count += more;
     }
-    Input {
-        readable: true,
-        count: bytes.len(),
-    }
+    Ok(count)
 }
 
-// Reads the file at `path` into the start of `bytes`.
-fn read_file<R: Files + Eprint>(rt: &R, path: &str, bytes: &mut [u8]) -> Input
-    ensures { IsPrefixLen result.count bytes.new }
+// Reads the file at `path`, likewise.
+fn read_file<R: Files>(rt: &R, path: &str, bytes: &mut [u8]) -> io::Result<usize>
+    ensures { IfOk result (λ n. IsPrefixLen n bytes.new) }
 {
-    match fs::open(rt, path) {
-        Ok(mut file) => read_input(rt, &mut file, path, bytes),
+    let mut file = fs::open(rt, path)?;
+    read_input(&mut file, bytes)
+}
+
+// What was answered; a failure is told on standard error, with the name.
+fn or_tell<R: Eprint, T: Drop>(rt: &R, name: &str, answer: io::Result<T>) -> Option<T>
+    ensures { result ≡ result_ok answer }
+{
+    match answer {
+        Ok(value) => Some(value),
         Err(e) => {
-            tell(rt, path, e);
-            Input {
-                readable: false,
-                count: 0,
-            }
+            tell(rt, name, e);
+            None
         }
     }
 }
 
-// Reads kit.txt into the start of `bytes`.
-pub fn read_kit<R: Files + Eprint>(rt: &R, bytes: &mut [u8]) -> Input
-    ensures { IsPrefixLen result.count bytes.new }
+// Reads kit.txt into the start of `bytes`, and answers how many bytes were read, or None where it could not be read.
+pub fn read_kit<R: Files + Eprint>(rt: &R, bytes: &mut [u8]) -> Option<usize>
+    ensures { IfSome result (λ n. IsPrefixLen n bytes.new) }
 {
-    read_file(rt, "kit.txt", bytes)
+    let path = "kit.txt";
+    let answer = read_file(rt, path, bytes);
+    or_tell(rt, path, answer)
 }
 
 // The text of the word of number `word`, at the start of `name`, or the number of what is wrong with it.
@@ -151,36 +134,32 @@ fn name_of<'a, R: Env>(rt: &R, word: usize, name: &'a mut [u8]) -> Result<&'a st
     }
 }
 
-// What is read where a word names no file, for the reason of this number, which is told.
-fn unnamed<R: Eprint>(rt: &R, number: i32) -> Input
-    ensures { result.count ≡ 0 }
-{
-    tell(rt, "name of a file", io::Error::from_raw_os_error(number));
-    Input {
-        readable: false,
-        count: 0,
-    }
-}
-
-// Reads the file that the word of number `word` names, the first after the program's name being 1, into the start of `bytes`. A word that is missing, or
-// longer than a path can be, is told as a failure: what is there of it must not pass for a shorter name, or for an empty one. So is one that is no text:
-// the library opens no file of such a name.
-pub fn read_named<R: Env + Files + Eprint>(rt: &R, word: usize, bytes: &mut [u8]) -> Input
-    ensures { IsPrefixLen result.count bytes.new }
+// Reads the file that the word of number `word` names, the first after the program's name being 1, likewise. A word that is missing, or longer than a
+// path can be, is told as a failure: what is there of it must not pass for a shorter name, or for an empty one. So is one that is no text: the library
+// opens no file of such a name.
+pub fn read_named<R: Env + Files + Eprint>(rt: &R, word: usize, bytes: &mut [u8]) -> Option<usize>
+    ensures { IfSome result (λ n. IsPrefixLen n bytes.new) }
 {
     let mut name = [0; 4096];
     match name_of(rt, word, &mut name) {
-        Ok(path) => read_file(rt, path, bytes),
-        Err(number) => unnamed(rt, number),
+        Ok(path) => {
+            let answer = read_file(rt, path, bytes);
+            or_tell(rt, path, answer)
+        }
+        Err(number) => {
+            tell(rt, "name of a file", io::Error::from_raw_os_error(number));
+            None
+        }
     }
 }
 
-// Reads standard input into the start of `bytes`.
-pub fn read_text<R: io::Input + Eprint>(rt: &R, bytes: &mut [u8]) -> Input
-    ensures { IsPrefixLen result.count bytes.new }
+// Reads standard input, likewise.
+pub fn read_text<R: io::Input + Eprint>(rt: &R, bytes: &mut [u8]) -> Option<usize>
+    ensures { IfSome result (λ n. IsPrefixLen n bytes.new) }
 {
     let mut from = rt.reader();
-    read_input(rt, &mut from, "standard input", bytes)
+    let answer = read_input(&mut from, bytes);
+    or_tell(rt, "standard input", answer)
 }
 
 // What one write of `bytes` to standard output answers; it is made again where a signal interrupts it.
@@ -233,11 +212,6 @@ fn stored<R: Files>(rt: &R) -> io::Result<()> {
 // Writes `bytes` to standard output and has a file store them: some file systems tell only then that what they took is lost. A failure is told. Answers
 // whether all was taken.
 pub fn write_output<R: Print + Files + Eprint>(rt: &R, bytes: &[u8]) -> bool {
-    match written(rt, bytes).and_then(|_| stored(rt)) {
-        Ok(()) => true,
-        Err(e) => {
-            tell(rt, "standard output", e);
-            false
-        }
-    }
+    let answer = written(rt, bytes).and_then(|_| stored(rt));
+    or_tell(rt, "standard output", answer).is_some()
 }

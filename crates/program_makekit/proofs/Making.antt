@@ -1,5 +1,5 @@
 -- The steps of `makekit`, as the code has them.
---   front_starts, front_ruled, front_broken   the two lines
+--   front_starts, front_error                 the two lines
 --   lists_broken, lists-read                  the lists' lines
 --   lists-fit, fill_fits                      the lists' arrays have room
 --   kit_shown                                 what is printed for the lists that were filled
@@ -8,6 +8,7 @@
 --   made-prints                               what the maker's answer prints is what is printed for the lists
 --   write-part .. kit-printed                 the text that is written
 -- Assumes nothing.
+use Rattle.std.specs.Prelude.{Err, Ok, Result}
 use mathlib.Core.Path.{◌≡◌, refl, sym, ap, ap₂, ◌∙◌}
 use mathlib.Core.List.{List, ◌++◌}
 use Prim.Native.Nat.{ℕ, ◌+◌, ◌*◌, ◌≤◌, ◌<◌}
@@ -26,14 +27,11 @@ use Rattle.staircase.specs.Rules.{Verdict, refuse, kit_lengths}
 use Rattle.staircase.specs.Rules.Verdict.{accepted, refused}
 use Rattle.staircase.specs.Maker.{Made, make_work, make_verdict, made_by, make_call}
 use Rattle.design.specs.declared.Design.{Design}
-use Rattle.answers.specs.declared.Check.{Check}
-use Rattle.answers.specs.declared.Check.TheVariants as check
 use Rattle.answers.specs.declared.Refusal.{Refusal}
 use Rattle.design.specs.Answers.{Allowed}
 use Rattle.design.specs.Sizes.{params_of, order_of}
 use Rattle.rules_verdict.specs.declared.Judged.{Judged}
 use Rattle.rules_verdict.specs.Number.{judged_of}
-use Rattle.rules_verdict.proofs.Refused.{refusal_judged}
 use Rattle.text.specs.Rules.{scan_rule}
 use Rattle.text.specs.KitText.{pair_lines, kit_bytes}
 use Rattle.text.specs.KitReader.{head_number, firsts, seconds, packs}
@@ -42,52 +40,48 @@ use Rattle.text.specs.Programs.{refusal_text, most-input, printed}
 use Rattle.text.specs.MakeKit.{lists_format, lists_scan, lists_rule, self_shown, parity_shown, text_rule, make_kit_call, make_kit_output}
 use Rattle.text.proofs.Programs.{then_refused, then_on}
 use Rattle.text.proofs.KitSpelled.{text-length}
-use Rattle.text_items.specs.declared.Step.{Step}
-use Rattle.text_items.specs.declared.Step.TheVariants.{Next, Refused}
+use Rattle.answers.specs.declared.TextError.{TextError}
+use Rattle.text_items.specs.declared.Broken.{Broken}
+use Rattle.text_items.specs.Answers.{error_verdict}
 use Rattle.text_kit_scan.specs.Answers.{front_rule, front_verdict, FrontIs, PartIs, ListsAre}
-use Rattle.text_kit_scan.specs.declared.Front.{Front}
-use Rattle.text_kit_scan.specs.declared.Front.TheVariants.{Starts, Ruled, NoStart}
 use Rattle.program.specs.Output.{Printed, most-output}
 use Rattle.program.proofs.Bounds.{few-rows}
 use Rattle.program.proofs.Printing.{printed-text}
+use Rattle.program.proofs.Starting.{error_judged}
 use Rattle.program_makekit.specs.Steps.{kit_made, kit_output, Fronted, Listed, ListsFit, Measured, MakeReady, WriteReady}
 use Rattle.text.proofs.MakeKitLaws.{front-refused, lists-refused, behind-lists, lists-accepted, self-values, parity-values, rows-below}
-use Rattle.answers.specs.Answers.{refusal_verdict, verdict_of}
+use Rattle.answers.specs.Answers.{verdict_of}
 
 -- ---- the two lines
 
-module _ (s : List ℕ) (short : length s ≤ most-input) (x : Front) (ev : front_verdict x ≡ front_rule s) where
-  pub front_starts : (d : Design) (at : ℕ) → x ≡ Starts d at → FrontIs x s → Fronted d at s
+module _ (s : List ℕ) (short : length s ≤ most-input) (x : Result (Design × ℕ) TextError) (ev : front_verdict x ≡ front_rule s) where
+  pub front_starts : (d : Design) (at : ℕ) → x ≡ Ok (d, at) → FrontIs x s → Fronted d at s
   unfolding front_verdict FrontIs
   front_starts d at f i =
-      let g : FrontIs (Starts d at) s = rw f at i in
+      let g : FrontIs (Ok (d, at)) s = rw f at i in
       record { short = short; front = sym ev ∙ ap front_verdict f; m-is = g.0; t-is = g.1; M-is = g.2; col-is = g.3; allowed = g.4; at-is = g.5 }
 
-  pub front_ruled : (r : Refusal) (j : Judged) → x ≡ Ruled r → j ≡ judged_of (refusal_verdict r) → make_kit_output s ≡ refusal_text j.rule j.place
+  pub front_error : (e : TextError) (j : Judged) → x ≡ Err e → j ≡ judged_of (error_verdict 11 e) → make_kit_output s ≡ refusal_text j.rule j.place
   unfolding front_verdict front_rule
-  front_ruled r j f g = front-refused s short j.rule j.place (sym ev ∙ ap front_verdict f ∙ refusal_judged r j g)
-
-  pub front_broken : (p : ℕ) → x ≡ NoStart p → make_kit_output s ≡ refusal_text 11 p
-  unfolding front_verdict front_rule
-  front_broken p f = front-refused s short 11 p (sym ev ∙ ap front_verdict f)
+  front_error e j f g = front-refused s short j.rule j.place (sym ev ∙ ap front_verdict f ∙ error_judged 11 e j g)
 
 -- ---- the lists' lines
 
-module _ (d : Design) (at : ℕ) (s : List ℕ) (F : Fronted d at s) (n : ℕ) (en : n ≡ order_of d) (y : Step) (ey : ListsAre y n s at) where
+module _ (d : Design) (at : ℕ) (s : List ℕ) (F : Fronted d at s) (n : ℕ) (en : n ≡ order_of d) (y : Result ℕ Broken) (ey : ListsAre y n s at) where
   scan-is : lists_scan s ≡ scan_at (lists_format n) s at
   unfolding lists_scan
   scan-is = rw (en, F.m-is, F.t-is, F.M-is, F.at-is)
 
-  pub lists_broken : (p : ℕ) → y ≡ Refused p → make_kit_output s ≡ refusal_text 11 p
+  pub lists_broken : (b : Broken) → y ≡ Err b → make_kit_output s ≡ refusal_text 11 b.place
   unfolding PartIs lists_rule scan_rule front_rule
-  lists_broken p f =
-      let g : scan_at (lists_format n) s at ≡ format.refused p = rw f at ey in
-      lists-refused s F.short F.front 11 p (ap (scan_rule 11) (scan-is ∙ g))
+  lists_broken b f =
+      let g : scan_at (lists_format n) s at ≡ format.refused b.place = rw f at ey in
+      lists-refused s F.short F.front 11 b.place (ap (scan_rule 11) (scan-is ∙ g))
 
-  pub lists-read : (i : ℕ) → y ≡ Next i → Listed d i s
+  pub lists-read : (i : ℕ) → y ≡ Ok i → Listed d i s
   unfolding PartIs
   lists-read i f =
-      let g : PartIs (lists_format n) (pair_lines 0 n) (Next i) s at = rw f at ey in
+      let g : PartIs (lists_format n) (pair_lines 0 n) (Ok i) s at = rw f at ey in
       record { at = at; fronted = F; right = rw en at g.0; shows = rw en at (scan-is ∙ g.1) }
 
 -- ---- the lists
@@ -204,7 +198,7 @@ module _ (d : Design) (own parity : List ℕ) (long : ℕ) (inverse : List ℕ) 
       (measured-only d.m d.t d.size (make_work (params_of d)) own parity zeros inverse
       (length-replicate (order_of d * row_bytes (order_of d)) 0 ∙ sym R.inverse-length))
 
-  pub made-prints : (c : Check) (inverse' : List ℕ) → verdict_of c ≡ (make_call d.m d.t d.size 0 own parity inverse work).verdict
+  pub made-prints : (c : Result Unit Refusal) (inverse' : List ℕ) → verdict_of c ≡ (make_call d.m d.t d.size 0 own parity inverse work).verdict
       → inverse' ≡ (make_call d.m d.t d.size 0 own parity inverse work).inverse
       → kit_output d.m d.t d.size own parity ≡ printed (verdict_of c) (kit_bytes d.m d.t d.size own parity inverse')
   made-prints c inverse' ev ei =
@@ -235,7 +229,7 @@ module _ (d : Design) (own parity : List ℕ) (long : ℕ) (inverse : List ℕ) 
       )
 
   -- the text, where the first bytes of a buffer were made it
-  pub kit-printed : (c : Check) → c ≡ check.Passed → (o new : List ℕ) → most-output ≤ length o
+  pub kit-printed : (c : Result Unit Refusal) → c ≡ (Ok tt) → (o new : List ℕ) → most-output ≤ length o
       → new ≡ kit_bytes d.m d.t d.size own parity inverse
       → Printed (printed (verdict_of c) (kit_bytes d.m d.t d.size own parity inverse)) long o (new ++ drop long o)
   unfolding verdict_of printed

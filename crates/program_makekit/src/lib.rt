@@ -14,10 +14,9 @@ ghost use Rattle.program.specs.Output.{Printed, most-output, Output};
 ghost use Rattle.program.specs.Steps.{RoomFor};
 ghost use Rattle.program_makekit.specs.Steps.{kit_output, Fronted, Listed, ListsFit, Measured, MakeReady, WriteReady};
 
-use answers::Check;
+use answers::Refusal;
 use design::Design;
-use text_items::Step;
-use text_kit_scan::Front;
+use rules_verdict::Judged;
 
 // Two bytes for each of at most 4,096 entries of a list. Only their room is told.
 fn list_bytes(n: usize) -> [u8; 8192]
@@ -43,7 +42,7 @@ fn put_made(
     parity: &[u8],
     inverse: &[u8],
     long: usize,
-    made: Check,
+    made: Result<(), Refusal>,
 ) -> usize
     requires write_ready { WriteReady d own.now parity.now long (length inverse.now) }
     requires most_output_in_bounds { most-output ≤ length out.old }
@@ -52,11 +51,11 @@ fn put_made(
         out.new }
 {
     match made {
-        Check::Refused(r) => {
-            let judged = rules_verdict::of_refusal(r);
+        Err(r) => {
+            let judged = Judged::from(r);
             program::put_refusal(out, judged.rule, judged.place)
         }
-        Check::Passed => {
+        Ok(()) => {
             text_kit_write::put_kit(d, own, parity, inverse, &mut out[..long]);
             long
         }
@@ -160,10 +159,9 @@ fn judged_lists(text: &[u8], d: Design, at: usize, out: &mut [u8]) -> usize
     requires most_output_in_bounds { most-output ≤ length out.old }
     ensures { Printed (make_kit_output text.now) result out.old out.new }
 {
-    let lists = text_kit_scan::judge_lists(text, at, d.order());
-    match lists {
-        Step::Refused(p) => program::put_refusal(out, 11, p as u64),
-        Step::Next(i) => list_arrays(text, d, i, out),
+    match text_kit_scan::judge_lists(text, at, d.order()) {
+        Ok(i) => list_arrays(text, d, i, out),
+        Err(broken) => program::put_refusal(out, 11, broken.place as u64),
     }
 }
 
@@ -175,14 +173,12 @@ fn makekit_input(text: &[u8], out: &mut [u8]) -> usize
     if program::MOST_INPUT < text.len() {
         return program::put_refusal(out, 13, 2);
     }
-    let front = text_kit_scan::read_front(text);
-    match front {
-        Front::Starts(d, at) => judged_lists(text, d, at, out),
-        Front::Ruled(r) => {
-            let judged = rules_verdict::of_refusal(r);
+    match text_kit_scan::read_front(text) {
+        Ok((d, at)) => judged_lists(text, d, at, out),
+        Err(e) => {
+            let judged = program::judge_error(11, e);
             program::put_refusal(out, judged.rule, judged.place)
         }
-        Front::NoStart(p) => program::put_refusal(out, 11, p as u64),
     }
 }
 

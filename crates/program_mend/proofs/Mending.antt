@@ -2,10 +2,15 @@
 --   mend_stopped                   the refusal of a rule before the call
 --   block-bits .. lines-printed    both texts of a corrected frame and the counts, one after the other
 --   frame-fits                     they have room behind a text that was scanned
+--   frame_read                     it is read
 --   red-room, work-room            the redundancy that such a text shows, and the decoder's working bytes
 --   decoded-prints, refused-prints what the decoder's answer prints
 --   mend_printed                   it is what `mend` prints
 -- Assumes nothing.
+use Rattle.std.specs.Prelude.{Err, Ok, Result, IsOk}
+use Rattle.answers.specs.declared.TextError.{TextError}
+use Rattle.text_frame.specs.Answers.{blocks_verdict}
+use Rattle.text_frame.proofs.Answering.{blocks_accepted}
 use mathlib.Core.Path.{◌≡◌, sym, ap, ◌∙◌}
 use mathlib.Core.Bool.{true}
 use mathlib.Core.List.{List, ◌++◌}
@@ -26,8 +31,6 @@ use Rattle.design.specs.Sizes.{params_of, order_of}
 use Rattle.rules_verdict.specs.declared.Judged.{Judged}
 use Rattle.rules_verdict.specs.Number.{judged_of}
 use Rattle.answers.specs.declared.Counts.{Counts}
-use Rattle.answers.specs.declared.Decoding.{Decoding}
-use Rattle.answers.specs.declared.Decoding.TheVariants as decoding
 use Rattle.text.specs.FrameText.{block_text, group_text}
 use Rattle.text.specs.Programs.{refusal_text, counts_text, most-input, printed, mend_call, mend_text, mend_output}
 use Rattle.text_lines.proofs.Decimal.{dec-short}
@@ -37,8 +40,9 @@ use Rattle.text_lines.proofs.Lines.{block-text-length, group-text-length}
 use Rattle.text_write.specs.Room.{puts, after}
 use Rattle.text_write.proofs.Room.{puts-room, after-room}
 use Rattle.text.specs.KitReader.{head_number, read_kit_call}
-use Rattle.text.specs.FrameReader.{frame_rule, read_frame_call}
+use Rattle.text.specs.FrameReader.{frame_rule, frame_count, read_frame_call}
 use Rattle.text.proofs.FramePromises.{frame_holds, frame-left}
+use Rattle.staircase.proofs.Rules.{then_accepted, length-accepted}
 use Rattle.program.specs.Output.{Printed, most-output}
 use Rattle.program.specs.Steps.{text_rule, start_rule, Scanned, SizesAre, MendReady, FrameSized}
 use Rattle.program.specs.declared.Sizes.{Sizes}
@@ -89,6 +93,19 @@ frame-fits d L kit text own parity inverse info red work F i q e f =
       short = omega (arith, F.info-length, F.red-length, short d L kit text F.scanned);
     }
 
+pub frame_read : (d : Design) (L : ℕ) (kit text info red : List ℕ) (own parity inverse work : ℕ)
+    → MendReady d L kit text own parity inverse (length info) (length red) work
+    → (x : Result ℕ TextError) → blocks_verdict x ≡ (read_frame_call d.size (d.m * d.t) text info red).verdict → IsOk x
+unfolding read_frame_call
+frame_read d L kit text info red own parity inverse work F x e =
+    let (a, c) = frame-scanned d L kit text F.scanned in
+    let n : ℕ = frame_count d.size (d.m * d.t) text in
+    let i : length info ≡ n * (d.size * d.size) = F.info-length ∙ ap (λ (j : ℕ). j * (d.size * d.size)) c in
+    let q : length red ≡ groups n * (2 * (d.size * (d.m * d.t))) = F.red-length ∙ ap (λ (j : ℕ). groups j * (2 * (d.size * (d.m * d.t)))) c in
+    blocks_accepted x
+    (e ∙ then_accepted a
+    (then_accepted (length-accepted 4 (length info) (n * (d.size * d.size)) i) (length-accepted 5 (length red) (groups n * (2 * (d.size * (d.m * d.t)))) q)))
+
 -- ---- the lines
 
 module _ (d : Design) (L : ℕ) (info red : List ℕ) (F : FrameSized d L (length info) (length red)) where
@@ -120,7 +137,7 @@ module _ (d : Design) (L : ℕ) (info red : List ℕ) (F : FrameSized d L (lengt
         → i ≡ 0 + length (block_text area L info) → o₁ ≡ sets o 0 (block_text area L info)
         → j ≡ i + length (group_text n G red) → o₂ ≡ sets o₁ i (group_text n G red)
         → r ≡ after o₂ j (counts_text c.rounds c.turned c.outside) → o₃ ≡ puts o₂ j (counts_text c.rounds c.turned c.outside)
-        → Printed (mend_text d.size (order_of d) L (corrected_of (decoding.Decoded c) (frame_of info red))) r o o₃
+        → Printed (mend_text d.size (order_of d) L (corrected_of (Ok c) (frame_of info red))) r o o₃
     unfolding mend_text corrected_of
     lines-printed area i j r o o₁ o₂ o₃ c ea h ei e₁ ej e₂ er e₃ =
         let B : List ℕ = block_text area L info in
@@ -148,13 +165,13 @@ module _ (d : Design) (L : ℕ) (info red : List ℕ) (F : FrameSized d L (lengt
 abbrev shown : Design → ℕ → Corrected → List ℕ
 shown d L x = printed x.verdict (mend_text d.size (order_of d) L x)
 
-module _ (d : Design) (L : ℕ) (f : Frame) (x : Decoding) (o new : List ℕ) (n : ℕ) where
-  pub decoded-prints : (c : Counts) → x ≡ decoding.Decoded c → Printed (mend_text d.size (order_of d) L (corrected_of (decoding.Decoded c) f)) n o new
+module _ (d : Design) (L : ℕ) (f : Frame) (x : Result Counts Refusal) (o new : List ℕ) (n : ℕ) where
+  pub decoded-prints : (c : Counts) → x ≡ Ok c → Printed (mend_text d.size (order_of d) L (corrected_of (Ok c) f)) n o new
       → Printed (printed (corrected_of x f).verdict (mend_text d.size (order_of d) L (corrected_of x f))) n o new
   unfolding printed corrected_of
   decoded-prints c e p = rw e p
 
-  pub refused-prints : (r : Refusal) (j : Judged) → x ≡ decoding.Refused r → j ≡ judged_of (refusal_verdict r)
+  pub refused-prints : (r : Refusal) (j : Judged) → x ≡ Err r → j ≡ judged_of (refusal_verdict r)
       → Printed (refusal_text j.rule j.place) n o new
       → Printed (printed (corrected_of x f).verdict (mend_text d.size (order_of d) L (corrected_of x f))) n o new
   unfolding corrected_of refused_frame
@@ -187,6 +204,6 @@ module _ (d : Design) (L : ℕ) (kit text o₀ p₀ w₀ i₀ q₀ : List ℕ) (
       (F.red-length ∙ ap (λ (j : ℕ). groups j * (2 * (d.size * r))) c) in
       rw (eo ∙ k.0, ep ∙ k.1, ei ∙ f.0, eq ∙ f.1, F.work-length, c, S.m-is, S.t-is, S.M-is, S.col-is)
 
-  pub mend_printed : (x : Decoding) (i' q' : List ℕ) → corrected_of x (frame_of i' q') ≡ decode_call d.m d.t d.size 0 L 0 o p i q work
+  pub mend_printed : (x : Result Counts Refusal) (i' q' : List ℕ) → corrected_of x (frame_of i' q') ≡ decode_call d.m d.t d.size 0 L 0 o p i q work
       → mend_output kit text ≡ printed (corrected_of x (frame_of i' q')).verdict (mend_text d.size (order_of d) L (corrected_of x (frame_of i' q')))
   mend_printed x i' q' e = called_by d L kit text F.scanned ∙ ap (shown d L) (sym (e ∙ whole))

@@ -5,15 +5,14 @@
 ghost use Rattle.std.specs.Prelude.{true, ◌≤◌, length};
 ghost use Rattle.staircase.specs.Frame.{frame_of};
 ghost use Rattle.design.specs.Sizes.{order_of};
-ghost use Rattle.answers.specs.declared.Decoding.TheVariants.{Decoded};
 ghost use Rattle.answers.specs.Answers.{corrected_of};
 ghost use Rattle.program.specs.Output.{Printed, most-output, Output};
 ghost use Rattle.text.specs.Programs.{printed, mend_text, mend_output};
 ghost use Rattle.program.specs.Steps.{Scanned, RoomFor, MendReady, FrameSized};
 
-use answers::{Counts, Decoding};
+use answers::{Counts, Refusal};
 use design::Design;
-use program::Start;
+use rules_verdict::Judged;
 
 // The decoder's working bytes. Only their room is told: a kit text of at most 32,768 bytes has at most 181 rows, and a frame text of as many shows at most
 // 32,768 bits, each of which has a mark, eight in a byte; a word has 2 r of those of redundancy, and so 8 at least, and four working bytes.
@@ -35,7 +34,7 @@ fn put_corrected(
 ) -> usize
     requires frame_sized { FrameSized d blocks (length info.now) (length red.now) }
     requires most_output_in_bounds { most-output ≤ length out.old }
-    ensures { Printed (mend_text d.size (order_of d) blocks (corrected_of (Decoded counts) (frame_of info.now red.now)))
+    ensures { Printed (mend_text d.size (order_of d) blocks (corrected_of (Ok counts) (frame_of info.now red.now)))
         result out.old out.new }
 {
     let groups = design::group_count(blocks);
@@ -51,7 +50,7 @@ fn put_decoded(
     blocks: u64,
     info: &[u8],
     red: &[u8],
-    made: Decoding,
+    made: Result<Counts, Refusal>,
 ) -> usize
     requires frame_sized { FrameSized d blocks (length info.now) (length red.now) }
     requires most_output_in_bounds { most-output ≤ length out.old }
@@ -59,15 +58,15 @@ fn put_decoded(
         Printed (printed c.verdict (mend_text d.size (order_of d) blocks c)) result out.old out.new }
 {
     match made {
-        Decoding::Refused(r) => {
-            let judged = rules_verdict::of_refusal(r);
+        Err(r) => {
+            let judged = Judged::from(r);
             program::put_refusal(out, judged.rule, judged.place)
         }
-        Decoding::Decoded(c) => put_corrected(out, d, blocks, info, red, c),
+        Ok(c) => put_corrected(out, d, blocks, info, red, c),
     }
 }
 
-// Reads kit and frame into slices that fit, decodes, and writes the corrected frame or the refusal.
+// Reads kit and frame, which are accepted, into slices that fit, decodes, and writes the corrected frame or the refusal.
 fn mend_call(
     kit: &[u8],
     text: &[u8],
@@ -86,8 +85,8 @@ fn mend_call(
     requires most_output_in_bounds { most-output ≤ length out.old }
     ensures { Printed (mend_output kit.now text.now) result out.old out.new }
 {
-    text_kit::read_kit(kit, own, parity, inverse);
-    text_frame::read_frame(text, d, info, red);
+    text_kit::read_kit(kit, own, parity, inverse).unwrap();
+    text_frame::read_frame(text, d, info, red).unwrap();
     let made = decoder::decode(
         d.m() as u64,
         d.t() as u64,
@@ -137,10 +136,9 @@ fn mend_inputs(kit: &[u8], text: &[u8], out: &mut [u8]) -> usize
     requires { most-output ≤ length out.old }
     ensures { Printed (mend_output kit.now text.now) result out.old out.new }
 {
-    let begun = program::begin(kit, text, true);
-    match begun {
-        Start::Go(d, blocks) => mend_arrays(kit, text, d, blocks, out),
-        Start::Stop(rule, place) => program::put_refusal(out, rule, place),
+    match program::begin(kit, text, true) {
+        Ok((d, blocks)) => mend_arrays(kit, text, d, blocks, out),
+        Err(judged) => program::put_refusal(out, judged.rule, judged.place),
     }
 }
 

@@ -1,60 +1,50 @@
 -- The words after a program's name, by the tests that code makes.
---   same_lengths, same-differ, same_next, same_end   two texts compared byte by byte
---   option_none                                      an empty word is no option
+--   slices_same                                      `==` compares two texts
+--   first_dash                                       a word's first letter
 --   word-help .. word-file                           one word
 --   kit-alone .. kit-file                            behind `-k`
 --   words-none .. words-other                        all words
 -- Assumes nothing.
 use mathlib.Core.Path.{◌≡◌, refl, sym, ap, ◌∙◌}
-use mathlib.Core.Bool.{Bool, true, false, cond}
+use mathlib.Core.Bool.{Bool, true, false, cond, ◌&&◌}
 use mathlib.Core.List.{List, [], ◌∷◌}
-use Prim.Native.Nat.{ℕ, suc, ◌<◌}
+use Prim.Native.Nat.{ℕ, suc}
 use native.Mathlib.Nat.{suc-ne-zero, suc_inj}
 use borrow.Author.Tests.{eq-eqb, ne_eqb}
 use lib.Dec.{eqb}
-use lib.ListN.{length, get_or, drop}
-use lib.Seq.{drop-cons, drop-length}
+use lib.Pointwise.{pointwise}
+use Rattle.std.specs.Prelude.{Option, None, Some, slice_get}
+use Rattle.std.specs.Option.{option_copied, option_eq}
+use denote.Bor.{Bor}
+use lib.ListN.{length}
 use Rattle.program_words.specs.declared.Request.TheVariants.{Run, Help, Version, Wrong}
 use Rattle.program_words.specs.Words.{help_word, version_word, kit_word, same_text, is_option, one_word, kit_words, request_of, Shows}
 
 -- ---- two texts
 
-pub same_lengths : (a b : List ℕ) → (length a ≡ length b → ⊥) → same_text a b ≡ false
+pointwise_same : (a b : List ℕ) → pointwise eqb a b ≡ same_text a b
 unfolding same_text
-same_lengths [] [] h = absurd (h refl)
-same_lengths [] (y ∷ ys) h = refl
-same_lengths (x ∷ xs) [] h = refl
-same_lengths (x ∷ xs) (y ∷ ys) h = unequal (eqb x y) (same_text xs ys) (same_lengths xs ys (λ e. h (ap suc e)))
+pointwise_same [] [] = refl
+pointwise_same [] (y ∷ ys) = refl
+pointwise_same (x ∷ xs) [] = refl
+pointwise_same (x ∷ xs) (y ∷ ys) = rw (pointwise_same xs ys) (both (eqb x y) (same_text xs ys))
   where
-    unequal : (c d : Bool) → d ≡ false → cond c d false ≡ false
-    unequal true d e = e
-    unequal false d e = refl
+    both : (c d : Bool) → (c && d) ≡ cond c d false
+    both true d = refl
+    both false d = refl
 
-cons_same : (x : ℕ) (xs ys : List ℕ) → same_text (x ∷ xs) (x ∷ ys) ≡ same_text xs ys
-unfolding same_text
-cons_same x xs ys = rw (eq-eqb x x refl)
-
-cons_differ : (x y : ℕ) (xs ys : List ℕ) → (x ≡ y → ⊥) → same_text (x ∷ xs) (y ∷ ys) ≡ false
-unfolding same_text
-cons_differ x y xs ys h = rw (ne_eqb x y h)
-
-module _ (a b : List ℕ) (i : ℕ) (in-a : i < length a) (in_b : i < length b) where
-  pub same_next : (j : ℕ) → j ≡ suc i → get_or a i 0 ≡ get_or b i 0 → same_text (drop i a) (drop i b) ≡ same_text (drop j a) (drop j b)
-  same_next j f e = rw (f, drop-cons a i 0 in-a, drop-cons b i 0 in_b, e) (cons_same (get_or b i 0) (drop (suc i) a) (drop (suc i) b))
-
-  pub same-differ : (get_or a i 0 ≡ get_or b i 0 → ⊥) → same_text (drop i a) (drop i b) ≡ false
-  same-differ h = rw (drop-cons a i 0 in-a, drop-cons b i 0 in_b) (cons_differ (get_or a i 0) (get_or b i 0) (drop (suc i) a) (drop (suc i) b) h)
-
-pub same_end : (a b : List ℕ) → length a ≡ length b → same_text (drop (length a) a) (drop (length a) b) ≡ true
-unfolding same_text
-same_end a b e = rw (drop-length a, e, drop-length b)
+pub slices_same : (a : List ℕ) {r : Bool} {b k : List ℕ} → r ≡ pointwise eqb a b → b ≡ k → r ≡ same_text a k
+slices_same a {k = k} e f = rw f at e ∙ pointwise_same a k
 
 -- ---- one word
 
-pub option_none : (word : List ℕ) → length word ≡ 0 → false ≡ is_option word
+pub first_dash : (word : List ℕ) (o : Option (Bor ℕ)) (dash : Bor ℕ) → dash.now ≡ 45 → option_copied o ≡ slice_get word 0
+    → option_eq (λ (x y : Bor ℕ). eqb x.now y.now) o (Some dash) ≡ is_option word
 unfolding is_option
-option_none [] e = refl
-option_none (x ∷ xs) e = absurd (suc-ne-zero (length xs) e)
+first_dash [] None dash d e = refl
+first_dash [] (Some x) dash d e = cc
+first_dash (w ∷ ws) None dash d e = cc
+first_dash (w ∷ ws) (Some x) dash d e = let f : x.now ≡ w = cc in rw (f, d)
 
 pub word_help : (word : List ℕ) → true ≡ same_text word help_word → Help ≡ one_word word
 unfolding one_word
@@ -69,13 +59,13 @@ module _ (word : List ℕ) (help : false ≡ same_text word help_word) (version 
   unfolding one_word
   word_option e = rw (sym help, sym version, sym e)
 
-  pub word_file : false ≡ is_option word → Run 0 1 ≡ one_word word
+  pub word_file : false ≡ is_option word → Run None (Some 1) ≡ one_word word
   unfolding one_word
   word_file e = rw (sym help, sym version, sym e)
 
 -- ---- behind `-k`
 
-pub kit-alone : (count : ℕ) (third : List ℕ) → count ≡ 2 → Run 2 0 ≡ kit_words count third
+pub kit-alone : (count : ℕ) (third : List ℕ) → count ≡ 2 → Run (Some 2) None ≡ kit_words count third
 unfolding kit_words
 kit-alone count third e = rw (eq-eqb count 2 e)
 
@@ -88,14 +78,14 @@ module _ (count : ℕ) (third : List ℕ) (more : count ≡ 2 → ⊥) where
   unfolding kit_words
   kit_option e f = rw (ne_eqb count 2 more, eq-eqb count 3 e, sym f)
 
-  pub kit_file : count ≡ 3 → false ≡ is_option third → Run 2 3 ≡ kit_words count third
+  pub kit_file : count ≡ 3 → false ≡ is_option third → Run (Some 2) (Some 3) ≡ kit_words count third
   unfolding kit_words
   kit_file e f = rw (ne_eqb count 2 more, eq-eqb count 3 e, sym f)
 
 -- ---- all words
 
 module _ (count : ℕ) (first third : List ℕ) where
-  pub words-none : (kit : Bool) → count ≡ 0 → (words : List (List ℕ)) → Shows words count first third → Run 0 0 ≡ request_of kit words
+  pub words-none : (kit : Bool) → count ≡ 0 → (words : List (List ℕ)) → Shows words count first third → Run None None ≡ request_of kit words
   unfolding request_of
   words-none kit e [] s = refl
   words-none kit e (w ∷ ws) s = absurd (suc-ne-zero (length ws) (sym s.count-is ∙ e))

@@ -3,10 +3,10 @@
 --   same_text                         whether two texts are the same
 --   is_option                         a word that begins with a minus sign
 --   one_word, kit_words                what one word asks for, and what more ask for of which the first is `-k`, by their number and the third
---   request_of                        what the words ask for; a word is named by its number, from 1, and 0 stands for kit.txt and for standard input
+--   request_of                        what the words ask for; a word is named by its number, from 1, and none stands for kit.txt and for standard input
 --   Shows                            how many words there are, and the two that tell what they ask for
 -- Assumes nothing.
-use Rattle.std.specs.Prelude.{◌≡◌, Bool, true, false, cond, List, [], ◌∷◌, ℕ, eqb, length, get_or}
+use Rattle.std.specs.Prelude.{◌≡◌, Bool, true, false, cond, List, [], ◌∷◌, ℕ, eqb, length, get_or, None, Some}
 use Rattle.program_words.specs.declared.Request.{Request}
 use Rattle.program_words.specs.declared.Request.TheVariants.{Run, Help, Version, Wrong}
 
@@ -31,18 +31,18 @@ is_option word = eqb (get_or word 0 0) 45
 
 -- one word: an option, or FILE
 unfoldable pub one_word : List ℕ → Request
-one_word word = cond (same_text word help_word) Help (cond (same_text word version_word) Version (cond (is_option word) Wrong (Run 0 1)))
+one_word word = cond (same_text word help_word) Help (cond (same_text word version_word) Version (cond (is_option word) Wrong (Run None (Some 1))))
 
 -- the name of a kit, after `-k`, and then FILE or nothing
 unfoldable pub kit_words : ℕ → List ℕ → Request
-kit_words count third = cond (eqb count 2) (Run 2 0) (cond (eqb count 3) (cond (is_option third) Wrong (Run 2 3)) Wrong)
+kit_words count third = cond (eqb count 2) (Run (Some 2) None) (cond (eqb count 3) (cond (is_option third) Wrong (Run (Some 2) (Some 3))) Wrong)
 
 unfoldable pub request_of : Bool → List (List ℕ) → Request
-request_of takes_kit [] = Run 0 0
+request_of takes_kit [] = Run None None
 request_of takes_kit (word ∷ []) = one_word word
 request_of false (option ∷ kit ∷ words) = Wrong
-request_of true (option ∷ kit ∷ []) = cond (same_text option kit_word) (Run 2 0) Wrong
-request_of true (option ∷ kit ∷ file ∷ []) = cond (same_text option kit_word) (cond (is_option file) Wrong (Run 2 3)) Wrong
+request_of true (option ∷ kit ∷ []) = cond (same_text option kit_word) (Run (Some 2) None) Wrong
+request_of true (option ∷ kit ∷ file ∷ []) = cond (same_text option kit_word) (cond (is_option file) Wrong (Run (Some 2) (Some 3))) Wrong
 request_of true (option ∷ kit ∷ file ∷ more ∷ words) = Wrong
 
 pub record Shows (words : List (List ℕ)) (count : ℕ) (first third : List ℕ) : Type 0 where

@@ -8,59 +8,41 @@
 #![tactic(auto)]
 
 ghost use Rattle.std.specs.Prelude.{◌≡◌, ◌≤◌, length, List, ℕ};
-ghost use Rattle.program_words.specs.Words.{same_text, is_option, one_word, kit_words, request_of, Shows};
+ghost use Rattle.program_words.specs.Words.{is_option, one_word, kit_words, request_of, Shows};
 
 use std::env::FillError;
 use std::rt::Env;
 
-// What is asked for: a run with the words of these numbers as names of the kit and of the text, 0 for kit.txt and for standard input.
-#[derive(Clone, Copy)]
+// What is asked for: a run with the words of these numbers as names of the kit and of the text, or with kit.txt and with standard input.
+#[derive(Clone, Copy, Debug, PartialEq, Eq)]
 pub enum Request {
-    Run(usize, usize),
+    Run(Option<usize>, Option<usize>),
     Help,
     Version,
     Wrong,
-}
-
-// Whether two texts are the same.
-fn same(a: &[u8], b: &[u8]) -> bool
-    ensures { result ≡ same_text a.now b.now }
-{
-    if a.len() != b.len() {
-        return false;
-    }
-    for i in 0..a.len() {
-        if a[i] != b[i] {
-            return false;
-        }
-    }
-    true
 }
 
 // Whether a word begins with a minus sign.
 fn is_option(word: &[u8]) -> bool
     ensures { result ≡ is_option word.now }
 {
-    if word.len() == 0 {
-        return false;
-    }
-    word[0] == b'-'
+    word.first() == Some(&b'-')
 }
 
 // One word alone.
 fn one_word(word: &[u8]) -> Request
     ensures { result ≡ one_word word.now }
 {
-    if same(word, b"--help") {
+    if word == b"--help".as_slice() {
         return Request::Help;
     }
-    if same(word, b"--version") {
+    if word == b"--version".as_slice() {
         return Request::Version;
     }
     if is_option(word) {
         return Request::Wrong;
     }
-    Request::Run(0, 1)
+    Request::Run(None, Some(1))
 }
 
 // Two words or more, of which the first is `-k`.
@@ -68,7 +50,7 @@ fn kit_words(count: usize, third: &[u8]) -> Request
     ensures { result ≡ kit_words count third.now }
 {
     if count == 2 {
-        return Request::Run(2, 0);
+        return Request::Run(Some(2), None);
     }
     if count != 3 {
         return Request::Wrong;
@@ -76,7 +58,7 @@ fn kit_words(count: usize, third: &[u8]) -> Request
     if is_option(third) {
         return Request::Wrong;
     }
-    Request::Run(2, 3)
+    Request::Run(Some(2), Some(3))
 }
 
 // What `count` words ask for, by the first and the third of them.
@@ -84,7 +66,7 @@ pub fn request_of(kit: bool, count: usize, first: &[u8], third: &[u8]) -> Reques
     ensures { (words : List (List ℕ)) → Shows words count first.now third.now → result ≡ request_of kit words }
 {
     if count == 0 {
-        return Request::Run(0, 0);
+        return Request::Run(None, None);
     }
     if count == 1 {
         return one_word(first);
@@ -92,7 +74,7 @@ pub fn request_of(kit: bool, count: usize, first: &[u8], third: &[u8]) -> Reques
     if !kit {
         return Request::Wrong;
     }
-    if same(first, b"-k") {
+    if first == b"-k".as_slice() {
         return kit_words(count, third);
     }
     Request::Wrong

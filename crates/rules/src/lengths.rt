@@ -13,14 +13,14 @@
 // A call that lacks a slice has 0 for it, and 0 is due. What is due of a frame is told for every number of blocks, and is right where rule 4 accepts it. Each rule is judged at once, and `first` picks the first refusal.
 ghost use Rattle.std.specs.Prelude.{◌≡◌, ◌≤◌};
 ghost use Rattle.staircase.specs.Design.{most-blocks};
-ghost use Rattle.staircase.specs.Rules.{◌then◌, length_rule, list_lengths, kit_lengths, frame_lengths, kept_work};
+ghost use Rattle.staircase.specs.Rules.{◌then◌, count_rule, length_rule, list_lengths, kit_lengths, frame_lengths, kept_work};
 ghost use Rattle.staircase.specs.Batch.{most-frames};
 ghost use Rattle.design.specs.Sizes.{params_of};
 ghost use Rattle.design.specs.Answers.{Allowed};
 ghost use Rattle.rules.specs.Lengths.{lengths_rule, kit_due, make_due, lists_due, decoder_due, frame_due, batch_due, original_due, original_decoder_due, size_rules, batch_size_rules};
 ghost use Rattle.answers.specs.Answers.{verdict_of};
 
-use answers::{Check, Refusal};
+use answers::Refusal;
 use design::Design;
 
 // "1 self, 2 parity, 3 inverse, 4 information, 5 redundancy, 6 working"
@@ -40,7 +40,7 @@ pub const WORKING: u64 = 6;
 pub const TEXT: u64 = 7;
 
 // Lengths of the slices of a call, in bytes.
-#[derive(Clone, Copy)]
+#[derive(Clone, Copy, Debug, PartialEq, Eq)]
 pub struct Lengths {
     pub own: usize,
     pub parity: usize,
@@ -50,40 +50,26 @@ pub struct Lengths {
     pub work: usize,
 }
 
-// The first refusal of two checks.
-pub fn first(a: Check, b: Check) -> Check
-    ensures { verdict_of result ≡ (verdict_of a then verdict_of b) }
-{
-    match a {
-        Check::Passed => b,
-        Check::Refused(r) => Check::Refused(r),
-    }
-}
-
 // Rule 6 for the slice that the rule calls `place`, which has `have` bytes where `due` are due. Constant work.
-pub fn check_length(place: u64, have: usize, due: usize) -> Check
+pub fn check_length(place: u64, have: usize, due: usize) -> Result<(), Refusal>
     ensures { verdict_of result ≡ length_rule place have due }
 {
     if have != due {
-        return Check::Refused(Refusal::Length(place));
+        return Err(Refusal::Length(place));
     }
-    Check::Passed
+    Ok(())
 }
 
 // Rule 6. Constant work.
-pub fn check_lengths(have: Lengths, due: Lengths) -> Check
+pub fn check_lengths(have: Lengths, due: Lengths) -> Result<(), Refusal>
     ensures { verdict_of result ≡ lengths_rule have due }
 {
-    let own = check_length(SELF, have.own, due.own);
-    let parity = check_length(PARITY, have.parity, due.parity);
-    let inverse = check_length(INVERSE, have.inverse, due.inverse);
-    let info = check_length(INFORMATION, have.info, due.info);
-    let red = check_length(REDUNDANCY, have.red, due.red);
-    let work = check_length(WORKING, have.work, due.work);
-    first(
-        own,
-        first(parity, first(inverse, first(info, first(red, work)))),
-    )
+    check_length(SELF, have.own, due.own)?;
+    check_length(PARITY, have.parity, due.parity)?;
+    check_length(INVERSE, have.inverse, due.inverse)?;
+    check_length(INFORMATION, have.info, due.info)?;
+    check_length(REDUNDANCY, have.red, due.red)?;
+    check_length(WORKING, have.work, due.work)
 }
 
 // Of the lists and the inverse of a kit, and of working bytes as many as the inverse's.
@@ -116,7 +102,7 @@ pub fn make_due(d: Design) -> Lengths
         inverse: packed,
         info: 0,
         red: 0,
-        work: work,
+        work,
     }
 }
 
@@ -142,14 +128,7 @@ pub fn frame_due(d: Design, blocks: u64, due: Lengths) -> Lengths
     let few = blocks_allowed(blocks);
     let info = (few as usize) * d.area();
     let red = (design::group_count(few) as usize) * (2 * d.order());
-    Lengths {
-        own: due.own,
-        parity: due.parity,
-        inverse: due.inverse,
-        info: info,
-        red: red,
-        work: due.work,
-    }
+    Lengths { info, red, ..due }
 }
 
 // Of the joined information and the joined redundancy of `frames` frames of `blocks` blocks, beside what else is due.
@@ -160,34 +139,29 @@ pub fn batch_due(d: Design, blocks: u64, frames: u64, due: Lengths) -> Lengths
     let some = frames_allowed(frames);
     let info = (some as usize) * ((few as usize) * d.area());
     let red = (some as usize) * ((design::group_count(few) as usize) * (2 * d.order()));
-    Lengths {
-        own: due.own,
-        parity: due.parity,
-        inverse: due.inverse,
-        info: info,
-        red: red,
-        work: due.work,
-    }
+    Lengths { info, red, ..due }
 }
 
 // Rule 6 for the two lists alone: what else is due is taken as it is due.
-pub fn check_list_lengths(d: Design, own: &[u8], parity: &[u8]) -> Check
+pub fn check_list_lengths(d: Design, own: &[u8], parity: &[u8]) -> Result<(), Refusal>
     ensures { verdict_of result ≡ list_lengths (params_of d) own.now parity.now }
 {
     let due = kit_due(d);
     let have = Lengths {
         own: own.len(),
         parity: parity.len(),
-        inverse: due.inverse,
-        info: due.info,
-        red: due.red,
-        work: due.work,
+        ..due
     };
     check_lengths(have, due)
 }
 
 // Rule 6 for the lists and the inverse of a kit.
-pub fn check_kit_lengths(d: Design, own: &[u8], parity: &[u8], inverse: &[u8]) -> Check
+pub fn check_kit_lengths(
+    d: Design,
+    own: &[u8],
+    parity: &[u8],
+    inverse: &[u8],
+) -> Result<(), Refusal>
     ensures { verdict_of result ≡ kit_lengths (params_of d) own.now parity.now inverse.now }
 {
     let due = kit_due(d);
@@ -195,26 +169,21 @@ pub fn check_kit_lengths(d: Design, own: &[u8], parity: &[u8], inverse: &[u8]) -
         own: own.len(),
         parity: parity.len(),
         inverse: inverse.len(),
-        info: due.info,
-        red: due.red,
-        work: due.work,
+        ..due
     };
     check_lengths(have, due)
 }
 
 // Rule 6 for the information and the redundancy of a frame of `blocks` blocks.
-pub fn check_frame_lengths(d: Design, blocks: u64, info: &[u8], red: &[u8]) -> Check
+pub fn check_frame_lengths(d: Design, blocks: u64, info: &[u8], red: &[u8]) -> Result<(), Refusal>
     requires { blocks ≤ most-blocks }
     ensures { verdict_of result ≡ frame_lengths (params_of d) blocks info.now red.now }
 {
     let due = frame_due(d, blocks, lists_due(d));
     let have = Lengths {
-        own: due.own,
-        parity: due.parity,
-        inverse: due.inverse,
         info: info.len(),
         red: red.len(),
-        work: due.work,
+        ..due
     };
     check_lengths(have, due)
 }
@@ -265,7 +234,7 @@ pub fn original_due(d: Design, blocks: u64) -> Lengths
         own: 0,
         parity: 0,
         inverse: 0,
-        info: info,
+        info,
         red: 0,
         work: 0,
     }
@@ -282,20 +251,31 @@ pub fn original_decoder_due(d: Design, blocks: u64) -> Lengths
         own: 0,
         parity: 0,
         inverse: 0,
-        info: info,
+        info,
         red: 0,
-        work: work,
+        work,
     }
 }
 
+// Rule 4, a check that stands between, and rule 6. Constant work.
+fn check_sizes(
+    blocks: u64,
+    between: Result<(), Refusal>,
+    have: Lengths,
+    due: Lengths,
+) -> Result<(), Refusal>
+    ensures { verdict_of result ≡ (count_rule blocks then verdict_of between then lengths_rule have due) }
+{
+    design::check_count(blocks)?;
+    between?;
+    check_lengths(have, due)
+}
+
 // Rules 4 to 6: the number of blocks, the number of rounds, and the lengths, of which `due` are due where rule 4 accepts the number of blocks. Constant work.
-pub fn check_frame(blocks: u64, rounds: u64, have: Lengths, due: Lengths) -> Check
+pub fn check_frame(blocks: u64, rounds: u64, have: Lengths, due: Lengths) -> Result<(), Refusal>
     ensures { verdict_of result ≡ size_rules blocks rounds have due }
 {
-    let count = design::check_count(blocks);
-    let limit = design::check_rounds(rounds);
-    let lengths = check_lengths(have, due);
-    first(count, first(limit, lengths))
+    check_sizes(blocks, design::check_rounds(rounds), have, due)
 }
 
 // A number of frames that rule 17 accepts, and 0 for one that it refuses.
@@ -310,11 +290,8 @@ fn frames_allowed(frames: u64) -> u64
 
 // Rules 4, 17 and 6: the number of blocks, the number of frames, and the lengths, of which `due` are due where rules 4 and 17 accept these numbers. Constant
 // work.
-pub fn check_batch(blocks: u64, frames: u64, have: Lengths, due: Lengths) -> Check
+pub fn check_batch(blocks: u64, frames: u64, have: Lengths, due: Lengths) -> Result<(), Refusal>
     ensures { verdict_of result ≡ batch_size_rules blocks frames have due }
 {
-    let count = design::check_count(blocks);
-    let batch = design::check_batch(frames);
-    let lengths = check_lengths(have, due);
-    first(count, first(batch, lengths))
+    check_sizes(blocks, design::check_batch(frames), have, due)
 }

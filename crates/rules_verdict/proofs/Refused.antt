@@ -7,9 +7,8 @@ use mathlib.Core.Logic.{◌≢◌}
 use Rattle.staircase.specs.Rules.{Verdict}
 use Rattle.staircase.specs.Rules.Verdict.{accepted, refused}
 use Rattle.answers.specs.declared.Refusal.{Refusal}
-use Rattle.answers.specs.declared.Check.TheVariants as check
-use Rattle.answers.specs.Answers.{refusal_verdict, verdict_of}
-use Rattle.answers.proofs.Checks.{check_refused}
+use Rattle.answers.specs.Answers.{refusal_verdict}
+use Rattle.answers.proofs.Checks.{refusal_refuses}
 use Rattle.rules_verdict.specs.Number.{number, place_of, judged_of}
 use Rattle.rules_verdict.specs.declared.Judged.{Judged}
 
@@ -19,8 +18,7 @@ verdict-whole accepted h = absurd (h refl)
 verdict-whole (refused n p) h = refl
 
 pub refusal_whole : (r : Refusal) → refusal_verdict r ≡ refused (number (refusal_verdict r)) (place_of (refusal_verdict r))
-unfolding verdict_of
-refusal_whole r = verdict-whole (refusal_verdict r) (check_refused {x = check.Refused r} {r = r} refl)
+refusal_whole r = verdict-whole (refusal_verdict r) (refusal_refuses r)
 
 pub refusal_judged : (r : Refusal) (j : Judged) → j ≡ judged_of (refusal_verdict r) → refusal_verdict r ≡ refused j.rule j.place
 refusal_judged r j e = rw e (refusal_whole r)

@@ -7,7 +7,7 @@
 // (number - 1) × size. A frame whose lengths pass rule 6 has that stretch whole, and no byte is copied: the answer is a part of the slice lent.
 #![tactic(auto)]
 
-ghost use Rattle.std.specs.Prelude.{◌≡◌, cond, ◌-◌, ◌*◌, ◌≤◌, take, drop};
+ghost use Rattle.std.specs.Prelude.{◌≡◌, ◌-◌, ◌*◌, ◌≤◌, take, drop};
 ghost use Rattle.staircase.specs.Design.{most-blocks};
 ghost use Rattle.staircase.specs.Rules.{refuse, out_of_range, part_rule};
 ghost use Rattle.staircase.specs.Calls.{stretch, show_call};
@@ -16,32 +16,28 @@ ghost use Rattle.answers.specs.Answers.{verdict_of};
 ghost use Rattle.show.specs.Answers.{part_of};
 ghost use Rattle.show.specs.Show.{frame_rules, HasStretch, HasPart};
 
-use answers::{Check, Refusal};
-use design::{Design, Designed};
+use answers::Refusal;
+use design::Design;
 
 // What is shown: a block or a group, by its number from 1.
-#[derive(Clone, Copy)]
+#[derive(Clone, Copy, Debug, PartialEq, Eq)]
 pub enum Part {
     Block(u64),
     Group(u64),
 }
 
 // Rule 4 for the number of a block or a group, of which there are `most`.
-fn check_number(most: u64, number: u64) -> Check
+fn check_number(most: u64, number: u64) -> Result<(), Refusal>
     ensures { verdict_of result ≡ refuse (out_of_range 1 most number) 4 number }
 {
-    let refused = Check::Refused(Refusal::Count(number));
-    if number < 1 {
-        return refused;
+    if design::out_of_range(1, most, number) {
+        return Err(Refusal::Count(number));
     }
-    if most < number {
-        return refused;
-    }
-    Check::Passed
+    Ok(())
 }
 
 // Rule 4 for the part to be shown.
-fn check_part(blocks: u64, part: Part) -> Check
+fn check_part(blocks: u64, part: Part) -> Result<(), Refusal>
     requires { blocks ≤ most-blocks }
     ensures { verdict_of result ≡ part_rule blocks (part_of part) }
 {
@@ -53,18 +49,12 @@ fn check_part(blocks: u64, part: Part) -> Check
 }
 
 // Rules 4 and 6, for the frame of an allowed design.
-fn check_frame(d: Design, blocks: u64, part: Part, info: &[u8], red: &[u8]) -> Check
+fn check_frame(d: Design, blocks: u64, part: Part, info: &[u8], red: &[u8]) -> Result<(), Refusal>
     ensures { verdict_of result
         ≡ frame_rules (params_of d) blocks (part_of part) info.now red.now }
 {
-    let count = design::check_count(blocks);
-    let Check::Passed = count else {
-        return count;
-    };
-    let number = check_part(blocks, part);
-    let Check::Passed = number else {
-        return number;
-    };
+    design::check_count(blocks)?;
+    check_part(blocks, part)?;
     rules::check_frame_lengths(d, blocks, info, red)
 }
 
@@ -78,17 +68,6 @@ fn stretch_of(bytes: &[u8], n: usize, number: u64) -> &[u8]
     &bytes[at..at + n]
 }
 
-// One of two slices. Proved by hand: a slice is handed back at a shorter lifetime than its own.
-fn pick<'a, 'b: 'a>(x: &'a [u8], y: &'b [u8], first: bool) -> &'a [u8]
-    ensures { result.now ≡ cond first x.now y.now }
-{
-    if first {
-        return x;
-    } else {
-        return y;
-    }
-}
-
 // The block or the group, of the buffer that holds it.
 fn shown_part<'a, 'b: 'a>(d: Design, part: Part, info: &'a [u8], red: &'b [u8]) -> &'a [u8]
     requires { HasPart (params_of d) (part_of part) info.now red.now }
@@ -98,7 +77,7 @@ fn shown_part<'a, 'b: 'a>(d: Design, part: Part, info: &'a [u8], red: &'b [u8]) 
     let group_size = 2 * d.order();
     match part {
         Part::Block(b) => stretch_of(info, block_size, b),
-        Part::Group(i) => pick(info, stretch_of(red, group_size, i), false),
+        Part::Group(i) => stretch_of(red, group_size, i),
     }
 }
 
@@ -113,13 +92,10 @@ pub fn check_show_col(
     part: Part,
     info: &[u8],
     red: &[u8],
-) -> Check
+) -> Result<(), Refusal>
     ensures { verdict_of result ≡ (show_call m t size col blocks (part_of part) info.now red.now).verdict }
 {
-    let designed = Design::new_col(m, t, size, col);
-    let Designed::Made(d) = designed else {
-        return design::design_check(designed);
-    };
+    let d = Design::new_col(m, t, size, col)?;
     check_frame(d, blocks, part, info, red)
 }
 
@@ -132,7 +108,7 @@ pub fn check_show(
     part: Part,
     info: &[u8],
     red: &[u8],
-) -> Check
+) -> Result<(), Refusal>
     ensures { verdict_of result ≡ (show_call m t size 0 blocks (part_of part) info.now red.now).verdict }
 {
     check_show_col(m, t, size, 0, blocks, part, info, red)
@@ -152,13 +128,11 @@ pub fn show_col<'a, 'b: 'a>(
 ) -> &'a [u8]
     ensures { result.now ≡ (show_call m t size col blocks (part_of part) info.now red.now).bits }
 {
-    let designed = Design::new_col(m, t, size, col);
-    let Designed::Made(d) = designed else {
-        return &info[0..0];
+    let Ok(d) = Design::new_col(m, t, size, col) else {
+        return &[];
     };
-    let frame = check_frame(d, blocks, part, info, red);
-    let Check::Passed = frame else {
-        return &info[0..0];
+    let Ok(()) = check_frame(d, blocks, part, info, red) else {
+        return &[];
     };
     shown_part(d, part, info, red)
 }

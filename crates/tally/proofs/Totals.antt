@@ -3,8 +3,8 @@
 --   sums-fit     their sums fit
 --   tallied_is   the answer and these totals are the call's
 -- Assumes nothing.
-use mathlib.Core.Path.{◌≡◌, refl, sym, ap, subst, ◌∙◌}
-use mathlib.Core.Logic.{◌≢◌}
+use Rattle.std.specs.Prelude.{Err, Ok, Result}
+use mathlib.Core.Path.{◌≡◌, sym, ap, subst, ◌∙◌}
 use Prim.Native.Nat.{ℕ, ◌+◌}
 use lib.ListN.{length}
 use Rattle.staircase.specs.Frame.{Frame}
@@ -15,28 +15,21 @@ use Rattle.staircase.specs.Tally.{Tally, plus, counted, Decode, call_of, contrib
 use Rattle.staircase.proofs.Rules.{then_first, then_rest}
 use Rattle.staircase.proofs.Tally.{further_verdict, further_counts, full-within, decode-few, tally-refused, tally-accepted}
 use Rattle.answers.specs.declared.Refusal.{Refusal}
-use Rattle.answers.specs.declared.Check.TheVariants as check
-use Rattle.answers.specs.Answers.{refusal_verdict, verdict_of, counts_told, corrected_of, refused_frame}
-use Rattle.answers.proofs.Checks.{check_refused}
-use Rattle.answers.specs.declared.Counts as declared
-use Rattle.answers.specs.declared.Decoding.{Decoding}
-use Rattle.answers.specs.declared.Decoding.TheVariants as decoding
+use Rattle.answers.specs.Answers.{counts_told, corrected_of, refused_frame}
+use Rattle.answers.proofs.Checks.{refusal_refuses}
+use Rattle.answers.specs.declared.Counts as told
 use Rattle.tally.specs.Answers.{brought_up, SumsFit}
 
-refusal_refuses : (r : Refusal) → refusal_verdict r ≢ accepted
-unfolding verdict_of
-refusal_refuses r = check_refused {x = check.Refused r} {r = r} refl
-
-module _ {d : Decoding} (y : Tally) (n : ℕ) where
-  pub fit_of : {c : declared.Counts} → d ≡ decoding.Decoded c → SumsFit y n d → Within y × Few (counts_told c) n
+module _ {d : Result told.Counts Refusal} (y : Tally) (n : ℕ) where
+  pub fit_of : {c : told.Counts} → d ≡ Ok c → SumsFit y n d → Within y × Few (counts_told c) n
   unfolding SumsFit
   fit_of e h = subst (SumsFit y n) e h
 
-  pub up_done : {c : declared.Counts} → d ≡ decoding.Decoded c → plus y (counted n (counts_told c)) ≡ brought_up y n d
+  pub up_done : {c : told.Counts} → d ≡ Ok c → plus y (counted n (counts_told c)) ≡ brought_up y n d
   unfolding brought_up
   up_done e = sym (ap (brought_up y n) e)
 
-  pub up_refused : {r : Refusal} → d ≡ decoding.Refused r → y ≡ brought_up y n d
+  pub up_refused : {r : Refusal} → d ≡ Err r → y ≡ brought_up y n d
   unfolding brought_up
   up_refused e = sym (ap (brought_up y n) e)
 
@@ -45,29 +38,29 @@ module _ (y : Tally) (x : Decode) (g : Frame) where
   abbrev sent : ℕ
   sent = length x.info + length x.red
 
-  judged : (d : Decoding) → corrected_of d g ≡ further_call (full_rule y) x → (corrected_of d g).verdict ≡ (verdict_for x then full_rule y)
+  judged : (d : Result told.Counts Refusal) → corrected_of d g ≡ further_call (full_rule y) x → (corrected_of d g).verdict ≡ (verdict_for x then full_rule y)
   judged d e = ap (λ (c : Corrected). c.verdict) e ∙ further_verdict (full_rule y) x
 
-  counts_are : (d : Decoding) → corrected_of d g ≡ further_call (full_rule y) x → (verdict_for x then full_rule y) ≡ accepted → (corrected_of d g).counts ≡ (call_of x).counts
+  counts_are : (d : Result told.Counts Refusal) → corrected_of d g ≡ further_call (full_rule y) x → (verdict_for x then full_rule y) ≡ accepted → (corrected_of d g).counts ≡ (call_of x).counts
   counts_are d e a = ap (λ (c : Corrected). c.counts) e ∙ further_counts (full_rule y) x a
 
-  fits : (d : Decoding) → corrected_of d g ≡ further_call (full_rule y) x → SumsFit y (length x.info + length x.red) d
+  fits : (d : Result told.Counts Refusal) → corrected_of d g ≡ further_call (full_rule y) x → SumsFit y (length x.info + length x.red) d
   unfolding SumsFit corrected_of
-  fits (decoding.Decoded c) e =
-      let a : (verdict_for x then full_rule y) ≡ accepted = sym (judged (decoding.Decoded c) e) in (
+  fits (Ok c) e =
+      let a : (verdict_for x then full_rule y) ≡ accepted = sym (judged (Ok c) e) in (
         full-within y (then_rest (verdict_for x) (full_rule y) a),
-        subst (λ (k : Counts). Few k sent) (sym (counts_are (decoding.Decoded c) e a)) (decode-few x (then_first (verdict_for x) (full_rule y) a)),
+        subst (λ (k : Counts). Few k sent) (sym (counts_are (Ok c) e a)) (decode-few x (then_first (verdict_for x) (full_rule y) a)),
       )
-  fits (decoding.Refused r) e = tt
+  fits (Err r) e = tt
 
-  sums_are : (d : Decoding) → corrected_of d g ≡ further_call (full_rule y) x → brought_up y (length x.info + length x.red) d ≡ (tally_call y x).tally
+  sums_are : (d : Result told.Counts Refusal) → corrected_of d g ≡ further_call (full_rule y) x → brought_up y (length x.info + length x.red) d ≡ (tally_call y x).tally
   unfolding brought_up corrected_of refused_frame contribution tally_verdict
-  sums_are (decoding.Decoded c) e =
-      let a : (verdict_for x then full_rule y) ≡ accepted = sym (judged (decoding.Decoded c) e) in
-      ap (λ (k : Counts). plus y (counted sent k)) (counts_are (decoding.Decoded c) e a) ∙ sym (tally-accepted y x a)
-  sums_are (decoding.Refused r) e = sym (tally-refused y x (λ a. refusal_refuses r (judged (decoding.Refused r) e ∙ a)))
+  sums_are (Ok c) e =
+      let a : (verdict_for x then full_rule y) ≡ accepted = sym (judged (Ok c) e) in
+      ap (λ (k : Counts). plus y (counted sent k)) (counts_are (Ok c) e a) ∙ sym (tally-accepted y x a)
+  sums_are (Err r) e = sym (tally-refused y x (λ a. refusal_refuses r (judged (Err r) e ∙ a)))
 
-  module _ (d : Decoding) (v : Verdict) (is : v ≡ full_rule y) (e : corrected_of d g ≡ further_call v x) where
+  module _ (d : Result told.Counts Refusal) (v : Verdict) (is : v ≡ full_rule y) (e : corrected_of d g ≡ further_call v x) where
     full : corrected_of d g ≡ further_call (full_rule y) x
     full = e ∙ ap (λ (u : Verdict). further_call u x) is
 

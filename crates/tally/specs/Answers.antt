@@ -3,12 +3,12 @@
 --   report_of             a report
 --   brought_up, SumsFit   the totals after a decode's answer, and that their sums fit
 -- Assumes nothing.
-use Rattle.std.specs.Prelude.{ℕ}
+use Rattle.answers.specs.declared.Counts.{Counts}
+use Rattle.answers.specs.declared.Refusal.{Refusal}
+use Rattle.std.specs.Prelude.{ℕ, Err, Ok, Result}
 use Rattle.staircase.specs.Tally as totals
 use Rattle.staircase.specs.Report as report
 use Rattle.answers.specs.Answers.{counts_told}
-use Rattle.answers.specs.declared.Decoding.{Decoding}
-use Rattle.answers.specs.declared.Decoding.TheVariants as decoding
 use Rattle.tally.specs.declared.Tally.{Tally}
 use Rattle.tally.specs.declared.TallyReport.{TallyReport}
 
@@ -20,11 +20,11 @@ abbrev pub report_of : TallyReport → report.Report
 report_of r = record { totals = totals_of r.totals; share = record { top = r.top; bottom = r.bottom } }
 
 -- "a refused decode changes no total"
-unfoldable pub brought_up : totals.Tally → ℕ → Decoding → totals.Tally
-brought_up y sent (decoding.Decoded c) = totals.plus y (totals.counted sent (counts_told c))
-brought_up y sent (decoding.Refused r) = y
+unfoldable pub brought_up : totals.Tally → ℕ → Result Counts Refusal → totals.Tally
+brought_up y sent (Ok c) = totals.plus y (totals.counted sent (counts_told c))
+brought_up y sent (Err r) = y
 
 -- no total is above 2^62, and the decode counts little
-unfoldable pub SumsFit : totals.Tally → ℕ → Decoding → Type 0
-SumsFit y sent (decoding.Decoded c) = totals.Within y × totals.Few (counts_told c) sent
-SumsFit y sent (decoding.Refused r) = Unit
+unfoldable pub SumsFit : totals.Tally → ℕ → Result Counts Refusal → Type 0
+SumsFit y sent (Ok c) = totals.Within y × totals.Few (counts_told c) sent
+SumsFit y sent (Err r) = Unit

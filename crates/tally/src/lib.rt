@@ -18,11 +18,10 @@ ghost use Rattle.staircase.specs.Report.{report_call};
 ghost use Rattle.answers.specs.Answers.{verdict_of, corrected_of};
 ghost use Rattle.tally.specs.Answers.{totals_of, report_of, brought_up, SumsFit};
 
-use answers::{Check, Decoding, Refusal};
-use rules::first;
+use answers::{Counts, Refusal};
 
 // "frames, sent bits, bits turned, rounds, words outside, stuck words"
-#[derive(Clone, Copy)]
+#[derive(Clone, Copy, Debug, PartialEq, Eq)]
 pub struct Tally {
     pub frames: u64,
     pub bits: u64,
@@ -33,14 +32,14 @@ pub struct Tally {
 }
 
 // A tally after a decode, and what the decode answers.
-#[derive(Clone, Copy)]
+#[derive(Clone, Copy, Debug, PartialEq, Eq)]
 pub struct Tallied {
     pub tally: Tally,
-    pub decoding: Decoding,
+    pub decoding: Result<Counts, Refusal>,
 }
 
 // "each total, and the share of turned bits as two whole numbers with no common factor"
-#[derive(Clone, Copy)]
+#[derive(Clone, Copy, Debug, PartialEq, Eq)]
 pub struct TallyReport {
     pub totals: Tally,
     pub top: u64,
@@ -51,38 +50,35 @@ pub struct TallyReport {
 const MOST_TOTAL: u64 = 4611686018427387904;
 
 // Rule 16 for the total at a position. Constant work.
-fn check_total(place: u64, total: u64) -> Check
+fn check_total(place: u64, total: u64) -> Result<(), Refusal>
     ensures { verdict_of result ≡ total_rule place total }
 {
     if MOST_TOTAL < total {
-        return Check::Refused(Refusal::Full(place));
+        return Err(Refusal::Full(place));
     }
-    Check::Passed
+    Ok(())
 }
 
 // Rule 16: the first total that is above 2^62. Constant work.
-pub fn check_totals(tally: Tally) -> Check
+pub fn check_totals(tally: Tally) -> Result<(), Refusal>
     ensures { verdict_of result ≡ full_rule (totals_of tally) }
 {
-    let frames = check_total(1, tally.frames);
-    let bits = check_total(2, tally.bits);
-    let turned = check_total(3, tally.turned);
-    let rounds = check_total(4, tally.rounds);
-    let outside = check_total(5, tally.outside);
-    let stuck = check_total(6, tally.stuck);
-    first(
-        frames,
-        first(bits, first(turned, first(rounds, first(outside, stuck)))),
-    )
+    check_total(1, tally.frames)?;
+    check_total(2, tally.bits)?;
+    check_total(3, tally.turned)?;
+    check_total(4, tally.rounds)?;
+    check_total(5, tally.outside)?;
+    check_total(6, tally.stuck)
 }
 
 // The tally after a decode of a frame of so many bytes of information and of redundancy: a refused one changes no total.
-fn brought_up(tally: Tally, info: usize, red: usize, decoding: Decoding) -> Tally
+#[tactic(auto, using(crate::proofs::Totals::fit_of, crate::proofs::Totals::up_done, crate::proofs::Totals::up_refused))]
+fn brought_up(tally: Tally, info: usize, red: usize, decoding: Result<Counts, Refusal>) -> Tally
     requires { SumsFit (totals_of tally) (info + red) decoding }
     ensures { totals_of result ≡ brought_up (totals_of tally) (info + red) decoding }
 {
     match decoding {
-        Decoding::Decoded(c) => Tally {
+        Ok(c) => Tally {
             frames: tally.frames + 1,
             bits: tally.bits + (info + red) as u64,
             turned: tally.turned + c.turned,
@@ -90,7 +86,7 @@ fn brought_up(tally: Tally, info: usize, red: usize, decoding: Decoding) -> Tall
             outside: tally.outside + c.outside,
             stuck: tally.stuck + c.stuck,
         },
-        Decoding::Refused(_) => tally,
+        Err(_) => tally,
     }
 }
 
@@ -122,7 +118,7 @@ pub fn decode_counted_col(
     );
     Tallied {
         tally: brought_up(tally, sent, more, decoding),
-        decoding: decoding,
+        decoding,
     }
 }
 
@@ -162,7 +158,7 @@ pub fn decode_tallied(
     info: &mut [u8],
     red: &mut [u8],
     work: &mut [u8],
-) -> Decoding
+) -> Result<Counts, Refusal>
     ensures { record { corrected = corrected_of result (frame_of info.new red.new); tally = totals_of tally.new }
         ≡ tally_call (totals_of tally.old) (decode_with m t size 0 blocks rounds own.now parity.now info.old
         red.old (length work.old)) }

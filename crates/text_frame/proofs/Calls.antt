@@ -3,6 +3,7 @@
 --   blocks-refused, blocks-length, blocks-filled   the three cases of block text; blocks-few, blocks-pass for its lines
 --   frame_refused, frame-length, frame-filled      those of frame text; frame-few .. frame-room for its lines
 -- Assumes nothing.
+use Rattle.std.specs.Prelude.{Err, Ok, Result}
 use Prim.Native.Nat.{ℕ, ◌+◌, ◌*◌, ◌≤◌}
 use mathlib.Core.Path.{◌≡◌, sym, ap, subst, ◌∙◌}
 use mathlib.Core.List.{List}
@@ -15,9 +16,7 @@ use Rattle.text_formats.specs.Items.{verdict, bits_lines, past, walk, Passes}
 use Rattle.staircase.specs.Design.{params, most-blocks}
 use Rattle.staircase.specs.Frame.{groups}
 use Rattle.staircase.specs.Rules.{Verdict, ◌then◌, length_rule, frame_lengths}
-use Rattle.staircase.specs.Rules.Verdict.{accepted, refused}
-use Rattle.answers.specs.declared.Check.{Check}
-use Rattle.answers.specs.declared.Check.TheVariants as check
+use Rattle.staircase.specs.Rules.Verdict.{accepted}
 use Rattle.answers.specs.declared.Refusal.{Refusal}
 use Rattle.answers.specs.Answers.{refusal_verdict, verdict_of}
 use Rattle.answers.proofs.Checks.{check_refused, check_passed}
@@ -28,66 +27,65 @@ use Rattle.text.specs.FrameText.{block_format, frame_format, group_lines}
 use Rattle.text_frame_scan.specs.Judged.{found_scan}
 use Rattle.text_frame.specs.Answers.{blocks_verdict, CountIs}
 use Rattle.text.specs.FrameReader.{block_scan, block_rule, block_count, block_info, read_blocks_call, frame_scan, frame_rule, frame_count, frame_info, frame_red, read_frame_call}
-use Rattle.text_frame.specs.declared.Blocks.{Blocks}
-use Rattle.text_frame.specs.declared.Blocks.TheVariants.{Read, Refused}
-use Rattle.text_frame_scan.specs.declared.Found.{Found}
-use Rattle.text_frame_scan.specs.declared.Found.TheVariants.{Count, Wrong}
+use Rattle.answers.specs.declared.TextError.{TextError}
+use Rattle.answers.specs.declared.TextError.TheVariants.{Refused}
+use Rattle.text_items.specs.declared.Broken.{Broken}
 use Rattle.text_frame.proofs.Answering.{found_wrong, found_count, blocks_found, blocks-told, frame_found, frame-told}
 use Rattle.text.proofs.FrameParts.{BlockParts, block_parts, FrameParts, frame_parts}
 
 -- ---- the rule of a scan, and then another
 
 -- the answer a of a call with the verdict v, for a text whose scan is x
-abbrev Answers : Blocks → Verdict → Scan → Type 0
+abbrev Answers : Result ℕ TextError → Verdict → Scan → Type 0
 Answers a v x = (blocks_verdict a ≡ v) × CountIs a (mark x)
 
 module _ (x : Scan) (u : Verdict) where
-  broken : (q : ℕ) (a : Blocks) → x ≡ format.refused q → (blocks_verdict a ≡ scan_rule 12 x) × CountIs a (mark x)
+  broken : (q : ℕ) (a : Result ℕ TextError) → x ≡ format.refused q → (blocks_verdict a ≡ scan_rule 12 x) × CountIs a (mark x)
       → Answers a (scan_rule 12 x then u) x × ((new old : List ℕ) → kept (scan_rule 12 x then u) new old ≡ old)
   unfolding scan_rule kept
   broken q a e (v, n) =
       let d : (scan_rule 12 x then u) ≡ scan_rule 12 x = rw e in
       ((v ∙ sym d, n), λ new old. ap (λ (w : Verdict). kept w new old) (d ∙ ap (scan_rule 12) e))
 
-  module _ (n : ℕ) (vs : List ℕ) (e : x ≡ read n vs) (c : Check) (g : verdict_of c ≡ u) where
+  module _ (n : ℕ) (vs : List ℕ) (e : x ≡ read n vs) (c : Result Unit Refusal) (g : verdict_of c ≡ u) where
     due : (scan_rule 12 x then u) ≡ u
     unfolding scan_rule
     due = rw e
 
-    refused-length : (r : Refusal) → c ≡ check.Refused r
-        → Answers (Refused r) (scan_rule 12 x then u) x × ((new old : List ℕ) → kept (scan_rule 12 x then u) new old ≡ old)
+    refused-length : (r : Refusal) → c ≡ Err r → (a : Result ℕ TextError) → a ≡ Err (Refused r)
+        → Answers a (scan_rule 12 x then u) x × ((new old : List ℕ) → kept (scan_rule 12 x then u) new old ≡ old)
     unfolding blocks_verdict CountIs verdict_of
-    refused-length r f =
+    refused-length r f a h =
         let d : (scan_rule 12 x then u) ≡ refusal_verdict r = due ∙ sym g ∙ ap verdict_of f in
-        ((sym d, tt), λ new old. kept_old (scan_rule 12 x then u) new old (λ z. check_refused f (ap verdict_of f ∙ sym d ∙ z)))
+        rw h ((sym d, tt), λ new old. kept_old (scan_rule 12 x then u) new old (λ z. check_refused f (ap verdict_of f ∙ sym d ∙ z)))
 
-    read_whole : c ≡ check.Passed → Answers (Read n) (scan_rule 12 x then u) x × ((new old : List ℕ) → kept (scan_rule 12 x then u) new old ≡ new)
+    read_whole : c ≡ (Ok tt) → Answers (Ok n) (scan_rule 12 x then u) x × ((new old : List ℕ) → kept (scan_rule 12 x then u) new old ≡ new)
     unfolding blocks_verdict CountIs mark kept
     read_whole f =
         let d : (scan_rule 12 x then u) ≡ accepted = due ∙ sym g ∙ check_passed f in
         ((sym d, sym (ap mark e)), λ new old. ap (λ (v : Verdict). kept v new old) d)
 
 -- a length that passed is the one that is due
-pub length_due : (p have want : ℕ) (c : Check) → verdict_of c ≡ length_rule p have want → c ≡ check.Passed → have ≡ want
+pub length_due : (p have want : ℕ) (c : Result Unit Refusal) → verdict_of c ≡ length_rule p have want → c ≡ (Ok tt) → have ≡ want
 length_due p have want c h k = length_equal p have want (sym h ∙ check_passed k)
 
 -- ---- block text
 
 -- the answer of the call, and what it leaves
-abbrev pub BlocksDone : ℕ → List ℕ → List ℕ → Blocks → List ℕ → Type 0
+abbrev pub BlocksDone : ℕ → List ℕ → List ℕ → Result ℕ TextError → List ℕ → Type 0
 BlocksDone M s info a out = (blocks_verdict a ≡ (read_blocks_call M s info).verdict) × (CountIs a (block_count M s) × (out ≡ (read_blocks_call M s info).info))
 
-module _ (M area : ℕ) (s : List ℕ) (f : Found) (ea : area ≡ M * M) (e : found_scan f ≡ verdict (scan (block_format area most-blocks) s)) where
-  pub blocks-refused : (info : List ℕ) (q : ℕ) (a : Blocks) → f ≡ Wrong q → (blocks_verdict a ≡ scan_rule 12 (found_scan f)) × CountIs a (mark (found_scan f))
+module _ (M area : ℕ) (s : List ℕ) (f : Result ℕ Broken) (ea : area ≡ M * M) (e : found_scan f ≡ verdict (scan (block_format area most-blocks) s)) where
+  pub blocks-refused : (info : List ℕ) (q : Broken) (a : Result ℕ TextError) → f ≡ Err q → (blocks_verdict a ≡ scan_rule 12 (found_scan f)) × CountIs a (mark (found_scan f))
       → BlocksDone M s info a info
   unfolding read_blocks_call block_rule block_count
   blocks-refused info q a g t =
       let x : Scan = block_scan M s in
       let u : Verdict = length_rule 4 (length info) (mark x * (M * M)) in
-      let ((v, n), k) = broken x u q a (found_wrong x f (blocks_found M area s f ea e) q g) (blocks-told M area s f ea e a t) in
+      let ((v, n), k) = broken x u q.place a (found_wrong x f (blocks_found M area s f ea e) q g) (blocks-told M area s f ea e a t) in
       (v, (n, sym (k (block_info M s) info)))
 
-  module _ (n : ℕ) (g : f ≡ Count n) where
+  module _ (n : ℕ) (g : f ≡ Ok n) where
     abbrev x : Scan
     x = block_scan M s
 
@@ -104,19 +102,19 @@ module _ (M area : ℕ) (s : List ℕ) (f : Found) (ea : area ≡ M * M) (e : fo
     pub blocks-pass : Passes (walk (bits_lines area 1 n) s 11)
     blocks-pass = subst Passes (sym text.lines) tt
 
-    module _ (info : List ℕ) (c : Check) (h : verdict_of c ≡ length_rule 4 (length info) (n * area)) where
+    module _ (info : List ℕ) (c : Result Unit Refusal) (h : verdict_of c ≡ length_rule 4 (length info) (n * area)) where
       due_length : verdict_of c ≡ length_rule 4 (length info) (mark x * (M * M))
       unfolding mark
       due_length =
           h ∙ ap (λ (a : ℕ). length_rule 4 (length info) (n * a)) ea ∙ ap (λ (k : ℕ). length_rule 4 (length info) (k * (M * M))) (sym (ap mark is))
 
-      pub blocks-length : (r : Refusal) → c ≡ check.Refused r → BlocksDone M s info (Refused r) info
+      pub blocks-length : (r : Refusal) → c ≡ Err r → (a : Result ℕ TextError) → a ≡ Err (Refused r) → BlocksDone M s info a info
       unfolding read_blocks_call block_rule block_count
-      blocks-length r k =
-          let ((a, b), l) = refused-length x (length_rule 4 (length info) (mark x * (M * M))) n (values_of x) is c due_length r k in
+      blocks-length r k answer h =
+          let ((a, b), l) = refused-length x (length_rule 4 (length info) (mark x * (M * M))) n (values_of x) is c due_length r k answer h in
           (a, (b, sym (l (block_info M s) info)))
 
-      pub blocks-filled : (out : List ℕ) (q : ℕ) → c ≡ check.Passed → past out q ≡ walk (bits_lines area 1 n) s 11 → BlocksDone M s info (Read n) out
+      pub blocks-filled : (out : List ℕ) (q : ℕ) → c ≡ (Ok tt) → past out q ≡ walk (bits_lines area 1 n) s 11 → BlocksDone M s info (Ok n) out
       unfolding read_blocks_call block_rule block_count block_info
       blocks-filled out q k w =
           let ((a, b), l) = read_whole x (length_rule 4 (length info) (mark x * (M * M))) n (values_of x) is c due_length k in
@@ -127,12 +125,12 @@ module _ (M area : ℕ) (s : List ℕ) (f : Found) (ea : area ≡ M * M) (e : fo
 -- ---- frame text
 
 -- the answer of the call, and what it leaves in both buffers
-abbrev pub FrameDone : ℕ → ℕ → List ℕ → List ℕ → List ℕ → Blocks → List ℕ → List ℕ → Type 0
+abbrev pub FrameDone : ℕ → ℕ → List ℕ → List ℕ → List ℕ → Result ℕ TextError → List ℕ → List ℕ → Type 0
 FrameDone M r s info red a i o =
     (blocks_verdict a ≡ (read_frame_call M r s info red).verdict)
     × (CountIs a (frame_count M r s) × ((i ≡ (read_frame_call M r s info red).info) × (o ≡ (read_frame_call M r s info red).red)))
 
-module _ (m t M area order : ℕ) (s : List ℕ) (f : Found) (ea : area ≡ M * M) (eo : order ≡ M * (m * t))
+module _ (m t M area order : ℕ) (s : List ℕ) (f : Result ℕ Broken) (ea : area ≡ M * M) (eo : order ≡ M * (m * t))
     (e : found_scan f ≡ verdict (scan (frame_format area order most-blocks) s)) where
   abbrev r : ℕ
   r = m * t
@@ -143,16 +141,16 @@ module _ (m t M area order : ℕ) (s : List ℕ) (f : Found) (ea : area ≡ M * 
   abbrev due_both : List ℕ → List ℕ → ℕ → Verdict
   due_both info red L = length_rule 4 (length info) (L * (M * M)) then length_rule 5 (length red) (groups L * (2 * (M * (m * t))))
 
-  pub frame_refused : (info red : List ℕ) (q : ℕ) (a : Blocks) → f ≡ Wrong q → (blocks_verdict a ≡ scan_rule 12 (found_scan f)) × CountIs a (mark (found_scan f))
+  pub frame_refused : (info red : List ℕ) (q : Broken) (a : Result ℕ TextError) → f ≡ Err q → (blocks_verdict a ≡ scan_rule 12 (found_scan f)) × CountIs a (mark (found_scan f))
       → FrameDone M (m * t) s info red a info red
   unfolding read_frame_call frame_rule frame_count
   frame_refused info red q a g v =
       let ((w, n), k) =
-      broken y (due_both info red (mark y)) q a (found_wrong y f (frame_found M r area order s f ea eo e) q g) (frame-told M r area order s f ea eo e a v)
+      broken y (due_both info red (mark y)) q.place a (found_wrong y f (frame_found M r area order s f ea eo e) q g) (frame-told M r area order s f ea eo e a v)
       in
       (w, (n, (sym (k (frame_info M r s) info), sym (k (frame_red M r s) red))))
 
-  module _ (n : ℕ) (g : f ≡ Count n) where
+  module _ (n : ℕ) (g : f ≡ Ok n) where
     frame_is : y ≡ read n (values_of y)
     frame_is = found_count y f (frame_found M r area order s f ea eo e) n g
 
@@ -183,8 +181,8 @@ module _ (m t M area order : ℕ) (s : List ℕ) (f : Found) (ea : area ≡ M * 
       pub groups-pass : (G : ℕ) → G ≡ groups n → Passes (walk (group_lines order 1 G) s (q + 18))
       groups-pass G e = subst Passes (sym (ap (λ (k : ℕ). walk (group_lines order 1 k) s (q + 18)) e ∙ groups-walk)) tt
 
-    module _ (col : ℕ) (info red : List ℕ) (c : Check) (h : verdict_of c ≡ frame_lengths (params m t M col) n info red) where
-      pub frame-room : c ≡ check.Passed → (length info ≡ n * area) × (length red ≡ groups n * (2 * order))
+    module _ (col : ℕ) (info red : List ℕ) (c : Result Unit Refusal) (h : verdict_of c ≡ frame_lengths (params m t M col) n info red) where
+      pub frame-room : c ≡ (Ok tt) → (length info ≡ n * area) × (length red ≡ groups n * (2 * order))
       frame-room k =
           let (a, b) = frame-lengths (params m t M col) n info red (sym h ∙ check_passed k) in
           (a ∙ ap (λ (z : ℕ). n * z) (sym ea), b ∙ ap (λ (z : ℕ). groups n * (2 * z)) (sym eo))
@@ -193,10 +191,10 @@ module _ (m t M area order : ℕ) (s : List ℕ) (f : Found) (ea : area ≡ M * 
       unfolding mark frame_lengths
       due_lengths = h ∙ ap (due_both info red) (sym (ap mark frame_is))
 
-      pub frame-length : (v : Refusal) → c ≡ check.Refused v → FrameDone M (m * t) s info red (Refused v) info red
+      pub frame-length : (v : Refusal) → c ≡ Err v → (a : Result ℕ TextError) → a ≡ Err (Refused v) → FrameDone M (m * t) s info red a info red
       unfolding read_frame_call frame_rule frame_count
-      frame-length v k =
-          let ((a, b), l) = refused-length y (due_both info red (mark y)) n (values_of y) frame_is c due_lengths v k in
+      frame-length v k answer j =
+          let ((a, b), l) = refused-length y (due_both info red (mark y)) n (values_of y) frame_is c due_lengths v k answer j in
           (a, (b, (sym (l (frame_info M r s) info), sym (l (frame_red M r s) red))))
 
       -- the values of the scan are the information and, behind it, the redundancy
@@ -216,8 +214,8 @@ module _ (m t M area order : ℕ) (s : List ℕ) (f : Found) (ea : area ≡ M * 
           ap (λ (l : List ℕ). drop (frame_count M (m * t) s * (M * M)) l) frame-text.whole
           ∙ drop_at frame-text.info frame-text.red (frame_count M (m * t) s * (M * M)) (sym cut)
 
-      pub frame-filled : (i o : List ℕ) (q j G : ℕ) → c ≡ check.Passed → past i q ≡ walk (bits_lines area 1 n) s 11 → G ≡ groups n
-          → past o j ≡ walk (group_lines order 1 G) s (q + 18) → FrameDone M (m * t) s info red (Read n) i o
+      pub frame-filled : (i o : List ℕ) (q j G : ℕ) → c ≡ (Ok tt) → past i q ≡ walk (bits_lines area 1 n) s 11 → G ≡ groups n
+          → past o j ≡ walk (group_lines order 1 G) s (q + 18) → FrameDone M (m * t) s info red (Ok n) i o
       unfolding read_frame_call frame_rule frame_count
       frame-filled i o q j G k w eg v =
           let ((a, b), l) = read_whole y (due_both info red (mark y)) n (values_of y) frame_is c due_lengths k in

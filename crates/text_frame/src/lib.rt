@@ -15,22 +15,11 @@
 #![tactic(auto)]
 
 ghost use Rattle.std.specs.Prelude.{◌≡◌, ◌*◌};
-ghost use Rattle.text.specs.Rules.{scan_rule, mark};
-ghost use Rattle.text_frame_scan.specs.Judged.{found_scan};
 ghost use Rattle.text_frame.specs.Answers.{blocks_verdict, CountIs};
 ghost use Rattle.text.specs.FrameReader.{block_rule, block_count, read_blocks_call, frame_rule, frame_count, read_frame_call};
 
-use answers::{Check, Refusal};
+use answers::TextError;
 use design::Design;
-use text_frame_scan::Found;
-
-// The number of blocks of a text; or the refusal by rule 6; or the place of rule 12.
-#[derive(Clone, Copy)]
-pub enum Blocks {
-    Read(u64),
-    Refused(Refusal),
-    Broken(u64),
-}
 
 // Where the line of block 1 begins: behind `block bits` and a line feed.
 const BLOCK_LINES: usize = 11;
@@ -38,57 +27,39 @@ const BLOCK_LINES: usize = 11;
 // The bytes of `group self parity` and a line feed, which stand between the last block's line and the first group's.
 const GROUP_NAMES: usize = 18;
 
-// What judging found, as the answer of a call.
-fn told(found: Found) -> Blocks
-    ensures { (blocks_verdict result ≡ scan_rule 12 (found_scan found)) × CountIs result (mark (found_scan found)) }
-{
-    match found {
-        Found::Count(n) => Blocks::Read(n as u64),
-        Found::Wrong(place) => Blocks::Broken(place as u64),
-    }
-}
-
-// Rule 12 for block text. One step for each byte of the text, as in the functions below.
-pub fn scan_blocks(text: &[u8], d: Design) -> Blocks
+// Rule 12 for block text: the number of blocks, or the place. One step for each byte of the text, as in the functions below.
+pub fn scan_blocks(text: &[u8], d: Design) -> Result<u64, TextError>
     ensures result_value { blocks_verdict result ≡ block_rule d.size text.now }
     ensures count_is { CountIs result (block_count d.size text.now) }
 {
-    told(text_frame_scan::judge_blocks(text, d.area()))
+    let n = text_frame_scan::judge_blocks(text, d.area())?;
+    Ok(n as u64)
 }
 
-// Block text, read into the lent information.
-pub fn read_blocks(text: &[u8], d: Design, info: &mut [u8]) -> Blocks
+// Block text, read into the lent information: the number of blocks; or the refusal by rule 6; or the place of rule 12.
+pub fn read_blocks(text: &[u8], d: Design, info: &mut [u8]) -> Result<u64, TextError>
     ensures result_value { blocks_verdict result ≡ (read_blocks_call d.size text.now info.old).verdict }
     ensures count_is { CountIs result (block_count d.size text.now) }
     ensures info_after { info.new ≡ (read_blocks_call d.size text.now info.old).info }
 {
     let area = d.area();
-    let found = text_frame_scan::judge_blocks(text, area);
-    let Found::Count(n) = found else {
-        return told(found);
-    };
-    let length = rules::check_length(rules::INFORMATION, info.len(), n * area);
-    match length {
-        Check::Refused(r) => Blocks::Refused(r),
-        Check::Passed => {
-            text_frame_fill::fill_lines(text, BLOCK_LINES, n, area, info);
-            Blocks::Read(n as u64)
-        }
-    }
+    let n = text_frame_scan::judge_blocks(text, area)?;
+    rules::check_length(rules::INFORMATION, info.len(), n * area)?;
+    text_frame_fill::fill_lines(text, BLOCK_LINES, n, area, info);
+    Ok(n as u64)
 }
 
 // Rule 12 for frame text.
-pub fn scan_frame(text: &[u8], d: Design) -> Blocks
+pub fn scan_frame(text: &[u8], d: Design) -> Result<u64, TextError>
     ensures result_value { blocks_verdict result ≡ frame_rule d.size (d.m * d.t) text.now }
     ensures count_is { CountIs result (frame_count d.size (d.m * d.t) text.now) }
 {
-    let area = d.area();
-    let n = d.order();
-    told(text_frame_scan::judge_frame(text, area, n))
+    let blocks = text_frame_scan::judge_frame(text, d.area(), d.order())?;
+    Ok(blocks as u64)
 }
 
 // Frame text, read into the lent information and redundancy.
-pub fn read_frame(text: &[u8], d: Design, info: &mut [u8], red: &mut [u8]) -> Blocks
+pub fn read_frame(text: &[u8], d: Design, info: &mut [u8], red: &mut [u8]) -> Result<u64, TextError>
     ensures result_value { blocks_verdict result ≡ (read_frame_call d.size (d.m * d.t) text.now info.old red.old).verdict }
     ensures count_is { CountIs result (frame_count d.size (d.m * d.t) text.now) }
     ensures info_after { info.new ≡ (read_frame_call d.size (d.m * d.t) text.now info.old red.old).info }
@@ -96,18 +67,10 @@ pub fn read_frame(text: &[u8], d: Design, info: &mut [u8], red: &mut [u8]) -> Bl
 {
     let area = d.area();
     let n = d.order();
-    let found = text_frame_scan::judge_frame(text, area, n);
-    let Found::Count(blocks) = found else {
-        return told(found);
-    };
-    let lengths = rules::check_frame_lengths(d, blocks as u64, info, red);
-    match lengths {
-        Check::Refused(r) => Blocks::Refused(r),
-        Check::Passed => {
-            let groups = design::group_count(blocks as u64);
-            let middle = text_frame_fill::fill_lines(text, BLOCK_LINES, blocks, area, info);
-            text_frame_fill::fill_groups(text, middle + GROUP_NAMES, groups as usize, n, red);
-            Blocks::Read(blocks as u64)
-        }
-    }
+    let blocks = text_frame_scan::judge_frame(text, area, n)?;
+    rules::check_frame_lengths(d, blocks as u64, info, red)?;
+    let groups = design::group_count(blocks as u64);
+    let middle = text_frame_fill::fill_lines(text, BLOCK_LINES, blocks, area, info);
+    text_frame_fill::fill_groups(text, middle + GROUP_NAMES, groups as usize, n, red);
+    Ok(blocks as u64)
 }

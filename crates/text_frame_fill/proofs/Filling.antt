@@ -1,16 +1,16 @@
 -- The bits of a judged text, as the code writes them: what is written so far are the values of what is read so far.
 --   byte_there                        a fixed byte of a walk that passes is there
 --   bit_there, bit_next, bits-all     bits one after the other
---   line-wrong .. line-filled         the line of a block: its number, its bits, a line feed
+--   line_there .. line-filled         the line of a block: its number, its bits, a line feed
 --   half_lent, half_filled            a part of a slice with the values of a walk
---   group-wrong .. both-filled        the line of a group, with the two halves of a slice
+--   group_there .. both-filled        the line of a group, with the two halves of a slice
 --   none_filled, all-filled           lines of one width: before the first and after the last
 --   next-given .. next-filled         and the next, into its part of the slice
 --   row_passes, row_filled            the lines of blocks
 --   group_next                        the lines of groups
 -- Assumes nothing.
 use Prim.Native.Nat.{ℕ, suc, ◌+◌, ◌-◌, ◌*◌, ◌≤◌, ◌<◌}
-use mathlib.Core.Path.{◌≡◌, sym, ap, ap₂, subst, ◌∙◌}
+use mathlib.Core.Path.{◌≡◌, refl, sym, ap, ap₂, subst, ◌∙◌}
 use mathlib.Core.List.{List, [], ◌∷◌, ◌++◌, append_assoc, append-nil}
 use mathlib.Core.Logic.{◌⊎◌, inl, inr}
 use native.Mathlib.Omega.{arith}
@@ -24,8 +24,8 @@ use Rattle.text_formats.specs.Format.{Item, byte, bit, dec}
 use Rattle.text_formats.specs.Items.{lits, bits, lines_from, bits_line, bits_lines, Walk, stuck, past, prep, walk, onward, values, Passes}
 use Rattle.text_formats.proofs.Walking.{prep_nil, prep-prep, walk-append, walk_end, walk_this, walk_other, walk-bit}
 use Rattle.text_items.specs.Answers.{step_walk}
-use Rattle.text_items.specs.declared.Step.{Step}
-use Rattle.text_items.specs.declared.Step.TheVariants.{Next, Refused}
+use Rattle.text_items.specs.declared.Broken.{Broken}
+use Rattle.std.specs.Prelude.{Result, Ok, Err, IsOk}
 use Rattle.text_items.proofs.Lines.{bits-end, bits-low, bits-high}
 use Rattle.text_formats.proofs.Spelling.{tidy_bits, tidy_bits_line}
 use Rattle.text_formats.proofs.Takes.{passed_length, part_takes, line_takes}
@@ -132,11 +132,15 @@ bits_none s n q out = let e : n ≡ n - 0 = omega arith in ap (λ (k : ℕ). wal
 -- ---- a line: its number, and then parts
 
 -- the digits of p are there, and the walk goes on behind them
-module _ (p : ℕ) (is : List Item) (s : List ℕ) (at : ℕ) (ok : Passes (walk (lits (dec p) ++ is) s at)) (x : Step) (e : step_walk x ≡ walk (lits (dec p)) s at) where
-  number_wrong : (q : ℕ) → x ≡ Refused q → ⊥
-  number_wrong q f = stuck-not (walk (lits (dec p)) s at) q (sym e ∙ ap step_walk f) (first_passes (lits (dec p)) is s at ok)
+module _ (p : ℕ) (is : List Item) (s : List ℕ) (at : ℕ) (ok : Passes (walk (lits (dec p) ++ is) s at)) (x : Result ℕ Broken) (e : step_walk x ≡ walk (lits (dec p)) s at) where
+  number_there : IsOk x
+  number_there = go x refl
+    where
+      go : (y : Result ℕ Broken) → x ≡ y → IsOk y
+      go (Ok i) f = refl
+      go (Err b) f = absurd (stuck-not (walk (lits (dec p)) s at) b.place (sym e ∙ ap step_walk f) (first_passes (lits (dec p)) is s at ok))
 
-  number-walk : (i : ℕ) → x ≡ Next i → walk (lits (dec p) ++ is) s at ≡ walk is s i
+  number-walk : (i : ℕ) → x ≡ Ok i → walk (lits (dec p) ++ is) s at ≡ walk is s i
   number-walk i f = then_walk (lits (dec p)) is s at [] i (sym (ap step_walk f) ∙ e) ∙ prep_nil (walk is s i)
 
 -- a line feed closes the line
@@ -151,12 +155,12 @@ abbrev Part : ℕ → List Item
 Part n = byte 32 ∷ bits n
 
 -- the line of a block
-module _ (n p : ℕ) (s : List ℕ) (at : ℕ) (ok : Passes (walk (bits_line n p) s at)) (x : Step) (e : step_walk x ≡ walk (lits (dec p)) s at) where
-  pub line_wrong : (q : ℕ) → x ≡ Refused q → ⊥
+module _ (n p : ℕ) (s : List ℕ) (at : ℕ) (ok : Passes (walk (bits_line n p) s at)) (x : Result ℕ Broken) (e : step_walk x ≡ walk (lits (dec p)) s at) where
+  pub line_there : IsOk x
   unfolding bits_line
-  line_wrong q f = number_wrong p (Part n ++ (byte 10 ∷ [])) s at ok x e q f
+  line_there = number_there p (Part n ++ (byte 10 ∷ [])) s at ok x e
 
-  module _ (i : ℕ) (f : x ≡ Next i) where
+  module _ (i : ℕ) (f : x ≡ Ok i) where
     behind : Passes (walk (Part n ++ (byte 10 ∷ [])) s i)
     unfolding bits_line
     behind = subst Passes (number-walk p (Part n ++ (byte 10 ∷ [])) s at ok x e i f) ok
@@ -171,15 +175,15 @@ module _ (n p : ℕ) (s : List ℕ) (at : ℕ) (ok : Passes (walk (bits_line n p
         (l, h ∙ sym (number-walk p (Part n ++ (byte 10 ∷ [])) s at ok x e i f))
 
 -- the line of a group
-module _ (n p : ℕ) (s : List ℕ) (at : ℕ) (ok : Passes (walk (group_line n p) s at)) (x : Step) (e : step_walk x ≡ walk (lits (dec p)) s at) where
+module _ (n p : ℕ) (s : List ℕ) (at : ℕ) (ok : Passes (walk (group_line n p) s at)) (x : Result ℕ Broken) (e : step_walk x ≡ walk (lits (dec p)) s at) where
   abbrev Second : List Item
   Second = Part n ++ (byte 10 ∷ [])
 
-  pub group_wrong : (q : ℕ) → x ≡ Refused q → ⊥
+  pub group_there : IsOk x
   unfolding group_line
-  group_wrong q f = number_wrong p (Part n ++ Second) s at ok x e q f
+  group_there = number_there p (Part n ++ Second) s at ok x e
 
-  module _ (i : ℕ) (f : x ≡ Next i) where
+  module _ (i : ℕ) (f : x ≡ Ok i) where
     first : Passes (walk (Part n ++ Second) s i)
     unfolding group_line
     first = subst Passes (number-walk p (Part n ++ Second) s at ok x e i f) ok
@@ -232,8 +236,8 @@ halves : (n : ℕ) (out mid end ys zs : List ℕ) → length out ≡ 2 * n → l
 halves n out mid end ys zs l a d e =
     e ∙ ap (λ (m : List ℕ). take n m ++ (zs ++ drop n (drop n m))) d ∙ front_last ys (drop n out) zs n n a (omega (arith, length-drop n out))
 
-module _ (n p : ℕ) (s : List ℕ) (at : ℕ) (ok : Passes (walk (group_line n p) s at)) (x : Step) (e : step_walk x ≡ walk (lits (dec p)) s at) (i : ℕ)
-    (f : x ≡ Next i) (j : ℕ) (g : past (values (walk (byte 32 ∷ bits n) s i)) j ≡ walk (byte 32 ∷ bits n) s i) where
+module _ (n p : ℕ) (s : List ℕ) (at : ℕ) (ok : Passes (walk (group_line n p) s at)) (x : Result ℕ Broken) (e : step_walk x ≡ walk (lits (dec p)) s at) (i : ℕ)
+    (f : x ≡ Ok i) (j : ℕ) (g : past (values (walk (byte 32 ∷ bits n) s i)) j ≡ walk (byte 32 ∷ bits n) s i) where
   abbrev own : List ℕ
   own = values (walk (byte 32 ∷ bits n) s i)
 
@@ -289,10 +293,9 @@ module _ (line : ℕ → List Item) (W N i : ℕ) (s : List ℕ) (q : ℕ) (out 
     next_passes p = first_passes (line (i + 1)) others s q (rest-passes w (walk (line (i + 1) ++ others) s q) (take (i * W) out) here p)
 
     pub next_filled : (ys : List ℕ) (k : ℕ) → length ys ≡ W → past ys k ≡ walk (line (i + 1)) s q
-        → (i + 1 ≤ N) × (length (put_mid (i * W) (i * W + W - i * W) out ys) ≡ N * W)
+        → (length (put_mid (i * W) (i * W + W - i * W) out ys) ≡ N * W)
         × (w ≡ prep (take ((i + 1) * W) (put_mid (i * W) (i * W + W - i * W) out ys)) (walk (lines_from line (i + 1 + 1) (N - (i + 1))) s k))
     next_filled ys k m g = (
-      omega arith,
       same_len_mid (i * W) (i * W + W - i * W) out ys (m ∙ sym next_given) ∙ l,
       here ∙ ap (prep (take (i * W) out)) (then_walk (line (i + 1)) others s q ys k g) ∙ prep-prep (take (i * W) out) ys (walk others s k)
           ∙ ap (λ (z : List ℕ). prep z (walk others s k)) (sym taken),
@@ -316,7 +319,7 @@ module _ (area N i : ℕ) (s : List ℕ) (q : ℕ) (out : List ℕ) (w : Walk) (
       subst (λ (k : ℕ). Passes (walk (bits_line k (i + 1)) s q)) (sym given) (next_passes (bits_line area) area N i s q out w l e h p)
 
   pub row_filled : i < 9999 → (ys : List ℕ) (k : ℕ) → past ys k ≡ walk (bits_line (length (take (i * area + area - i * area) (drop (i * area) out))) (i + 1)) s q
-      → (i + 1 ≤ N) × (length (put_mid (i * area) (i * area + area - i * area) out ys) ≡ N * area)
+      → (length (put_mid (i * area) (i * area + area - i * area) out ys) ≡ N * area)
       × (w ≡ prep (take ((i + 1) * area) (put_mid (i * area) (i * area + area - i * area) out ys)) (walk (bits_lines area (i + 1 + 1) (N - (i + 1))) s k))
   row_filled b ys k g =
       let f : past ys k ≡ walk (bits_line area (i + 1)) s q = g ∙ ap (λ (j : ℕ). walk (bits_line j (i + 1)) s q) given in
@@ -328,7 +331,7 @@ module _ (area N i : ℕ) (s : List ℕ) (q : ℕ) (out : List ℕ) (w : Walk) (
 module _ (n N i : ℕ) (s : List ℕ) (q : ℕ) (out : List ℕ) (w : Walk) (h : i < N) (l : length out ≡ N * (2 * n))
     (e : w ≡ prep (take (i * (2 * n)) out) (walk (group_lines n (i + 1) (N - i)) s q)) where
   pub group_next : i < 9999 → (ys : List ℕ) (k : ℕ) → past ys k ≡ walk (group_line n (i + 1)) s q
-      → (i + 1 ≤ N) × (length (put_mid (i * (2 * n)) (i * (2 * n) + 2 * n - i * (2 * n)) out ys) ≡ N * (2 * n))
+      → (length (put_mid (i * (2 * n)) (i * (2 * n) + 2 * n - i * (2 * n)) out ys) ≡ N * (2 * n))
       × (w ≡ prep (take ((i + 1) * (2 * n)) (put_mid (i * (2 * n)) (i * (2 * n) + 2 * n - i * (2 * n)) out ys)) (walk (group_lines n (i + 1 + 1) (N - (i + 1))) s k))
   group_next b ys k g =
       let m : length ys ≡ 2 * n = passed_length (group_line n (i + 1)) s q ys k (tidy_group_line n (i + 1) (omega arith)) g ∙ group_takes n (i + 1) in

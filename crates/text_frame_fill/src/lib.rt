@@ -12,19 +12,15 @@ ghost use Rattle.text_formats.specs.Format.{byte};
 ghost use Rattle.text_formats.specs.Items.{bits, bits_line, bits_lines, past, values, Passes, walk};
 ghost use Rattle.text.specs.FrameText.{group_line, group_lines};
 
-use text_items::Step;
-
 // Writes the bits at a position into the lent slice, one bit a byte, and answers the position after them. The text is known to have them.
 fn fill_bits(s: &[u8], at: usize, out: &mut [u8]) -> usize
     requires { Passes (walk (bits (length out.old)) s.now at) }
     ensures { past out.new result ≡ walk (bits (length out.old)) s.now at }
 {
     let mut q = at;
-    let mut k = 0;
-    while k < out.len() {
-        out[k] = s[q] - 48;
+    for b in out.iter_mut() {
+        *b = s[q] - 48;
         q += 1;
-        k += 1;
     }
     q
 }
@@ -42,10 +38,7 @@ fn fill_line(s: &[u8], at: usize, p: usize, out: &mut [u8]) -> usize
     requires { (p < 10000) × Passes (walk (bits_line (length out.old) p) s.now at) }
     ensures { past out.new result ≡ walk (bits_line (length out.old) p) s.now at }
 {
-    let number = text_items::number_is(s, at, p);
-    let Step::Next(i) = number else {
-        return at;
-    };
+    let i = text_items::number_is(s, at, p).unwrap();
     let e = fill_part(s, i, out);
     e + 1
 }
@@ -56,11 +49,10 @@ pub fn fill_lines(s: &[u8], at: usize, n: usize, area: usize, out: &mut [u8]) ->
     ensures { past out.new result ≡ walk (bits_lines area 1 n) s.now at }
 {
     let mut q = at;
-    let mut i = 0;
-    while i < n {
+    // kept as an index loop: chunks_exact wants parts of at least one bit, which no contract here asks for
+    for i in 0..n {
         let a = i * area;
         q = fill_line(s, q, i + 1, &mut out[a..a + area]);
-        i += 1;
     }
     q
 }
@@ -79,10 +71,7 @@ fn fill_group(s: &[u8], at: usize, p: usize, n: usize, out: &mut [u8]) -> usize
     requires { (p < 10000) × (length out.old ≡ 2 * n) × Passes (walk (group_line n p) s.now at) }
     ensures { past out.new result ≡ walk (group_line n p) s.now at }
 {
-    let number = text_items::number_is(s, at, p);
-    let Step::Next(i) = number else {
-        return at;
-    };
+    let i = text_items::number_is(s, at, p).unwrap();
     let j = fill_half(s, i, n, 0, &mut out[..]);
     let e = fill_half(s, j, n, n, &mut out[..]);
     e + 1
@@ -94,11 +83,10 @@ pub fn fill_groups(s: &[u8], at: usize, count: usize, n: usize, out: &mut [u8]) 
     ensures { past out.new result ≡ walk (group_lines n 1 count) s.now at }
 {
     let mut q = at;
-    let mut i = 0;
-    while i < count {
+    // kept as an index loop: chunks_exact wants parts of at least one bit, which no contract here asks for
+    for i in 0..count {
         let a = i * (2 * n);
         q = fill_group(s, q, i + 1, n, &mut out[a..a + 2 * n]);
-        i += 1;
     }
     q
 }

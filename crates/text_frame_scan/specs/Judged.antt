@@ -1,11 +1,10 @@
 -- What judging a text finds.
 --   found_scan     the number of blocks or the place that is found, as a scan without values
 -- Assumes nothing.
-use Rattle.std.specs.Prelude.{[]}
+use Rattle.std.specs.Prelude.{ℕ, [], Result, Ok, Err}
 use Rattle.text_formats.specs.Format.{Scan, refused, read}
-use Rattle.text_frame_scan.specs.declared.Found.{Found}
-use Rattle.text_frame_scan.specs.declared.Found.TheVariants.{Count, Wrong}
+use Rattle.text_items.specs.declared.Broken.{Broken}
 
-abbrev pub found_scan : Found → Scan
-found_scan (Count n) = read n []
-found_scan (Wrong q) = refused q
+abbrev pub found_scan : Result ℕ Broken → Scan
+found_scan (Ok n) = read n []
+found_scan (Err b) = refused b.place

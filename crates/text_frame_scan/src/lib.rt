@@ -15,172 +15,100 @@ ghost use Rattle.text_items.specs.Answers.{step_of};
 ghost use Rattle.text.specs.FrameText.{block_tail, block_format, group_line, group_lines, group_tail, frame_tail, frame_format, block_names};
 ghost use Rattle.text_frame_scan.specs.Judged.{found_scan};
 
-use text_items::Step;
-
-// What judging a text finds: its number of blocks, or the place where it goes wrong.
-#[derive(Clone, Copy)]
-pub enum Found {
-    Count(usize),
-    Wrong(usize),
-}
+use text_items::Broken;
 
 // "for 1 to 4,096 blocks"
 const MOST_BLOCKS: usize = design::MOST_BLOCKS as usize;
 
 // `block bits` and the line of block 1.
-fn front(s: &[u8], area: usize) -> Step
+fn front(s: &[u8], area: usize) -> Result<usize, Broken>
     ensures { result ≡ step_of (walk (lits block_names ++ bits_line area 1) s.now 0) }
 {
-    let names = text_items::literal(s, 0, b"block bits\n");
-    let Step::Next(i) = names else {
-        return names;
-    };
+    let i = text_items::literal(s, 0, b"block bits\n")?;
     text_items::bits_line(s, i, area, 1)
 }
 
 // Block text after the line of block 1, which ends before `at`.
-fn more_blocks(s: &[u8], at: usize, area: usize) -> Found
+fn more_blocks(s: &[u8], at: usize, area: usize) -> Result<usize, Broken>
     ensures { found_scan result ≡ verdict (scan_at (block_tail area (most-blocks - 1) 1) s.now at) }
 {
     let mut q = at;
-    let mut i = 1;
-    while i < MOST_BLOCKS {
+    for i in 1..MOST_BLOCKS {
         if s.len() <= q {
-            return Found::Count(i);
+            return Ok(i);
         }
-        let line = text_items::bits_line(s, q, area, i + 1);
-        match line {
-            Step::Refused(place) => {
-                return Found::Wrong(place);
-            }
-            Step::Next(e) => {
-                q = e;
-            }
-        }
-        i += 1;
+        q = text_items::bits_line(s, q, area, i + 1)?;
     }
     if s.len() <= q {
-        return Found::Count(i);
+        return Ok(MOST_BLOCKS);
     }
-    Found::Wrong(q)
+    Err(Broken { place: q })
 }
 
 // Block text: its number of blocks, or the place where it goes wrong. Writes nothing.
-pub fn judge_blocks(s: &[u8], area: usize) -> Found
+pub fn judge_blocks(s: &[u8], area: usize) -> Result<usize, Broken>
     ensures { found_scan result ≡ verdict (scan (block_format area most-blocks) s.now) }
 {
-    let first = front(s, area);
-    match first {
-        Step::Refused(q) => Found::Wrong(q),
-        Step::Next(e) => more_blocks(s, e, area),
-    }
+    let e = front(s, area)?;
+    more_blocks(s, e, area)
 }
 
 // The line of a group: its number and twice n bits.
-fn group_line(s: &[u8], at: usize, n: usize, p: usize) -> Step
+fn group_line(s: &[u8], at: usize, n: usize, p: usize) -> Result<usize, Broken>
     requires { p < 10000 }
     ensures { result ≡ step_of (walk (group_line n p) s.now at) }
 {
-    let number = text_items::number_is(s, at, p);
-    let Step::Next(i) = number else {
-        return number;
-    };
-    let own = text_items::bits_part(s, i, n);
-    let Step::Next(j) = own else {
-        return own;
-    };
-    let parity = text_items::bits_part(s, j, n);
-    let Step::Next(e) = parity else {
-        return parity;
-    };
+    let i = text_items::number_is(s, at, p)?;
+    let j = text_items::bits_part(s, i, n)?;
+    let e = text_items::bits_part(s, j, n)?;
     text_items::byte_is(s, e, 10)
 }
 
 // The lines of the groups 1 to `count`.
-fn group_lines(s: &[u8], at: usize, n: usize, count: usize) -> Step
+fn group_lines(s: &[u8], at: usize, n: usize, count: usize) -> Result<usize, Broken>
     requires { count ≤ most-blocks }
     ensures { result ≡ step_of (walk (group_lines n 1 count) s.now at) }
 {
     let mut q = at;
-    let mut i = 0;
-    while i < count {
-        let line = group_line(s, q, n, i + 1);
-        match line {
-            Step::Refused(_) => {
-                return line;
-            }
-            Step::Next(e) => {
-                q = e;
-            }
-        }
-        i += 1;
+    for i in 0..count {
+        q = group_line(s, q, n, i + 1)?;
     }
-    Step::Next(q)
+    Ok(q)
 }
 
 // The group text of `blocks` blocks behind its first byte, up to the end of the text.
-fn group_text(s: &[u8], at: usize, n: usize, blocks: usize) -> Found
+fn group_text(s: &[u8], at: usize, n: usize, blocks: usize) -> Result<usize, Broken>
     requires { blocks ≤ most-blocks }
     ensures { found_scan result ≡ verdict (scan_at (group_tail n blocks) s.now at) }
 {
-    let names = text_items::literal(s, at, b"roup self parity\n");
-    match names {
-        Step::Refused(q) => Found::Wrong(q),
-        Step::Next(i) => {
-            let groups = design::group_count(blocks as u64);
-            let lines = group_lines(s, i, n, groups as usize);
-            match lines {
-                Step::Refused(q) => Found::Wrong(q),
-                Step::Next(e) => {
-                    if s.len() <= e {
-                        return Found::Count(blocks);
-                    }
-                    Found::Wrong(e)
-                }
-            }
-        }
+    let i = text_items::literal(s, at, b"roup self parity\n")?;
+    let groups = design::group_count(blocks as u64);
+    let e = group_lines(s, i, n, groups as usize)?;
+    if e < s.len() {
+        return Err(Broken { place: e });
     }
+    Ok(blocks)
 }
 
 // Frame text after the line of block 1, which ends before `at`.
-fn more_frame(s: &[u8], at: usize, area: usize, n: usize) -> Found
+fn more_frame(s: &[u8], at: usize, area: usize, n: usize) -> Result<usize, Broken>
     ensures { found_scan result ≡ verdict (scan_at (frame_tail area n (most-blocks - 1) 1) s.now at) }
 {
     let mut q = at;
-    let mut i = 1;
-    while i < MOST_BLOCKS {
-        let sign = text_items::byte_is(s, q, 103);
-        match sign {
-            Step::Next(j) => {
-                return group_text(s, j, n, i);
-            }
-            Step::Refused(_) => {}
+    for blocks in 1..MOST_BLOCKS {
+        if let Ok(j) = text_items::byte_is(s, q, 103) {
+            return group_text(s, j, n, blocks);
         }
-        let line = text_items::bits_line(s, q, area, i + 1);
-        match line {
-            Step::Refused(k) => {
-                return Found::Wrong(k);
-            }
-            Step::Next(e) => {
-                q = e;
-            }
-        }
-        i += 1;
+        q = text_items::bits_line(s, q, area, blocks + 1)?;
     }
-    let last = text_items::byte_is(s, q, 103);
-    match last {
-        Step::Next(j) => group_text(s, j, n, i),
-        Step::Refused(k) => Found::Wrong(k),
-    }
+    let j = text_items::byte_is(s, q, 103)?;
+    group_text(s, j, n, MOST_BLOCKS)
 }
 
 // Frame text: its number of blocks, or the place where it goes wrong. Writes nothing.
-pub fn judge_frame(s: &[u8], area: usize, n: usize) -> Found
+pub fn judge_frame(s: &[u8], area: usize, n: usize) -> Result<usize, Broken>
     ensures { found_scan result ≡ verdict (scan (frame_format area n most-blocks) s.now) }
 {
-    let first = front(s, area);
-    match first {
-        Step::Refused(q) => Found::Wrong(q),
-        Step::Next(e) => more_frame(s, e, area, n),
-    }
+    let e = front(s, area)?;
+    more_frame(s, e, area, n)
 }

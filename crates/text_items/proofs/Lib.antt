@@ -1,3 +1,4 @@
+pub mod Handing
 pub mod Numbers
 pub mod Fields
 pub mod Lines

@@ -16,7 +16,7 @@ use lib.ListN.{length, get_or, drop, get_or-eq_default}
 use lib.Seq.{get_or-drop, drop-drop}
 use Rattle.text_formats.specs.Format.{is_digit, more, value, num_len}
 use Rattle.text_items.specs.Answers.{digit_at, num_at}
-use Rattle.text_items.specs.declared.Num.TheVariants.{Value, Bad}
+use Rattle.std.specs.Prelude.{Some, None}
 use Rattle.text_formats.proofs.Walking.{get_d_any, get_d_there, head_at}
 use Rattle.text_formats.proofs.Digits.{digit-is, digit-true, more-stop, more-digit, len_none, len_zero, len_more}
 
@@ -79,7 +79,7 @@ digit_at_big s i a ea h = rw (head_at s i) (go (is_digit (get_or s i 256)) refl)
 -- ---- a number
 
 -- A number of n digits, the value of which is v.
-value-at : (s : List ℕ) (at n v : ℕ) → 1 ≤ n → num_len (drop at s) ≡ n → value n (drop at s) ≡ v → Value v (at + n) ≡ num_at s at
+value-at : (s : List ℕ) (at n v : ℕ) → 1 ≤ n → num_len (drop at s) ≡ n → value n (drop at s) ≡ v → Some (v, at + n) ≡ num_at s at
 unfolding num_at
 value-at s at zero v h e f = absurd (omega arith)
 value-at s at (suc n) v h e f = rw (e, f)
@@ -94,11 +94,11 @@ pub record Leading (s : List ℕ) (at n v : ℕ) : Type 0 where
   pub valued : value n (drop at s) ≡ v
 
 module _ (s : List ℕ) (at a : ℕ) (ea : a ≡ digit_at s at) where
-  pub none_read : 10 ≤ a → Bad ≡ num_at s at
+  pub none_read : 10 ≤ a → None ≡ num_at s at
   unfolding num_at
   none_read h = rw (len_none (drop at s) (digit_at_big s at a ea h))
 
-  pub zero-read : a ≡ 0 → Value 0 (at + 1) ≡ num_at s at
+  pub zero-read : a ≡ 0 → Some (0, at + 1) ≡ num_at s at
   zero-read h =
       let d = digit_at-small s at a ea (omega arith) in
       let f : get_or (drop at s) 0 256 ≡ 48 = head_at s at ∙ omega (arith, d.low, d.is) in
@@ -124,7 +124,7 @@ module _ (s : List ℕ) (at n v : ℕ) (R : Leading s at n v) where
   leading_small = let p : 10 ^ n ≤ 10 ^ 4 = pow-le-pow_right (omega arith) R.high in omega (arith, R.below)
 
   module _ (lt : n < 4) (d : ℕ) (ed : d ≡ digit_at s (at + n)) where
-    pub leading_stop : 10 ≤ d → Value v (at + n) ≡ num_at s at
+    pub leading_stop : 10 ≤ d → Some (v, at + n) ≡ num_at s at
     leading_stop h = value-at s at n v R.low (omega (arith, R.counted, more-stop (4 - n) (drop (at + n) s) (digit_at_big s (at + n) d ed h))) R.valued
 
     pub leading_next : d < 10 → Leading s at (n + 1) (v * 10 + d)
@@ -147,9 +147,9 @@ module _ (s : List ℕ) (at n v : ℕ) (R : Leading s at n v) where
           valued = rw (add-one n, R.valued, get_or-drop at s n 256, ← D.is, ed);
         }
 
-  pub leading_full : 4 ≤ n → Value v (at + n) ≡ num_at s at
+  pub leading_full : 4 ≤ n → Some (v, at + 4) ≡ num_at s at
   unfolding more
   leading_full h =
       let z : n ≡ 4 = omega (arith, R.high) in
       let m : more (4 - n) (drop (at + n) s) ≡ 0 = ap (λ (x : ℕ). more (4 - x) (drop (at + n) s)) z in
-      value-at s at n v R.low (omega (arith, R.counted, m)) R.valued
+      ap (λ (k : ℕ). Some (v, at + k)) (sym z) ∙ value-at s at n v R.low (omega (arith, R.counted, m)) R.valued

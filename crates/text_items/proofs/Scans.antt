@@ -12,8 +12,8 @@ use lib.Seq.{drop-cons}
 use Rattle.text_formats.specs.Format.{Item, Format, end, read, refused}
 use Rattle.text_formats.specs.Items.{lits, seq, Walk, walk, values, scan_at}
 use Rattle.text_formats.proofs.Spelling.{continue, prefix, prefix_nil, scan-seq}
-use Rattle.text_items.specs.declared.Step.{Step}
-use Rattle.text_items.specs.declared.Step.TheVariants.{Next, Refused}
+use Rattle.text_items.specs.declared.Broken.{Broken}
+use Rattle.std.specs.Prelude.{Result, Ok, Err}
 use Rattle.text_items.specs.Answers.{step_of, step_walk}
 use Rattle.text_items.proofs.Lines.{step-of, answer_stuck, answer_past}
 
@@ -25,18 +25,18 @@ pub scan-more : (l : ℕ) (s : List ℕ) (q : ℕ) → q < length s → scan_at 
 unfolding scan_at
 scan-more l s q h = rw (drop-cons s q 0 h) (ap refused (add-zero q))
 
-module _ (is : List Item) (F : Format) (s : List ℕ) (at : ℕ) (x : Step) (e : x ≡ step_of (walk is s at)) where
-  pub scan_stops : (q : ℕ) → x ≡ Refused q → scan_at (seq is F) s at ≡ refused q
+module _ (is : List Item) (F : Format) (s : List ℕ) (at : ℕ) (x : Result ℕ Broken) (e : x ≡ step_of (walk is s at)) where
+  pub scan_stops : (q : Broken) → x ≡ Err q → scan_at (seq is F) s at ≡ refused q.place
   scan_stops q f = scan-seq is F s at ∙ ap (λ (w : Walk). continue w (λ r. scan_at F s r)) (answer_stuck (walk is s at) x q e f)
 
-  pub scan_goes : (q : ℕ) → x ≡ Next q → scan_at (seq is F) s at ≡ prefix (values (walk is s at)) (scan_at F s q)
+  pub scan_goes : (q : ℕ) → x ≡ Ok q → scan_at (seq is F) s at ≡ prefix (values (walk is s at)) (scan_at F s q)
   scan_goes q f = scan-seq is F s at ∙ ap (λ (w : Walk). continue w (λ r. scan_at F s r)) (answer_past (walk is s at) x q e f)
 
-module _ (b : List ℕ) (F : Format) (s : List ℕ) (at : ℕ) (x : Step) (e : step_walk x ≡ walk (lits b) s at) where
-  pub lits-stop : (q : ℕ) → x ≡ Refused q → scan_at (seq (lits b) F) s at ≡ refused q
+module _ (b : List ℕ) (F : Format) (s : List ℕ) (at : ℕ) (x : Result ℕ Broken) (e : step_walk x ≡ walk (lits b) s at) where
+  pub lits-stop : (q : Broken) → x ≡ Err q → scan_at (seq (lits b) F) s at ≡ refused q.place
   lits-stop q f = scan_stops (lits b) F s at x (step-of x _ e) q f
 
-  pub lits_go : (q : ℕ) → x ≡ Next q → scan_at (seq (lits b) F) s at ≡ scan_at F s q
+  pub lits_go : (q : ℕ) → x ≡ Ok q → scan_at (seq (lits b) F) s at ≡ scan_at F s q
   lits_go q f =
       scan-seq (lits b) F s at
       ∙ ap (λ (w : Walk). continue w (λ r. scan_at F s r)) (sym e ∙ ap step_walk f)

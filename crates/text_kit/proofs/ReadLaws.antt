@@ -1,8 +1,9 @@
 -- The reader's verdict and what it leaves, as the code has it.
 --   Leaves                            the answer and the three slices are those of the definition
---   read_none .. read_whole           `read_kit`
+--   read_error .. read_whole          `read_kit`
 --   lists_ready, inverse_ready        what the filling requires
 -- Assumes nothing.
+use Rattle.std.specs.Prelude.{Err, Ok, Result}
 use Prim.Native.Nat.{ℕ, ◌*◌, ◌≤◌, ◌<◌}
 use mathlib.Core.Path.{◌≡◌, refl, sym, ap, ◌∙◌}
 use mathlib.Core.Logic.{◌≢◌}
@@ -13,34 +14,31 @@ use Rattle.text_formats.specs.Items.{Walk, stuck, past, walk, values, Passes, bi
 use Rattle.text.specs.Rules.{values_of}
 use Rattle.text.proofs.Kept.{kept_new, kept_old}
 use Rattle.staircase.specs.Rules.{Verdict, ◌then◌, kit_lengths}
-use Rattle.staircase.specs.Rules.Verdict.{accepted, refused}
+use Rattle.staircase.specs.Rules.Verdict.{accepted}
 use Rattle.staircase.specs.Design.{Params, order}
 use Rattle.staircase.specs.System.{row_bytes}
 use Rattle.staircase.specs.Demand2.{FitsOrder}
 use Rattle.design.specs.declared.Design.{Design}
 use Rattle.answers.specs.declared.Refusal.{Refusal}
-use Rattle.answers.specs.declared.Check.{Check}
-use Rattle.answers.specs.declared.Check.TheVariants as check
-use Rattle.answers.specs.Answers.{refusal_verdict, verdict_of}
+use Rattle.answers.specs.declared.TextError.{TextError}
+use Rattle.answers.specs.declared.TextError.TheVariants.{Refused, Broken as BrokenAt}
+use Rattle.text_items.specs.declared.Broken.{Broken}
+use Rattle.text_items.specs.Answers.{error_verdict}
+use Rattle.answers.specs.Answers.{verdict_of}
 use Rattle.design.specs.Sizes.{params_of}
-use Rattle.answers.proofs.Checks.{refused_then, passed_then, check_refused}
+use Rattle.answers.proofs.Checks.{refused_then, passed_then}
 use Rattle.staircase.proofs.Rules.{lengths_fit}
 use Rattle.text.specs.KitText.{pair_lines}
 use Rattle.text.specs.KitReader.{firsts, seconds, packs, pack_rows, kit_params, body_scan, body_rule, self_of, parity_of, inverse_of, read_verdict, read_kit_call}
 use Rattle.text_kit.specs.Answers.{kit_scan_verdict, KitDesign}
 use Rattle.text_kit_scan.specs.Answers.{front_rule, front_verdict, FrontIs, rest_rule, rest_verdict, RestParts}
-use Rattle.text_kit.specs.declared.KitScan.{KitScan}
-use Rattle.text_kit.specs.declared.KitScan.TheVariants.{Kit, Refused, Broken}
-use Rattle.text_kit_scan.specs.declared.Front.{Front}
-use Rattle.text_kit_scan.specs.declared.Front.TheVariants.{Starts, Ruled, NoStart}
-use Rattle.text_kit_scan.specs.declared.Rest.{Rest}
-use Rattle.text_kit_scan.specs.declared.Rest.TheVariants.{Whole, NotWhole}
 use Rattle.text.proofs.KitCounting.{pairs_walked, self-shown, parity-shown, inverse_shown}
-use Rattle.text_kit.proofs.ScanLaws.{front_then, refusal_first, Opens, front_broken, front-refused, opens, small-order, order_is, body_is, rule_is, kit-design}
+use Rattle.text_items.proofs.Handing.{error_first, error_not}
+use Rattle.text_kit.proofs.ScanLaws.{front_then, Opens, front-error, opens, small-order, order_is, body_is, rule_is, kit-design}
 
 -- ---- the call
 
-abbrev pub Leaves : KitScan → List ℕ → List ℕ → List ℕ → List ℕ → List ℕ → List ℕ → List ℕ → Type 0
+abbrev pub Leaves : Result Design TextError → List ℕ → List ℕ → List ℕ → List ℕ → List ℕ → List ℕ → List ℕ → Type 0
 Leaves a s own parity w own' parity' w' =
     (kit_scan_verdict a ≡ (read_kit_call s own parity w).verdict)
     × (KitDesign a s
@@ -48,7 +46,7 @@ Leaves a s own parity w own' parity' w' =
     × ((parity' ≡ (read_kit_call s own parity w).parity)
     × (w' ≡ (read_kit_call s own parity w).inverse))))
 
-module _ (a : KitScan) (s own parity w : List ℕ) (e : kit_scan_verdict a ≡ read_verdict s own parity w) (d : KitDesign a s) where
+module _ (a : Result Design TextError) (s own parity w : List ℕ) (e : kit_scan_verdict a ≡ read_verdict s own parity w) (d : KitDesign a s) where
   leaves_old : kit_scan_verdict a ≢ accepted → Leaves a s own parity w own parity w
   unfolding read_kit_call
   leaves_old h =
@@ -64,32 +62,22 @@ module _ (a : KitScan) (s own parity w : List ℕ) (e : kit_scan_verdict a ≡ r
       let v : Verdict = read_verdict s own parity w in
       (e, (d, (f ∙ sym (kept_new v (self_of s) own n), (g ∙ sym (kept_new v (parity_of s) parity n), i ∙ sym (kept_new v (inverse_of s) w n)))))
 
-pub refusal_not : (r : Refusal) → refusal_verdict r ≢ accepted
-unfolding verdict_of
-refusal_not r = check_refused {x = check.Refused r} refl
-
-refused-not : (n p : ℕ) → refused n p ≢ accepted
-refused-not n p e = let z : ◌≡◌ {A = ℕ} 0 1 = cc in omega arith
-
 module _ (s own parity w : List ℕ) where
   from_front : (v : Verdict) → front_rule s ≡ v → (v then (kit_lengths (kit_params s) own parity w then body_rule s)) ≡ read_verdict s own parity w
   unfolding read_verdict
   from_front v e = sym (front_then s (kit_lengths (kit_params s) own parity w then body_rule s) v e)
 
-  module _ (f : Front) (ef : (front_verdict f ≡ front_rule s) × FrontIs f s) where
-    pub read_none : (q : ℕ) → f ≡ NoStart q → Leaves (Broken q) s own parity w own parity w
+  module _ (f : Result (Design × ℕ) TextError) (ef : (front_verdict f ≡ front_rule s) × FrontIs f s) where
+    pub read_error : (e : TextError) → f ≡ Err e → (a : Result Design TextError) → a ≡ Err e → Leaves a s own parity w own parity w
     unfolding kit_scan_verdict KitDesign
-    read_none q g = leaves_old (Broken q) s own parity w (from_front (refused 11 q) (front_broken s f ef q g)) tt (refused-not 11 q)
-
-    pub read_ruled : (r : Refusal) → f ≡ Ruled r → Leaves (Refused r) s own parity w own parity w
-    unfolding kit_scan_verdict KitDesign
-    read_ruled r g =
-        leaves_old (Refused r) s own parity w
-        (sym (refusal_first r (kit_lengths (kit_params s) own parity w then body_rule s)) ∙ from_front (refusal_verdict r) (front-refused s f ef r g))
+    read_error e g a k =
+        rw k
+        (leaves_old (Err e) s own parity w
+        (sym (error_first 11 e (kit_lengths (kit_params s) own parity w then body_rule s)) ∙ from_front (error_verdict 11 e) (front-error s f ef e g))
         tt
-        (refusal_not r)
+        (error_not 11 e))
 
-    module _ (d : Design) (at : ℕ) (g : f ≡ Starts d at) (x : Check) (ex : verdict_of x ≡ kit_lengths (params_of d) own parity w) where
+    module _ (d : Design) (at : ℕ) (g : f ≡ Ok (d, at)) (x : Result Unit Refusal) (ex : verdict_of x ≡ kit_lengths (params_of d) own parity w) where
       open_is : Opens s d at
       open_is = opens s f ef d at g
 
@@ -99,28 +87,29 @@ module _ (s own parity w : List ℕ) where
       lengths_are : verdict_of x ≡ kit_lengths (kit_params s) own parity w
       lengths_are = ex ∙ ap (λ (k : Params). kit_lengths k own parity w) sizes_are
 
-      pub read_lengths : (r : Refusal) → x ≡ check.Refused r → Leaves (Refused r) s own parity w own parity w
+      pub read_lengths : (r : Refusal) → x ≡ Err r → (a : Result Design TextError) → a ≡ Err (Refused r) → Leaves a s own parity w own parity w
       unfolding kit_scan_verdict KitDesign verdict_of
-      read_lengths r h =
-          leaves_old (Refused r) s own parity w
+      read_lengths r h a k =
+          rw k
+          (leaves_old (Err (Refused r)) s own parity w
           (sym (ap verdict_of h) ∙ refused_then (body_rule s) lengths_are h ∙ from_front accepted open_is.rule)
           tt
-          (refusal_not r)
+          (error_not 11 (Refused r)))
 
-      module _ (px : x ≡ check.Passed) (n : ℕ) (en : (n ≡ d.size * (d.m * d.t)) × (n < 4294967296)) where
+      module _ (px : x ≡ (Ok tt)) (n : ℕ) (en : (n ≡ d.size * (d.m * d.t)) × (n < 4294967296)) where
         pub read_small : n ≤ 4096
         read_small = small-order s d at open_is n en.0
 
-        module _ (y : Rest) (ey : (rest_verdict y ≡ rest_rule n s at) × RestParts y n s at) where
+        module _ (y : Result (ℕ × ℕ) Broken) (ey : (rest_verdict y ≡ rest_rule n s at) × RestParts y n s at) where
           rest-is : rest_verdict y ≡ read_verdict s own parity w
           rest-is = ey.0 ∙ sym (rule_is s d at open_is n en.0) ∙ passed_then (body_rule s) lengths_are px ∙ from_front accepted open_is.rule
 
-          pub read-not : (q : ℕ) → y ≡ NotWhole q → Leaves (Broken q) s own parity w own parity w
+          pub read-not : (q : Broken) → y ≡ Err q → (a : Result Design TextError) → a ≡ Err (BrokenAt q.place) → Leaves a s own parity w own parity w
           unfolding kit_scan_verdict KitDesign rest_verdict
-          read-not q h = leaves_old (Broken q) s own parity w (sym (ap rest_verdict h) ∙ rest-is) tt (refused-not 11 q)
+          read-not q h a k = rw k (leaves_old (Err (BrokenAt q.place)) s own parity w (sym (ap rest_verdict h) ∙ rest-is) tt (error_not 11 (BrokenAt q.place)))
 
-          module _ (i j : ℕ) (h : y ≡ Whole i j) where
-            parts : RestParts (Whole i j) n s at
+          module _ (i j : ℕ) (h : y ≡ Ok (i, j)) where
+            parts : RestParts (Ok (i, j)) n s at
             parts = rw h at ey.1
 
             lengths_ok : kit_lengths (params_of d) own parity w ≡ accepted
@@ -163,10 +152,10 @@ module _ (s own parity w : List ℕ) where
 
             pub read_whole : (own' parity' w' : List ℕ) → own' ≡ packs (firsts (values (walk (pair_lines 0 n) s i)))
                 → parity' ≡ packs (seconds (values (walk (pair_lines 0 n) s i))) → w' ≡ pack_rows n n (values (walk (bits_lines n 0 n) s j))
-                → Leaves (Kit d) s own parity w own' parity' w'
+                → Leaves (Ok d) s own parity w own' parity' w'
             unfolding kit_scan_verdict rest_verdict
             read_whole own' parity' w' a b c =
-                leaves_new (Kit d) s own parity w (sym (ap rest_verdict h) ∙ rest-is) (kit-design s d at open_is n en.0) refl own' parity' w'
+                leaves_new (Ok d) s own parity w (sym (ap rest_verdict h) ∙ rest-is) (kit-design s d at open_is n en.0) refl own' parity' w'
                 (a ∙ sym (self-shown s n Ws Us order_ok shows count))
                 (b ∙ sym (parity-shown s n Ws Us order_ok shows count))
                 (c ∙ sym (inverse_shown s n Ws Us order_ok shows count))

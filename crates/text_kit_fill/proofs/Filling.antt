@@ -1,7 +1,7 @@
 -- Filling the two lists from the values of their lines.
 --   halves, pairs_more                      the values of either list, of pairs
 --   put-more                                one entry more in a list
---   Filled, filled-start .. filled-parity   the state of the filling after p lines
+--   Filled, filled_start .. filled-parity   the state of the filling after p lines
 -- Assumes nothing.
 use Prim.Native.Nat.{ℕ, zero, suc, ◌+◌, ◌-◌, ◌*◌, ◌/◌, ◌%◌, ◌≤◌, ◌<◌}
 use mathlib.Core.Path.{◌≡◌, refl, sym, ap, ap₂, ◌∙◌}
@@ -9,16 +9,18 @@ use mathlib.Core.List.{List, [], ◌∷◌, ◌++◌, append-nil}
 use native.Mathlib.Omega.{arith}
 use lib.ListN.{length, drop, length-append}
 use lib.Seq.{sets}
-use Rattle.staircase.proofs.Fill.{front_length, front-all, front-sets}
-use Rattle.text_formats.specs.Items.{past, prep, walk, values, Passes}
+use Rattle.staircase.proofs.Fill.{front-all, front-sets}
+use Rattle.text_items.specs.Answers.{step_of}
+use Rattle.text_items.proofs.Lines.{step-prep, answer_stuck}
+use Rattle.text_formats.specs.Items.{stuck, past, prep, walk, values, Passes}
 use Rattle.text_formats.proofs.Walking.{prep_nil, prep-prep}
 use Rattle.text_formats.proofs.Lines.{lines-whole, lines_end}
 use Rattle.text.specs.KitText.{pair_line, pair_lines}
 use Rattle.text.proofs.Bytes.{halves, packs-length}
 use Rattle.text.specs.KitReader.{firsts, seconds, packs}
 use Rattle.text_kit_scan.specs.Answers.{line_walk}
-use Rattle.text_kit_scan.specs.declared.Line.{Line}
-use Rattle.text_kit_scan.specs.declared.Line.TheVariants.{Pair, NoPair}
+use Rattle.text_items.specs.declared.Broken.{Broken}
+use Rattle.std.specs.Prelude.{Result, Ok, Err, IsOk}
 use Rattle.text_kit_scan.proofs.ListLines.{pairs_wrong, pairs_next}
 
 pairs_more : (k : ℕ) (l : List ℕ) (a b : ℕ) → length l ≡ 2 * k
@@ -44,7 +46,6 @@ put-more l₀ ds p a e h =
 
 -- After p lines: ws are the values read, and start the two lists; what is left at q is the lines from p on.
 pub record Filled (s : List ℕ) (at n : ℕ) (l₀ m₀ l m : List ℕ) (q p : ℕ) : Type 0 where
-  pub within : p ≤ n
   pub ws : List ℕ
   pub count : length ws ≡ 2 * p
   pub left : l ≡ packs (firsts ws) ++ drop (2 * p) l₀
@@ -56,7 +57,6 @@ module _ (s : List ℕ) (at n : ℕ) (l₀ m₀ : List ℕ) where
   unfolding packs firsts seconds
   filled_start =
       record {
-        within = omega arith;
         ws = [];
         count = refl;
         left = refl;
@@ -70,23 +70,26 @@ module _ (s : List ℕ) (at n : ℕ) (l₀ m₀ : List ℕ) where
         let h = halves p F.ws F.count in
         (omega (arith, packs-length (firsts F.ws), h.0), omega (arith, packs-length (seconds F.ws), h.1))
 
-    pub filled-left : length l ≡ length l₀
-    filled-left = rw F.left (front_length (packs (firsts F.ws)) l₀ (2 * p) sizes.0 (omega (arith, F.within)))
+    module _ (lt : p < n) (x : Result (ℕ × ℕ × ℕ) Broken) (e : line_walk x ≡ walk (pair_line p) s q) where
+      pub filled_there : Passes (walk (pair_lines 0 n) s at) → IsOk x
+      filled_there h = go x refl
+        where
+          wrong : (k : Broken) → x ≡ Err k → ⊥
+          wrong k f =
+              let w : step_of (walk (pair_lines 0 n) s at) ≡ Err k = ap step_of F.rest ∙ step-prep F.ws _ ∙ sym (pairs_wrong p n s q lt x e k f) in
+              let stuck-at : walk (pair_lines 0 n) s at ≡ stuck k.place = answer_stuck (walk (pair_lines 0 n) s at) (Err k) k (sym w) refl in
+              rw stuck-at at h
 
-    pub filled-right : length m ≡ length m₀
-    filled-right = rw F.right (front_length (packs (seconds F.ws)) m₀ (2 * p) sizes.1 (omega (arith, F.within)))
+          go : (y : Result (ℕ × ℕ × ℕ) Broken) → x ≡ y → IsOk y
+          go (Ok t) f = refl
+          go (Err k) f = absurd (wrong k f)
 
-    module _ (lt : p < n) (x : Line) (e : line_walk x ≡ walk (pair_line p) s q) where
-      pub filled_wrong : (k : ℕ) → x ≡ NoPair k → Passes (walk (pair_lines 0 n) s at) → ⊥
-      filled_wrong k f h = rw (F.rest, pairs_wrong p n s q lt x e k f) at h
-
-      pub filled_next : (a b r : ℕ) → x ≡ Pair a b r → (l' m' : List ℕ)
+      pub filled_next : (a b r : ℕ) → x ≡ Ok (a, b, r) → (l' m' : List ℕ)
           → l' ≡ sets l (2 * p) ((a % 256) ∷ (a / 256 % 256) ∷ []) → m' ≡ sets m (2 * p) ((b % 256) ∷ (b / 256 % 256) ∷ [])
           → Filled s at n l₀ m₀ l' m' r (p + 1)
       filled_next a b r f l' m' g h =
           let more = pairs_more p F.ws a b F.count in
           record {
-            within = omega arith;
             ws = F.ws ++ (a ∷ b ∷ []);
             count = omega (arith, length-append F.ws (a ∷ b ∷ []), F.count);
             left = rw (g, F.left, more.0) (put-more l₀ (firsts F.ws) p a sizes.0 (omega arith));

@@ -4,7 +4,7 @@
 --   length-pack                 the number of bytes
 -- Assumes nothing.
 use Prim.Native.Nat.{ℕ, zero, suc, ◌+◌, ◌-◌, ◌*◌, ◌%◌, ◌≤◌, ◌<◌, ◌^◌, min}
-use mathlib.Core.Path.{◌≡◌, refl, sym, ap, ◌∙◌}
+use mathlib.Core.Path.{◌≡◌, refl, sym, ap, ap₂, ◌∙◌}
 use mathlib.Core.List.{List, [], ◌∷◌, ◌++◌}
 use native.Mathlib.Omega.{arith}
 use native.Mathlib.Numerals.{add-one}
@@ -40,16 +40,14 @@ module _ (s : List ℕ) (at c : ℕ) (small : c ≤ 8) (room : at + c ≤ length
       let e : get_or (take c (drop at s)) k 0 ≡ get_or s (at + k) 0 = get_or-take c (drop at s) k 0 h ∙ get_or-drop at s k 0 in
       rw (drop-cons (take c (drop at s)) k 0 (omega (arith, part_length)), e) (omega arith)
 
-  pub gather_step : (k v : ℕ) → 0 < k → k ≤ c → v ≡ binary (lows (drop k (take c (drop at s))))
-      → (k - 1 ≤ c) × (v * 2 + get_or s (at + (k - 1)) 0 % 2 < 256) × (v * 2 + get_or s (at + (k - 1)) 0 % 2 ≡ binary (lows (drop (k - 1) (take c (drop at s)))))
-  gather_step k v p h e =
+  pub gather_step : (k v b : ℕ) → 0 < k → k ≤ c → v ≡ binary (lows (drop k (take c (drop at s)))) → b ≡ get_or s (at + (k - 1)) 0 % 2
+      → (v * 2 + b < 256) × (v * 2 + b ≡ binary (lows (drop (k - 1) (take c (drop at s)))))
+  gather_step k v b p h e f =
       let j : ℕ = k - 1 in
       let z : suc j ≡ k = omega arith in
-      let f : v ≡ binary (lows (drop (suc j) (take c (drop at s)))) = e ∙ ap (λ (i : ℕ). binary (lows (drop i (take c (drop at s))))) (sym z) in
-      let g : v * 2 + get_or s (at + j) 0 % 2 ≡ binary (lows (drop j (take c (drop at s)))) =
-      ap (λ (i : ℕ). i * 2 + get_or s (at + j) 0 % 2) f ∙ gather_more j (omega arith)
-      in
-      (omega arith, omega (arith, gather_byte j), g)
+      let g : v ≡ binary (lows (drop (suc j) (take c (drop at s)))) = e ∙ ap (λ (i : ℕ). binary (lows (drop i (take c (drop at s))))) (sym z) in
+      let i : v * 2 + b ≡ binary (lows (drop j (take c (drop at s)))) = ap₂ (λ (x y : ℕ). x * 2 + y) g f ∙ gather_more j (omega arith) in
+      (omega (arith, gather_byte j), i)
 
 -- one byte more
 pack_snoc : (b : ℕ) (vs : List ℕ) → pack (suc b) vs ≡ pack b vs ++ (binary (take 8 (drop (b * 8) vs)) ∷ [])

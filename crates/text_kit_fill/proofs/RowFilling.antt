@@ -1,6 +1,6 @@
 -- Filling the inverse from the values of its lines.
 --   Run                            what follows the number in a row's line
---   Parts, row-not .. row-packed   `fill_row`: where the bits of a row's line stand
+--   Parts, row_there .. row_packed   `fill_row`: where the bits of a row's line stand
 --   pack_rows-more, put-row         one row more
 --   Packed, packed_start .. packed_all   the state of the filling after p lines
 -- Assumes nothing.
@@ -8,7 +8,6 @@ use Prim.Native.Nat.{ℕ, zero, suc, ◌+◌, ◌-◌, ◌*◌, ◌%◌, ◌≤�
 use mathlib.Core.Path.{◌≡◌, refl, sym, ap, ap₂, ◌∙◌}
 use mathlib.Core.List.{List, [], ◌∷◌, ◌++◌, append_assoc, append-nil}
 use native.Mathlib.Omega.{arith}
-use native.Mathlib.Nat.{mul-le-mul_right}
 use native.Mathlib.Numerals.{add-one}
 use lib.ListN.{length, take, drop, length-append, length-drop}
 use lib.Seq.{sets, take_all, drop-drop, take-append-le, drop-append-le}
@@ -18,12 +17,12 @@ use Rattle.text_formats.proofs.Spelling.{tidy_append, tidy_bits, tidy_oks, tidy_
 use Rattle.text_formats.proofs.Takes.{passed_length, line_takes}
 use Rattle.text_formats.proofs.Walking.{walk-append, prep_nil, prep-prep}
 use Rattle.text_formats.proofs.Lines.{lines-whole, lines_end, lines-walk}
-use Rattle.text_items.specs.declared.Step.{Step}
-use Rattle.text_items.specs.declared.Step.TheVariants.{Next, Refused}
+use Rattle.text_items.specs.declared.Broken.{Broken}
+use Rattle.std.specs.Prelude.{Result, Ok, Err, IsOk}
 use Rattle.text_items.specs.Answers.{step_of, step_walk}
 use Rattle.staircase.specs.System.{row_bytes}
 use Rattle.staircase.proofs.Bounds.{stretch-end}
-use Rattle.staircase.proofs.Fill.{front_length, front-all, front-sets}
+use Rattle.staircase.proofs.Fill.{front-all, front-sets}
 use Rattle.text_kit_fill.specs.Bytes.{lows}
 use Rattle.text.proofs.Bytes.{pack_rows-length, length-pack}
 use Rattle.text.specs.KitReader.{pack, pack_rows}
@@ -55,12 +54,16 @@ pub record Parts (n p : ℕ) (s : List ℕ) (at i : ℕ) : Type 0 where
   pub room : i + 1 + n + 1 ≤ length s
   pub line : walk (bits_line n p) s at ≡ past (lows (take n (drop (i + 1) s))) (i + 1 + n + 1)
 
-module _ (n p : ℕ) (s : List ℕ) (at : ℕ) (x : Step) (ex : step_walk x ≡ walk (lits (dec p)) s at) where
-  pub row_not : (q : ℕ) → x ≡ Refused q → Passes (walk (bits_line n p) s at) → ⊥
+module _ (n p : ℕ) (s : List ℕ) (at : ℕ) (x : Result ℕ Broken) (ex : step_walk x ≡ walk (lits (dec p)) s at) where
+  pub row_there : Passes (walk (bits_line n p) s at) → IsOk x
   unfolding bits_line
-  row_not q f h = rw (walk-append (lits (dec p)) (Run n) s at, ← ex, f) at h
+  row_there h = go x refl
+    where
+      go : (y : Result ℕ Broken) → x ≡ y → IsOk y
+      go (Ok i) f = refl
+      go (Err b) f = let z : Passes (stuck b.place) = rw (walk-append (lits (dec p)) (Run n) s at, ← ex, f) at h in absurd z
 
-  module _ (i : ℕ) (fx : x ≡ Next i) where
+  module _ (i : ℕ) (fx : x ≡ Ok i) where
     from_space : walk (bits_line n p) s at ≡ walk (Run n) s i
     unfolding bits_line
     from_space = rw (walk-append (lits (dec p)) (Run n) s at, ← ex, fx) (prep_nil (walk (Run n) s i))
@@ -83,7 +86,7 @@ module _ (n p : ℕ) (s : List ℕ) (at : ℕ) (x : Step) (ex : step_walk x ≡ 
         go (stuck q) e k = absurd k
         go (past ws q) e k = parts ws q e
 
-    pub row_next : Passes (walk (bits_line n p) s at) → Next (i + 1 + n + 1) ≡ step_of (walk (bits_line n p) s at)
+    pub row_next : Passes (walk (bits_line n p) s at) → Ok (i + 1 + n + 1) ≡ step_of (walk (bits_line n p) s at)
     row_next h = sym (ap step_of (row_parts h).line)
 
     pub row_packed : Passes (walk (bits_line n p) s at) → (from : ℕ) (o o' : List ℕ) → o' ≡ sets o from (pack (row_bytes n) (lows (take n (drop (i + 1) s))))
@@ -122,7 +125,6 @@ put-row w₀ ws vs n p e f h =
 
 -- After p lines: ws are the values read, and start the inverse; what is left at q is the lines from p on.
 pub record Packed (s : List ℕ) (at n : ℕ) (w₀ w : List ℕ) (q p : ℕ) : Type 0 where
-  pub within : p ≤ n
   pub ws : List ℕ
   pub count : length ws ≡ p * n
   pub bytes : w ≡ pack_rows n p ws ++ drop (p * row_bytes n) w₀
@@ -138,7 +140,6 @@ module _ (s : List ℕ) (at n : ℕ) (w₀ : List ℕ) where
   packed_start =
       let z : 0 ≡ 0 * row_bytes n = omega arith in
       record {
-        within = omega arith;
         ws = [];
         count = omega arith;
         bytes = ap (λ (i : ℕ). drop i w₀) z;
@@ -146,12 +147,6 @@ module _ (s : List ℕ) (at n : ℕ) (w₀ : List ℕ) where
       }
 
   module _ (small : n ≤ 4096) (hw : length w₀ ≡ n * row_bytes n) (w : List ℕ) (q p : ℕ) (F : Packed s at n w₀ w q p) where
-    pub packed-length : length w ≡ length w₀
-    packed-length =
-        rw F.bytes
-        (front_length (pack_rows n p F.ws) w₀ (p * row_bytes n) (pack_rows-length n p F.ws)
-        (omega (arith, mul-le-mul_right {m = p} {n = n} (row_bytes n) F.within)))
-
     module _ (lt : p < n) where
       rest-is : walk (bits_lines n 0 n) s at ≡ prep F.ws (onward (walk (bits_line n p) s q) (λ r. walk (bits_lines n (p + 1) (n - (p + 1))) s r))
       rest-is = F.rest ∙ ap (prep F.ws) (lines-walk (bits_line n) p n p s q lt)
@@ -159,15 +154,14 @@ module _ (s : List ℕ) (at n : ℕ) (w₀ : List ℕ) where
       pub packed-line : Passes (walk (bits_lines n 0 n) s at) → Passes (walk (bits_line n p) s q)
       packed-line h = onward-passes F.ws (walk (bits_line n p) s q) (λ r. walk (bits_lines n (p + 1) (n - (p + 1))) s r) (rw rest-is at h)
 
-      pub packed_next : (r : ℕ) (w' : List ℕ) → Next r ≡ step_of (walk (bits_line n p) s q)
+      pub packed_next : (r : ℕ) (w' : List ℕ) → Ok r ≡ step_of (walk (bits_line n p) s q)
           → w' ≡ sets w (p * row_bytes n) (pack (row_bytes n) (values (walk (bits_line n p) s q))) → Packed s at n w₀ w' r (p + 1)
       packed_next r w' e f =
           let vs : List ℕ = values (walk (bits_line n p) s q) in
-          let v : walk (bits_line n p) s q ≡ past vs r = answer_past (walk (bits_line n p) s q) (Next r) r e refl in
+          let v : walk (bits_line n p) s q ≡ past vs r = answer_past (walk (bits_line n p) s q) (Ok r) r e refl in
           let c : length vs ≡ n = passed_length (bits_line n p) s q vs r (tidy_bits_line n p (omega arith)) (sym v) ∙ line_takes n p in
           let next : ℕ → Walk = λ (k : ℕ). walk (bits_lines n (p + 1) (n - (p + 1))) s k in
           record {
-            within = omega arith;
             ws = F.ws ++ vs;
             count = omega (arith, length-append F.ws vs, F.count, c);
             bytes =
@@ -176,9 +170,9 @@ module _ (s : List ℕ) (at n : ℕ) (w₀ : List ℕ) where
             rest = rest-is ∙ ap (λ (k : Walk). prep F.ws (onward k next)) v ∙ prep-prep F.ws vs (next r);
           }
 
-    module _ (done : n ≤ p) where
+    module _ (done : n ≤ p) (within : p ≤ n) where
       whole : p ≡ n
-      whole = omega (arith, F.within)
+      whole = omega arith
 
       all_read : walk (bits_lines n 0 n) s at ≡ past F.ws q
       all_read = rw (F.rest, lines_end (bits_line n) p n p s q done) (ap (λ (z : List ℕ). past z q) (append-nil F.ws))

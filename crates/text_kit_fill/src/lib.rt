@@ -6,19 +6,15 @@
 // function goes once through its lines and writes each byte once.
 #![tactic(auto)]
 
-ghost use Rattle.std.specs.Prelude.{◌≡◌, [], ◌∷◌, ◌+◌, ◌*◌, ◌/◌, ◌%◌, ◌≤◌, ◌<◌, min, length, take, drop};
+ghost use Rattle.std.specs.Prelude.{◌≡◌, [], ◌∷◌, ◌+◌, ◌*◌, ◌/◌, ◌%◌, ◌≤◌, ◌<◌, length, take, drop};
 ghost use Rattle.std.proofs.lemmas.List.Edits.{sets};
 ghost use Rattle.text_formats.specs.Items.{walk, values, Passes, bits_line, bits_lines};
-ghost use Rattle.text_items.specs.declared.Step.TheVariants.{Next};
 ghost use Rattle.text_items.specs.Answers.{step_of};
 ghost use Rattle.staircase.specs.Design.{most-order};
 ghost use Rattle.staircase.specs.System.{row_bytes};
 ghost use Rattle.text.specs.KitText.{pair_lines};
 ghost use Rattle.text_kit_fill.specs.Bytes.{lows};
 ghost use Rattle.text.specs.KitReader.{firsts, seconds, packs, binary, pack, pack_rows};
-
-use text_items::Step;
-use text_kit_scan::Line;
 
 // Entry p of a list: "two bytes an entry, low byte first".
 fn put_entry(list: &mut [u8], p: usize, v: usize)
@@ -39,23 +35,12 @@ pub fn fill_lists(s: &[u8], at: usize, n: usize, own: &mut [u8], parity: &mut [u
     ensures parity_after { parity.new ≡ packs (seconds (values (walk (pair_lines 0 n) s.now at))) }
 {
     let mut q = at;
-    let mut p = 0;
-    while p < n {
-        let line = text_kit_scan::pair_line(s, q, p);
-        let Line::Pair(a, b, e) = line else {
-            return;
-        };
+    for p in 0..n {
+        let (a, b, e) = text_kit_scan::pair_line(s, q, p).unwrap();
         put_entry(own, p, a);
         put_entry(parity, p, b);
         q = e;
-        p += 1;
     }
-}
-
-fn least(a: usize, b: usize) -> usize
-    ensures { result ≡ min a b }
-{
-    if a < b { a } else { b }
 }
 
 // The byte of up to eight bit characters: "column j is bit j mod 8".
@@ -65,10 +50,8 @@ fn gather(s: &[u8], at: usize, c: usize) -> usize
     ensures { result ≡ binary (lows (take c (drop at s.now))) }
 {
     let mut v: usize = 0;
-    let mut k = c;
-    while 0 < k {
-        k -= 1;
-        let b = (s[at + k] % 2) as usize;
+    for k in (0..c).rev() {
+        let b = usize::from(s[at + k] % 2);
         v = v * 2 + b;
     }
     v
@@ -81,12 +64,10 @@ fn pack_row(s: &[u8], at: usize, n: usize, out: &mut [u8], from: usize)
     ensures { out.new ≡ sets out.old from (pack (row_bytes n) (lows (take n (drop at s.now)))) }
 {
     let w = (n + 7) / 8;
-    let mut b = 0;
-    while b < w {
-        let c = least(n - b * 8, 8);
+    for b in 0..w {
+        let c = (n - b * 8).min(8);
         let v = gather(s, at + b * 8, c);
         out[from + b] = (v % 256) as u8;
-        b += 1;
     }
 }
 
@@ -95,13 +76,10 @@ fn fill_row(s: &[u8], at: usize, n: usize, p: usize, out: &mut [u8], from: usize
     requires p_bound { p < 10000 }
     requires passes { Passes (walk (bits_line n p) s.now at) }
     requires n_in_bounds { from + row_bytes n ≤ length out.old }
-    ensures result_value { Next result ≡ step_of (walk (bits_line n p) s.now at) }
+    ensures result_value { Ok result ≡ step_of (walk (bits_line n p) s.now at) }
     ensures out_after { out.new ≡ sets out.old from (pack (row_bytes n) (values (walk (bits_line n p) s.now at))) }
 {
-    let number = text_items::number_is(s, at, p);
-    let Step::Next(i) = number else {
-        return at;
-    };
+    let i = text_items::number_is(s, at, p).unwrap();
     let first = i + 1;
     pack_row(s, first, n, out, from);
     first + n + 1
@@ -116,9 +94,7 @@ pub fn fill_inverse(s: &[u8], at: usize, n: usize, inverse: &mut [u8])
 {
     let w = (n + 7) / 8;
     let mut q = at;
-    let mut p = 0;
-    while p < n {
+    for p in 0..n {
         q = fill_row(s, q, n, p, inverse, p * w);
-        p += 1;
     }
 }

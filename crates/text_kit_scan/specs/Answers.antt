@@ -8,12 +8,10 @@
 --   TailIs                      the same for what follows the lists' lines
 --   ListsAre                    the same for the lists of a text that ends behind them
 -- Assumes nothing.
-use Rattle.std.specs.Prelude.{ℕ, ◌≡◌, List, [], ◌∷◌, ◌++◌}
+use Rattle.std.specs.Prelude.{ℕ, ◌≡◌, List, [], ◌∷◌, ◌++◌, Result, Ok, Err}
 use Rattle.text_formats.specs.Format as format
 use Rattle.text_formats.specs.Format.{Item, Format, end, read}
 use Rattle.text_formats.specs.Items.{Walk, stuck, past, walk, values, Passes, seq, scan_at, bits_lines}
-use Rattle.text_items.specs.declared.Step.{Step}
-use Rattle.text_items.specs.declared.Step.TheVariants.{Next, Refused}
 use Rattle.text.specs.Rules.{scan_rule, passed, values_of}
 use Rattle.staircase.specs.Rules.{Verdict, ◌then◌, design_rules}
 use Rattle.staircase.specs.Rules.Verdict.{accepted, refused}
@@ -21,23 +19,18 @@ use Rattle.design.specs.Answers.{Allowed}
 use Rattle.text.specs.KitText.{tail_items, head_items, pair_lines, rest_format}
 use Rattle.text.specs.KitReader.{head_number, head_rule}
 use Rattle.text.specs.MakeKit.{lists_format}
-use Rattle.text_kit_scan.specs.declared.Head.{Head}
-use Rattle.text_kit_scan.specs.declared.Head.TheVariants.{Lines, NoLines}
-use Rattle.text_kit_scan.specs.declared.Line.{Line}
-use Rattle.text_kit_scan.specs.declared.Line.TheVariants.{Pair, NoPair}
-use Rattle.text_kit_scan.specs.declared.Front.{Front}
-use Rattle.text_kit_scan.specs.declared.Front.TheVariants.{Starts, Ruled, NoStart}
-use Rattle.text_kit_scan.specs.declared.Rest.{Rest}
-use Rattle.text_kit_scan.specs.declared.Rest.TheVariants.{Whole, NotWhole}
-use Rattle.answers.specs.Answers.{refusal_verdict}
+use Rattle.design.specs.declared.Design.{Design}
+use Rattle.answers.specs.declared.TextError.{TextError}
+use Rattle.text_items.specs.declared.Broken.{Broken}
+use Rattle.text_items.specs.Answers.{error_verdict}
 
-abbrev pub head_walk : Head → Walk
-head_walk (Lines m t M q) = past (m ∷ t ∷ M ∷ []) q
-head_walk (NoLines q) = stuck q
+abbrev pub head_walk : Result (ℕ × ℕ × ℕ × ℕ) Broken → Walk
+head_walk (Ok (m, t, M, q)) = past (m ∷ t ∷ M ∷ []) q
+head_walk (Err b) = stuck b.place
 
-abbrev pub line_walk : Line → Walk
-line_walk (Pair a b q) = past (a ∷ b ∷ []) q
-line_walk (NoPair q) = stuck q
+abbrev pub line_walk : Result (ℕ × ℕ × ℕ) Broken → Walk
+line_walk (Ok (a, b, q)) = past (a ∷ b ∷ []) q
+line_walk (Err b) = stuck b.place
 
 -- ---- the two lines
 
@@ -45,17 +38,15 @@ line_walk (NoPair q) = stuck q
 unfoldable pub front_rule : List ℕ → Verdict
 front_rule s = head_rule s then design_rules (head_number s 0) (head_number s 1) (head_number s 2) 0
 
-unfoldable pub front_verdict : Front → Verdict
-front_verdict (Starts d q) = accepted
-front_verdict (Ruled r) = refusal_verdict r
-front_verdict (NoStart p) = refused 11 p
+unfoldable pub front_verdict : Result (Design × ℕ) TextError → Verdict
+front_verdict (Ok x) = accepted
+front_verdict (Err e) = error_verdict 11 e
 
 -- the design is that of the second line, and allowed; the position is the one after the two lines
-unfoldable pub FrontIs : Front → List ℕ → Type 0
-FrontIs (Starts d q) s =
+unfoldable pub FrontIs : Result (Design × ℕ) TextError → List ℕ → Type 0
+FrontIs (Ok (d, q)) s =
     (d.m ≡ head_number s 0) × (d.t ≡ head_number s 1) × (d.size ≡ head_number s 2) × (d.col ≡ 0) × Allowed d × (q ≡ passed (walk head_items s 0))
-FrontIs (Ruled r) s = Unit
-FrontIs (NoStart p) s = Unit
+FrontIs (Err e) s = Unit
 
 -- ---- the rest, for n = M × r
 
@@ -65,27 +56,27 @@ tail_format n = seq (tail_items n) (end 0)
 unfoldable pub rest_rule : ℕ → List ℕ → ℕ → Verdict
 rest_rule n s at = scan_rule 11 (scan_at (rest_format n) s at)
 
-unfoldable pub rest_verdict : Rest → Verdict
-rest_verdict (Whole i j) = accepted
-rest_verdict (NotWhole p) = refused 11 p
+unfoldable pub rest_verdict : Result (ℕ × ℕ) Broken → Verdict
+rest_verdict (Ok x) = accepted
+rest_verdict (Err b) = refused 11 b.place
 
 -- The lists' lines at i and the rows' lines at j are right, and their values are those of the rest.
-unfoldable pub RestParts : Rest → ℕ → List ℕ → ℕ → Type 0
-RestParts (Whole i j) n s at =
+unfoldable pub RestParts : Result (ℕ × ℕ) Broken → ℕ → List ℕ → ℕ → Type 0
+RestParts (Ok (i, j)) n s at =
     Passes (walk (pair_lines 0 n) s i)
     × Passes (walk (bits_lines n 0 n) s j)
     × (values_of (scan_at (rest_format n) s at) ≡ values (walk (pair_lines 0 n) s i) ++ values (walk (bits_lines n 0 n) s j))
-RestParts (NotWhole p) n s at = Unit
+RestParts (Err b) n s at = Unit
 
 -- The lines at j are right, and their values are those of the whole, which has the format F; or the place where that goes wrong.
-unfoldable pub PartIs : Format → List Item → Step → List ℕ → ℕ → Type 0
-PartIs F lines (Next j) s at = Passes (walk lines s j) × (scan_at F s at ≡ read 0 (values (walk lines s j)))
-PartIs F lines (Refused p) s at = scan_at F s at ≡ format.refused p
+unfoldable pub PartIs : Format → List Item → Result ℕ Broken → List ℕ → ℕ → Type 0
+PartIs F lines (Ok j) s at = Passes (walk lines s j) × (scan_at F s at ≡ read 0 (values (walk lines s j)))
+PartIs F lines (Err b) s at = scan_at F s at ≡ format.refused b.place
 
 -- the rows' lines
-abbrev pub TailIs : Step → ℕ → List ℕ → ℕ → Type 0
+abbrev pub TailIs : Result ℕ Broken → ℕ → List ℕ → ℕ → Type 0
 TailIs x n s at = PartIs (tail_format n) (bits_lines n 0 n) x s at
 
 -- the lists' lines, of a text that ends behind them
-abbrev pub ListsAre : Step → ℕ → List ℕ → ℕ → Type 0
+abbrev pub ListsAre : Result ℕ Broken → ℕ → List ℕ → ℕ → Type 0
 ListsAre x n s at = PartIs (lists_format n) (pair_lines 0 n) x s at

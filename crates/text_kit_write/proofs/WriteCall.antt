@@ -2,9 +2,9 @@
 --   lengths_passed, text-judged                    rule 6 for the kit's slices and for the text's buffer
 --   text-fits                                      what rules 6 to 8 say of the lengths once they accept
 --   write_design, write_refused, write_made        what `write_kit` answers and leaves at each of its ends
---   measured-refused                               a refusal as an answer
 --   measure_design, measure_lists, measure_made    what `text_length` answers at each of its ends
 -- Assumes nothing.
+use Rattle.std.specs.Prelude.{Err, Ok, Result}
 use mathlib.Core.Path.{◌≡◌, refl, sym, ap, ap₂, ◌∙◌, subst, subst₃}
 use mathlib.Core.Logic.{◌≢◌}
 use mathlib.Core.List.{List, []}
@@ -16,42 +16,31 @@ use Rattle.staircase.specs.Rules.{Verdict, ◌then◌, design_rules, length_rule
 use Rattle.staircase.specs.Rules.Verdict.{accepted, refused}
 use Rattle.staircase.proofs.Rules.{then_first, then_rest, length_equal, lengths_fit}
 use Rattle.answers.specs.declared.Refusal.{Refusal}
-use Rattle.answers.specs.declared.Check.{Check}
-use Rattle.answers.specs.declared.Check.TheVariants as check
 use Rattle.design.specs.declared.Design.{Design}
-use Rattle.design.specs.declared.Designed.{Designed}
-use Rattle.design.specs.declared.Designed.TheVariants as designed
 use Rattle.design.specs.Sizes.{params_of}
-use Rattle.design.specs.Answers.{design_verdict, DesignIs}
-use Rattle.design.proofs.Answers.{design-made, refused-design, made-design}
+use Rattle.design.specs.Answers.{DesignIs}
+use Rattle.design.proofs.Answers.{refused-design, made-design}
 use Rattle.rules.specs.Bytes.{byte_rules}
 use Rattle.rules.proofs.Chain.{lists-and-spare}
 use Rattle.text.specs.KitText.{kit_bytes}
 use Rattle.text.specs.KitWriter.{write_verdict, write_call, text_length, measure_verdict, measured_by, measure_call}
 use Rattle.text.proofs.KitSpelled.{text-length}
 use Rattle.text.proofs.Kept.{kept_new, kept_old}
-use Rattle.text_kit_write.specs.declared.TextLength.{TextLength}
-use Rattle.text_kit_write.specs.declared.TextLength.TheVariants as answer
 use Rattle.text_kit_write.specs.Checks.{text_rules, measured_of}
-use Rattle.answers.specs.Answers.{verdict_of}
-use Rattle.answers.proofs.Checks.{check_refused, check_passed}
+use Rattle.answers.specs.Answers.{refusal_verdict, verdict_of}
+use Rattle.answers.proofs.Checks.{passed_then, check_refused, refusal_refuses, check_passed}
 
 -- ---- the design
 
 -- A design that was made has the three numbers that it was made from.
-made-numbers : {a : Designed} {d : Design} → a ≡ designed.Made d → (m t M : ℕ) → DesignIs a m t M 0 → (d.m ≡ m) × (d.t ≡ t) × (d.size ≡ M) × (d.col ≡ 0)
+made-numbers : {a : Result Design Refusal} {d : Design} → a ≡ Ok d → (m t M : ℕ) → DesignIs a m t M 0 → (d.m ≡ m) × (d.t ≡ t) × (d.size ≡ M) × (d.col ≡ 0)
 unfolding DesignIs
-made-numbers {a} {d} e m t M h = let i : DesignIs (designed.Made d) m t M 0 = rw e at h in i
-
--- Rules 1 to 3 have accepted it, and others decide.
-made_then : {a : Designed} {d : Design} (m t M : ℕ) (v : Verdict) → design_verdict a ≡ design_rules m t M 0 → a ≡ designed.Made d
-    → v ≡ (design_rules m t M 0 then v)
-made_then m t M v n g = ap (λ (z : Verdict). z then v) (sym (design-made g) ∙ n)
+made-numbers {a} {d} e m t M h = let i : DesignIs (Ok d) m t M 0 = rw e at h in i
 
 -- ---- the lengths
 
 module _ (d : Design) (own parity w : List ℕ) where
-  pub lengths_passed : {x : Check} → verdict_of x ≡ kit_lengths (params_of d) own parity w → x ≡ check.Passed
+  pub lengths_passed : {x : Result Unit Refusal} → verdict_of x ≡ kit_lengths (params_of d) own parity w → x ≡ (Ok tt)
       → FitsOrder (order (params_of d)) own parity w
   lengths_passed e h = lengths_fit (params_of d) own parity w (sym e ∙ check_passed h)
 
@@ -78,10 +67,14 @@ module _ (m t M col : ℕ) (own parity w : List ℕ) (bytes : ℕ) (e : text_rul
 -- ---- what the writer leaves
 
 module _ (m t M : ℕ) (own parity w text : List ℕ) where
-  refused_call : (x : Check) → verdict_of x ≢ accepted → verdict_of x ≡ write_verdict m t M own parity w text
-      → (verdict_of x ≡ (write_call m t M own parity w text).verdict) × (text ≡ (write_call m t M own parity w text).text)
+  -- the answer y of a refused call
+  refused_call : {r : Refusal} (y : Result Unit Refusal) → y ≡ Err r → verdict_of y ≡ write_verdict m t M own parity w text
+      → (verdict_of y ≡ (write_call m t M own parity w text).verdict) × (text ≡ (write_call m t M own parity w text).text)
   unfolding write_call
-  refused_call x other e = (e, sym (kept_old (write_verdict m t M own parity w text) (kit_bytes m t M own parity w) text (λ z. other (e ∙ z))))
+  refused_call y h e = (e, sym (kept_old (write_verdict m t M own parity w text) (kit_bytes m t M own parity w) text (λ z. check_refused h (e ∙ z))))
+
+  abbrev rules : Params → Verdict
+  rules s = text_rules m t M 0 own parity w (length text)
 
   whole : (design_rules m t M 0 then text_rules m t M 0 own parity w (length text)) ≡ write_verdict m t M own parity w text
   unfolding write_verdict text_rules
@@ -89,40 +82,39 @@ module _ (m t M : ℕ) (own parity w text : List ℕ) where
       ap (λ (z : Verdict). design_rules m t M 0 then kit_lengths (params m t M 0) own parity w then length_rule 7 (length text) (length (kit_bytes m t M own parity w)) then z)
       (lists-and-spare (params m t M 0) (interleavers (params m t M 0) own parity) w)
 
-  module _ (a : Designed) (n : design_verdict a ≡ design_rules m t M 0) where
-    pub write_design : (x : Check) (r : Refusal) → a ≡ designed.Refused r → verdict_of x ≡ design_verdict a
-        → (verdict_of x ≡ (write_call m t M own parity w text).verdict) × (text ≡ (write_call m t M own parity w text).text)
-    write_design x r g e =
-        let q = refused-design m t M 0 (λ s. text_rules m t M 0 own parity w (length text)) a n x g e in
-        refused_call x q.0 (q.1 ∙ whole)
+  module _ (a : Result Design Refusal) (n : verdict_of a ≡ design_rules m t M 0) where
+    pub write_design : {r : Refusal} (y : Result Unit Refusal) → a ≡ Err r → y ≡ Err r
+        → (verdict_of y ≡ (write_call m t M own parity w text).verdict) × (text ≡ (write_call m t M own parity w text).text)
+    unfolding verdict_of
+    write_design y g h = refused_call y h ((refused-design m t M 0 rules a n y g (ap verdict_of h ∙ sym (ap verdict_of g))).1 ∙ whole)
 
-    module _ (i : DesignIs a m t M 0) (d : Design) (g : a ≡ designed.Made d) (x : Check)
+    module _ (i : DesignIs a m t M 0) (d : Design) (g : a ≡ Ok d) (x : Result Unit Refusal)
         (e : verdict_of x ≡ text_rules d.m d.t d.size d.col own parity w (length text)) where
       verdict-is : verdict_of x ≡ write_verdict m t M own parity w text
       verdict-is =
           let k = made-numbers g m t M i in
           subst₃ (λ (b c z : ℕ). verdict_of x ≡ text_rules b c z 0 own parity w (length text)) k.0 k.1 k.2
           (subst (λ (y : ℕ). verdict_of x ≡ text_rules d.m d.t d.size y own parity w (length text)) k.3 e)
-          ∙ made_then m t M (text_rules m t M 0 own parity w (length text)) n g
+          ∙ passed_then (text_rules m t M 0 own parity w (length text)) n g
           ∙ whole
 
-      pub write_refused : (r : Refusal) → x ≡ check.Refused r
-          → (verdict_of x ≡ (write_call m t M own parity w text).verdict) × (text ≡ (write_call m t M own parity w text).text)
-      write_refused r h = refused_call x (check_refused h) verdict-is
+      pub write_refused : {r : Refusal} (y : Result Unit Refusal) → x ≡ Err r → y ≡ Err r
+          → (verdict_of y ≡ (write_call m t M own parity w text).verdict) × (text ≡ (write_call m t M own parity w text).text)
+      write_refused y h k = refused_call y k (ap verdict_of (k ∙ sym h) ∙ verdict-is)
 
-      pub write_made : (after : List ℕ) → x ≡ check.Passed → after ≡ kit_bytes d.m d.t d.size own parity w
-          → (verdict_of x ≡ (write_call m t M own parity w text).verdict) × (after ≡ (write_call m t M own parity w text).text)
+      pub write_made : (after : List ℕ) → x ≡ Ok tt → after ≡ kit_bytes d.m d.t d.size own parity w
+          → (verdict_of {A = Unit} (Ok tt) ≡ (write_call m t M own parity w text).verdict) × (after ≡ (write_call m t M own parity w text).text)
       unfolding write_call
       write_made after h b =
           let k = made-numbers g m t M i in (
-            verdict-is,
+            ap verdict_of (sym h) ∙ verdict-is,
             subst₃ (λ (p c z : ℕ). after ≡ kit_bytes p c z own parity w) k.0 k.1 k.2 b
                 ∙ sym (kept_new (write_verdict m t M own parity w text) (kit_bytes m t M own parity w) text (sym verdict-is ∙ check_passed h)),
           )
 
 -- ---- the length
 
-pub measured-refused : (v : Verdict) → record { verdict = v; length = 0 } ≡ measured_by v 0
+measured-refused : (v : Verdict) → record { verdict = v; length = 0 } ≡ measured_by v 0
 measured-refused accepted = refl
 measured-refused (refused n p) = refl
 
@@ -131,34 +123,36 @@ by-refused accepted n h = absurd (h refl)
 by-refused (refused k p) n h = refl
 
 module _ (m t M : ℕ) (own parity : List ℕ) where
-  refused_measure : (c : TextLength) (x : Check) → measured_of c ≡ measured_by (verdict_of x) 0 → verdict_of x ≢ accepted
-      → verdict_of x ≡ measure_verdict m t M own parity → measured_of c ≡ measure_call m t M own parity
-  unfolding measure_call
-  refused_measure c x k other e =
-      k ∙ by-refused (verdict_of x) (text_length m t M own parity) other ∙ ap (λ (v : Verdict). measured_by v (text_length m t M own parity)) e
+  -- the answer c of a refused call
+  refused_measure : {r : Refusal} (c : Result ℕ Refusal) → c ≡ Err r → verdict_of c ≡ measure_verdict m t M own parity
+      → measured_of c ≡ measure_call m t M own parity
+  unfolding measured_of verdict_of measure_call
+  refused_measure {r} c h e =
+      ap measured_of h ∙ measured-refused (refusal_verdict r) ∙ by-refused (refusal_verdict r) (text_length m t M own parity) (refusal_refuses r)
+      ∙ ap (λ (v : Verdict). measured_by v (text_length m t M own parity)) (sym (ap verdict_of h) ∙ e)
 
-  abbrev rules : Params → Verdict
-  rules s = list_lengths s own parity
+  abbrev lists : Params → Verdict
+  lists s = list_lengths s own parity
 
   whole_measure : (design_rules m t M 0 then list_lengths (params m t M 0) own parity) ≡ measure_verdict m t M own parity
   unfolding measure_verdict
   whole_measure = refl
 
-  module _ (a : Designed) (n : design_verdict a ≡ design_rules m t M 0) where
-    pub measure_design : (c : TextLength) (x : Check) (r : Refusal) → measured_of c ≡ measured_by (verdict_of x) 0 → a ≡ designed.Refused r
-        → verdict_of x ≡ design_verdict a → measured_of c ≡ measure_call m t M own parity
-    measure_design c x r k g e = let q = refused-design m t M 0 rules a n x g e in refused_measure c x k q.0 (q.1 ∙ whole_measure)
+  module _ (a : Result Design Refusal) (n : verdict_of a ≡ design_rules m t M 0) where
+    pub measure_design : {r : Refusal} (c : Result ℕ Refusal) → a ≡ Err r → c ≡ Err r → measured_of c ≡ measure_call m t M own parity
+    unfolding verdict_of
+    measure_design c g h = refused_measure c h ((refused-design m t M 0 lists a n c g (ap verdict_of h ∙ sym (ap verdict_of g))).1 ∙ whole_measure)
 
-    module _ (i : DesignIs a m t M 0) (d : Design) (g : a ≡ designed.Made d) (x : Check) (e : verdict_of x ≡ list_lengths (params_of d) own parity) where
+    module _ (i : DesignIs a m t M 0) (d : Design) (g : a ≡ Ok d) (x : Result Unit Refusal) (e : verdict_of x ≡ list_lengths (params_of d) own parity) where
       lists_are : verdict_of x ≡ measure_verdict m t M own parity
-      lists_are = made-design m t M 0 rules a n x i g e ∙ whole_measure
+      lists_are = made-design m t M 0 lists a n x i g e ∙ whole_measure
 
-      pub measure_lists : (c : TextLength) (r : Refusal) → measured_of c ≡ measured_by (verdict_of x) 0 → x ≡ check.Refused r
-          → measured_of c ≡ measure_call m t M own parity
-      measure_lists c r k h = refused_measure c x k (check_refused h) lists_are
+      pub measure_lists : {r : Refusal} (c : Result ℕ Refusal) → x ≡ Err r → c ≡ Err r → measured_of c ≡ measure_call m t M own parity
+      unfolding verdict_of
+      measure_lists c h k = refused_measure c k (ap verdict_of k ∙ sym (ap verdict_of h) ∙ lists_are)
 
-      pub measure_made : (k : ℕ) → x ≡ check.Passed → k ≡ text_length d.m d.t d.size own parity
-          → measured_of (answer.Length k) ≡ measure_call m t M own parity
+      pub measure_made : (k : ℕ) → x ≡ Ok tt → k ≡ text_length d.m d.t d.size own parity
+          → measured_of (Ok k) ≡ measure_call m t M own parity
       unfolding measured_of measure_call
       measure_made k h b =
           let j = made-numbers g m t M i in

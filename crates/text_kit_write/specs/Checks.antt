@@ -2,7 +2,8 @@
 --   text_rules      rules 6 to 8, for a text buffer of so many bytes
 --   measured_of     the verdict and the length that an answer stands for
 -- Assumes nothing.
-use Rattle.std.specs.Prelude.{List, [], ℕ, length}
+use Rattle.answers.specs.declared.Refusal.{Refusal}
+use Rattle.std.specs.Prelude.{List, [], ℕ, length, Err, Ok, Result}
 use Rattle.staircase.specs.Design.{Params, params}
 use Rattle.staircase.specs.Rules.{Verdict, ◌then◌, length_rule, kit_lengths, interleavers}
 use Rattle.staircase.specs.Rules.Verdict.{accepted}
@@ -10,8 +11,6 @@ use Rattle.answers.specs.Answers.{refusal_verdict}
 use Rattle.rules.specs.Bytes.{byte_rules}
 use Rattle.text.specs.KitText.{kit_bytes}
 use Rattle.text.specs.KitWriter.{Measured}
-use Rattle.text_kit_write.specs.declared.TextLength.{TextLength}
-use Rattle.text_kit_write.specs.declared.TextLength.TheVariants as answer
 
 unfoldable pub text_rules : ℕ → ℕ → ℕ → ℕ → List ℕ → List ℕ → List ℕ → ℕ → Verdict
 text_rules m t M col self parity w bytes =
@@ -19,6 +18,6 @@ text_rules m t M col self parity w bytes =
     kit_lengths s self parity w then length_rule 7 bytes (length (kit_bytes m t M self parity w)) then byte_rules s (interleavers s self parity) w [] []
 
 -- "a definition gives this paper's number and values for each of its cases"; a refused call measures nothing
-unfoldable pub measured_of : TextLength → Measured
-measured_of (answer.Length n) = record { verdict = accepted; length = n }
-measured_of (answer.Refused r) = record { verdict = refusal_verdict r; length = 0 }
+unfoldable pub measured_of : Result ℕ Refusal → Measured
+measured_of (Ok n) = record { verdict = accepted; length = n }
+measured_of (Err r) = record { verdict = refusal_verdict r; length = 0 }

@@ -14,65 +14,42 @@ mod lines;
 
 ghost use Rattle.std.specs.Prelude.{◌≡◌, length};
 ghost use Rattle.design.specs.Answers.{Allowed};
-ghost use Rattle.text.specs.KitWriter.{measured_by, measure_call, write_call};
+ghost use Rattle.text.specs.KitWriter.{measure_call, write_call};
 ghost use Rattle.text_kit_write.specs.Checks.{text_rules, measured_of};
 ghost use Rattle.answers.specs.Answers.{verdict_of};
 
-use answers::{Check, Refusal};
-use design::{Design, Designed};
+use answers::Refusal;
+use design::Design;
 pub use lengths::kit_length;
 pub use lines::put_kit;
 
-// The answer of `text_length`: the length of the text, or a refusal.
-#[derive(Clone, Copy)]
-pub enum TextLength {
-    Length(u64),
-    Refused(Refusal),
-}
-
 // Rules 6 to 8 for a kit of an allowed design and a text buffer of `length` bytes.
-fn check_text(d: Design, own: &[u8], parity: &[u8], inverse: &[u8], length: usize) -> Check
+fn check_text(
+    d: Design,
+    own: &[u8],
+    parity: &[u8],
+    inverse: &[u8],
+    length: usize,
+) -> Result<(), Refusal>
     requires { Allowed d }
     ensures { verdict_of result ≡ text_rules d.m d.t d.size d.col own.now parity.now inverse.now length }
 {
-    let fit = rules::check_kit_lengths(d, own, parity, inverse);
-    let Check::Passed = fit else {
-        return fit;
-    };
-    let room = rules::check_length(rules::TEXT, length, lengths::kit_length(d, own, parity));
-    let Check::Passed = room else {
-        return room;
-    };
+    rules::check_kit_lengths(d, own, parity, inverse)?;
+    rules::check_length(rules::TEXT, length, lengths::kit_length(d, own, parity))?;
     let n = d.order();
     let none = &own[..0];
     let mut marks = [0u8; 4096];
     rules::check_bytes(d, own, parity, inverse, none, none, &mut marks[0..n])
 }
 
-// A refused check as the answer of `text_length`.
-fn refused_length(a: Check) -> TextLength
-    ensures { measured_of result ≡ measured_by (verdict_of a) 0 }
-{
-    match a {
-        Check::Passed => TextLength::Length(0),
-        Check::Refused(r) => TextLength::Refused(r),
-    }
-}
-
 // The length of a kit's text, the same for every inverse: rules 1 to 3, and rule 6 for the two lists, whose entries may be any. A few steps for each
 // digit of the lists and of the rows' numbers.
-pub fn text_length(m: u64, t: u64, size: u64, own: &[u8], parity: &[u8]) -> TextLength
+pub fn text_length(m: u64, t: u64, size: u64, own: &[u8], parity: &[u8]) -> Result<u64, Refusal>
     ensures { measured_of result ≡ measure_call m t size own.now parity.now }
 {
-    let designed = Design::new(m, t, size);
-    let Designed::Made(d) = designed else {
-        return refused_length(design::design_check(designed));
-    };
-    let lists = rules::check_list_lengths(d, own, parity);
-    let Check::Passed = lists else {
-        return refused_length(lists);
-    };
-    TextLength::Length(lengths::kit_length(d, own, parity) as u64)
+    let d = Design::new(m, t, size)?;
+    rules::check_list_lengths(d, own, parity)?;
+    Ok(lengths::kit_length(d, own, parity) as u64)
 }
 
 // Writes the text of a kit: rules 1 to 3 and 6 to 8, with the table's number and place of the first that refuses; place 7 of rule 6 is the text's
@@ -86,18 +63,12 @@ pub fn write_kit(
     parity: &[u8],
     inverse: &[u8],
     text: &mut [u8],
-) -> Check
+) -> Result<(), Refusal>
     ensures { (verdict_of result ≡ (write_call m t size own.now parity.now inverse.now text.old).verdict)
         × (text.new ≡ (write_call m t size own.now parity.now inverse.now text.old).text) }
 {
-    let designed = Design::new(m, t, size);
-    let Designed::Made(d) = designed else {
-        return design::design_check(designed);
-    };
-    let judged = check_text(d, own, parity, inverse, text.len());
-    let Check::Passed = judged else {
-        return judged;
-    };
+    let d = Design::new(m, t, size)?;
+    check_text(d, own, parity, inverse, text.len())?;
     lines::put_kit(d, own, parity, inverse, text);
-    judged
+    Ok(())
 }

@@ -3,12 +3,12 @@
 --   lines_none                                    after the last line
 --   block_room, block_written                     the line of the next block
 --   group-room, group-written                     the line of the next group
---   one-less                                      the bits of one line fewer
+--   lines_more                                    the lines behind one line more
 --   block-text_parts, block-text-put, group-..    the line of names before the others
 --   block-text-length, group-text-length          how long the texts are at most
 -- Assumes nothing.
 use Prim.Native.Nat.{ℕ, zero, suc, ◌+◌, ◌-◌, ◌*◌, ◌≤◌, ◌<◌}
-use mathlib.Core.Path.{◌≡◌, refl, sym, ap, subst, ◌∙◌}
+use mathlib.Core.Path.{◌≡◌, refl, sym, ap, ap₂, subst, ◌∙◌}
 use mathlib.Core.List.{List, [], ◌++◌}
 use native.Mathlib.Omega.{arith}
 use native.Mathlib.Nat.{add-sub_cancel_left}
@@ -131,15 +131,17 @@ module _ (n p k from : ℕ) (red : List ℕ) (some : 0 < k) {o₀ whole o : List
   pub group-written : {o₁ : List ℕ} {r : ℕ}
       → (r ≡ q + length (group_line_text p (take (from + n - from) (drop from red)) (take (from + n + n - (from + n)) (drop (from + n) red))))
       × (o₁ ≡ sets o q (group_line_text p (take (from + n - from) (drop from red)) (take (from + n + n - (from + n)) (drop (from + n) red))))
-      → Rest o₀ at whole o₁ r (group_lines_text n (p + 1) (k - 1) (drop (from + n + n) red))
-  group-written {o₁} {r} e =
-      let z : from + 2 * n ≡ from + n + n = omega arith in
-      subst (λ (i : ℕ). Rest o₀ at whole o₁ r (group_lines_text n (p + 1) (k - 1) (drop i red))) z (line-written (next_group n) (2 * n) p k from red some h parts e)
+      → Rest o₀ at whole o₁ r (group_lines_text n (p + 1) (k - 1) (drop (from + 2 * n) red))
+  group-written = line-written (next_group n) (2 * n) p k from red some h parts
 
--- One line fewer takes so many bits away.
-pub one_less : (k w : ℕ) → 0 < k → k * w ≡ w + (k - 1) * w
-one_less zero w h = absurd (omega arith)
-one_less (suc k) w h = rw (sub-one (suc k)) (omega arith)
+-- Behind i + 1 of N lines.
+module _ (line : ℕ → List ℕ → List ℕ) (w i N : ℕ) (bits : List ℕ) {o₀ whole o : List ℕ} {at q : ℕ} where
+  pub lines_more : Rest o₀ at whole o q (lines_text line w (i + 1 + 1) (N - i - 1) (drop (i * w + w) bits))
+      → Rest o₀ at whole o q (lines_text line w (i + 1 + 1) (N - (i + 1)) (drop ((i + 1) * w) bits))
+  lines_more h =
+      let a : N - i - 1 ≡ N - (i + 1) = omega arith in
+      let b : i * w + w ≡ (i + 1) * w = omega arith in
+      subst (λ (l : List ℕ). Rest o₀ at whole o q l) (ap₂ (λ (k j : ℕ). lines_text line w (i + 1 + 1) k (drop j bits)) a b) h
 
 -- ---- the whole texts: the line of names, then the others
 

@@ -1,16 +1,18 @@
 -- Runs of stores, one after another.
 --   sets-append, put_then               one run behind another
 --   put_one, put_last                   `put_digits`
+--   placed                              a text copied into its part of a buffer
 --   Copied, copied_none .. copied_all   a text copied byte by byte
 -- Assumes nothing.
-use Prim.Native.Nat.{ℕ, suc, ◌+◌, ◌/◌, ◌%◌, ◌^◌, ◌≤◌, ◌<◌}
-use mathlib.Core.Path.{◌≡◌, refl, sym, ap, ◌∙◌}
-use mathlib.Core.List.{List, [], ◌∷◌, ◌++◌}
+use Prim.Native.Nat.{ℕ, suc, ◌+◌, ◌-◌, ◌/◌, ◌%◌, ◌^◌, ◌≤◌, ◌<◌}
+use mathlib.Core.Path.{◌≡◌, refl, sym, ap, ap₂, ◌∙◌}
+use mathlib.Core.List.{List, [], ◌∷◌, ◌++◌, append_assoc}
 use native.Mathlib.Omega.{arith}
-use native.Mathlib.Nat.{add-zero}
+use native.Mathlib.Nat.{add-zero, add-sub_cancel_left}
 use native.Mathlib.Numerals.{add-one}
-use lib.ListN.{length, set, drop, get_or, length-set, length-append, drop_of_length-le}
-use lib.Seq.{sets, drop-cons}
+use borrow.Rule.Slice.PartMut.{put_mid}
+use lib.ListN.{length, set, take, drop, get_or, length-set, length-append, drop_of_length-le}
+use lib.Seq.{sets, sets-eq, drop-cons, drop-drop}
 use Rattle.text_formats.specs.Format.{dec}
 use Rattle.text_formats.proofs.Digits.{dec_one}
 use Rattle.text_lines.proofs.Decimal.{dec-more}
@@ -42,6 +44,14 @@ pub put_last : (o : List ℕ) (at v : ℕ) {o₁ : List ℕ} {i : ℕ} → 10 �
     → (i ≡ at + length (dec (v / 10))) × (o₁ ≡ sets o at (dec (v / 10)))
     → (i + 1 ≡ at + length (dec v)) × (set o₁ i (48 + v % 10) ≡ sets o at (dec v))
 put_last o at v {o₁} {i} l h p = rw (dec-more v l h) (put_then o (dec (v / 10)) ((48 + v % 10) ∷ []) at p (put_byte o₁ i (48 + v % 10)))
+
+-- A text, copied into the part of a buffer that it has.
+pub placed : (o t new : List ℕ) (at : ℕ) → at + length t ≤ length o → new ≡ t → put_mid at (at + length t - at) o new ≡ sets o at t
+placed o t new at h e =
+    ap₂ (λ (l : List ℕ) (k : ℕ). take at o ++ (l ++ drop k (drop at o))) e (add-sub_cancel_left at (length t))
+    ∙ ap (λ (l : List ℕ). take at o ++ (t ++ l)) (drop-drop (length t) at o)
+    ∙ sym (append_assoc (take at o) t (drop (at + length t) o))
+    ∙ sym (sets-eq t o at h)
 
 -- i bytes of the text t are copied: what is left of it, written behind them, gives the bytes that are asked for.
 pub record Copied (o₀ t : List ℕ) (at : ℕ) (o : List ℕ) (i : ℕ) : Type 0 where

@@ -78,10 +78,9 @@ pub fn put_bytes(out: &mut [u8], at: usize, text: &[u8]) -> usize
     ensures value { result ≡ at + length text.now }
     ensures out_after { out.new ≡ sets out.old at text.now }
 {
-    for i in 0..text.len() {
-        out[at + i] = text[i];
-    }
-    at + text.len()
+    let end = at + text.len();
+    out[at..end].copy_from_slice(text);
+    end
 }
 
 // Writes the characters of bits, for which there is room, from a position on, and answers the position after them.
@@ -90,8 +89,8 @@ fn put_bits(out: &mut [u8], at: usize, bits: &[u8]) -> usize
     ensures value { result ≡ at + length bits.now }
     ensures out_after { out.new ≡ sets out.old at (chars bits.now) }
 {
-    for i in 0..bits.len() {
-        out[at + i] = 48 + bits[i] % 2;
+    for (i, &b) in bits.iter().enumerate() {
+        out[at + i] = 48 + b % 2;
     }
     at + bits.len()
 }

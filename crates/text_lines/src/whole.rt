@@ -17,15 +17,10 @@ fn put_block_lines(out: &mut [u8], at: usize, area: usize, count: usize, info: &
     ensures out_after { out.new ≡ sets out.old at (block_lines_text area 1 count info.now) }
 {
     let mut q = at;
-    let mut from: usize = 0;
-    let mut block: u64 = 1;
-    let mut left = count;
-    while 0 < left {
-        let e = from + area;
-        q = crate::put_block(out, q, block, &info[from..e]);
-        from = e;
-        block += 1;
-        left -= 1;
+    // kept as an index loop: chunks_exact wants parts of at least one bit, which no contract here asks for
+    for i in 0..count {
+        let from = i * area;
+        q = crate::put_block(out, q, i as u64 + 1, &info[from..from + area]);
     }
     q
 }
@@ -39,16 +34,11 @@ fn put_group_lines(out: &mut [u8], at: usize, n: usize, count: usize, red: &[u8]
     ensures out_after { out.new ≡ sets out.old at (group_lines_text n 1 count red.now) }
 {
     let mut q = at;
-    let mut from: usize = 0;
-    let mut group: u64 = 1;
-    let mut left = count;
-    while 0 < left {
+    // kept as an index loop: chunks_exact wants parts of at least one bit, which no contract here asks for
+    for i in 0..count {
+        let from = i * (2 * n);
         let mid = from + n;
-        let e = mid + n;
-        q = crate::put_group(out, q, group, &red[from..mid], &red[mid..e]);
-        from = e;
-        group += 1;
-        left -= 1;
+        q = crate::put_group(out, q, i as u64 + 1, &red[from..mid], &red[mid..mid + n]);
     }
     q
 }

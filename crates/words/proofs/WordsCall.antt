@@ -4,34 +4,27 @@
 --   received_flat                              the rules on a received frame, one after another
 --   words-design, words-frame, words-counted   the call's answer at each of its ends
 -- Assumes nothing.
+use Rattle.std.specs.Prelude.{Err, Ok, Result, IsErr, IsErrAnd}
 use mathlib.Core.Path.{◌≡◌, refl, sym, ap, ap₂, ◌∙◌, subst⁻¹}
-use mathlib.Core.Logic.{◌≢◌}
 use mathlib.Core.List.{List, []}
 use Prim.Native.Nat.{ℕ, ◌*◌, ◌≤◌}
 use Rattle.staircase.specs.Design.{Params, params, most-blocks}
 use Rattle.staircase.specs.Frame.{outside, frame_of}
 use Rattle.staircase.specs.Rules.{Verdict, ◌then◌, design_rules, count_rule, rounds_rule, length_rule, list_lengths, frame_lengths, word_work, interleavers, list_rule, frame_bits}
-use Rattle.staircase.specs.Rules.Verdict.{accepted}
-use Rattle.staircase.specs.Calls.{Counted, words_verdict, counted_by, words_call}
+use Rattle.staircase.specs.Calls.{words_verdict, counted_by, words_call}
 use Rattle.answers.specs.declared.Refusal.{Refusal}
-use Rattle.answers.specs.declared.Check.{Check}
-use Rattle.answers.specs.declared.Check.TheVariants as check
 use Rattle.design.specs.declared.Design.{Design}
-use Rattle.design.specs.declared.Designed.{Designed}
-use Rattle.design.specs.declared.Designed.TheVariants as designed
-use Rattle.design.specs.Answers.{design_verdict, DesignIs}
-use Rattle.design.proofs.Answers.{made-params, refused-design, made-design}
+use Rattle.design.specs.Answers.{DesignIs}
+use Rattle.design.proofs.Answers.{made-params, made-design}
 use Rattle.design.specs.Sizes.{params_of, order_of, lists_of}
 use Rattle.rules.specs.declared.lengths.Lengths.{Lengths}
-use Rattle.answers.specs.declared.WordCount.{WordCount}
-use Rattle.answers.specs.declared.WordCount.TheVariants as count
 use Rattle.rules.specs.Lengths.{lengths_of, lists_with, lists_due, frame_rules}
 use Rattle.rules.specs.Bytes.{byte_rules}
 use Rattle.rules.proofs.Chain.{due_where, received-rules, received_bytes}
 use Rattle.words_lines.proofs.Count.{by-refused}
 use Rattle.words.specs.Checks.{received_rules}
-use Rattle.answers.specs.Answers.{verdict_of, counted_of}
-use Rattle.answers.proofs.Checks.{check_refused, check_passed}
+use Rattle.answers.specs.Answers.{refusal_verdict, verdict_of, counted_of}
+use Rattle.answers.proofs.Checks.{handed_on, refused_on, check_passed, refusal_refuses, counted-refused}
 
 -- ---- the rules
 
@@ -68,34 +61,36 @@ module _ (m t M col L : ℕ) (own parity info red : List ℕ) (work : ℕ) where
   abbrev number : ℕ
   number = outside (params m t M col) (interleavers (params m t M col) own parity) L (frame_of info red)
 
-  refused_call : (c : WordCount) (x : Check) → counted_of c ≡ counted_by (verdict_of x) 0 → verdict_of x ≢ accepted
-      → verdict_of x ≡ words_verdict m t M col L own parity info red work
-      → counted_of c ≡ words_call m t M col L own parity info red work
-  unfolding words_call
-  refused_call c x k other e = k ∙ by-refused (verdict_of x) number other ∙ ap (λ (v : Verdict). counted_by v number) e
+  refused_call : (c : Result ℕ Refusal) {r : Refusal} → c ≡ Err r → verdict_of c ≡ call → counted_of c ≡ words_call m t M col L own parity info red work
+  unfolding counted_of verdict_of words_call
+  refused_call c {r} k e =
+      ap counted_of k ∙ counted-refused (refusal_verdict r) ∙ by-refused (refusal_verdict r) number (refusal_refuses r)
+      ∙ ap (λ (v : Verdict). counted_by v number) (sym (ap verdict_of k) ∙ e)
 
   abbrev rules : Params → Verdict
   rules s = received_rules s L 0 (lists_due s) own parity info red work
 
-  whole : (design_rules m t M col then received_rules (params m t M col) L 0 (lists_due (params m t M col)) own parity info red work) ≡ words_verdict m t M col L own parity info red work
+  whole : (design_rules m t M col then received_rules (params m t M col) L 0 (lists_due (params m t M col)) own parity info red work) ≡ call
   unfolding words_verdict rounds_rule
   whole = ap (λ (z : Verdict). design_rules m t M col then z) (received_flat m t M col L 0 own parity info red work)
 
-  module _ (a : Designed) (n : design_verdict a ≡ design_rules m t M col) where
-    pub words-design : (c : WordCount) (x : Check) (r : Refusal) → counted_of c ≡ counted_by (verdict_of x) 0 → a ≡ designed.Refused r → verdict_of x ≡ design_verdict a
+  module _ (a : Result Design Refusal) (n : verdict_of a ≡ design_rules m t M col) where
+    -- c is what the call hands on
+    pub words-design : (c : Result ℕ Refusal) {r : Refusal} → a ≡ Err r → IsErr c × IsErrAnd c (λ (e : Refusal). e ≡ r)
         → counted_of c ≡ words_call m t M col L own parity info red work
-    words-design c x r k g e = let q = refused-design m t M col rules a n x g e in refused_call c x k q.0 (q.1 ∙ whole)
+    words-design c g h = refused_call c (handed_on c h.1) (refused_on (rules (params m t M col)) n c g h ∙ whole)
 
-    module _ (i : DesignIs a m t M col) (d : Design) (g : a ≡ designed.Made d) (x : Check) (e : verdict_of x ≡ received_rules (params_of d) L 0 (lists_due (params_of d)) own parity info red work) where
-      verdict-is : verdict_of x ≡ words_verdict m t M col L own parity info red work
+    module _ (i : DesignIs a m t M col) (d : Design) (g : a ≡ Ok d) (x : Result Unit Refusal) (e : verdict_of x ≡ received_rules (params_of d) L 0 (lists_due (params_of d)) own parity info red work) where
+      verdict-is : verdict_of x ≡ call
       verdict-is = made-design m t M col rules a n x i g e ∙ whole
 
-      pub words-frame : (c : WordCount) (r : Refusal) → counted_of c ≡ counted_by (verdict_of x) 0 → x ≡ check.Refused r
+      pub words-frame : (c : Result ℕ Refusal) {r : Refusal} → x ≡ Err r → IsErrAnd c (λ (e : Refusal). e ≡ r)
           → counted_of c ≡ words_call m t M col L own parity info red work
-      words-frame c r k p = refused_call c x k (check_refused p) verdict-is
+      unfolding verdict_of
+      words-frame c p h = let k = handed_on c h in refused_call c k (ap verdict_of k ∙ sym (ap verdict_of p) ∙ verdict-is)
 
-      pub words-counted : (k : ℕ) → x ≡ check.Passed → k ≡ outside (params_of d) (lists_of d own parity) L (frame_of info red)
-          → counted_of (count.Counted k) ≡ words_call m t M col L own parity info red work
+      pub words-counted : (k : ℕ) → x ≡ (Ok tt) → k ≡ outside (params_of d) (lists_of d own parity) L (frame_of info red)
+          → counted_of (Ok k) ≡ words_call m t M col L own parity info red work
       unfolding counted_of words_call
       words-counted k p b =
           ap₂ counted_by (sym (check_passed p) ∙ verdict-is)

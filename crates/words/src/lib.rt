@@ -12,8 +12,8 @@ ghost use Rattle.rules.specs.Received.{Received};
 ghost use Rattle.words.specs.Checks.{received_rules, ListsAsked};
 ghost use Rattle.answers.specs.Answers.{verdict_of, counted_of};
 
-use answers::{Check, WordCount};
-use design::{Design, Designed};
+use answers::Refusal;
+use design::Design;
 use layout::{Frames, Shape};
 use rules::Lengths;
 
@@ -35,7 +35,7 @@ pub fn check_received(
     info: &[u8],
     red: &[u8],
     work: &mut [u8],
-) -> Check
+) -> Result<(), Refusal>
     requires { Allowed d × ListsAsked d asked }
     ensures { verdict_of result ≡ received_rules (params_of d) asked.blocks asked.rounds asked.due own.now parity.now
         info.now red.now (length work.old) }
@@ -49,10 +49,7 @@ pub fn check_received(
         work: work.len(),
     };
     let due = rules::frame_due(d, asked.blocks, asked.due);
-    let lengths = rules::check_frame(asked.blocks, asked.rounds, have, due);
-    let Check::Passed = lengths else {
-        return lengths;
-    };
+    rules::check_frame(asked.blocks, asked.rounds, have, due)?;
     let n = d.order();
     rules::check_bytes(d, own, parity, &own[..0], info, red, &mut work[0..n])
 }
@@ -71,9 +68,9 @@ fn count_received(
         ≡ outside (params_of d) (lists_of d own.now parity.now) blocks (frame_of info.now red.now) }
 {
     let frames = Frames {
-        d: d,
+        d,
         shape: Shape::FeedForward,
-        blocks: blocks,
+        blocks,
     };
     words_lines::count_outside(frames, own, parity, info, red)
 }
@@ -92,24 +89,18 @@ pub fn check_words_col(
     info: &[u8],
     red: &[u8],
     work: &mut [u8],
-) -> WordCount
+) -> Result<u64, Refusal>
     ensures { counted_of result ≡ words_call m t size col blocks own.now parity.now info.now red.now
         (length work.old) }
 {
-    let designed = Design::new_col(m, t, size, col);
-    let Designed::Made(d) = designed else {
-        return answers::refused_count(design::design_check(designed));
-    };
+    let d = Design::new_col(m, t, size, col)?;
     let asked = Asked {
-        blocks: blocks,
+        blocks,
         rounds: 0,
         due: rules::lists_due(d),
     };
-    let received = check_received(d, asked, own, parity, info, red, work);
-    let Check::Passed = received else {
-        return answers::refused_count(received);
-    };
-    WordCount::Counted(count_received(d, blocks as usize, own, parity, info, red))
+    check_received(d, asked, own, parity, info, red, work)?;
+    Ok(count_received(d, blocks as usize, own, parity, info, red))
 }
 
 // The same where rows and columns have one code.
@@ -123,7 +114,7 @@ pub fn check_words(
     info: &[u8],
     red: &[u8],
     work: &mut [u8],
-) -> WordCount
+) -> Result<u64, Refusal>
     ensures { counted_of result ≡ words_call m t size 0 blocks own.now parity.now info.now red.now
         (length work.old) }
 {

@@ -1,12 +1,10 @@
 -- Each answer by the first letter.
-use Rattle.bauchleton_programs.proofs.Exit.{status_none, status_refused, status_other}
+use mathlib.Core.Path.{refl, sym, ◌∙◌}
+use Rattle.bauchleton_programs.proofs.Status.{first_letter, status_refused, status_other}
 use Rattle.bauchleton_programs.proofs.output_status.Goals as goal
 
-pub returns-then-out-eq0 : goal.returns-then-out-eq0
-returns-then-out-eq0 c = status_none _ c.if-out-eq0.true
-
-pub returns-then-out-eq114 : goal.returns-then-out-eq114
-returns-then-out-eq114 c = status_refused _ c.if-out-eq114.true
+pub returns-then-eq : goal.returns-then-eq
+returns-then-eq c = status_refused _ (sym (first_letter _ _ _ refl c.first.ensures.value) ∙ sym c.eq.ensures ∙ c.if-eq.true)
 
 pub returns : goal.returns
-returns c = status_other _ c.if-out-eq114.false
+returns c = status_other _ (sym (first_letter _ _ _ refl c.first.ensures.value) ∙ sym c.eq.ensures ∙ c.if-eq.false)

@@ -4,7 +4,7 @@ use lib.ListN.{length}
 use native.Mathlib.Omega.{arith}
 use Rattle.text.proofs.ExitStatus.{mend_status}
 use Rattle.program.specs.Output.{most-output}
-use Rattle.bauchleton_programs.proofs.Exit.{exits}
+use Rattle.bauchleton_programs.proofs.Status.{exits}
 use Rattle.bauchleton_programs.proofs.print_mend.Goals as goal
 
 pub returns : goal.returns

@@ -28,10 +28,6 @@ fill_kept-requires c =
     × (length a.kept.now ≡ kept_length (layout_with g a.own.now a.parity.now))) p.1
     (received_lent p.0, feed_kept a.frames.d a.frames.blocks a.own.now a.parity.now p.3)
 
-pub number_bytes-n-requires : goal.number_bytes-n-requires
-number_bytes-n-requires c =
-    let p = c.requires in (p.0.few-blocks, p.0.allowed.M-high)
-
 pub count-wrong-requires : goal.count-wrong-requires
 count-wrong-requires c =
     let f = c.args.frames in
@@ -42,10 +38,6 @@ count-wrong-requires c =
       c.requires.3,
       kept-split (params_of f.d) f.blocks,
     )
-
-pub idle_counts-requires : goal.idle_counts-requires
-idle_counts-requires c =
-    let p = c.requires in (p.0.few-blocks, p.2)
 
 pub returns-then-wrong-eq0 : goal.returns-then-wrong-eq0
 returns-then-wrong-eq0 c =
@@ -63,7 +55,3 @@ returns-then-wrong-eq0 c =
     let itself : Received f f = record { info_length = refl; red_length = refl; binary = bit_at-bits f p.0.frame.info_bits p.0.frame.red_bits } in
     corrected-idle d L a.window.groups a.window.limit l p.0.allowed p.0.lists.own_permutes p.0.lists.parity_permutes f itself _
     c.idle_counts.ensures (sym out ∙ sym c.count-wrong.ensures ∙ c.if-wrong-eq0.true)
-
-pub correct_words-requires : goal.correct_words-requires
-correct_words-requires c =
-    let p = c.requires in (p.0, p.1, p.2, c.fill_kept.ensures.0 ∙ p.3, c.fill_kept.ensures.1)

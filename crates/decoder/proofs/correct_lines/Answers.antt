@@ -8,7 +8,6 @@ use Rattle.staircase.proofs.Lawful.{fits_received}
 use Rattle.design.specs.Sizes.{params_of}
 use Rattle.decoder_kept.specs.Numbers.{nonzero_numbers}
 use Rattle.decoder_marks.specs.Marks.{set_marks}
-use Rattle.decoder_words.proofs.Marks.{numbers-within}
 use Rattle.layout.specs.declared.Shape.TheVariants.{FeedForward}
 use Rattle.layout.specs.Layouts.{lines_in}
 use Rattle.words_lines.proofs.Lent.{feed_sites}
@@ -22,14 +21,6 @@ use Rattle.decoder.proofs.correct_lines.Goals as goal
 pub number_bytes-n-requires : goal.number_bytes-n-requires
 number_bytes-n-requires c = let F = c.requires.0.fits in (F.few-blocks, size-high F)
 
-pub slice_bounds-clear-count : goal.slice_bounds-clear-count
-slice_bounds-clear-count c =
-    omega (arith, feed_bytes c.args.frames.d c.args.frames.blocks c.requires.3 c.number_bytes-n.ensures.0, numbers-within c.requires.2, feed_total c.args.frames.d c.args.frames.blocks)
-
-pub slice_bounds-clear-start : goal.slice_bounds-clear-start
-slice_bounds-clear-start c =
-    omega (arith, feed_bytes c.args.frames.d c.args.frames.blocks c.requires.3 c.number_bytes-n.ensures.0, numbers-within c.requires.2, feed_total c.args.frames.d c.args.frames.blocks)
-
 pub run_window-made-requires : goal.run_window-made-requires
 run_window-made-requires c =
     let p = c.requires in
@@ -37,18 +28,6 @@ run_window-made-requires c =
     let n = c.number_bytes-n in
     let y = c.clear in
     (p.0, p.1, (cleared-marks a.frames.d a.frames.blocks p.0.fits p.2 n.result (feed_bytes a.frames.d a.frames.blocks p.3 n.ensures.0) y.new.marks y.ensures).0, p.3)
-
-pub slice_bounds-count-count : goal.slice_bounds-count-count
-slice_bounds-count-count c =
-    omega (arith, feed_bytes c.args.frames.d c.args.frames.blocks c.requires.3 c.number_bytes-n.ensures.0, numbers-within c.requires.2, feed_total c.args.frames.d c.args.frames.blocks)
-
-pub slice_bounds-count-start : goal.slice_bounds-count-start
-slice_bounds-count-start c =
-    omega (arith, feed_bytes c.args.frames.d c.args.frames.blocks c.requires.3 c.number_bytes-n.ensures.0, numbers-within c.requires.2, feed_total c.args.frames.d c.args.frames.blocks)
-
-pub slice_bounds-count-end : goal.slice_bounds-count-end
-slice_bounds-count-end c =
-    omega (arith, c.requires.2.long, c.run_window-made.ensures.2.long)
 
 pub count-turned-requires : goal.count-turned-requires
 count-turned-requires c =
@@ -58,10 +37,6 @@ count-turned-requires c =
     let v = c.run_window-made in
     let long : length a.kept.now ≡ length v.new.kept = p.2.long ∙ sym v.ensures.2.long in
     rw long (marks-few a.frames.d a.frames.blocks p.0.fits v.ensures.2 n.result (feed_bytes a.frames.d a.frames.blocks p.3 n.ensures.0))
-
-pub count-outside-requires : goal.count-outside-requires
-count-outside-requires c =
-    omega (arith, feed_bytes c.args.frames.d c.args.frames.blocks c.requires.3 c.number_bytes-n.ensures.0, numbers-within c.run_window-made.ensures.2, feed_total c.args.frames.d c.args.frames.blocks)
 
 pub returns : goal.returns
 returns c =

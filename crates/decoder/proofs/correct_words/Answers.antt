@@ -1,14 +1,11 @@
 -- The tables are filled, and each is lent as long as the design needs.
-use mathlib.Core.Path.{◌≡◌, ap, ◌∙◌, subst, subst⁻¹}
-use mathlib.Core.List.{◌++◌}
+use mathlib.Core.Path.{◌≡◌, ◌∙◌, subst, subst⁻¹}
 use Prim.Native.Nat.{◌+◌, ◌-◌, ◌*◌, ◌%◌, ◌^◌}
 use native.Mathlib.Omega.{arith}
 use lib.ListN.{length, take, drop}
 use lib.Seq.{length-take-le}
 use Rattle.staircase.specs.Frame.{frame_of}
-use Rattle.design.specs.Sizes.{params_of, lists_of}
-use Rattle.words_positions.proofs.Parts.{part-fits, part-is}
-use Rattle.decoder_lines.specs.Links.{lists_in}
+use Rattle.design.specs.Sizes.{params_of}
 use Rattle.decoder_lines.proofs.Links.{links_long}
 use Rattle.layout.specs.declared.Frames.{Frames}
 use Rattle.layout.specs.Layouts.{bits_in, feed_frames}
@@ -17,19 +14,9 @@ use Rattle.decoder_words.specs.Ready.{FramesReady, WordTables}
 use Rattle.decoder_frame.proofs.Feed.{feed_bits, feed_fits}
 use Rattle.decoder_frame.specs.Filled.{Filled}
 use Rattle.decoder_frame.proofs.Tables.{word-sizes}
-use Rattle.answers.specs.declared.Decoding.TheVariants as decoding
-use Rattle.answers.specs.Answers.{corrected_of}
-use Rattle.decoder.proofs.Room.{tables-room, field_is, field_room, links_room}
-use Rattle.decoder.proofs.Rounds.{ready_lent, kept_lent, corrected_in}
+use Rattle.decoder.proofs.Room.{tables-room, field_is, field_room}
+use Rattle.decoder.proofs.Rounds.{ready_lent, kept_lent}
 use Rattle.decoder.proofs.correct_words.Goals as goal
-
-pub slice_bounds-tables-end : goal.slice_bounds-tables-end
-slice_bounds-tables-end c =
-    omega (arith, c.table_entries-tables.ensures, tables-room c.args.frames.d c.requires.0.allowed c.n.result c.n.ensures.0)
-
-pub overflow_mul-powers : goal.overflow_mul-powers
-overflow_mul-powers c =
-    omega (arith, field_room c.args.frames.d c.requires.0.allowed c.m-powers.result c.m-powers.ensures)
 
 pub slice_bounds-field-end : goal.slice_bounds-field-end
 slice_bounds-field-end c =
@@ -46,52 +33,6 @@ fill_tables-requires c =
     subst⁻¹ (λ (f : Frames). WordSizes f.d.m f.d.t (bits_in f.shape (params_of f.d))
     × (length T ≡ bits_in f.shape (params_of f.d) + (bits_in f.shape (params_of f.d) + 128)) × (length D ≡ 4 * 2 ^ f.d.m)) p.1
     (word-sizes a.frames.d p.0.allowed, omega (arith, lt, c.n.ensures.0, feed_bits (params_of a.frames.d)), omega (arith, lf, field_is a.frames.d p.0.allowed c.m-powers.result c.m-powers.ensures))
-
-pub overflow_mul-n : goal.overflow_mul-n
-overflow_mul-n c =
-    omega (arith, links_room c.args.frames.d c.requires.0.allowed c.order-n.result c.order-n.ensures.0)
-
-pub slice_bounds-links-end : goal.slice_bounds-links-end
-slice_bounds-links-end c =
-    omega (arith, c.link_entries-links.ensures, links_room c.args.frames.d c.requires.0.allowed c.order-n.result c.order-n.ensures.0)
-
-pub fill_links-requires : goal.fill_links-requires
-fill_links-requires c =
-    let p = c.requires in
-    let a = c.args in
-    let ll = length-take-le (4 * c.order-n.result - 0) c.link_entries-links.result (omega (arith, c.link_entries-links.ensures, links_room a.frames.d p.0.allowed c.order-n.result c.order-n.ensures.0)) in
-    (p.0.allowed, p.0.lists, omega (arith, ll, c.order-n.ensures.0))
-
-pub overflow_mul-n-2 : goal.overflow_mul-n-2
-overflow_mul-n-2 c =
-    omega (arith, links_room c.args.frames.d c.requires.0.allowed c.order-n.result c.order-n.ensures.0)
-
-pub slice_bounds-correct_lines-end : goal.slice_bounds-correct_lines-end
-slice_bounds-correct_lines-end c =
-    let p = c.requires in
-    let a = c.args in
-    part-fits c.fill_links.new.links _ _ (links_long c.fill_links.ensures.0 ∙ omega (arith, c.order-n.ensures.0))
-
-pub slice_bounds-correct_lines-end-2 : goal.slice_bounds-correct_lines-end-2
-slice_bounds-correct_lines-end-2 c =
-    let p = c.requires in
-    let a = c.args in
-    let due = 2 * c.n.result + 128 in
-    let T = c.fill_tables.new.tables in
-    let l_t : length T ≡ due = (subst (λ (f : Frames). WordTables f T c.fill_tables.new.field) p.1 c.fill_tables.ensures).long
-    ∙ omega (arith, c.n.ensures.0, feed_bits (params_of a.frames.d)) in
-    part-fits T _ _ l_t
-
-pub overflow_mul-powers-2 : goal.overflow_mul-powers-2
-overflow_mul-powers-2 c =
-    omega (arith, field_room c.args.frames.d c.requires.0.allowed c.m-powers.result c.m-powers.ensures)
-
-pub slice_bounds-correct_lines-end-3 : goal.slice_bounds-correct_lines-end-3
-slice_bounds-correct_lines-end-3 c =
-    let p = c.requires in
-    let a = c.args in
-    let lf = length-take-le (4 * ((1 * 2 ^ c.m-powers.result) % 2 ^ 64) - 0) c.field_entries-field.result (omega (arith, c.field_entries-field.ensures, field_room a.frames.d p.0.allowed c.m-powers.result c.m-powers.ensures)) in
-    part-fits c.fill_tables.new.field _ _ (omega (arith, lf))
 
 pub correct_lines-requires : goal.correct_lines-requires
 correct_lines-requires c =
@@ -120,15 +61,3 @@ correct_lines-requires c =
           (subst (λ (g : Frames). Filled g a.own.now a.parity.now (frame_of a.info.now a.red.now) a.kept.now) p.1 p.4),
       p.1,
     )
-
-pub returns : goal.returns
-returns c =
-    let a = c.args in
-    let K = c.fill_links.new.links in
-    let k = 4 * c.order-n.result in
-    let l_k : length K ≡ k = links_long c.fill_links.ensures.0 ∙ omega (arith, c.order-n.ensures.0) in
-    let K' = drop (k - 0) c.link_entries-links.result in
-    let v = c.correct_lines in
-    let x = corrected_of (decoding.Decoded v.result) (frame_of v.new.info v.new.red) in
-    corrected_in (params_of a.frames.d) (lists_of a.frames.d a.own.now a.parity.now) (lists_in a.frames.d (take (k - 0) (drop 0 (K ++ K')))) a.frames.blocks
-    a.window.groups a.window.limit (frame_of a.info.now a.red.now) x (ap (lists_in a.frames.d) (part-is K K' k l_k) ∙ c.fill_links.ensures.1) v.ensures

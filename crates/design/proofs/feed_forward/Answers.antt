@@ -2,8 +2,8 @@
 use Prim.Native.Nat.{◌+◌, ◌-◌, ◌*◌, ◌^◌, ◌≤◌}
 use native.Mathlib.Omega.{arith}
 use Rattle.staircase.specs.Design.{Limits}
-use Rattle.answers.specs.Answers.{refusal_verdict}
-use Rattle.design.specs.Answers.{design_verdict, DesignIs, DesignAllowed}
+use Rattle.answers.specs.Answers.{refusal_verdict, verdict_of}
+use Rattle.design.specs.Answers.{DesignIs, DesignAllowed}
 use Rattle.design.proofs.Answers.{made_of}
 use Rattle.design.proofs.Sizes.{sizes, too_long, too_large, accepts}
 use Rattle.design.proofs.feed_forward.Goals as goal
@@ -27,7 +27,7 @@ pub overflow_sub-longest : goal.overflow_sub-longest
 overflow_sub-longest c = let a = c.args in omega (arith, sizes a.m a.t a.size a.col c.requires)
 
 pub returns-then-longest-n : goal.returns-then-longest-n
-unfolding design_verdict refusal_verdict DesignIs DesignAllowed
+unfolding verdict_of refusal_verdict DesignIs DesignAllowed
 returns-then-longest-n c =
     let a = c.args in
     let s = sizes a.m a.t a.size a.col c.requires in
@@ -37,7 +37,7 @@ pub overflow_mul-order : goal.overflow_mul-order
 overflow_mul-order c = let a = c.args in omega (arith, sizes a.m a.t a.size a.col c.requires)
 
 pub returns-then-order-gt-MOST_ORDER : goal.returns-then-order-gt-MOST_ORDER
-unfolding design_verdict refusal_verdict DesignIs DesignAllowed
+unfolding verdict_of refusal_verdict DesignIs DesignAllowed
 returns-then-order-gt-MOST_ORDER c =
     let a = c.args in
     let s = sizes a.m a.t a.size a.col c.requires in
@@ -47,7 +47,7 @@ pub design_of-requires : goal.design_of-requires
 design_of-requires c = c.requires
 
 pub returns : goal.returns
-unfolding design_verdict DesignIs DesignAllowed
+unfolding verdict_of DesignIs DesignAllowed
 returns c =
     let a = c.args in
     let s = sizes a.m a.t a.size a.col c.requires in

@@ -2,8 +2,8 @@
 use Prim.Native.Nat.{◌-◌, ◌*◌, ◌^◌, ◌≤◌, ◌<◌}
 use native.Mathlib.Omega.{arith}
 use Rattle.original.specs.Rules.{Original}
-use Rattle.answers.specs.Answers.{refusal_verdict}
-use Rattle.design.specs.Answers.{design_verdict, DesignIs, DesignOriginal}
+use Rattle.answers.specs.Answers.{refusal_verdict, verdict_of}
+use Rattle.design.specs.Answers.{DesignIs, DesignOriginal}
 use Rattle.design.proofs.Answers.{made_of}
 use Rattle.design.proofs.Sizes.{sizes, row_too_long, too_thin, accepts_original}
 use Rattle.design.proofs.original.Goals as goal
@@ -18,7 +18,7 @@ pub overflow_sub-longest : goal.overflow_sub-longest
 overflow_sub-longest c = let a = c.args in omega (arith, sizes a.m a.t a.size a.col c.requires)
 
 pub returns-then-longest-n : goal.returns-then-longest-n
-unfolding design_verdict refusal_verdict DesignIs DesignOriginal
+unfolding verdict_of refusal_verdict DesignIs DesignOriginal
 returns-then-longest-n c =
     let a = c.args in
     let s = sizes a.m a.t a.size a.col c.requires in
@@ -28,7 +28,7 @@ pub overflow_mul-r : goal.overflow_mul-r
 overflow_mul-r c = let a = c.args in omega (arith, sizes a.m a.t a.size a.col c.requires)
 
 pub returns-then-size-r : goal.returns-then-size-r
-unfolding design_verdict refusal_verdict DesignIs DesignOriginal
+unfolding verdict_of refusal_verdict DesignIs DesignOriginal
 returns-then-size-r c =
     let a = c.args in
     let s = sizes a.m a.t a.size a.col c.requires in
@@ -38,7 +38,7 @@ pub design_of-requires : goal.design_of-requires
 design_of-requires c = c.requires
 
 pub returns : goal.returns
-unfolding design_verdict DesignIs DesignOriginal
+unfolding verdict_of DesignIs DesignOriginal
 returns c =
     let a = c.args in
     let s = sizes a.m a.t a.size a.col c.requires in

@@ -1,4 +1,4 @@
-use Rattle.std.proofs.Common.{◌≡◌, ℕ, ◌+◌, ◌-◌, ◌*◌, ap, ◌∙◌, ap₂, arith}
+use Rattle.std.proofs.Common.{◌≡◌, ℕ, ◌+◌, ◌*◌, ap, ◌∙◌, ap₂, arith}
 use Rattle.staircase.specs.Load.{next_state, output, state_after, drawn_bits}
 use Rattle.generator.proofs.States.{after_none, after_more, draw_none, draw_more, draw_small}
 use Rattle.generator.proofs.draw.Goals as goal

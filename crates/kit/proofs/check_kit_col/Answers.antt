@@ -1,36 +1,36 @@
 -- The call ends at a refused design, at a refused length, or with the rules on what the kit holds.
-use mathlib.Core.Path.{sym, ap, ◌∙◌}
-use mathlib.Core.List.{[]}
+use mathlib.Core.Path.{refl, sym, ap, ◌∙◌}
 use lib.ListN.{length}
 use Rattle.design.proofs.Answers.{made-allowed}
-use Rattle.rules.specs.Lengths.{lengths_of, lengths_rule}
-use Rattle.kit.proofs.KitCall.{kit-sized, kit-refused, kit-judged}
-use Rattle.answers.proofs.Checks.{refused_then, passed_then, check_passed}
+use Rattle.rules.specs.Lengths.{lengths_rule}
+use Rattle.kit.proofs.KitCall.{kit-sized, kit_call, kit-judged}
+use Rattle.answers.proofs.Checks.{refused_on, passed_then, check_passed}
 use Rattle.kit.proofs.check_kit_col.Goals as goal
 
-pub returns-in_default : goal.returns-in_default
-returns-in_default c =
+pub returns-in_err-d : goal.returns-in_err-d
+returns-in_err-d c =
     let a = c.args in
-    kit-refused a.own.now a.parity.now a.inverse.now (length a.work.now) a.m a.t a.size a.col c.new_col-designed.result c.new_col-designed.ensures.0
-    c.design_check.result c.in_default.is c.design_check.ensures
+    refused_on _ c.in_err-d.ensures.0 _ refl c.from_residual.ensures
+    ∙ kit_call a.own.now a.parity.now a.inverse.now (length a.work.now) a.m a.t a.size a.col
 
-pub returns-in_default-lengths : goal.returns-in_default-lengths
-returns-in_default-lengths c =
+pub returns-in_err-check_lengths : goal.returns-in_err-check_lengths
+returns-in_err-check_lengths c =
     let a = c.args in
-    let lengths = c.check_lengths-lengths.ensures ∙ ap (lengths_rule (lengths_of a.own.now a.parity.now a.inverse.now [] [] (length a.work.now))) c.kit_due.ensures in
-    kit-judged a.own.now a.parity.now a.inverse.now (length a.work.now) a.m a.t a.size a.col c.new_col-designed.result c.new_col-designed.ensures.0
-    c.check_lengths-lengths.result c.new_col-designed.ensures.1 c.in-Made.is (refused_then _ lengths c.in_default-lengths.is)
+    let d = c.in_ok-d.ensures in
+    let lengths = c.in_err-check_lengths.ensures ∙ ap (lengths_rule _) c.kit_due.ensures in
+    kit-judged a.own.now a.parity.now a.inverse.now (length a.work.now) a.m a.t a.size a.col _ d.0 d.1 _
+    (refused_on _ lengths _ refl c.from_residual-in_err-check_lengths.ensures)
 
 pub check_content-requires : goal.check_content-requires
 check_content-requires c =
     let a = c.args in
-    let lengths = c.check_lengths-lengths.ensures ∙ ap (lengths_rule (lengths_of a.own.now a.parity.now a.inverse.now [] [] (length a.work.now))) c.kit_due.ensures in
-    kit-sized _ a.own.now a.parity.now a.inverse.now a.work.now (made-allowed c.in-Made.is c.new_col-designed.ensures.2)
-    (sym lengths ∙ check_passed c.in-Passed.is)
+    let lengths = c.in_ok-check_lengths.ensures ∙ ap (lengths_rule _) c.kit_due.ensures in
+    kit-sized _ a.own.now a.parity.now a.inverse.now a.work.now (made-allowed refl c.in_ok-d.ensures.2) (sym lengths ∙ check_passed refl)
 
 pub returns : goal.returns
 returns c =
     let a = c.args in
-    let lengths = c.check_lengths-lengths.ensures ∙ ap (lengths_rule (lengths_of a.own.now a.parity.now a.inverse.now [] [] (length a.work.now))) c.kit_due.ensures in
-    kit-judged a.own.now a.parity.now a.inverse.now (length a.work.now) a.m a.t a.size a.col c.new_col-designed.result c.new_col-designed.ensures.0
-    c.check_content.result c.new_col-designed.ensures.1 c.in-Made.is (c.check_content.ensures ∙ passed_then _ lengths c.in-Passed.is)
+    let d = c.in_ok-d.ensures in
+    let lengths = c.in_ok-check_lengths.ensures ∙ ap (lengths_rule _) c.kit_due.ensures in
+    kit-judged a.own.now a.parity.now a.inverse.now (length a.work.now) a.m a.t a.size a.col _ d.0 d.1 _
+    (c.check_content.ensures ∙ passed_then _ lengths refl)

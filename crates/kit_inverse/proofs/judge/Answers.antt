@@ -4,15 +4,8 @@ use mathlib.Core.Path.{ap}
 use Prim.Native.Nat.{ℕ, ◌*◌}
 use Rattle.design.specs.Sizes.{params_of, lists_of}
 use Rattle.answers.specs.Answers.{refusal_verdict, verdict_of}
-use Rattle.kit_inverse.proofs.RowSizes.{square_small}
 use Rattle.kit_inverse.proofs.Rule9.{inverse-refused, inverse-passed}
 use Rattle.kit_inverse.proofs.judge.Goals as goal
-
-pub overflow_mul-all : goal.overflow_mul-all
-overflow_mul-all c =
-    let o = c.order-n in
-    let h = c.requires.0.sized.allowed.order-high in
-    omega (arith, square_small o.result (omega (arith, o.ensures.0, h)))
 
 pub returns-then-x-all : goal.returns-then-x-all
 unfolding verdict_of refusal_verdict

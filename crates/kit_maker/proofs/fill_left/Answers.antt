@@ -1,13 +1,11 @@
 -- The places of the parity list's inverse are those that the rows are sent from.
-use native.Mathlib.Omega.{arith}
-use borrow.Author.Rules.{rules}
 use mathlib.Core.Path.{◌≡◌, sym, ap, ◌∙◌, subst}
 use mathlib.Core.List.{List}
 use Prim.Native.Nat.{ℕ}
 use lib.ListN.{length, get_or}
 use Rattle.staircase.specs.Rules.{entries}
 use Rattle.staircase.specs.Demand2.{Permutes}
-use Rattle.words_positions.proofs.Parts.{part-fits, part-is}
+use Rattle.words_positions.proofs.Parts.{part-is}
 use Rattle.kit_system.proofs.Places.{sent-at, sent-below}
 use Rattle.kit_maker.proofs.SystemMade.{rows_fit, rows_are}
 use Rattle.kit_maker.proofs.fill_left.Goals as goal
@@ -15,18 +13,6 @@ use Rattle.kit_maker.proofs.fill_left.Goals as goal
 -- the parity list, by the order that code has
 permutes : (list : List ℕ) (n k : ℕ) → n ≡ k → Permutes k (λ p. get_or (entries k list) p 0) → Permutes n (λ p. get_or (entries n list) p 0)
 permutes list n k e h = subst (λ (k : ℕ). Permutes k (λ p. get_or (entries k list) p 0)) (sym e) h
-
-pub fill_preimages-requires : goal.fill_preimages-requires
-fill_preimages-requires c =
-    let a = c.args in
-    let h = c.requires.0 in
-    let e = c.order-n.ensures.0 in
-    (omega (arith, e, h.parity_length), search rules, omega (arith, e, h.allowed.order-high), permutes a.parity.now _ _ e h.parity_permutes)
-
-pub slice_bounds-fill_rows-end : goal.slice_bounds-fill_rows-end
-slice_bounds-fill_rows-end c =
-    let f = c.fill_preimages in
-    part-fits f.new.out _ _ f.ensures.0
 
 pub fill_rows-requires : goal.fill_rows-requires
 fill_rows-requires c =

@@ -1,35 +1,31 @@
 -- The design of the lists is refused by its own rules, or by rule 15 or 6, or is the one that was made.
-use mathlib.Core.Path.{subst}
-use Rattle.design.specs.declared.Designed.{Designed}
+use mathlib.Core.Path.{refl, ap, ◌∙◌}
+use Rattle.std.specs.Prelude.{Ok}
 use Rattle.design.specs.Answers.{DesignIs, DesignAllowed}
-use Rattle.kit_spread.proofs.SpreadCall.{design_stops, lists-stop, lists-pass}
+use Rattle.answers.specs.Answers.{verdict_of}
+use Rattle.answers.proofs.Checks.{handed_on, refused_on}
+use Rattle.kit_spread.proofs.SpreadCall.{rules_are, lists-judged}
 use Rattle.kit_spread.proofs.list_design.Goals as goal
 
-pub returns-in_default : goal.returns-in_default
-returns-in_default c =
-    let a = c.args in
-    let n = c.new_col-designed in
-    (design_stops a.own.now a.parity.now a.m a.t a.size a.col n.result n.ensures.0 c.in_default.is, n.ensures.1, n.ensures.2)
-
-pub returns-in-Passed : goal.returns-in-Passed
-returns-in-Passed c =
-    let a = c.args in
-    let n = c.new_col-designed in
-    let g = c.in-Made.is in (
-      lists-pass a.own.now a.parity.now a.m a.t a.size a.col n.result n.ensures.0 n.ensures.1 g c.check_lists.result
-          c.check_lists.ensures c.in-Passed.is,
-      subst (λ (z : Designed). DesignIs z a.m a.t a.size a.col) g n.ensures.1,
-      subst DesignAllowed g n.ensures.2,
-    )
-
-pub returns-in-Refused : goal.returns-in-Refused
+pub returns-in_err-d : goal.returns-in_err-d
 unfolding DesignIs DesignAllowed
-returns-in-Refused c =
+returns-in_err-d c =
     let a = c.args in
-    let n = c.new_col-designed in
-    let g = c.in-Made.is in (
-      lists-stop a.own.now a.parity.now a.m a.t a.size a.col n.result n.ensures.0 n.ensures.1 g c.check_lists.result
-          c.check_lists.ensures c.in-Refused.is,
-      tt,
-      tt,
-    )
+    let h = c.from_residual.ensures in
+    let e = handed_on c.from_residual.result h.1 in
+    (refused_on _ c.in_err-d.ensures.0 _ refl h ∙ rules_are a.own.now a.parity.now a.m a.t a.size a.col, rw e tt, rw e tt)
+
+pub returns-in_err-check_lists : goal.returns-in_err-check_lists
+unfolding DesignIs DesignAllowed verdict_of
+returns-in_err-check_lists c =
+    let a = c.args in
+    let n = c.in_ok-d.ensures in
+    let e = handed_on c.from_residual-in_err-check_lists.result c.from_residual-in_err-check_lists.ensures.1 in
+    (lists-judged a.own.now a.parity.now a.m a.t a.size a.col _ n.0 n.1 _ (ap verdict_of e ∙ c.in_err-check_lists.ensures), rw e tt, rw e tt)
+
+pub returns : goal.returns
+unfolding verdict_of
+returns c =
+    let a = c.args in
+    let n = c.in_ok-d.ensures in
+    (lists-judged a.own.now a.parity.now a.m a.t a.size a.col _ n.0 n.1 (Ok c.in_ok-d.d) c.in_ok-check_lists.ensures, n.1, n.2)

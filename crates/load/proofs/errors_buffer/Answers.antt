@@ -2,28 +2,25 @@
 use mathlib.Core.Path.{ap, ◌∙◌}
 use Rattle.staircase.specs.Load.{Filled}
 use Rattle.answers.specs.Answers.{verdict_of}
-use Rattle.answers.proofs.Checks.{check_refused, check_passed}
-use Rattle.generator.specs.Answers.{load_verdict, load_state}
+use Rattle.answers.proofs.Checks.{handed_on, check_refused}
+use Rattle.generator.specs.Answers.{load_state}
 use Rattle.load.proofs.LoadCalls.{buffer-refused, buffer-done}
 use Rattle.load.proofs.errors_buffer.Goals as goal
 
-pub returns-in_default : goal.returns-in_default
-returns-in_default c =
+pub returns-in_err-check_bits : goal.returns-in_err-check_bits
+unfolding verdict_of load_state
+returns-in_err-check_bits c =
     let a = c.args in
-    let checked = c.check_bits-checked in
-    let q = buffer-refused a.seed a.limit a.bits.now (verdict_of checked.result) checked.ensures (check_refused c.in_default.is) in (
-      c.refused_load.ensures.0 ∙ ap (λ (f : Filled). f.verdict) q,
-      ap (λ (f : Filled). f.info) q,
-      c.refused_load.ensures.1 ∙ ap (λ (f : Filled). f.state) q,
-    )
+    let e = handed_on c.from_residual.result c.from_residual.ensures.1 in
+    let q = buffer-refused a.seed a.limit a.bits.now _ (ap verdict_of e ∙ c.in_err-check_bits.ensures) (check_refused e) in
+    (ap (λ (f : Filled). f.verdict) q, ap (λ (f : Filled). f.info) q, ap load_state e ∙ ap (λ (f : Filled). f.state) q)
 
 pub returns : goal.returns
-unfolding load_verdict load_state
+unfolding verdict_of load_state
 returns c =
     let a = c.args in
-    let checked = c.check_bits-checked in
     let bits = c.turn_drawn in
-    let q = buffer-done a.seed a.limit a.bits.now (verdict_of checked.result) checked.ensures (check_passed c.in-Passed.is) in (
+    let q = buffer-done a.seed a.limit a.bits.now c.in_ok-check_bits.ensures in (
       ap (λ (f : Filled). f.verdict) q,
       bits.ensures.0 ∙ ap (λ (f : Filled). f.info) q,
       bits.ensures.1 ∙ ap (λ (f : Filled). f.state) q,

@@ -1,15 +1,10 @@
--- After k turns those of the first k bits that are in the run are turned.
+-- Those of the first k bits that are in the run are turned.
 use mathlib.Core.Path.{◌≡◌}
-use Prim.Native.Nat.{◌+◌, ◌-◌, ◌≤◌}
-use lib.ListN.{length}
+use Prim.Native.Nat.{◌+◌}
 use Rattle.staircase.specs.Load.{run_turns}
 use Rattle.staircase.proofs.Fill.{filled}
 use Rattle.load.proofs.Turning.{turn_bit}
 use Rattle.load.proofs.turn_run.Given as goal
 
 abbrev pub invariant-loop-k : goal.invariant-loop-k
-invariant-loop-k l =
-    (l.k-end ≡ length l.initial.bits) × (l.k ≤ length l.initial.bits) × (length l.bits ≡ length l.initial.bits) × (l.bits ≡ filled (turn_bit (λ j. run_turns l.place l.long (l.first + j)) l.initial.bits) l.initial.bits l.k)
-
-abbrev pub decreases-loop-k : goal.decreases-loop-k
-decreases-loop-k l = length l.initial.bits - l.k
+invariant-loop-k l = l.bits ≡ filled (turn_bit (λ j. run_turns l.place l.long (l.first + j)) l.initial.bits) l.initial.bits l.k

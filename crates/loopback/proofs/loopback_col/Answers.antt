@@ -1,136 +1,77 @@
 -- A refusal of rules 1 to 5 is the answer, then one of the encoder; else the decoder's answer is the answer.
-use mathlib.Core.Path.{◌≡◌, sym, ap, ◌∙◌}
+use mathlib.Core.Path.{refl, sym, ap, ◌∙◌}
 use mathlib.Core.List.{◌++◌}
-use Prim.Native.Nat.{ℕ, ◌+◌, ◌-◌, ◌/◌, ◌≤◌}
+use Prim.Native.Nat.{◌+◌, ◌-◌, ◌/◌, ◌≤◌}
 use native.Mathlib.Omega.{arith}
-use lib.ListN.{length, take, drop}
-use Rattle.staircase.specs.Design.{params, order}
-use Rattle.staircase.specs.Rules.{word_work, kept_work, decoder_work}
-use Rattle.staircase.specs.Calls.{Encoded, encode_call}
+use lib.ListN.{length, drop}
+use Rattle.staircase.specs.Rules.{word_work, decoder_work}
+use Rattle.staircase.specs.Calls.{Encoded}
 use Rattle.answers.proofs.Checks.{check_passed}
-use Rattle.loopback.proofs.TwoCalls.{decode-same, part_length, loopback_numbers, loopback_encoder, small-frame, own-length, working_fits, loopback_decoded}
+use Rattle.loopback.proofs.TwoCalls.{decode-same, part_length, front_call, loopback_numbers, loopback_encoder, small-frame, own-length, working_fits, decoder_lent, loopback_decoded}
 use Rattle.loopback.proofs.loopback_col.Goals as goal
 
-pub returns-in_default : goal.returns-in_default
-returns-in_default c =
+pub returns-in_err-check_numbers : goal.returns-in_err-check_numbers
+returns-in_err-check_numbers c =
     let a = c.args in
-    c.refused_frame.ensures _
-    ∙ loopback_numbers a.m a.t a.size a.col a.blocks a.rounds a.own.now a.parity.now a.inverse.now a.info_errors.now a.red_errors.now
-    a.info.now a.red.now (length a.work.now) _
-    c.check_numbers-numbers.ensures c.in_default.is
+    loopback_numbers a.m a.t a.size a.col a.blocks a.rounds a.own.now a.parity.now a.inverse.now a.info_errors.now a.red_errors.now
+    a.info.now a.red.now (length a.work.now) c.from_residual.result _ c.in_err-check_numbers.ensures refl c.from_residual.ensures
 
 pub kept_bytes-kept-requires : goal.kept_bytes-kept-requires
 kept_bytes-kept-requires c =
     let a = c.args in
-    let ok = sym c.check_numbers-numbers.ensures ∙ check_passed c.in-Passed.is in
+    let ok = sym c.in_ok-check_numbers.ensures ∙ check_passed refl in
     let h = small-frame a.m a.t a.size a.col a.blocks a.rounds a.own.now a.parity.now a.inverse.now a.info_errors.now a.red_errors.now
-    a.info.now a.red.now (length a.work.now) ok in (h.0, h.1)
+    a.info.now a.red.now (length a.work.now) ok in
+    (h.0, h.1)
 
-pub returns-in_default-encoded : goal.returns-in_default-encoded
-returns-in_default-encoded c =
+pub returns-in_err-encode_col : goal.returns-in_err-encode_col
+returns-in_err-encode_col c =
     let a = c.args in
-    let s = params a.m a.t a.size a.col in
-    let ok = sym c.check_numbers-numbers.ensures ∙ check_passed c.in-Passed.is in
-    let front = c.bytes_before-front.result in
-    let room : front ≤ length a.work.now = c.bytes_before-front.ensures.1 in
-    let lent : length (take (front - 0) a.work.now) ≡ length a.work.now - kept_work s a.blocks =
-    part_length a.work.now front room ∙ c.bytes_before-front.ensures.0 ∙ ap (λ (n : ℕ). length a.work.now - n) c.kept_bytes-kept.ensures.0 in
-    let call : ℕ → Encoded = λ n. encode_call a.m a.t a.size a.col a.blocks a.own.now a.parity.now a.inverse.now a.info.now a.red.now n in
-    let verdict = c.encode_col-encoded.ensures.0 ∙ ap (λ (n : ℕ). (call n).verdict) lent in
-    let after = c.encode_col-encoded.ensures.1 ∙ ap (λ (n : ℕ). (call n).red) lent in
-    c.refused_frame-in_default-encoded.ensures _
-    ∙ loopback_encoder a.m a.t a.size a.col a.blocks a.rounds a.own.now a.parity.now a.inverse.now a.info_errors.now a.red_errors.now
-    a.info.now a.red.now (length a.work.now) ok _ _
-    verdict after c.in_default-encoded.is
+    let ok = sym c.in_ok-check_numbers.ensures ∙ check_passed refl in
+    let call = front_call a.m a.t a.size a.col a.blocks a.own.now a.parity.now a.inverse.now a.info.now a.red.now a.work.now c.saturating_sub-front.ensures c.kept_bytes-kept.ensures.0 in
+    let e = c.in_err-encode_col.ensures in
+    let y = c.from_residual-in_err-encode_col in
+    loopback_encoder a.m a.t a.size a.col a.blocks a.rounds a.own.now a.parity.now a.inverse.now a.info_errors.now a.red_errors.now
+    a.info.now a.red.now (length a.work.now) ok y.result _ _
+    (e.0 ∙ ap (λ (x : Encoded). x.verdict) call) (e.1 ∙ ap (λ (x : Encoded). x.red) call) refl y.ensures.1
 
 pub overflow_add-n : goal.overflow_add-n
 overflow_add-n c =
     let a = c.args in
-    let s = params a.m a.t a.size a.col in
-    let ok = sym c.check_numbers-numbers.ensures ∙ check_passed c.in-Passed.is in
-    let front = c.bytes_before-front.result in
-    let room : front ≤ length a.work.now = c.bytes_before-front.ensures.1 in
-    let lent : length (take (front - 0) a.work.now) ≡ length a.work.now - kept_work s a.blocks =
-    part_length a.work.now front room ∙ c.bytes_before-front.ensures.0 ∙ ap (λ (n : ℕ). length a.work.now - n) c.kept_bytes-kept.ensures.0 in
-    let call : ℕ → Encoded = λ n. encode_call a.m a.t a.size a.col a.blocks a.own.now a.parity.now a.inverse.now a.info.now a.red.now n in
-    let verdict = c.encode_col-encoded.ensures.0 ∙ ap (λ (n : ℕ). (call n).verdict) lent in
-    let after = c.encode_col-encoded.ensures.1 ∙ ap (λ (n : ℕ). (call n).red) lent in
-    let v = sym verdict ∙ check_passed c.in-Passed-encoded.is in
-    omega (
-      arith,
-      c.kept_bytes-kept.ensures.1,
-      own-length a.m a.t a.size a.col a.blocks a.rounds a.own.now a.parity.now a.inverse.now a.info_errors.now a.red_errors.now
-          a.info.now a.red.now (length a.work.now) ok v,
-      (small-frame a.m a.t a.size a.col a.blocks a.rounds a.own.now a.parity.now a.inverse.now a.info_errors.now a.red_errors.now
-          a.info.now a.red.now (length a.work.now) ok).2,
-    )
+    let ok = sym c.in_ok-check_numbers.ensures ∙ check_passed refl in
+    let call = front_call a.m a.t a.size a.col a.blocks a.own.now a.parity.now a.inverse.now a.info.now a.red.now a.work.now c.saturating_sub-front.ensures c.kept_bytes-kept.ensures.0 in
+    let v = sym (c.in_ok-encode_col.ensures.0 ∙ ap (λ (x : Encoded). x.verdict) call) ∙ check_passed refl in
+    let own = own-length a.m a.t a.size a.col a.blocks a.rounds a.own.now a.parity.now a.inverse.now a.info_errors.now a.red_errors.now
+    a.info.now a.red.now (length a.work.now) ok v in
+    let small = small-frame a.m a.t a.size a.col a.blocks a.rounds a.own.now a.parity.now a.inverse.now a.info_errors.now a.red_errors.now
+    a.info.now a.red.now (length a.work.now) ok in
+    omega (arith, c.kept_bytes-kept.ensures.1, own, small.2)
 
 pub slice_bounds-decode_col-end : goal.slice_bounds-decode_col-end
 slice_bounds-decode_col-end c =
     let a = c.args in
-    let s = params a.m a.t a.size a.col in
-    let ok = sym c.check_numbers-numbers.ensures ∙ check_passed c.in-Passed.is in
-    let front = c.bytes_before-front.result in
-    let room : front ≤ length a.work.now = c.bytes_before-front.ensures.1 in
-    let lent : length (take (front - 0) a.work.now) ≡ length a.work.now - kept_work s a.blocks =
-    part_length a.work.now front room ∙ c.bytes_before-front.ensures.0 ∙ ap (λ (n : ℕ). length a.work.now - n) c.kept_bytes-kept.ensures.0 in
-    let call : ℕ → Encoded = λ n. encode_call a.m a.t a.size a.col a.blocks a.own.now a.parity.now a.inverse.now a.info.now a.red.now n in
-    let verdict = c.encode_col-encoded.ensures.0 ∙ ap (λ (n : ℕ). (call n).verdict) lent in
-    let after = c.encode_col-encoded.ensures.1 ∙ ap (λ (n : ℕ). (call n).red) lent in
-    let v = sym verdict ∙ check_passed c.in-Passed-encoded.is in
-    let W = c.encode_col-encoded.new.work in
+    let ok = sym c.in_ok-check_numbers.ensures ∙ check_passed refl in
+    let call = front_call a.m a.t a.size a.col a.blocks a.own.now a.parity.now a.inverse.now a.info.now a.red.now a.work.now c.saturating_sub-front.ensures c.kept_bytes-kept.ensures.0 in
+    let v = sym (c.in_ok-encode_col.ensures.0 ∙ ap (λ (x : Encoded). x.verdict) call) ∙ check_passed refl in
+    let W = c.encode_col.new.work in
     let n = length a.own.now / 2 + c.kept_bytes-kept.result in
-    let q : n ≡ order s + kept_work s a.blocks = omega (
-      arith,
-      c.kept_bytes-kept.ensures.0,
-      own-length a.m a.t a.size a.col a.blocks a.rounds a.own.now a.parity.now a.inverse.now a.info_errors.now a.red_errors.now
-          a.info.now a.red.now (length a.work.now) ok v,
-    ) in
-    let long : length (W ++ drop (front - 0) a.work.now) ≡ length a.work.now = omega arith in
-    let fits : n ≤ length (W ++ drop (front - 0) a.work.now) = omega (
-      arith,
-      q,
-      long,
-      working_fits a.m a.t a.size a.col a.blocks a.rounds a.own.now a.parity.now a.inverse.now a.info_errors.now a.red_errors.now
-          a.info.now a.red.now (length a.work.now) ok v,
-    ) in
+    let q = decoder_lent a.m a.t a.size a.col a.blocks a.rounds a.own.now a.parity.now a.inverse.now a.info_errors.now a.red_errors.now a.info.now a.red.now (length a.work.now) ok v refl c.kept_bytes-kept.ensures.0 in
+    let fits : n ≤ length (W ++ drop (c.saturating_sub-front.result - 0) a.work.now) = omega (arith, q, working_fits a.m a.t a.size a.col a.blocks a.rounds a.own.now a.parity.now a.inverse.now a.info_errors.now a.red_errors.now a.info.now a.red.now (length a.work.now) ok v) in
     fits
 
 pub returns : goal.returns
 unfolding decoder_work word_work
 returns c =
     let a = c.args in
-    let s = params a.m a.t a.size a.col in
-    let ok = sym c.check_numbers-numbers.ensures ∙ check_passed c.in-Passed.is in
-    let front = c.bytes_before-front.result in
-    let room : front ≤ length a.work.now = c.bytes_before-front.ensures.1 in
-    let lent : length (take (front - 0) a.work.now) ≡ length a.work.now - kept_work s a.blocks =
-    part_length a.work.now front room ∙ c.bytes_before-front.ensures.0 ∙ ap (λ (n : ℕ). length a.work.now - n) c.kept_bytes-kept.ensures.0 in
-    let call : ℕ → Encoded = λ n. encode_call a.m a.t a.size a.col a.blocks a.own.now a.parity.now a.inverse.now a.info.now a.red.now n in
-    let verdict = c.encode_col-encoded.ensures.0 ∙ ap (λ (n : ℕ). (call n).verdict) lent in
-    let after = c.encode_col-encoded.ensures.1 ∙ ap (λ (n : ℕ). (call n).red) lent in
-    let v = sym verdict ∙ check_passed c.in-Passed-encoded.is in
-    let W = c.encode_col-encoded.new.work in
+    let ok = sym c.in_ok-check_numbers.ensures ∙ check_passed refl in
+    let call = front_call a.m a.t a.size a.col a.blocks a.own.now a.parity.now a.inverse.now a.info.now a.red.now a.work.now c.saturating_sub-front.ensures c.kept_bytes-kept.ensures.0 in
+    let v = sym (c.in_ok-encode_col.ensures.0 ∙ ap (λ (x : Encoded). x.verdict) call) ∙ check_passed refl in
+    let W = c.encode_col.new.work in
     let n = length a.own.now / 2 + c.kept_bytes-kept.result in
-    let q : n ≡ order s + kept_work s a.blocks = omega (
-      arith,
-      c.kept_bytes-kept.ensures.0,
-      own-length a.m a.t a.size a.col a.blocks a.rounds a.own.now a.parity.now a.inverse.now a.info_errors.now a.red_errors.now
-          a.info.now a.red.now (length a.work.now) ok v,
-    ) in
-    let long : length (W ++ drop (front - 0) a.work.now) ≡ length a.work.now = omega arith in
-    let fits : n ≤ length (W ++ drop (front - 0) a.work.now) = omega (
-      arith,
-      q,
-      long,
-      working_fits a.m a.t a.size a.col a.blocks a.rounds a.own.now a.parity.now a.inverse.now a.info_errors.now a.red_errors.now
-          a.info.now a.red.now (length a.work.now) ok v,
-    ) in
-    let lent_again = part_length (W ++ drop (front - 0) a.work.now) n fits in
+    let q = decoder_lent a.m a.t a.size a.col a.blocks a.rounds a.own.now a.parity.now a.inverse.now a.info_errors.now a.red_errors.now a.info.now a.red.now (length a.work.now) ok v refl c.kept_bytes-kept.ensures.0 in
+    let fits : n ≤ length (W ++ drop (c.saturating_sub-front.result - 0) a.work.now) = omega (arith, q, working_fits a.m a.t a.size a.col a.blocks a.rounds a.own.now a.parity.now a.inverse.now a.info_errors.now a.red_errors.now a.info.now a.red.now (length a.work.now) ok v) in
+    let same = decode-same a.m a.t a.size a.col a.blocks a.rounds a.own.now a.parity.now c.turn_bits.ensures c.turn_bits-2.ensures
+    (part_length (W ++ drop (c.saturating_sub-front.result - 0) a.work.now) n fits) in
     loopback_decoded a.m a.t a.size a.col a.blocks a.rounds a.own.now a.parity.now a.inverse.now a.info_errors.now a.red_errors.now
     a.info.now a.red.now (length a.work.now) ok v _ _ n
-    after q
-    (c.decode_col.ensures
-    ∙ decode-same a.m a.t a.size a.col a.blocks a.rounds a.own.now a.parity.now
-    c.turn_bits.ensures
-    c.turn_bits-2.ensures lent_again)
+    (c.in_ok-encode_col.ensures.1 ∙ ap (λ (x : Encoded). x.red) call) q (c.decode_col.ensures ∙ same)

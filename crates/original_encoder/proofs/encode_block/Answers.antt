@@ -6,7 +6,6 @@ use native.Mathlib.Omega.{arith}
 use lib.ListN.{length, get_or}
 use Rattle.staircase.proofs.Bounds.{small_product, stretch-end}
 use Rattle.design.specs.Sizes.{params_of}
-use Rattle.original_rows.proofs.Checked.{buffer-small}
 use Rattle.original_encoder.proofs.Rows.{rows_lent, rows_are}
 use Rattle.original_encoder.proofs.Blocks.{rows_named, remainders_long}
 use Rattle.original_encoder.proofs.encode_block.Goals as goal
@@ -15,13 +14,6 @@ pub line_remainders-requires : goal.line_remainders-requires
 line_remainders-requires c =
     let p = c.requires in
     rows_lent c.args.b c.args.positions.now c.args.tables.now p.0 p.1 p.2 p.3 p.4
-
-pub overflow_mul-b : goal.overflow_mul-b
-overflow_mul-b c =
-    let a = c.args in
-    let F = c.requires.0 in
-    let e : a.b * c.area-area.result ≡ a.b * (a.d.size * a.d.size) = ap (λ (z : ℕ). a.b * z) c.area-area.ensures.0 in
-    omega (arith, stretch-end a.b a.blocks (a.d.size * a.d.size) c.requires.1, buffer-small a.d F.allowed a.blocks F.few-blocks, e)
 
 pub put_rows-requires : goal.put_rows-requires
 put_rows-requires c =

@@ -3,13 +3,12 @@ use native.Mathlib.Omega.{arith}
 use mathlib.Core.Path.{◌≡◌, sym, ap, ◌∙◌, subst⁻¹, subst₂}
 use mathlib.Core.Bool.{false}
 use mathlib.Core.List.{List}
-use Prim.Native.Nat.{ℕ, ◌*◌, ◌≤◌, ◌<◌}
+use Prim.Native.Nat.{ℕ, ◌*◌, ◌<◌}
 use native.Mathlib.Nat.{mul_assoc}
 use lib.ListN.{length, get_or}
 use Rattle.bch.specs.Code.{generator}
 use Rattle.bch.specs.Powers.{PositionPowers}
-use Rattle.staircase.proofs.Bounds.{small_product}
-use Rattle.words_positions.proofs.Parts.{part-fits, part-is}
+use Rattle.words_positions.proofs.Parts.{part-is}
 use Rattle.original.specs.Frame.{encoded}
 use Rattle.original.specs.Steps.{cleared}
 use Rattle.original.proofs.Buffer.{cleared-length, cleared-bits, encoded-cleared}
@@ -19,41 +18,10 @@ use Rattle.layout.specs.declared.Shape.TheVariants.{Original}
 use Rattle.words_blocks.proofs.Sums.{part_length}
 use Rattle.words_lines.specs.Words.{ReadTable}
 use Rattle.words_lines.proofs.Tables.{ahead_table}
-use Rattle.original_rows.proofs.Checked.{buffer-small}
 use Rattle.original_encoder.proofs.Rows.{row-bits}
 use Rattle.original_encoder.specs.Written.{RowsAt}
 use Rattle.original_encoder.proofs.Blocks.{rows-cleared, cleared-zero}
 use Rattle.original_encoder.proofs.encode_buffer.Goals as goal
-
-pub fill_code-requires : goal.fill_code-requires
-fill_code-requires c =
-    let d = c.requires.0.allowed in
-    rw (c.m-m.ensures, c.t-t.ensures) (d.m-low, d.m-high, d.t-low, d.t-high, (let a = d.long in let b = d.thin in omega (arith, a, b)))
-
-pub overflow_mul-blocks : goal.overflow_mul-blocks
-overflow_mul-blocks c =
-    let a = c.args in
-    let F = c.requires.0 in
-    let size = c.size-size in
-    omega (arith, small_product a.blocks size.result 4096 500 F.few-blocks (omega (arith, size.ensures, F.allowed.M-high)))
-
-pub clear_parity-requires : goal.clear_parity-requires
-clear_parity-requires c =
-    let a = c.args in
-    let F = c.requires.0 in
-    let size = c.size-size in
-    let r = c.r-r in
-    let small = buffer-small a.d F.allowed a.blocks F.few-blocks in
-    let few : a.d.m * a.d.t ≤ 30 = small_product a.d.m a.d.t 10 3 F.allowed.m-high F.allowed.t-high in
-    let e : a.blocks * size.result * size.result ≡ a.blocks * (a.d.size * a.d.size) =
-    mul_assoc a.blocks size.result size.result ∙ ap (λ (z : ℕ). a.blocks * (z * z)) size.ensures in
-    (omega (arith, few, r.ensures.0), omega (arith, r.ensures.0, size.ensures, F.allowed.thin), e ∙ sym F.long, omega (arith, small, F.long))
-
-pub slice_bounds-encode_cleared-end : goal.slice_bounds-encode_cleared-end
-slice_bounds-encode_cleared-end c =
-    let x = c.fill_code in
-    let e : length x.new.positions ≡ c.row_bits-bits.result = omega arith in
-    part-fits x.new.positions _ _ e
 
 pub encode_cleared-requires : goal.encode_cleared-requires
 encode_cleared-requires c =

@@ -1,11 +1,10 @@
 -- The tables are made in the first entries of a local array, and the working entries are the first of another.
 use native.Mathlib.Omega.{arith}
-use mathlib.Core.Path.{◌≡◌, ◌∙◌, subst⁻¹}
-use lib.ListN.{length}
+use mathlib.Core.Path.{◌∙◌, subst⁻¹}
 use Rattle.design.specs.Sizes.{params_of}
 use Rattle.layout.specs.declared.Shape.TheVariants.{Original}
 use Rattle.layout.specs.Layouts.{tail_in}
-use Rattle.words_positions.proofs.Parts.{part-fits, part-is}
+use Rattle.words_positions.proofs.Parts.{part-is}
 use Rattle.words_tables.specs.Tables.{MayParts}
 use Rattle.words_blocks.proofs.Sums.{part_length}
 use Rattle.words_lines.proofs.Tables.{parts_asked, parts_of}
@@ -19,12 +18,6 @@ fill_parts-requires c =
     let entries = c.entries-tables in
     parts_asked Original a.d a.positions.now (rows-allowed p.0.allowed) p.1.long c.size-size.ensures (no_tail (params_of a.d)) p.4
     (part_length entries.result 0 a.due a.due (omega arith) (omega (arith, entries.ensures, p.3)))
-
-pub slice_bounds-encode_blocks-end : goal.slice_bounds-encode_blocks-end
-slice_bounds-encode_blocks-end c =
-    let x = c.fill_parts in
-    let e : length x.new.tables ≡ c.args.due = omega arith in
-    part-fits x.new.tables _ _ e
 
 pub encode_blocks-requires : goal.encode_blocks-requires
 encode_blocks-requires c =

@@ -1,8 +1,15 @@
 -- Kit and blocks are read, the encoder is called, and what it answers is printed.
+use Rattle.program.proofs.ProgramReady.{kit_reads}
 use Rattle.program.proofs.Printing.{printed_as}
-use Rattle.program_frame.proofs.Framing.{groups-fit, frame-printed}
+use Rattle.program_frame.proofs.Framing.{groups-fit, blocks_read, frame-printed}
 use native.Mathlib.Omega.{arith}
 use Rattle.program_frame.proofs.frame_call.Goals as goal
+
+pub unwrap-requires : goal.unwrap-requires
+unwrap-requires c = kit_reads _ _ _ _ _ _ _ _ _ _ _ _ c.requires.frame_ready _ c.read_kit.ensures.result_value
+
+pub unwrap-requires-2 : goal.unwrap-requires-2
+unwrap-requires-2 c = blocks_read _ _ _ _ _ _ _ _ _ _ c.requires.frame_ready _ c.read_blocks.ensures.result_value
 
 pub put_encoded-requires : goal.put_encoded-requires
 put_encoded-requires c = record {

@@ -10,8 +10,8 @@ put_groups-requires c = let F = c.requires.groups_fit in let r = c.args.red.now 
   red_in_bounds = groups-room _ _ r F _ _ g e _ c.requires.most_output_in_bounds;
 }
 
-pub returns-in-Refused : goal.returns-in-Refused
-returns-in-Refused c = refused-prints _ _ _ c.in-Refused.is c.of_refusal-judged.ensures _ _ _ _ c.put_refusal.ensures
+pub returns-in-Err : goal.returns-in-Err
+returns-in-Err c = refused-prints _ _ _ c.in-Err.is c.from-judged.ensures _ _ _ _ c.put_refusal.ensures
 
-pub returns-in-Passed : goal.returns-in-Passed
-returns-in-Passed c = let F = c.requires.groups_fit in let r = c.args.red.now in let g = c.group_count-groups.ensures in let e = c.order.ensures.0 in printed-text _ _ _ _ _ (passed-groups _ _ r F _ _ g e _ c.in-Passed.is) (groups-room _ _ r F _ _ g e _ c.requires.most_output_in_bounds) c.put_groups.ensures.value c.put_groups.ensures.out_after
+pub returns-in-Ok : goal.returns-in-Ok
+returns-in-Ok c = let F = c.requires.groups_fit in let r = c.args.red.now in let g = c.group_count-groups.ensures in let e = c.order.ensures.0 in printed-text _ _ _ _ _ (passed-groups _ _ r F _ _ g e _ c.in-Ok.is) (groups-room _ _ r F _ _ g e _ c.requires.most_output_in_bounds) c.put_groups.ensures.value c.put_groups.ensures.out_after

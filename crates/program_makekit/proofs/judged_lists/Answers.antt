@@ -6,12 +6,12 @@ use Rattle.program_makekit.proofs.judged_lists.Goals as goal
 pub list_arrays-requires : goal.list_arrays-requires
 list_arrays-requires c =
     let is = c.order.ensures.0 in record {
-      listed = lists-read _ _ _ c.requires.fronted _ is _ c.judge_lists-lists.ensures _ c.in-Next.is;
+      listed = lists-read _ _ _ c.requires.fronted _ is _ c.judge_lists.ensures _ c.in-Ok.is;
       most_output_in_bounds = c.requires.most_output_in_bounds;
     }
 
-pub returns-in-Refused : goal.returns-in-Refused
-returns-in-Refused c =
+pub returns-in-Err : goal.returns-in-Err
+returns-in-Err c =
     let is = c.order.ensures.0 in
-    let broken = lists_broken _ _ _ c.requires.fronted _ is _ c.judge_lists-lists.ensures _ c.in-Refused.is in
+    let broken = lists_broken _ _ _ c.requires.fronted _ is _ c.judge_lists.ensures _ c.in-Err.is in
     printed_as _ _ _ _ _ broken c.put_refusal.ensures

@@ -1,7 +1,7 @@
 -- Rule 13, then the two lines, and behind them the lists.
 use Rattle.program.proofs.Printing.{printed_as}
 use Rattle.text.proofs.MakeKitLaws.{long-input}
-use Rattle.program_makekit.proofs.Making.{front_starts, front_ruled, front_broken}
+use Rattle.program_makekit.proofs.Making.{front_starts, front_error}
 use Rattle.program_makekit.proofs.makekit_input.Goals as goal
 
 pub returns-then-text-gt-MOST_INPUT : goal.returns-then-text-gt-MOST_INPUT
@@ -9,18 +9,12 @@ returns-then-text-gt-MOST_INPUT c = printed_as _ _ _ _ _ (long-input _ c.if-text
 
 pub judged_lists-requires : goal.judged_lists-requires
 judged_lists-requires c =
-    let e = c.read_front-front.ensures in record {
-      fronted = front_starts _ c.if-text-gt-MOST_INPUT.false _ e.result_value _ _ c.in-Starts.is e.front_is;
+    let e = c.read_front.ensures in record {
+      fronted = front_starts _ c.if-text-gt-MOST_INPUT.false _ e.result_value _ _ c.in-Ok.is e.front_is;
       most_output_in_bounds = c.requires;
     }
 
-pub returns-in-Ruled : goal.returns-in-Ruled
-returns-in-Ruled c =
-    let prints = front_ruled _ c.if-text-gt-MOST_INPUT.false _ c.read_front-front.ensures.result_value _ _ c.in-Ruled.is
-    c.of_refusal-judged.ensures in
-    printed_as _ _ _ _ _ prints c.put_refusal-in-Ruled.ensures
-
-pub returns-in-NoStart : goal.returns-in-NoStart
-returns-in-NoStart c =
-    let prints = front_broken _ c.if-text-gt-MOST_INPUT.false _ c.read_front-front.ensures.result_value _ c.in-NoStart.is in
-    printed_as _ _ _ _ _ prints c.put_refusal-in-NoStart.ensures
+pub returns-in-Err : goal.returns-in-Err
+returns-in-Err c =
+    let prints = front_error _ c.if-text-gt-MOST_INPUT.false _ c.read_front.ensures.result_value _ _ c.in-Err.is c.judge_error-judged.ensures in
+    printed_as _ _ _ _ _ prints c.put_refusal-in-Err.ensures

@@ -1,9 +1,16 @@
 -- Kit and frame are read, the decoder is called, and what it answers is printed.
 use mathlib.Core.Path.{◌∙◌}
+use Rattle.program.proofs.ProgramReady.{kit_reads}
 use Rattle.program.proofs.Printing.{printed_as}
-use Rattle.program_mend.proofs.Mending.{frame-fits, mend_printed}
+use Rattle.program_mend.proofs.Mending.{frame-fits, frame_read, mend_printed}
 use native.Mathlib.Omega.{arith}
 use Rattle.program_mend.proofs.mend_call.Goals as goal
+
+pub unwrap-requires : goal.unwrap-requires
+unwrap-requires c = kit_reads _ _ _ _ _ _ _ _ _ _ _ _ c.requires.mend_ready _ c.read_kit.ensures.result_value
+
+pub unwrap-requires-2 : goal.unwrap-requires-2
+unwrap-requires-2 c = frame_read _ _ _ _ _ _ _ _ _ _ c.requires.mend_ready _ c.read_frame.ensures.result_value
 
 pub put_decoded-requires : goal.put_decoded-requires
 put_decoded-requires c = record {

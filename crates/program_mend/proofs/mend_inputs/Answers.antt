@@ -6,9 +6,9 @@ use Rattle.program_mend.proofs.mend_inputs.Goals as goal
 
 pub mend_arrays-requires : goal.mend_arrays-requires
 mend_arrays-requires c = record {
-  scanned = begun_goes _ _ _ _ c.begin-begun.ensures _ _ c.in-Go.is;
+  scanned = begun_goes _ _ _ _ c.begin.ensures _ _ c.in-Ok.is;
   most_output_in_bounds = c.requires;
 }
 
-pub returns-in-Stop : goal.returns-in-Stop
-returns-in-Stop c = printed_as _ _ _ _ _ (mend_stopped _ _ _ _ (begun_stops _ _ _ _ c.begin-begun.ensures _ _ c.in-Stop.is)) c.put_refusal.ensures
+pub returns-in-Err : goal.returns-in-Err
+returns-in-Err c = printed_as _ _ _ _ _ (mend_stopped _ _ _ _ (begun_stops _ _ _ _ c.begin.ensures _ c.in-Err.is)) c.put_refusal.ensures

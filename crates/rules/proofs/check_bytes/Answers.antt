@@ -1,56 +1,55 @@
 -- Each check's refusal is the answer, and one that passes leaves it to the next.
 use native.Mathlib.Omega.{arith}
-use mathlib.Core.Path.{◌≡◌, sym, ap, ◌∙◌}
+use mathlib.Core.Path.{◌≡◌, refl, sym, ap, ◌∙◌}
 use Prim.Native.Nat.{ℕ, ◌*◌}
 use Rattle.staircase.specs.System.{row_bytes}
 use Rattle.staircase.specs.Rules.{frame_bits}
 use Rattle.design.specs.Sizes.{order_of}
-use Rattle.answers.proofs.Checks.{refused_then, passed_then}
+use Rattle.answers.proofs.Checks.{refused_on, passed_then}
 use Rattle.design.proofs.Allowed.{order-positive}
 use Rattle.rules.specs.Bytes.{byte_rules}
 use Rattle.rules.proofs.OfDesign.{lists-rule, spare-rule}
 use Rattle.rules.proofs.check_bytes.Goals as goal
 
-pub check_lists-lists-requires : goal.check_lists-lists-requires
-check_lists-lists-requires c =
+pub check_lists-requires : goal.check_lists-requires
+check_lists-requires c =
     let h = c.requires in
     let e : c.order-n.result ≡ order_of c.args.d = c.order-n.ensures.0 in
     (omega (arith, h.own_length), omega (arith, h.parity_length), omega (arith, h.marks_length), omega (arith, h.allowed.order-high))
 
-pub returns-in_default : goal.returns-in_default
+pub returns-in_err-check_lists : goal.returns-in_err-check_lists
 unfolding byte_rules
-returns-in_default c =
+returns-in_err-check_lists c =
     let a = c.args in
-    let x = lists-rule a.d c.order-n.result c.order-n.ensures.0 a.own.now a.parity.now c.check_lists-lists.ensures in
-    refused_then _ x c.in_default.is
+    let x = lists-rule a.d c.order-n.result c.order-n.ensures.0 a.own.now a.parity.now c.in_err-check_lists.ensures in
+    refused_on _ x _ refl c.from_residual.ensures
 
-pub check_spare-spare-requires : goal.check_spare-spare-requires
-check_spare-spare-requires c =
+pub check_spare-requires : goal.check_spare-requires
+check_spare-requires c =
     let h = c.requires in
     let e : c.order-n.result ≡ order_of c.args.d = c.order-n.ensures.0 in
     ((λ l. h.inverse_length l ∙ ap (λ (k : ℕ). k * row_bytes k) (sym e)), omega (arith, e, order-positive c.args.d h.allowed), omega (arith, h.allowed.order-high))
 
-pub returns-in_default-spare : goal.returns-in_default-spare
+pub returns-in_err-check_spare : goal.returns-in_err-check_spare
 unfolding byte_rules
-returns-in_default-spare c =
+returns-in_err-check_spare c =
     let a = c.args in
-    let x = lists-rule a.d c.order-n.result c.order-n.ensures.0 a.own.now a.parity.now c.check_lists-lists.ensures in
-    let y = spare-rule a.d c.order-n.result c.order-n.ensures.0 a.inverse.now c.check_spare-spare.ensures in
-    refused_then _ y c.in_default-spare.is ∙ passed_then _ x c.in-Passed.is
+    let x = lists-rule a.d c.order-n.result c.order-n.ensures.0 a.own.now a.parity.now c.in_ok-check_lists.ensures in
+    let y = spare-rule a.d c.order-n.result c.order-n.ensures.0 a.inverse.now c.in_err-check_spare.ensures in
+    refused_on _ y _ refl c.from_residual-in_err-check_spare.ensures ∙ passed_then _ x refl
 
-pub returns-in_default-bits : goal.returns-in_default-bits
+pub returns-in_err-check_bits : goal.returns-in_err-check_bits
 unfolding byte_rules frame_bits
-returns-in_default-bits c =
+returns-in_err-check_bits c =
     let a = c.args in
-    let x = lists-rule a.d c.order-n.result c.order-n.ensures.0 a.own.now a.parity.now c.check_lists-lists.ensures in
-    let y = spare-rule a.d c.order-n.result c.order-n.ensures.0 a.inverse.now c.check_spare-spare.ensures in
-    refused_then _ c.check_bits-bits.ensures c.in_default-bits.is ∙ passed_then _ y c.in-Passed-spare.is ∙ passed_then _ x c.in-Passed.is
+    let x = lists-rule a.d c.order-n.result c.order-n.ensures.0 a.own.now a.parity.now c.in_ok-check_lists.ensures in
+    let y = spare-rule a.d c.order-n.result c.order-n.ensures.0 a.inverse.now c.in_ok-check_spare.ensures in
+    refused_on _ c.in_err-check_bits.ensures _ refl c.from_residual-in_err-check_bits.ensures ∙ passed_then _ y refl ∙ passed_then _ x refl
 
 pub returns : goal.returns
 unfolding byte_rules frame_bits
 returns c =
     let a = c.args in
-    let x = lists-rule a.d c.order-n.result c.order-n.ensures.0 a.own.now a.parity.now c.check_lists-lists.ensures in
-    let y = spare-rule a.d c.order-n.result c.order-n.ensures.0 a.inverse.now c.check_spare-spare.ensures in
-    c.check_bits.ensures ∙ passed_then _ c.check_bits-bits.ensures c.in-Passed-bits.is ∙ passed_then _ y c.in-Passed-spare.is
-    ∙ passed_then _ x c.in-Passed.is
+    let x = lists-rule a.d c.order-n.result c.order-n.ensures.0 a.own.now a.parity.now c.in_ok-check_lists.ensures in
+    let y = spare-rule a.d c.order-n.result c.order-n.ensures.0 a.inverse.now c.in_ok-check_spare.ensures in
+    c.check_bits-2.ensures ∙ passed_then _ c.in_ok-check_bits.ensures refl ∙ passed_then _ y refl ∙ passed_then _ x refl

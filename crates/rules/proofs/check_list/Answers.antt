@@ -1,6 +1,5 @@
 use mathlib.Core.Path.{◌≡◌, sym, ◌∙◌}
 use mathlib.Core.Bool.{false}
-use Prim.Native.Nat.{◌-◌}
 use native.Mathlib.Omega.{arith}
 use lib.ListN.{length, get_or, replicate, length-set}
 use borrow.Author.Count.{below_more}
@@ -10,14 +9,11 @@ use Rattle.rules.proofs.Entries.{entry-at, marked_none, marked_more, too_high, r
 use Rattle.answers.specs.Answers.{refusal_verdict, verdict_of}
 use Rattle.rules.proofs.check_list.Goals as goal
 
-pub clear-requires : goal.clear-requires
-clear-requires c = omega arith
-
 pub loop-p-init : goal.loop-p-init
 loop-p-init c =
     let a = c.args in
     let k : length a.marks.now ≡ a.n = omega arith in
-    let e : c.clear.new.s ≡ replicate a.n 0 = rw k at c.clear.ensures in
+    let e : c.fill.new.self ≡ replicate a.n 0 = rw k at (c.fill.ensures.after (λ y e. e)) in
     (omega arith, omega arith, rw e (marked_none (entries a.n a.list.now) a.n), λ k h. absurd (omega arith))
 
 pub entry-e-requires : goal.entry-e-requires

@@ -1,6 +1,5 @@
 use mathlib.Core.Path.{◌≡◌, sym}
 use mathlib.Core.Bool.{false}
-use Prim.Native.Nat.{◌-◌}
 use native.Mathlib.Omega.{arith}
 use lib.Dec.{ltb}
 use lib.ListN.{length, get_or}
@@ -17,12 +16,9 @@ loop-i-init c = (omega arith, omega arith, λ k h. absurd (omega arith))
 pub bounds-bytes-i : goal.bounds-bytes-i
 bounds-bytes-i c = omega arith
 
-pub overflow_add-place : goal.overflow_add-place
-overflow_add-place c = omega arith
-
-pub returns-then-bytes-i-gt1 : goal.returns-then-bytes-i-gt1
+pub returns-then-b-gt1 : goal.returns-then-b-gt1
 unfolding bit_rule verdict_of refusal_verdict
-returns-then-bytes-i-gt1 c =
+returns-then-b-gt1 c =
     let a = c.args in
     let l = c.loop-i in
     refuse_first-refused 10 a.base (length a.bytes.now) (λ k. ltb 1 (get_or a.bytes.now k 0)) l.i (omega arith) l.invariant.2

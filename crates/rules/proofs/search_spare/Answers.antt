@@ -1,6 +1,5 @@
 use mathlib.Core.Path.{◌≡◌, sym}
 use mathlib.Core.Bool.{false}
-use Prim.Native.Nat.{◌-◌}
 use native.Mathlib.Nat.{zero-add}
 use native.Mathlib.Omega.{arith}
 use borrow.Author.Count.{below_more}
@@ -49,12 +48,9 @@ bounds-inverse-i c =
     let i = c.loop-i.i in
     omega (arith, stretch-end i n (row_bytes n) (omega arith))
 
-pub wide-requires : goal.wide-requires
-wide-requires c = omega arith
-
-pub returns-then-limit-wide : goal.returns-then-limit-wide
+pub returns-then-limit-from : goal.returns-then-limit-from
 unfolding verdict_of refusal_verdict
-returns-then-limit-wide c =
+returns-then-limit-from c =
     let a = c.args in
     let l = c.loop-i in
     let s = shl_one (used_bits a.n) (omega arith) in

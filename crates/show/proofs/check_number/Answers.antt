@@ -1,20 +1,14 @@
--- The tests of the code are those of the rule.
-use native.Mathlib.Omega.{arith}
-use borrow.Author.Tests.{lt-ltb, le-ltb}
-use Rattle.staircase.proofs.Rules.{in_range}
+-- The test of the code is that of the rule.
+use mathlib.Core.Path.{◌∙◌, sym, ap}
+use mathlib.Core.Bool.{Bool}
+use Rattle.staircase.specs.Rules.{refuse}
 use Rattle.answers.specs.Answers.{refusal_verdict, verdict_of}
 use Rattle.show.proofs.check_number.Goals as goal
 
-pub returns-then-number-lt1 : goal.returns-then-number-lt1
+pub returns-then-out_of_range : goal.returns-then-out_of_range
 unfolding verdict_of refusal_verdict
-returns-then-number-lt1 c = rw (lt-ltb c.args.number 1 (omega arith))
-
-pub returns-then-most-number : goal.returns-then-most-number
-unfolding verdict_of refusal_verdict
-returns-then-most-number c =
-    let a = c.args in
-    rw (le-ltb a.number 1 (omega arith), lt-ltb a.most a.number (omega arith))
+returns-then-out_of_range c = sym (ap (λ (b : Bool). refuse b 4 c.args.number) (sym c.out_of_range.ensures ∙ c.if-out_of_range.true))
 
 pub returns : goal.returns
 unfolding verdict_of refusal_verdict
-returns c = let a = c.args in rw (in_range 1 a.most a.number (omega arith) (omega arith))
+returns c = sym (ap (λ (b : Bool). refuse b 4 c.args.number) (sym c.out_of_range.ensures ∙ c.if-out_of_range.false))

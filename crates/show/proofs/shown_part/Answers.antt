@@ -22,4 +22,4 @@ returns-in-Block c = c.stretch_of.ensures ∙ rw (c.area-block_size.ensures.0, c
 
 pub returns-in-Group : goal.returns-in-Group
 unfolding part_of
-returns-in-Group c = c.pick.ensures ∙ c.stretch_of-in-Group.ensures ∙ rw (c.order-group_size.ensures.0, c.in-Group.is)
+returns-in-Group c = c.stretch_of-in-Group.ensures ∙ rw (c.order-group_size.ensures.0, c.in-Group.is)

@@ -1,11 +1,6 @@
 -- The part of the slice is lent, and comes back with the values of the walk.
-use Rattle.text_frame_fill.proofs.Filling.{half_lent, half_filled}
+use Rattle.text_frame_fill.proofs.Filling.{half_filled}
 use Rattle.text_frame_fill.proofs.fill_half.Goals as goal
-
-pub fill_part-requires : goal.fill_part-requires
-fill_part-requires c =
-    let a = c.args in
-    half_lent a.s.now a.at a.n a.from a.out.now c.requires.0 c.requires.1
 
 pub returns : goal.returns
 returns c =

@@ -1,68 +1,38 @@
+use Rattle.text_items.proofs.Handing.{handed_on}
+use Rattle.text_frame_scan.specs.Judged.{found_scan}
 use Rattle.text_frame_scan.proofs.Judging.{frame-group, frame-none, frame-cut, frame_next}
-use Rattle.text_formats.specs.Items.{verdict}
+use Rattle.text_formats.specs.Items.{scan_at, verdict}
+use Rattle.text.specs.FrameText.{group_tail}
 use Rattle.staircase.specs.Design.{most-blocks}
-use borrow.Author.Rules.{rules}
 use native.Mathlib.Omega.{arith}
-use mathlib.Core.Path.{refl, sym, ap, ◌∙◌}
-use Prim.Native.Nat.{◌-◌}
+use mathlib.Core.Path.{◌≡◌, sym, ap, ◌∙◌}
+use Prim.Native.Nat.{ℕ}
 use Rattle.text_frame_scan.proofs.more_frame.Goals as goal
 
-pub loop-i-init : goal.loop-i-init
-loop-i-init c = (omega arith, omega arith, refl)
+pub returns-in-Ok : goal.returns-in-Ok
+returns-in-Ok c =
+    c.group_text.ensures ∙ sym (c.loop-blocks.invariant ∙ frame-group _ _ most-blocks _ _ _ _ c.byte_is.ensures _ c.in-Ok.is)
 
-pub byte_is-sign-requires : goal.byte_is-sign-requires
-byte_is-sign-requires c = search rules
+pub returns-in_err-q : goal.returns-in_err-q
+returns-in_err-q c =
+    let l = c.loop-blocks in
+    ap found_scan (handed_on c.from_residual.ensures.1)
+    ∙ sym (l.invariant ∙ ap verdict (frame-cut _ _ most-blocks _ _ _ _ c.byte_is.ensures c.loop-blocks-test.true _ c.in_default.is _ c.bits_line.ensures _ c.in_err-q.was))
 
-pub enum_known-sign : goal.enum_known-sign
-enum_known-sign c = search rules
+pub loop-blocks-preserved : goal.loop-blocks-preserved
+loop-blocks-preserved c =
+    c.loop-blocks.invariant
+    ∙ frame_next _ _ most-blocks _ _ _ _ c.byte_is.ensures c.loop-blocks-test.true _ c.in_default.is _ c.bits_line.ensures _ c.in_ok-q.was
 
-pub group_text-requires : goal.group_text-requires
-group_text-requires c = omega arith
+pub returns-in_err-j : goal.returns-in_err-j
+returns-in_err-j c =
+    ap found_scan (handed_on c.from_residual-in_err-j.ensures.1)
+    ∙ sym (c.loop-blocks.invariant ∙ ap verdict (frame-none _ _ most-blocks _ _ _ _ c.byte_is-2.ensures c.loop-blocks-test.false _ c.in_err-j.was))
 
-pub returns-in-Next : goal.returns-in-Next
-returns-in-Next c = c.group_text.ensures ∙ sym (c.loop-i.invariant.2 ∙ frame-group _ _ most-blocks _ _ _ _ c.byte_is-sign.ensures _ c.in-Next.is)
-
-pub enum_told-1 : goal.enum_told-1
-enum_told-1 c = search rules
-
-pub overflow_add-i : goal.overflow_add-i
-overflow_add-i c = omega arith
-
-pub bits_line-line-requires : goal.bits_line-line-requires
-bits_line-line-requires c = omega arith
-
-pub enum_known-line : goal.enum_known-line
-enum_known-line c = search rules
-
-pub returns-in-Refused-line : goal.returns-in-Refused-line
-returns-in-Refused-line c = sym (c.loop-i.invariant.2 ∙ ap verdict (frame-cut _ _ most-blocks _ _ _ _ c.byte_is-sign.ensures c.loop-i-test.true _ c.in-Refused.is _ c.bits_line-line.ensures _ c.in-Refused-line.is))
-
-pub enum_known-line-in-Next-line : goal.enum_known-line-in-Next-line
-enum_known-line-in-Next-line c = search rules
-
-pub overflow_add-i-in-loop-i : goal.overflow_add-i-in-loop-i
-overflow_add-i-in-loop-i c = omega arith
-
-pub loop-i-smaller : goal.loop-i-smaller
-loop-i-smaller c = omega arith
-
-pub loop-i-preserved : goal.loop-i-preserved
-loop-i-preserved c = (omega arith, omega arith, c.loop-i.invariant.2 ∙ frame_next _ _ most-blocks _ _ _ _ c.byte_is-sign.ensures c.loop-i-test.true _ c.in-Refused.is _ c.bits_line-line.ensures _ c.in-Next-line.is)
-
-pub byte_is-last-requires : goal.byte_is-last-requires
-byte_is-last-requires c = search rules
-
-pub enum_known-last : goal.enum_known-last
-enum_known-last c = search rules
-
-pub group_text-requires-in-Next-last : goal.group_text-requires-in-Next-last
-group_text-requires-in-Next-last c = omega arith
-
-pub enum_known-last-in-Refused-last : goal.enum_known-last-in-Refused-last
-enum_known-last-in-Refused-last c = search rules
-
-pub returns-in-Next-last : goal.returns-in-Next-last
-returns-in-Next-last c = c.group_text-in-Next-last.ensures ∙ sym (c.loop-i.invariant.2 ∙ frame-group _ _ most-blocks _ _ _ _ c.byte_is-last.ensures _ c.in-Next-last.is)
-
-pub returns-in-Refused-last : goal.returns-in-Refused-last
-returns-in-Refused-last c = sym (c.loop-i.invariant.2 ∙ ap verdict (frame-none _ _ most-blocks _ _ _ _ c.byte_is-last.ensures c.loop-i-test.false _ c.in-Refused-last.is))
+pub returns : goal.returns
+returns c =
+    let l = c.loop-blocks in
+    let e : most-blocks ≡ l.blocks = omega (arith, l.auto.blocks-end) in
+    c.group_text-2.ensures
+    ∙ ap (λ (n : ℕ). verdict (scan_at (group_tail c.args.n n) c.args.s.now c.in_ok-j.j)) e
+    ∙ sym (l.invariant ∙ frame-group _ _ most-blocks _ _ _ _ c.byte_is-2.ensures _ c.in_ok-j.was)

@@ -2,11 +2,8 @@
 use Rattle.text_items.specs.Answers.{step_of}
 use Rattle.text_formats.specs.Items.{bits, walk}
 use mathlib.Core.Path.{◌≡◌}
-use Prim.Native.Nat.{◌≤◌, ◌-◌}
+use Prim.Native.Nat.{◌-◌}
 use Rattle.text_items.proofs.bit_run.Given as goal
 
 abbrev pub invariant-loop-i : goal.invariant-loop-i
-invariant-loop-i l = (l.i ≤ l.n) × (step_of (walk (bits l.n) l.s l.at) ≡ step_of (walk (bits (l.n - l.i)) l.s l.q))
-
-abbrev pub decreases-loop-i : goal.decreases-loop-i
-decreases-loop-i l = l.n - l.i
+invariant-loop-i l = step_of (walk (bits l.n) l.s l.at) ≡ step_of (walk (bits (l.n - l._i)) l.s l.q)

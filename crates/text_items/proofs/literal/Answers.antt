@@ -1,42 +1,17 @@
-use native.Mathlib.Omega.{arith}
-use mathlib.Core.Path.{refl, sym, ◌∙◌}
-use Prim.Native.Nat.{◌-◌}
-use borrow.Author.Rules.{rules}
+use mathlib.Core.Path.{sym, ap, ◌∙◌}
+use Rattle.text_items.specs.Answers.{step_walk}
+use Rattle.text_items.proofs.Handing.{handed_on}
 use Rattle.text_items.proofs.Fields.{lit_done, lit_stop, lit_next}
 use Rattle.text_items.proofs.literal.Goals as goal
 
-pub loop-i-init : goal.loop-i-init
-loop-i-init c = (omega arith, refl)
+pub returns-in_err-q : goal.returns-in_err-q
+returns-in_err-q c =
+    ap step_walk (handed_on c.from_residual.ensures.1)
+    ∙ lit_stop _ _ _ _ c.loop-b-test.true _ c.byte_is.ensures _ c.in_err-q.was
+    ∙ sym c.loop-b.invariant
 
-pub bounds-pat-i : goal.bounds-pat-i
-bounds-pat-i c = omega arith
-
-pub byte_is-step-requires : goal.byte_is-step-requires
-byte_is-step-requires c = search rules
-
-pub enum_known-step : goal.enum_known-step
-enum_known-step c = search rules
-
-pub enum_told-1 : goal.enum_told-1
-enum_told-1 c = search rules
-
-pub returns-in_default : goal.returns-in_default
-returns-in_default c =
-    lit_stop _ _ _ _ c.loop-i-test.true _ c.byte_is-step.ensures _ c.in_default.is
-    ∙ sym c.loop-i.invariant.1
-
-pub overflow_add-i : goal.overflow_add-i
-overflow_add-i c = omega arith
-
-pub loop-i-smaller : goal.loop-i-smaller
-loop-i-smaller c = omega arith
-
-pub loop-i-preserved : goal.loop-i-preserved
-loop-i-preserved c = (
-  omega arith,
-  c.loop-i.invariant.1
-      ∙ lit_next _ _ _ _ c.loop-i-test.true _ c.byte_is-step.ensures _ c.in-Next.is,
-)
+pub loop-b-preserved : goal.loop-b-preserved
+loop-b-preserved c = c.loop-b.invariant ∙ lit_next _ _ _ _ c.loop-b-test.true _ c.byte_is.ensures _ c.in_ok-q.was
 
 pub returns : goal.returns
-returns c = sym (c.loop-i.invariant.1 ∙ lit_done _ _ _ _ c.loop-i-test.false)
+returns c = sym (c.loop-b.invariant ∙ lit_done _ _ _ _ c.loop-b-test.false)

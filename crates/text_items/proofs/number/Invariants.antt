@@ -1,10 +1,6 @@
 -- No number, a number that starts with 0, and digit after digit: `Leading` of proofs/Numbers.antt.
-use Prim.Native.Nat.{◌-◌}
 use Rattle.text_items.proofs.Numbers.{Leading}
 use Rattle.text_items.proofs.number.Given as goal
 
 abbrev pub invariant-loop-n : goal.invariant-loop-n
 invariant-loop-n l = Leading l.s l.at l.n l.v
-
-abbrev pub decreases-loop-n : goal.decreases-loop-n
-decreases-loop-n l = 4 - l.n

@@ -1,15 +1,23 @@
 -- The names, the first number and the two after it.
+use mathlib.Core.Path.{ap, ◌∙◌}
+use Rattle.text_items.proofs.Handing.{handed_on}
+use Rattle.text_kit_scan.specs.Answers.{head_walk}
 use Rattle.text_kit_scan.proofs.TwoLines.{lines-names, lines-first, lines-others, lines-read}
 use Rattle.text_kit_scan.proofs.read_head.Goals as goal
 
-pub returns-in-Refused : goal.returns-in-Refused
-returns-in-Refused c = lines-names _ _ c.literal-names.ensures _ c.in-Refused.is
+pub returns-in_err-i : goal.returns-in_err-i
+returns-in_err-i c = ap head_walk (handed_on c.from_residual.ensures.1) ∙ lines-names _ _ c.literal.ensures _ c.in_err-i.was
 
-pub returns-in-Stop : goal.returns-in-Stop
-returns-in-Stop c = lines-first _ _ c.literal-names.ensures _ c.in-Next.is _ c.number_then-first.ensures _ c.in-Stop.is
+pub returns-in_err-m : goal.returns-in_err-m
+returns-in_err-m c =
+    ap head_walk (handed_on c.from_residual-in_err-m.ensures.1)
+    ∙ lines-first _ _ c.literal.ensures _ c.in_ok-i.was _ c.number_then.ensures _ c.in_err-m.was
 
-pub returns-in-NoPair : goal.returns-in-NoPair
-returns-in-NoPair c = lines-others _ _ c.literal-names.ensures _ c.in-Next.is _ c.number_then-first.ensures _ _ c.in-Got.is _ c.two_numbers-others.ensures _ c.in-NoPair.is
+pub returns-in_err-t : goal.returns-in_err-t
+returns-in_err-t c =
+    ap head_walk (handed_on c.from_residual-in_err-t.ensures.1)
+    ∙ lines-others _ _ c.literal.ensures _ c.in_ok-i.was _ c.number_then.ensures _ _ c.in_ok-m.was _ c.two_numbers.ensures _ c.in_err-t.was
 
-pub returns-in-Pair : goal.returns-in-Pair
-returns-in-Pair c = lines-read _ _ c.literal-names.ensures _ c.in-Next.is _ c.number_then-first.ensures _ _ c.in-Got.is _ c.two_numbers-others.ensures _ _ _ c.in-Pair.is
+pub returns : goal.returns
+returns c =
+    lines-read _ _ c.literal.ensures _ c.in_ok-i.was _ c.number_then.ensures _ _ c.in_ok-m.was _ c.two_numbers.ensures _ _ _ c.in_ok-t.was

@@ -2,14 +2,8 @@ use native.Mathlib.Omega.{arith}
 use Rattle.text_lines.proofs.Decimal.{dec-short, dec_one_length, dec-more-length}
 use Rattle.text_lines.proofs.digits.Goals as goal
 
-pub loop-x-init : goal.loop-x-init
-loop-x-init c = (omega arith, omega arith)
-
 pub overflow_add-n : goal.overflow_add-n
 overflow_add-n c = omega (arith, dec-short c.args.v)
-
-pub loop-x-smaller : goal.loop-x-smaller
-loop-x-smaller c = omega arith
 
 pub loop-x-preserved : goal.loop-x-preserved
 loop-x-preserved c = (omega arith, omega (arith, dec-more-length c.loop-x.x c.loop-x-test.true c.loop-x.invariant.0))

@@ -1,38 +1,6 @@
-use native.Mathlib.Omega.{arith}
-use mathlib.Core.Path.{refl}
-use Prim.Native.Nat.{◌-◌}
-use Rattle.text_lines.proofs.Storing.{copied_none, copied_more, copied_all}
+-- The text is copied into its part.
+use Rattle.text_lines.proofs.Storing.{placed}
 use Rattle.text_lines.proofs.put_bytes.Goals as goal
 
-pub loop-i-init : goal.loop-i-init
-loop-i-init c = (refl, omega arith, copied_none _ _ _)
-
-pub bounds-text-i : goal.bounds-text-i
-bounds-text-i c = omega arith
-
-pub overflow_add-out : goal.overflow_add-out
-overflow_add-out c = omega arith
-
-pub bounds-out-at : goal.bounds-out-at
-bounds-out-at c = omega (arith, c.loop-i.invariant.2.same)
-
-pub overflow_step-i : goal.overflow_step-i
-overflow_step-i c = omega arith
-
-pub loop-i-smaller : goal.loop-i-smaller
-loop-i-smaller c = omega arith
-
-pub loop-i-preserved : goal.loop-i-preserved
-loop-i-preserved c = let l = c.loop-i in (l.invariant.0, omega arith, copied_more _ _ _ _ _ l.invariant.2 _ (omega arith) refl)
-
-pub overflow_add-result : goal.overflow_add-result
-overflow_add-result c = omega arith
-
-pub shape_of-out : goal.shape_of-out
-shape_of-out c = c.loop-i.invariant.2.same
-
-pub returns : goal.returns
-returns c = record {
-  value = refl;
-  out_after = copied_all _ _ _ _ _ c.loop-i.invariant.2 (omega arith);
-}
+pub returns-clause-out_after : goal.returns-clause-out_after
+returns-clause-out_after c = placed _ _ _ _ c.requires c.copy_from_slice.ensures.after

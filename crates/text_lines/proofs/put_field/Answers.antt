@@ -2,12 +2,8 @@
 use mathlib.Core.Path.{refl}
 use lib.ListN.{length}
 use Rattle.text_lines.proofs.Placing.{put_snoc}
-use native.Mathlib.Omega.{arith}
 use Rattle.text_formats.specs.Format.{dec}
 use Rattle.text_lines.proofs.put_field.Goals as goal
-
-pub put_byte-requires : goal.put_byte-requires
-put_byte-requires c = omega (arith, c.put_digits-i.ensures.value)
 
 pub returns : goal.returns
 returns c =

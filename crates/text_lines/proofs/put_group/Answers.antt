@@ -1,13 +1,6 @@
 -- The number and Y with a space behind each, P with the line feed behind it.
-use native.Mathlib.Omega.{arith}
 use Rattle.text_lines.proofs.Placing.{group-put}
 use Rattle.text_lines.proofs.put_group.Goals as goal
-
-pub put_run-j-requires : goal.put_run-j-requires
-put_run-j-requires c = omega (arith, c.put_field-i.ensures.value)
-
-pub put_run-requires : goal.put_run-requires
-put_run-requires c = omega (arith, c.put_field-i.ensures.value, c.put_run-j.ensures.value)
 
 pub returns : goal.returns
 returns c =

@@ -1,13 +1,6 @@
 -- The line of names, the number with the space behind it, the place with the line feed behind it.
-use native.Mathlib.Omega.{arith}
 use Rattle.text_lines.proofs.Placing.{refusal_put}
 use Rattle.text_lines.proofs.put_refusal.Goals as goal
-
-pub put_field-j-requires : goal.put_field-j-requires
-put_field-j-requires c = omega (arith, c.put_bytes-i.ensures.value)
-
-pub put_field-requires : goal.put_field-requires
-put_field-requires c = omega (arith, c.put_bytes-i.ensures.value, c.put_field-j.ensures.value)
 
 pub returns : goal.returns
 returns c =

@@ -1,13 +1,9 @@
 -- The characters, and the byte behind them.
 use lib.ListN.{length}
 use Rattle.text_lines.proofs.Placing.{put_snoc}
-use native.Mathlib.Omega.{arith}
 use Rattle.text_lines.specs.Written.{chars}
 use Rattle.text_lines.proofs.Chars.{length-chars}
 use Rattle.text_lines.proofs.put_run.Goals as goal
-
-pub put_byte-requires : goal.put_byte-requires
-put_byte-requires c = omega (arith, c.put_bits-i.ensures.value)
 
 pub returns : goal.returns
 returns c =

@@ -1,6 +1,6 @@
 -- The test is that of the room for the line: digits, space, bits and line feed.
 use Rattle.text_lines.proofs.Placing.{bits-length}
-use Rattle.text_write.proofs.Room.{told-room, told-put, told-kept}
+use Rattle.text_write.proofs.Room.{told-put, told-kept}
 use native.Mathlib.Omega.{arith}
 use Rattle.text_lines.proofs.Decimal.{dec-short}
 use Rattle.text.specs.FrameText.{bits_text}
@@ -8,13 +8,6 @@ use Rattle.text_write.proofs.block_line.Goals as goal
 
 pub overflow_add-n : goal.overflow_add-n
 overflow_add-n c = omega (arith, dec-short c.args.number, c.digits-n.ensures)
-
-pub put_block-requires : goal.put_block-requires
-put_block-requires c =
-    let a = c.args in
-    let d = c.digits-n in
-    let room = told-room a.out.now a.at _ c.has_room-room.ensures c.if-room.true in
-    omega (arith, room, d.ensures)
 
 pub returns-then-room : goal.returns-then-room
 returns-then-room c =

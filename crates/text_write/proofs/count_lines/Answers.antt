@@ -1,6 +1,6 @@
 -- The test is that of the room for the two lines: 22 bytes of names, the digits, two spaces and the line feed.
 use Rattle.text_lines.proofs.Placing.{counts-length}
-use Rattle.text_write.proofs.Room.{told-room, told-put, told-kept}
+use Rattle.text_write.proofs.Room.{told-put, told-kept}
 use native.Mathlib.Omega.{arith}
 use Rattle.text_lines.proofs.Decimal.{dec-short}
 use Rattle.text.specs.Programs.{counts_text}
@@ -8,15 +8,6 @@ use Rattle.text_write.proofs.count_lines.Goals as goal
 
 pub overflow_add-a : goal.overflow_add-a
 overflow_add-a c = omega (arith, dec-short c.args.rounds, c.digits-a.ensures)
-
-pub put_counts-requires : goal.put_counts-requires
-put_counts-requires c =
-    let a = c.args in
-    let d = c.digits-a in
-    let e = c.digits-b in
-    let f = c.digits-c in
-    let room = told-room a.out.now a.at _ c.has_room-room.ensures c.if-room.true in
-    omega (arith, room, d.ensures, e.ensures, f.ensures)
 
 pub returns-then-room : goal.returns-then-room
 returns-then-room c =

@@ -1,12 +1,7 @@
 -- The test is that of the room for the text.
-use Rattle.text_write.proofs.Room.{told-room, told-put, told-kept}
+use Rattle.text_write.proofs.Room.{told-put, told-kept}
 use native.Mathlib.Omega.{arith}
 use Rattle.text_write.proofs.put_text.Goals as goal
-
-pub put_bytes-requires : goal.put_bytes-requires
-put_bytes-requires c =
-    let a = c.args in
-    omega (arith, told-room a.out.now a.at _ c.has_room-room.ensures c.if-room.true)
 
 pub returns-then-room : goal.returns-then-room
 returns-then-room c =

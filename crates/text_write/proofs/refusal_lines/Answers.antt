@@ -1,17 +1,9 @@
 -- The test is that of the room for the two lines: fourteen bytes of names, the digits, the space and the line feed.
 use Rattle.text_lines.proofs.Placing.{refusal_length}
-use Rattle.text_write.proofs.Room.{told-room, told-put, told-kept}
+use Rattle.text_write.proofs.Room.{told-put, told-kept}
 use native.Mathlib.Omega.{arith}
 use Rattle.text.specs.Programs.{refusal_text}
 use Rattle.text_write.proofs.refusal_lines.Goals as goal
-
-pub put_refusal-requires : goal.put_refusal-requires
-put_refusal-requires c =
-    let a = c.args in
-    let d = c.digits-a in
-    let e = c.digits-b in
-    let room = told-room a.out.now a.at _ c.has_room-room.ensures c.if-room.true in
-    omega (arith, room, d.ensures, e.ensures)
 
 pub returns-then-room : goal.returns-then-room
 returns-then-room c =

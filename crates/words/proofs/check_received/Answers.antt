@@ -1,33 +1,33 @@
 -- A refusal of rules 4 to 6 is the answer; else that of rules 7 and 10.
-use mathlib.Core.Path.{◌≡◌, sym, ◌∙◌}
+use mathlib.Core.Path.{◌≡◌, refl, sym, ◌∙◌}
 use mathlib.Core.List.{[]}
 use Prim.Native.Nat.{◌-◌}
 use native.Mathlib.Omega.{arith}
 use lib.ListN.{length}
 use lib.Seq.{length-take-le}
 use Rattle.design.specs.Sizes.{params_of}
-use Rattle.answers.proofs.Checks.{refused_then, passed_then, check_passed}
+use Rattle.answers.proofs.Checks.{refused_on, passed_then, check_passed}
 use Rattle.rules.specs.Lengths.{lengths_of, frame_due}
 use Rattle.rules.proofs.Chain.{frame_where}
 use Rattle.rules.proofs.Accepted.{frame-accepted, frame_small}
 use Rattle.words.specs.Checks.{received_rules}
 use Rattle.words.proofs.check_received.Goals as goal
 
-pub returns-in_default : goal.returns-in_default
+pub returns-in_err-check_frame : goal.returns-in_err-check_frame
 unfolding received_rules
-returns-in_default c =
+returns-in_err-check_frame c =
     let a = c.args in
     let have = lengths_of a.own.now a.parity.now [] a.info.now a.red.now (length a.work.now) in
-    let is = c.check_frame-lengths.ensures ∙ frame_where (params_of a.d) a.asked.blocks a.asked.rounds have a.asked.due c.frame_due-due.ensures in
-    refused_then _ is c.in_default.is
+    let is = c.in_err-check_frame.ensures ∙ frame_where (params_of a.d) a.asked.blocks a.asked.rounds have a.asked.due c.frame_due-due.ensures in
+    refused_on _ is _ refl c.from_residual.ensures
 
 pub slice_bounds-check_bytes-end-2 : goal.slice_bounds-check_bytes-end-2
 unfolding frame_due
 slice_bounds-check_bytes-end-2 c =
     let a = c.args in
     let have = lengths_of a.own.now a.parity.now [] a.info.now a.red.now (length a.work.now) in
-    let is = c.check_frame-lengths.ensures ∙ frame_where (params_of a.d) a.asked.blocks a.asked.rounds have a.asked.due c.frame_due-due.ensures in
-    let n = frame-accepted (params_of a.d) a.asked.blocks a.asked.rounds have a.asked.due (sym is ∙ check_passed c.in-Passed.is) in
+    let is = c.in_ok-check_frame.ensures ∙ frame_where (params_of a.d) a.asked.blocks a.asked.rounds have a.asked.due c.frame_due-due.ensures in
+    let n = frame-accepted (params_of a.d) a.asked.blocks a.asked.rounds have a.asked.due (sym is ∙ check_passed refl) in
     let work : length a.work.now ≡ a.asked.due.work = n.3.5 in
     let lists = c.requires.1 n.1 in
     omega (arith, work, lists.3, c.order-n.ensures.0)
@@ -39,8 +39,8 @@ check_bytes-requires c =
     let pre = c.requires in
     let a = c.args in
     let have = lengths_of a.own.now a.parity.now [] a.info.now a.red.now (length a.work.now) in
-    let is = c.check_frame-lengths.ensures ∙ frame_where (params_of a.d) a.asked.blocks a.asked.rounds have a.asked.due c.frame_due-due.ensures in
-    let n = frame-accepted (params_of a.d) a.asked.blocks a.asked.rounds have a.asked.due (sym is ∙ check_passed c.in-Passed.is) in
+    let is = c.in_ok-check_frame.ensures ∙ frame_where (params_of a.d) a.asked.blocks a.asked.rounds have a.asked.due c.frame_due-due.ensures in
+    let n = frame-accepted (params_of a.d) a.asked.blocks a.asked.rounds have a.asked.due (sym is ∙ check_passed refl) in
     let lists = pre.1 n.1 in
     let work : length a.work.now ≡ a.asked.due.work = n.3.5 in
     let marks = length-take-le (order.result - 0) a.work.now (omega (arith, work, lists.3, order.ensures.0)) in
@@ -58,5 +58,5 @@ unfolding received_rules
 returns c =
     let a = c.args in
     let have = lengths_of a.own.now a.parity.now [] a.info.now a.red.now (length a.work.now) in
-    let is = c.check_frame-lengths.ensures ∙ frame_where (params_of a.d) a.asked.blocks a.asked.rounds have a.asked.due c.frame_due-due.ensures in
-    c.check_bytes.ensures ∙ passed_then _ is c.in-Passed.is
+    let is = c.in_ok-check_frame.ensures ∙ frame_where (params_of a.d) a.asked.blocks a.asked.rounds have a.asked.due c.frame_due-due.ensures in
+    c.check_bytes.ensures ∙ passed_then _ is refl

@@ -8,5 +8,5 @@ use Rattle.bauchleton.proofs.buffers.bauchleton_load_fill_buffer.Goals as goal
 pub returns : goal.returns
 returns c =
     let f = c.fill_buffer-last.ensures in
-    let t = c.tell_two.ensures in
-    (t.0, f.0, t.1 ∙ ap (λ (n : ℕ). told (0 ∷ n ∷ []) c.args.answer.now) f.1)
+    let t = c.tell.ensures in
+    (t.0, f.0, t.1 ∙ ap (λ (n : ℕ). told (0 ∷ n ∷ []) c.args.answer.now) (c.from.ensures ∙ f.1))

@@ -12,9 +12,3 @@ returns c =
     let k = c.read_kit-a.ensures in
     let q = told-by (λ (v : Verdict). kit_answer v s) a.answer.now {v = (read_kit_call s a.own.now a.parity.now a.inverse.now).verdict} k.result_value (c.tell_kit.ensures s k.kit_design) in
     (q.0, k.own_after, k.parity_after, k.inverse_after, q.1)
-
-pub read_kit-a-requires : goal.read_kit-a-requires
-read_kit-a-requires c = tt
-
-pub tell_kit-requires : goal.tell_kit-requires
-tell_kit-requires c = tt

@@ -10,9 +10,3 @@ returns c =
     let s = a.text.now in
     let k = c.scan_kit-a.ensures in
     told-by (λ (v : Verdict). kit_answer v s) a.answer.now k.result_value (c.tell_kit.ensures s k.kit_design)
-
-pub scan_kit-a-requires : goal.scan_kit-a-requires
-scan_kit-a-requires c = tt
-
-pub tell_kit-requires : goal.tell_kit-requires
-tell_kit-requires c = tt

@@ -8,5 +8,5 @@ use Rattle.bauchleton_text.proofs.writing.bauchleton_write_kit.Goals as goal
 pub returns : goal.returns
 returns c =
     let l = c.args.answer.now in
-    let t = told_alike number (λ (v : Verdict). place_of v ∷ []) l c.write_kit-c.ensures.0 (judged-told [] l _ c.of_check.ensures c.tell_place.ensures) in
+    let t = told_alike number (λ (v : Verdict). place_of v ∷ []) l c.write_kit-c.ensures.0 (judged-told [] l _ c.from.ensures c.tell.ensures) in
     (t.0, c.write_kit-c.ensures.1, t.1)

@@ -1,24 +1,19 @@
 -- After a refusal by rule 1 the rest does not count, and after its acceptance the rest decides.
-use mathlib.Core.Path.{sym, ◌∙◌}
-use Rattle.staircase.specs.Design.{params}
-use Rattle.staircase.specs.Rules.{◌then◌, long_rule, large_rule, design_rules}
-use Rattle.answers.proofs.Checks.{check_passed}
+use mathlib.Core.Path.{refl, sym, ◌∙◌}
+use Rattle.answers.proofs.Checks.{handed_on, refused_on, passed_then, check_passed}
+use Rattle.staircase.specs.Rules.{design_rules}
 use Rattle.design.specs.Answers.{DesignIs, DesignAllowed}
-use Rattle.design.proofs.Answers.{sized-refused, sized-passed}
 use Rattle.design.proofs.Design.new_col.Goals as goal
 
 pub feed_forward-requires : goal.feed_forward-requires
-feed_forward-requires c = sym c.check_size-sized.ensures ∙ check_passed c.in-Passed.is
+feed_forward-requires c = sym (c.in_ok-check_size.ensures) ∙ check_passed refl
 
-pub returns-in-Refused : goal.returns-in-Refused
+pub returns-in_err-check_size : goal.returns-in_err-check_size
 unfolding design_rules DesignIs DesignAllowed
-returns-in-Refused c =
-    let a = c.args in
-    (sized-refused (long_rule a.m (params a.m a.t a.size a.col) then large_rule (params a.m a.t a.size a.col)) c.check_size-sized.ensures c.in-Refused.is, tt, tt)
+returns-in_err-check_size c =
+    let e = handed_on c.from_residual.result c.from_residual.ensures.1 in
+    (refused_on _ c.in_err-check_size.ensures _ refl c.from_residual.ensures, rw e tt, rw e tt)
 
-pub returns-in-Passed : goal.returns-in-Passed
+pub returns : goal.returns
 unfolding design_rules
-returns-in-Passed c =
-    let a = c.args in
-    let rest = c.feed_forward.ensures in
-    (sized-passed (long_rule a.m (params a.m a.t a.size a.col) then large_rule (params a.m a.t a.size a.col)) c.check_size-sized.ensures _ c.in-Passed.is rest.0, rest.1, rest.2)
+returns c = let rest = c.feed_forward.ensures in (rest.0 ∙ passed_then _ c.in_ok-check_size.ensures refl, rest.1, rest.2)

@@ -2,15 +2,9 @@
 use native.Mathlib.Omega.{arith}
 use mathlib.Core.Path.{◌≡◌, ◌∙◌}
 use lib.ListN.{length}
-use Rattle.words_positions.proofs.Parts.{part-fits, part-is}
+use Rattle.words_positions.proofs.Parts.{part-is}
 use Rattle.kit_inverse.proofs.Found.{found}
 use Rattle.kit_inverse.proofs.products.first_in_packed.Goals as goal
-
-pub slice_bounds-first_wrong-end : goal.slice_bounds-first_wrong-end
-slice_bounds-first_wrong-end c =
-    let m = c.mask_rows in
-    let d : length m.new.acc ≡ c.args.n = omega arith in
-    part-fits m.new.acc _ _ d
 
 pub returns : goal.returns
 returns c =

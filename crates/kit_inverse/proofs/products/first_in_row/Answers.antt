@@ -5,22 +5,10 @@ use Prim.Native.Nat.{◌+◌, ◌/◌}
 use lib.ListN.{length}
 use Rattle.staircase.specs.Rules.{entries}
 use Rattle.kit_system.specs.Rows.{row_entry}
-use Rattle.words_positions.proofs.Parts.{part-fits, part-is}
+use Rattle.words_positions.proofs.Parts.{part-is}
 use Rattle.kit_inverse.proofs.RowSizes.{row_zeros}
 use Rattle.kit_inverse.proofs.Found.{packed-spare, packed_found}
 use Rattle.kit_inverse.proofs.products.first_in_row.Goals as goal
-
-pub system_row-requires : goal.system_row-requires
-system_row-requires c =
-    let h = c.requires in
-    let s = h.0 in
-    (s.order, h.1, h.2, s.list_length, omega (arith, s.small), omega (arith, s.small), s.r_small, s.both, s.permutes.below)
-
-pub slice_bounds-first_in_packed-end : goal.slice_bounds-first_in_packed-end
-slice_bounds-first_in_packed-end c =
-    let s = c.system_row in
-    let d : length s.new.out ≡ (c.args.n + 7) / 8 = omega arith in
-    part-fits s.new.out _ _ d
 
 pub first_in_packed-requires : goal.first_in_packed-requires
 first_in_packed-requires c =

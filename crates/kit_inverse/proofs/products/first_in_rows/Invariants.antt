@@ -1,8 +1,8 @@
--- The loop's invariant: the rows before `e` have no wrong entry. The measure is the number of rows left.
+-- The loop's invariant: the rows before `e` have no wrong entry.
 use mathlib.Core.Path.{◌≡◌}
 use mathlib.Core.Bool.{Bool, false}
 use mathlib.Core.List.{List}
-use Prim.Native.Nat.{ℕ, ◌*◌, ◌-◌, ◌/◌, ◌%◌, ◌≤◌, ◌<◌}
+use Prim.Native.Nat.{ℕ, ◌*◌, ◌/◌, ◌%◌, ◌<◌}
 use lib.ListN.{length, get_or}
 use Rattle.staircase.specs.Rules.{entries}
 use Rattle.kit_system.specs.Rows.{unstack_of, row_entry}
@@ -14,7 +14,4 @@ abbrev pub wrong : (own : List ℕ) (n : ℕ) (columns part : List ℕ) (size : 
 wrong own n columns part size t preimages e = wrong_in (row_entry columns part (entries n own) size (get_or preimages (unstack_of size (length part) e) 0) e) t n e
 
 abbrev pub invariant-loop-e : goal.invariant-loop-e
-invariant-loop-e l = (l.e ≤ l.n) × ((i : ℕ) → i < l.e * l.n → wrong l.own l.n l.columns l.part l.size l.t l.preimages (i / l.n) (i % l.n) ≡ false)
-
-abbrev pub decreases-loop-e : goal.decreases-loop-e
-decreases-loop-e l = l.n - l.e
+invariant-loop-e l = (i : ℕ) → i < l.e * l.n → wrong l.own l.n l.columns l.part l.size l.t l.preimages (i / l.n) (i % l.n) ≡ false

@@ -6,15 +6,10 @@ use lib.ListN.{length}
 use Rattle.staircase.specs.Rules.{entries}
 use Rattle.kit_system.specs.Rows.{row_entry}
 use Rattle.kit_system.proofs.Places.{sent-below}
-use Rattle.words_positions.proofs.Parts.{part-fits, part-is}
+use Rattle.words_positions.proofs.Parts.{part-is}
 use Rattle.kit_inverse.specs.Products.{wrong_in, product_wrong}
 use Rattle.kit_inverse.proofs.Found.{sent_found}
 use Rattle.kit_inverse.proofs.products.first_wrong.Goals as goal
-
-pub slice_bounds-first_in_rows-end : goal.slice_bounds-first_in_rows-end
-slice_bounds-first_in_rows-end c =
-    let f = c.fill_preimages in
-    part-fits f.new.out _ _ f.ensures.0
 
 pub first_in_rows-requires : goal.first_in_rows-requires
 first_in_rows-requires c =

@@ -1,6 +1,5 @@
 use native.Mathlib.Omega.{arith}
 use mathlib.Core.Path.{ap, ◌∙◌}
-use Prim.Native.Nat.{◌-◌}
 use lib.ListN.{length}
 use Rattle.text.specs.KitSpelled.{pair_at, pairs_text}
 use Rattle.text_kit_write.proofs.Adding.{summed_none, summed_more, summed_all}
@@ -9,15 +8,6 @@ use Rattle.text_kit_write.proofs.lengths.pairs_length.Goals as goal
 
 pub loop-p-init : goal.loop-p-init
 loop-p-init c = let a = c.args in (omega arith, summed_none (pair_at a.n a.own.now a.parity.now) 63)
-
-pub entry-a-requires : goal.entry-a-requires
-entry-a-requires c = omega (arith, c.requires.0, c.loop-p-test.true)
-
-pub entry-b-requires : goal.entry-b-requires
-entry-b-requires c = omega (arith, c.requires.1, c.loop-p-test.true)
-
-pub overflow_add-sum : goal.overflow_add-sum
-overflow_add-sum c = omega (arith, c.three_length-sum.ensures.1, c.loop-p.invariant.1.small)
 
 pub loop-p-preserved : goal.loop-p-preserved
 loop-p-preserved c =
@@ -38,6 +28,3 @@ returns c =
     let l = c.loop-p in
     let r = summed_all (pair_at a.n a.own.now a.parity.now) 63 l.sum l.p a.n l.invariant.1 l.invariant.0 c.loop-p-test.false in
     (r.0, omega (arith, r.1))
-
-pub three_length-sum-requires : goal.three_length-sum-requires
-three_length-sum-requires c = tt

@@ -1,7 +1,7 @@
 use native.Mathlib.Omega.{arith}
 use mathlib.Core.Path.{◌≡◌}
 use mathlib.Core.List.{[]}
-use Prim.Native.Nat.{◌+◌, ◌-◌, ◌≤◌}
+use Prim.Native.Nat.{◌+◌, ◌≤◌}
 use lib.ListN.{length}
 use Rattle.text_lines.proofs.Decimal.{dec-short}
 use Rattle.text.specs.KitSpelled.{row_text, rows_text}
@@ -36,6 +36,3 @@ returns c =
     let l = c.loop-i in
     let r = summed_all (row_text n []) 4118 l.sum l.i n l.invariant.1 l.invariant.0 c.loop-i-test.false in
     (r.0, omega (arith, r.1))
-
-pub digits-requires : goal.digits-requires
-digits-requires c = tt

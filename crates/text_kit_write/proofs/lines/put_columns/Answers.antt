@@ -1,34 +1,10 @@
 use native.Mathlib.Omega.{arith}
 use mathlib.Core.Path.{refl, sym}
-use Prim.Native.Nat.{ℕ, ◌+◌, ◌-◌, ◌/◌, ◌%◌, ◌^◌, ◌<◌}
+use Prim.Native.Nat.{ℕ, ◌+◌, ◌/◌, ◌%◌, ◌^◌, ◌<◌}
 use lib.ListN.{get_or}
 use Rattle.staircase.proofs.Tabulate.{tabulate-length, tabulate-at}
-use Rattle.text_lines.proofs.Storing.{copied_none, copied_more, copied_all}
+use Rattle.text_lines.proofs.Storing.{copied_more, copied_all}
 use Rattle.text_kit_write.proofs.lines.put_columns.Goals as goal
-
-pub loop-j-init : goal.loop-j-init
-loop-j-init c = (omega arith, copied_none _ _ _)
-
-pub overflow_add-out : goal.overflow_add-out
-overflow_add-out c = omega arith
-
-pub bounds-inverse-from : goal.bounds-inverse-from
-bounds-inverse-from c = omega (arith, c.requires.n_in_bounds_2, c.loop-j-test.true)
-
-pub overflow_cast-out : goal.overflow_cast-out
-overflow_cast-out c = omega arith
-
-pub overflow_shr-out : goal.overflow_shr-out
-overflow_shr-out c = omega arith
-
-pub overflow_add-out-in-loop-j : goal.overflow_add-out-in-loop-j
-overflow_add-out-in-loop-j c = omega arith
-
-pub overflow_add-out-in-loop-j-2 : goal.overflow_add-out-in-loop-j-2
-overflow_add-out-in-loop-j-2 c = omega arith
-
-pub bounds-out-at : goal.bounds-out-at
-bounds-out-at c = omega (arith, c.loop-j.invariant.1.same)
 
 pub loop-j-preserved : goal.loop-j-preserved
 loop-j-preserved c =
@@ -37,9 +13,6 @@ loop-j-preserved c =
     let f : ℕ → ℕ = λ i. 48 + get_or a.inverse.now (a.from + i / 8) 0 / 2 ^ (i % 8) % 2 in
     let h : l.j < a.n = c.loop-j-test.true in
     (omega arith, copied_more _ _ _ _ _ l.invariant.1 _ (omega (arith, tabulate-length a.n f)) (sym (tabulate-at a.n f 0 l.j h)))
-
-pub shape_of-out : goal.shape_of-out
-shape_of-out c = c.loop-j.invariant.1.same
 
 pub returns : goal.returns
 returns c =

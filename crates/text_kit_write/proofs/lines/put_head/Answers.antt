@@ -3,9 +3,6 @@ use native.Mathlib.Omega.{arith}
 use Rattle.text_kit_write.proofs.Parts.{head_length, head_put}
 use Rattle.text_kit_write.proofs.lines.put_head.Goals as goal
 
-pub put_bytes-i-requires : goal.put_bytes-i-requires
-put_bytes-i-requires c = omega (arith, head_length c.args.m c.args.t c.args.size, c.requires)
-
 pub put_three-j-requires : goal.put_three-j-requires
 put_three-j-requires c =
     omega (arith, head_length c.args.m c.args.t c.args.size, c.requires, c.put_bytes-i.ensures.value)

@@ -1,7 +1,6 @@
 use native.Mathlib.Omega.{arith}
-use Prim.Native.Nat.{◌-◌}
 use Rattle.text.specs.KitSpelled.{pair_at, pairs_text}
-use Rattle.text_kit_write.proofs.Adding.{written_none, written_same, written-room, written-more, written_all}
+use Rattle.text_kit_write.proofs.Adding.{written_none, written-room, written-more, written_all}
 use Rattle.text_kit_write.proofs.Parts.{pair_is}
 use Rattle.text_kit_write.proofs.lines.put_pairs.Goals as goal
 
@@ -9,12 +8,6 @@ pub loop-p-init : goal.loop-p-init
 loop-p-init c =
     let a = c.args in
     (omega arith, written_none (pair_at a.n a.own.now a.parity.now) a.out.now a.at)
-
-pub entry-a-requires : goal.entry-a-requires
-entry-a-requires c = omega (arith, c.requires.own_len.0, c.loop-p-test.true)
-
-pub entry-b-requires : goal.entry-b-requires
-entry-b-requires c = omega (arith, c.requires.own_len.1, c.loop-p-test.true)
 
 pub put_three-q-requires : goal.put_three-q-requires
 unfolding pairs_text
@@ -37,12 +30,6 @@ loop-p-preserved c =
       written-more (pair_at a.n a.own.now a.parity.now) a.out.now a.at l.out l.q l.p l.invariant.1 line
           (c.put_three-q.ensures.value, c.put_three-q.ensures.out_after),
     )
-
-pub shape_of-out : goal.shape_of-out
-shape_of-out c =
-    let a = c.args in
-    let l = c.loop-p in
-    written_same (pair_at a.n a.own.now a.parity.now) a.out.now a.at l.out l.q l.p l.invariant.1
 
 pub returns : goal.returns
 unfolding pairs_text

@@ -1,7 +1,7 @@
 -- The row's number and the space, its characters, the line feed.
 use native.Mathlib.Omega.{arith}
 use Rattle.staircase.specs.System.{row_bytes}
-use Rattle.staircase.proofs.Bounds.{small_product, stretch-end}
+use Rattle.staircase.proofs.Bounds.{stretch-end}
 use Rattle.text.proofs.KitSpelled.{row-length}
 use Rattle.text_kit_write.proofs.Parts.{row_put}
 use Rattle.text_kit_write.proofs.lines.put_row.Goals as goal
@@ -9,11 +9,6 @@ use Rattle.text_kit_write.proofs.lines.put_row.Goals as goal
 pub put_field-i-requires : goal.put_field-i-requires
 put_field-i-requires c =
     omega (arith, row-length c.args.n c.args.inverse.now c.args.row, c.requires.row_in_bounds)
-
-pub overflow_mul-row : goal.overflow_mul-row
-overflow_mul-row c =
-    let bound = small_product c.args.row (row_bytes c.args.n) 4096 512 (omega (arith, c.requires.inverse_len)) (omega (arith, c.requires.inverse_len)) in
-    omega (arith, c.requires.inverse_len, bound)
 
 pub put_columns-j-requires : goal.put_columns-j-requires
 put_columns-j-requires c =

@@ -1,8 +1,7 @@
 use native.Mathlib.Omega.{arith}
 use mathlib.Core.Path.{refl}
-use Prim.Native.Nat.{◌-◌}
 use Rattle.text.specs.KitSpelled.{row_text, rows_text}
-use Rattle.text_kit_write.proofs.Adding.{written_none, written_same, written-room, written-more, written_all}
+use Rattle.text_kit_write.proofs.Adding.{written_none, written-room, written-more, written_all}
 use Rattle.text_kit_write.proofs.lines.put_rows.Goals as goal
 
 pub loop-i-init : goal.loop-i-init
@@ -28,12 +27,6 @@ loop-i-preserved c =
       written-more (row_text a.n a.inverse.now) a.out.now a.at l.out l.q l.i l.invariant.1 refl
           (c.put_row-q.ensures.value, c.put_row-q.ensures.out_after),
     )
-
-pub shape_of-out : goal.shape_of-out
-shape_of-out c =
-    let a = c.args in
-    let l = c.loop-i in
-    written_same (row_text a.n a.inverse.now) a.out.now a.at l.out l.q l.i l.invariant.1
 
 pub returns : goal.returns
 unfolding rows_text
