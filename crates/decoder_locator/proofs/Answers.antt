@@ -6,7 +6,7 @@
 use mathlib.Core.Path.{◌≡◌, refl, sym, ap, ◌∙◌, subst⁻¹}
 use mathlib.Core.Logic.{◌≢◌, ◌⊎◌, inl, inr, ⊎_map}
 use mathlib.Core.List.{List}
-use Prim.Native.Nat.{ℕ, ◌-◌, ◌*◌, ◌/◌, ◌%◌, ◌≤◌, ◌<◌}
+use Prim.Native.Nat.{ℕ, ◌+◌, ◌-◌, ◌/◌, ◌%◌, ◌≤◌, ◌<◌}
 use native.Mathlib.Omega.{arith}
 use lib.ListN.{length, get_or, take, drop, length-drop}
 use lib.Seq.{take_all}
@@ -16,19 +16,19 @@ use Rattle.bch.specs.Field.{value_at}
 use Rattle.bch.specs.Locator.{TripleOf, PowerIs, syndromes}
 use Rattle.bch.proofs.Cubic.{cubic_defect}
 use Rattle.decoder_locator.specs.declared.Located.TheVariants.{Nowhere, One, Two, Three}
-use Rattle.decoder_locator.specs.Located.{located, positions_of, SumTable, Words, LocatorTables}
+use Rattle.decoder_locator.specs.Located.{located, positions_of, SumTable, Words}
 use Rattle.decoder_locator.specs.Steps.{NotOne, NotTwo, NotThree, SingleIs, PairIs, TripleIs, CubicRootOf, OneOfThree}
 use Rattle.decoder_locator.proofs.Choices.{located-zero, located_one, located_two, located_three, located_nowhere}
 use Rattle.decoder_locator.proofs.Values.{code_of, triple_of_positions}
 
-pub sums_of : {m t : ℕ} {positions values field : List ℕ} → LocatorTables m t positions values field
+pub sums_of : (m r : ℕ) (positions values : List ℕ) → length values ≡ length positions + 128 → SumTable m r (drop (length positions) values)
     → (length (take (length values - length positions) (drop (length positions) values)) ≡ 128)
-    × SumTable m (m * t) (take (length values - length positions) (drop (length positions) values))
-sums_of {m = m} {t = t} {positions = positions} {values = values} T =
+    × SumTable m r (take (length values - length positions) (drop (length positions) values))
+sums_of m r positions values long sums =
     let rest = drop (length positions) values in
     let l = length-drop (length positions) values in
     let all : take (length values - length positions) rest ≡ rest = take_all (length values - length positions) rest (omega (arith, l)) in
-    (ap length all ∙ omega (arith, T.as_long, l), subst⁻¹ (SumTable m (m * t)) all T.sums)
+    (ap length all ∙ omega (arith, long, l), subst⁻¹ (SumTable m r) all sums)
 
 module _ {m t : ℕ} {positions : List ℕ} (W : Words m t positions) where
   -- what the search for one of three exponents says of the positions

@@ -7,11 +7,10 @@
 use mathlib.Core.Path.{◌≡◌, refl, sym, ap, ◌∙◌}
 use mathlib.Core.Logic.{◌≢◌, ◌⊎◌, inl, inr, ⊎_map}
 use mathlib.Core.List.{List}
-use Prim.Native.Nat.{ℕ, ◌+◌, ◌-◌, ◌*◌, ◌/◌, ◌%◌, ◌^◌, ◌≤◌, ◌<◌}
+use Prim.Native.Nat.{ℕ, ◌+◌, ◌-◌, ◌*◌, ◌%◌, ◌^◌, ◌≤◌, ◌<◌}
 use native.Mathlib.Nat.{mod-lt}
 use native.Mathlib.Omega.{arith}
 use lib.Pow.{pow_pos, pow_mono}
-use lib.ListN.{length}
 use Rattle.bch.specs.Polynomial.{◌⊕◌}
 use Rattle.bch.specs.Field.{field_poly, power}
 use Rattle.bch.specs.Locator.{Solution, PowerIs}
@@ -20,41 +19,35 @@ use Rattle.bch.proofs.Field.{mul}
 use Rattle.bch.proofs.Locator.{power_cycle, power-rounds, power-mod, power-add, power-not-zero}
 use Rattle.bch.proofs.Cubic.{cubic_solution, cubic-root}
 use Rattle.decoder_locator.specs.Steps.{Field, LogIs, SolutionIs, CubicRootOf}
-use Rattle.decoder_locator.proofs.Roots.{count-is, log-only, Wrapped, wrapped_same}
+use Rattle.decoder_locator.proofs.Roots.{log-only, Wrapped, wrapped_same}
 
-module _ {m : ℕ} {field : List ℕ} (F : Field m field) where
+pub power_of_zero : {m : ℕ} {field : List ℕ} → Field m field → (k : ℕ) {x : ℕ} → x ≡ 0 → (0 < 2 ^ m) × PowerIs m k x 0
+power_of_zero {m} F k z = (pow_pos m, ((λ e. refl), λ e l q. absurd (power-not-zero m F.m-low F.m-high e (sym q ∙ z))))
+
+module _ {m : ℕ} {field : List ℕ} (F : Field m field) {n : ℕ} (count : n ≡ 2 ^ m - 1) where
   low : 4 ≤ m
   low = F.m-low
 
   high : m ≤ 10
   high = F.m-high
 
-  abbrev n : ℕ
-  n = length field / 4 - 1
-
-  count : length field / 4 - 1 ≡ 2 ^ m - 1
-  count = count-is F
-
-  pub within : (x : ℕ) → x % (length field / 4 - 1) < 2 ^ m - 1
+  pub within : (x : ℕ) → x % n < 2 ^ m - 1
   within x =
       let a : 16 ≤ 2 ^ m = pow_mono {i = 4} {j = m} low in
       let p : 0 < n = omega (arith, count) in
       omega (arith, mod-lt x p, count)
 
   -- five more
-  pub fifth_next : (e k a : ℕ) → Wrapped field (e + 5) a → power m e ≡ power m (5 * k) → power m a ≡ power m (5 * (k + 1))
+  pub fifth_next : (e k a : ℕ) → Wrapped n (e + 5) a → power m e ≡ power m (5 * k) → power m a ≡ power m (5 * (k + 1))
   fifth_next e k a w same =
       let q : 5 * k + 5 ≡ 5 * (k + 1) = omega arith in
-      wrapped_same F w ∙ power-add m low high e 5 ∙ ap (λ (z : ℕ). mul (field_poly m) m z (power m 5)) same
+      wrapped_same F count w ∙ power-add m low high e 5 ∙ ap (λ (z : ℕ). mul (field_poly m) m z (power m 5)) same
       ∙ sym (power-add m low high (5 * k) 5) ∙ ap (power m) q
 
   reduced : {y : ℕ} (x : ℕ) → y ≡ power m (x % n) → y ≡ power m x
-  reduced x e = e ∙ ap (λ (n : ℕ). power m (x % n)) count ∙ power-mod m low high x
+  reduced x e = e ∙ ap (λ (k : ℕ). power m (x % k)) count ∙ power-mod m low high x
 
-  pub power_of_zero : (k : ℕ) {x : ℕ} → x ≡ 0 → (0 < 2 ^ m) × PowerIs m k x 0
-  power_of_zero k z = (pow_pos m, ((λ e. refl), λ e l q. absurd (power-not-zero m low high e (sym q ∙ z))))
-
-  pub power_of_is : (k : ℕ) {x b a : ℕ} → x ≢ 0 → LogIs m x b → (a ≡ power m (k * b % (length field / 4 - 1))) × (a < 2 ^ m) → (a < 2 ^ m) × PowerIs m k x a
+  pub power_of_is : (k : ℕ) {x b a : ℕ} → x ≢ 0 → LogIs m x b → (a ≡ power m (k * b % n)) × (a < 2 ^ m) → (a < 2 ^ m) × PowerIs m k x a
   power_of_is k {x} {b} {a} d L e = (
     e.1,
     ((λ z. absurd (d z)), λ i l q. reduced (k * b) e.0 ∙ ap (λ (z : ℕ). power m (k * z)) (log-only low high i L l q)),
@@ -74,9 +67,9 @@ module _ {m : ℕ} {field : List ℕ} (F : Field m field) where
       power-add m low high (x % n) (3 * h) ∙ ap (λ (z : ℕ). mul (field_poly m) m z (power m (3 * h))) (reduced x refl)
       ∙ sym (power-add m low high x (3 * h)) ∙ ap (power m) q ∙ power-rounds m low high 6 u
 
-  pub cubic_root_is : {s d e u l h g y a : ℕ} → d ≢ 0 → LogIs m d u → e ≢ 0 → LogIs m e l → h < 2 * (length field / 4 - 1)
-      → (2 * h ≡ l + (length field / 4 - 1) - u) ⊎ (2 * h ≡ l + (length field / 4 - 1) - u + (length field / 4 - 1))
-      → SolutionIs m 2 ((u + 6 * (length field / 4 - 1) - 3 * h) % (length field / 4 - 1)) g → y ≡ power m ((h + g) % (length field / 4 - 1))
+  pub cubic_root_is : {s d e u l h g y a : ℕ} → d ≢ 0 → LogIs m d u → e ≢ 0 → LogIs m e l → h < 2 * n
+      → (2 * h ≡ l + n - u) ⊎ (2 * h ≡ l + n - u + n)
+      → SolutionIs m 2 ((u + 6 * n - 3 * h) % n) g → y ≡ power m ((h + g) % n)
       → LogIs m (s ⊕ y) a → CubicRootOf m s d e a
   cubic_root_is {s} {d} {e} {u} {l} {h} {g} {y} {a} d-some U e-some E h-below half S y_is A c f i j k p q T P Q d-is e-is =
       ⊎_map (here i T.i_below) (⊎_map (here j T.j_below) (here k T.k_below))

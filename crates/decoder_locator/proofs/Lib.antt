@@ -2,6 +2,7 @@ pub mod Answers
 pub mod Choices
 pub mod Cubics
 pub mod ErrorPositions
+pub mod Fields
 pub mod Fours
 pub mod Roots
 pub mod Triples

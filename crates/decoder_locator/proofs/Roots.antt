@@ -1,5 +1,6 @@
 -- Powers of the root by their exponents, and the search for two exponents from the sum of the powers and that of their cubes.
 --   count-is, count-size             how many powers there are
+--   quarter_fits                     where a quarter of the tables ends
 --   power-read, log-read, solution_read   what an entry of a table of the field is
 --   log-only                         a power has one logarithm
 --   Wrapped, wrapped_same            an exponent that may be less by the number of powers
@@ -10,6 +11,7 @@ use mathlib.Core.Path.{◌≡◌, sym, ap, ap₂, ◌∙◌, subst, subst⁻¹}
 use mathlib.Core.Logic.{◌≢◌, ◌⊎◌, inl, inr}
 use mathlib.Core.List.{List}
 use Prim.Native.Nat.{ℕ, zero, suc, ◌+◌, ◌-◌, ◌*◌, ◌/◌, ◌%◌, ◌^◌, ◌≤◌, ◌<◌}
+use native.Mathlib.Nat.{mul-le-mul, le_refl}
 use native.Mathlib.Decide.{ℕ_discrete}
 use native.Mathlib.Omega.{arith}
 use lib.Pow.{pow_pos, pow_mono}
@@ -37,9 +39,9 @@ module _ {m : ℕ} {field : List ℕ} (F : Field m field) where
       let b : 2 ^ m ≤ 1024 = pow_mono {i = m} {j = 10} F.m-high in
       (omega (arith, count-is), omega (arith, count-is), ap (λ (n : ℕ). n % 2) count-is ∙ odd m F.m-low)
 
-  pub power-read : {e a : ℕ} → e < 2 ^ m - 1 → a ≡ get_or (take (length field / 4 - 1 - 0) field) e 0 → (a ≡ power m e) × (a < 2 ^ m)
-  power-read {e} l q =
-      let is = q ∙ ap (λ (z : List ℕ). get_or z e 0) (quarter_powers F.tables) ∙ power_table-at m (2 ^ m - 1) e l in
+  pub power-read : {n e a : ℕ} → n ≡ 2 ^ m - 1 → e < 2 ^ m - 1 → a ≡ get_or (take (n - 0) field) e 0 → (a ≡ power m e) × (a < 2 ^ m)
+  power-read {n} {e} count l q =
+      let is = q ∙ ap (λ (k : ℕ). get_or (take (k - 0) field) e 0) (count ∙ sym count-is) ∙ ap (λ (z : List ℕ). get_or z e 0) (quarter_powers F.tables) ∙ power_table-at m (2 ^ m - 1) e l in
       (is, subst⁻¹ (λ (z : ℕ). z < 2 ^ m) is (power_below m F.m-low F.m-high e))
 
   pub log-read : {x a : ℕ} → x < 2 ^ m → a ≡ get_or (take (2 * (length field / 4) - length field / 4) (drop (length field / 4) field)) x 0 → LogIs m x a
@@ -62,6 +64,12 @@ module _ {m : ℕ} {field : List ℕ} (F : Field m field) where
       subst⁻¹ (λ (i : ℕ). SolutionTable m i (take ((i + 1) * q + q - 1 - (i + 1) * q) (drop ((i + 1) * q) field))) e
       (subst (λ (i : ℕ). SolutionTable m 2 (take i (drop (3 * q) field))) n (quarter_cubics F.tables))
 
+  -- a quarter stands behind each of the first three
+  pub quarter_fits : {k : ℕ} → k ≤ 2 → ((k + 1) * (length field / 4) + length field / 4 ≤ length field) × (length field ≤ 4096) × (64 ≤ length field)
+  quarter_fits {k} l =
+      let b : k + 1 ≤ 3 = omega arith in
+      (omega (arith, mul-le-mul b (le_refl (length field / 4))), omega (arith, count-size), omega (arith, count-size))
+
   pub solution_read : (k : ℕ) {v a : ℕ} → 1 ≤ k → k ≤ 2 → v < 2 ^ m - 1
       → a ≡ get_or (take ((k + 1) * (length field / 4) + length field / 4 - 1 - (k + 1) * (length field / 4)) (drop ((k + 1) * (length field / 4)) field)) v 0
       → SolutionIs m k v a
@@ -73,32 +81,26 @@ pub log-only : {m x a : ℕ} → 4 ≤ m → m ≤ 10 → (j : ℕ) → LogIs m 
 log-only {m} {x} {a} low high j L l e = power_one_only m low high a j L.0 l (L.1 (λ z. power-not-zero m low high j (sym e ∙ z)) ∙ e)
 
 -- r is x, or less by the number of powers
-abbrev pub Wrapped : List ℕ → ℕ → ℕ → Type 0
-Wrapped field x r = (r ≡ x) ⊎ (r + (length field / 4 - 1) ≡ x)
+abbrev pub Wrapped : ℕ → ℕ → ℕ → Type 0
+Wrapped n x r = (r ≡ x) ⊎ (r + n ≡ x)
 
-module _ {m : ℕ} {field : List ℕ} (F : Field m field) where
+module _ {m : ℕ} {field : List ℕ} (F : Field m field) {n : ℕ} (count : n ≡ 2 ^ m - 1) where
   low : 4 ≤ m
   low = F.m-low
 
   high : m ≤ 10
   high = F.m-high
 
-  abbrev n : ℕ
-  n = length field / 4 - 1
-
-  count : length field / 4 - 1 ≡ 2 ^ m - 1
-  count = count-is F
-
-  pub wrapped_same : {x r : ℕ} → Wrapped field x r → power m r ≡ power m x
+  pub wrapped_same : {x r : ℕ} → Wrapped n x r → power m r ≡ power m x
   wrapped_same (inl e) = ap (power m) e
   wrapped_same {x} {r} (inr e) = let q : r + (2 ^ m - 1) ≡ x = omega (arith, count, e) in sym (power_cycle m low high r) ∙ ap (power m) q
 
-  wrapped_more : (x r y : ℕ) → Wrapped field x r → Wrapped field (x + y) (r + y)
+  wrapped_more : (x r y : ℕ) → Wrapped n x r → Wrapped n (x + y) (r + y)
   wrapped_more x r y (inl e) = inl (ap (λ (z : ℕ). z + y) e)
   wrapped_more x r y (inr e) = inr (omega (arith, e))
 
   -- c is 3 a, wrapped twice, and w its power
-  module _ (a : ℕ) {r c w : ℕ} (twice : Wrapped field (2 * a) r) (thrice : Wrapped field (r + a) c) (w-is : w ≡ power m c) where
+  module _ (a : ℕ) {r c w : ℕ} (twice : Wrapped n (2 * a) r) (thrice : Wrapped n (r + a) c) (w-is : w ≡ power m c) where
     triple_power : (y : ℕ) → power m (c + y) ≡ power m (3 * a + y)
     triple_power y =
         let p : r + a + y ≡ r + (a + y) = omega arith in
@@ -115,7 +117,7 @@ module _ {m : ℕ} {field : List ℕ} (F : Field m field) where
     root_none z i k P =
         absurd (pair_defect m low high i k a P.i_below P.k_below P.apart P.sum (ap₂ ◌⊕◌ (sym P.cubes) (sym cube_is) ∙ z))
 
-    pub root_is : {cubes b v h : ℕ} → c < length field / 4 - 1 → cubes ⊕ w ≢ 0 → LogIs m (cubes ⊕ w) b → Wrapped field (b + (length field / 4 - 1) - c) v → SolutionIs m 1 v h
+    pub root_is : {cubes b v h : ℕ} → c < n → cubes ⊕ w ≢ 0 → LogIs m (cubes ⊕ w) b → Wrapped n (b + n - c) v → SolutionIs m 1 v h
         → (h < 2 ^ m - 1) × RootOf m a cubes h
     root_is {cubes} {b} {v} {h} c-below d B over S = (S.0, found)
       where
@@ -134,8 +136,9 @@ module _ {m : ℕ} {field : List ℕ} (F : Field m field) where
             let some : h ≢ 0 = S.2 g g-above g-below half in
             (some, pair_root m low high i k a v h P.i_below P.k_below P.apart P.sum (more i k P) (S.1 some))
 
+module _ {m : ℕ} {field : List ℕ} (F : Field m field) where
   pub exponents_zero : {s c : ℕ} → s ≡ 0 → (i k : ℕ) → PairOf m s c i k → ⊥
-  exponents_zero e i k P = pair_sum m low high i k P.i_below P.k_below P.apart (sym P.sum ∙ e)
+  exponents_zero e i k P = pair_sum m F.m-low F.m-high i k P.i_below P.k_below P.apart (sym P.sum ∙ e)
 
   -- a is the logarithm of s, and h what `root` finds
   module _ {s a c h : ℕ} (d : s ≢ 0) (A : LogIs m s a) (R : RootOf m a c h) where
@@ -145,16 +148,16 @@ module _ {m : ℕ} {field : List ℕ} (F : Field m field) where
     pub exponents_none : h ≡ 0 → (i k : ℕ) → PairOf m s c i k → ⊥
     exponents_none z i k P = (R i k (pair_of i k P)).0 z
 
-    pub exponents_are : {e w f : ℕ} → e < length field / 4 - 1 → Wrapped field (h + a) e → w ≡ power m e → LogIs m (s ⊕ w) f → ExponentsAre m s c (Some (e, f))
+    pub exponents_are : {n e w f : ℕ} → n ≡ 2 ^ m - 1 → e < n → Wrapped n (h + a) e → w ≡ power m e → LogIs m (s ⊕ w) f → ExponentsAre m s c (Some (e, f))
     unfolding ExponentsAre
-    exponents_are {e} {w} {f} e-below wrapped w-is B = (d, λ i k P. go i k P (R i k (pair_of i k P)).1)
+    exponents_are {n} {e} {w} {f} count e-below wrapped w-is B = (d, λ i k P. go i k P (R i k (pair_of i k P)).1)
       where
         -- e is the one, so f is the other
         one : (i k : ℕ) → i < 2 ^ m - 1 → k < 2 ^ m - 1 → s ≡ power m i ⊕ power m k → power m (h + a) ≡ power m i → (e ≡ i) × (f ≡ k)
         one i k i_below k_below sum z =
-            let x : power m e ≡ power m i = wrapped_same wrapped ∙ z in (
-              power_one_only m low high e i (omega (arith, count)) i_below x,
-              log-only low high k B k_below (⊕_comm s w ∙ ap₂ ◌⊕◌ (w-is ∙ x) sum ∙ ⊕-self-left (power m i) (power m k)),
+            let x : power m e ≡ power m i = wrapped_same F count wrapped ∙ z in (
+              power_one_only m F.m-low F.m-high e i (omega (arith, count)) i_below x,
+              log-only F.m-low F.m-high k B k_below (⊕_comm s w ∙ ap₂ ◌⊕◌ (w-is ∙ x) sum ∙ ⊕-self-left (power m i) (power m k)),
             )
 
         go : (i k : ℕ) → PairOf m s c i k → (power m (h + a) ≡ power m i) ⊎ (power m (h + a) ≡ power m k) → ((e ≡ i) × (f ≡ k)) ⊎ ((e ≡ k) × (f ≡ i))

@@ -1,6 +1,6 @@
 -- The values of the entries of positions, and what they say of the sums of entries.
 --   entries-apart                 positions whose entries have a sum that is not 0 differ
---   code_of, field_of, degree_small   the code of a table of positions, its field, and the bits of a remainder
+--   code_of, degree_small         the code of a table of positions, and the bits of a remainder
 --   low_below, high-below         values are field elements
 --   single-exponent, single-value a position whose entry is x
 --   pair_of_positions             two positions whose entries have the sum x
@@ -20,14 +20,14 @@ use lib.Seq.{length-take-le, get_or-take}
 use Rattle.std.specs.Prelude.{Option, None, Some}
 use Rattle.bch.specs.Polynomial.{◌⊕◌}
 use Rattle.bch.specs.Field.{power, value_at}
-use Rattle.bch.specs.Locator.{FieldTables, TripleOf, SyndromeTable, syndromes}
+use Rattle.bch.specs.Locator.{TripleOf, SyndromeTable, syndromes}
 use Rattle.bch.proofs.Sum.{⊕_comm, ⊕-self}
 use Rattle.bch.proofs.Polynomial.{poly_at-sum, poly_at-zero}
 use Rattle.bch.proofs.Bch.{Code}
 use Rattle.bch.proofs.Locator.{power-not-zero}
 use Rattle.bch.proofs.Syndromes.{value-below, syndromes-sum, syndromes-low, syndromes-high, first-value, third-value, fifth_value}
 use Rattle.decoder_locator.specs.Located.{Words}
-use Rattle.decoder_locator.specs.Steps.{Field, LogIs, NotTwo, PairIs, PairOf, CarryAre, ExponentsAre}
+use Rattle.decoder_locator.specs.Steps.{LogIs, NotTwo, PairIs, PairOf, CarryAre, ExponentsAre}
 use Rattle.decoder_locator.proofs.Roots.{log-only}
 
 -- positions whose entries have a sum that is not 0 differ
@@ -37,9 +37,6 @@ entries-apart table p q x e d z = d (sym e ∙ ap (λ (k : ℕ). get_or table k 
 module _ {m t : ℕ} {table : List ℕ} (W : Words m t table) where
   pub code_of : Code m t
   code_of = record { m-low = W.m-low; m-high = W.m-high; t-low = W.t-low; t-high = W.t-high; fits = W.fits }
-
-  pub field_of : {field : List ℕ} → FieldTables m field → Field m field
-  field_of T = record { m-low = W.m-low; m-high = W.m-high; tables = T }
 
   pub degree_small : m * t ≤ 30
   degree_small = mul-le-mul W.m-high W.t-high

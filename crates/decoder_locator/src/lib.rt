@@ -17,7 +17,7 @@
 
 ghost use Rattle.std.specs.Prelude.{◌≡◌, ◌≢◌, ◌⊎◌, ◌+◌, ◌-◌, ◌*◌, ◌%◌, ◌^◌, ◌≤◌, ◌<◌, length, take, drop};
 ghost use Rattle.bch.specs.Field.{power, value_at};
-ghost use Rattle.bch.specs.Locator.{FieldTables, PowerIs, SyndromeTable, syndromes};
+ghost use Rattle.bch.specs.Locator.{PowerIs, SyndromeTable, syndromes};
 ghost use Rattle.decoder_locator.specs.Located.{located, positions_of, SumTable, Words, LocatorTables};
 ghost use Rattle.decoder_locator.specs.Steps.{Field, LogIs, SolutionIs, NotOne, SingleIs, PairIs, TripleIs, TripleWith, CarryAre, RootOf, ExponentsAre, CubicRootOf};
 
@@ -30,42 +30,140 @@ pub enum Located {
     Three(usize, usize, usize),
 }
 
-// Power e of the root.
-fn power_at(m: usize, e: usize, field: &[u16]) -> usize
-    requires { Field m field.now × (e < 2 ^ m - 1) }
-    ensures { (result ≡ power m e) × (result < 2 ^ m) }
-{
-    let powers = &field[0..field.len() / 4 - 1];
-    usize::from(powers[e])
-}
-
-// The logarithm of the field element x.
-fn log_of(m: usize, x: usize, field: &[u16]) -> usize
-    requires { Field m field.now × (x < 2 ^ m) }
-    ensures { LogIs m x result }
-{
-    let q = field.len() / 4;
-    let logs = &field[q..2 * q];
-    usize::from(logs[x])
-}
-
-// The exponent of a solution z of z² + z = power v, where k is 1, and of z³ + z = power v, where k is 2; 0 where there is none.
-fn solution_at(m: usize, k: usize, v: usize, field: &[u16]) -> usize
-    requires { Field m field.now × (1 ≤ k) × (k ≤ 2) × (v < 2 ^ m - 1) }
-    ensures { SolutionIs m k v result }
-{
-    let q = field.len() / 4;
-    let start = (k + 1) * q;
-    let solutions = &field[start..start + q - 1];
-    usize::from(solutions[v])
-}
-
 // An exponent below n with the same power as x, where the powers come back after n. No division.
 fn wrap(x: usize, n: usize) -> usize
     requires { x < 2 * n }
     ensures { (result < n) × ((result ≡ x) ⊎ (result + n ≡ x)) }
 {
     if x < n { x } else { x - n }
+}
+
+// The exponent of the square root of power w, where the powers come back after n, which is odd.
+fn half_exponent(w: usize, n: usize) -> usize
+    requires { (w < 2 * n) × (n < 1024) × (n % 2 ≡ 1) }
+    ensures { (result < 2 * n) × ((2 * result ≡ w) ⊎ (2 * result ≡ w + n)) }
+{
+    if w % 2 == 0 { w / 2 } else { (w + n) / 2 }
+}
+
+// The tables of the field of 2^m elements, each in a quarter of one list.
+#[derive(Clone, Copy)]
+struct Tables<'a> {
+    m: usize,
+    field: &'a [u16],
+    ghost filled: { ∥ Field m field.now ∥₁ },
+}
+
+impl Tables<'_> {
+    // How many powers the root has.
+    fn count(&self) -> usize
+        ensures { (result ≡ 2 ^ self.now.m - 1) × (15 ≤ result) × (result < 1024) × (result % 2 ≡ 1) }
+    {
+        self.field.len() / 4 - 1
+    }
+
+    // Power e of the root.
+    fn power_at(&self, e: usize) -> usize
+        requires { e < 2 ^ self.now.m - 1 }
+        ensures { (result ≡ power self.now.m e) × (result < 2 ^ self.now.m) }
+    {
+        let powers = &self.field[0..self.count()];
+        usize::from(powers[e])
+    }
+
+    // The logarithm of the field element x.
+    fn log_of(&self, x: usize) -> usize
+        requires { x < 2 ^ self.now.m }
+        ensures { LogIs self.now.m x result }
+    {
+        let q = self.field.len() / 4;
+        let logs = &self.field[q..2 * q];
+        usize::from(logs[x])
+    }
+
+    // The exponent of a solution z of z² + z = power v, where k is 1, and of z³ + z = power v, where k is 2; 0 where there is none.
+    fn solution_at(&self, k: usize, v: usize) -> usize
+        requires { (1 ≤ k) × (k ≤ 2) × (v < 2 ^ self.now.m - 1) }
+        ensures { SolutionIs self.now.m k v result }
+    {
+        let q = self.field.len() / 4;
+        let start = (k + 1) * q;
+        let solutions = &self.field[start..start + q - 1];
+        usize::from(solutions[v])
+    }
+
+    // Of two powers of the root whose sum is power a and whose cubes have the sum `cubes`, one is power h + a, where h is the answer. It is 0
+    // where there are no such two.
+    fn root(&self, a: usize, cubes: usize) -> usize
+        requires { (a < 2 ^ self.now.m - 1) × (cubes < 2 ^ self.now.m) }
+        ensures { (result < 2 ^ self.now.m - 1) × RootOf self.now.m a cubes result }
+    {
+        let n = self.count();
+        let c = wrap(wrap(2 * a, n) + a, n);
+        let d = cubes ^ self.power_at(c);
+        if d == 0 {
+            return 0;
+        }
+        let v = wrap(self.log_of(d) + n - c, n);
+        self.solution_at(1, v)
+    }
+
+    // The exponents of the two powers of the root whose sum is `sum` and whose cubes have the sum `cubes`.
+    fn exponents(&self, sum: usize, cubes: usize) -> Option<(usize, usize)>
+        requires { (sum < 2 ^ self.now.m) × (cubes < 2 ^ self.now.m) }
+        ensures { ExponentsAre self.now.m sum cubes result }
+    {
+        if sum == 0 {
+            return None;
+        }
+        let a = self.log_of(sum);
+        let h = self.root(a, cubes);
+        if h == 0 {
+            return None;
+        }
+        let e = wrap(h + a, self.count());
+        let f = self.log_of(sum ^ self.power_at(e));
+        Some((e, f))
+    }
+
+    // The value of the polynomial x, of r bits, at the fifth power of the root: one power for each bit.
+    fn fifth_of(&self, r: usize, x: usize) -> usize
+        requires { (r ≤ 30) × (x < 2 ^ r) }
+        ensures { result ≡ value_at self.now.m 5 x }
+    {
+        let n = self.count();
+        let mut acc: usize = 0;
+        let mut e: usize = 0;
+        for k in 0..r {
+            acc ^= (x >> k) % 2 * self.power_at(e);
+            e = wrap(e + 5, n);
+        }
+        acc
+    }
+
+    // Power k of the field element x, where k is at most 5.
+    fn power_of(&self, k: usize, x: usize) -> usize
+        requires { (k ≤ 5) × (x < 2 ^ self.now.m) }
+        ensures { (result < 2 ^ self.now.m) × PowerIs self.now.m k x result }
+    {
+        if x == 0 {
+            return 0;
+        }
+        self.power_at(k * self.log_of(x) % self.count())
+    }
+
+    // The exponent of one of three powers of the root. Their sum is `sum`, d is the sum of their cubes and the cube of `sum`, and e that of their
+    // fifth powers and the fifth power of `sum`. Any exponent where there are no such three.
+    fn cubic_root(&self, sum: usize, d: usize, e: usize) -> usize
+        requires { (sum < 2 ^ self.now.m) × (d < 2 ^ self.now.m) × (d ≢ 0) × (e < 2 ^ self.now.m) × (e ≢ 0) }
+        ensures { CubicRootOf self.now.m sum d e result }
+    {
+        let n = self.count();
+        let u = self.log_of(d);
+        let h = half_exponent(self.log_of(e) + n - u, n);
+        let g = self.solution_at(2, (u + 6 * n - 3 * h) % n);
+        self.log_of(sum ^ self.power_at((h + g) % n))
+    }
 }
 
 // The values of the polynomial x, of r bits, at the root and at its cube: one entry of the positions' table for each bit. The last entry is for the
@@ -96,236 +194,144 @@ pub fn fill_sums(m: usize, r: usize, n: usize, table: &mut [u32])
     }
 }
 
-// The values of the polynomial x, of r bits, at the root and at its cube: one entry of `sums` for each four bits.
-fn values_of(m: usize, r: usize, x: u32, sums: &[u32]) -> u32
-    requires { (4 ≤ m) × (m ≤ 10) × (r ≤ 30) × (x < 2 ^ r) × (length sums.now ≡ 128) × SumTable m r sums.now }
-    ensures { result ≡ syndromes m x }
-{
-    let mut acc: u32 = 0;
-    // kept as an index loop: four bits choose the entry, and chunks_exact(16) with take and enumerate says it no plainer
-    for k in 0..(r + 3) / 4 {
-        acc ^= sums[16 * k + ((x >> 4 * k) % 16) as usize];
-    }
-    acc
-}
-
-// The position whose entry is x. `s` has the values of x.
-fn one(m: usize, t: usize, x: u32, s: u32, positions: &[u32], field: &[u16]) -> Option<usize>
-    requires { Words m t positions.now × FieldTables m field.now × (s ≡ syndromes m x) }
-    ensures { SingleIs positions.now x result }
-{
-    let low = (s % 65536) as usize;
-    if low == 0 {
-        return None;
-    }
-    let n = positions.len();
-    let e = log_of(m, low, field);
-    if n <= e {
-        return None;
-    }
-    let p = n - 1 - e;
-    if positions[p] != x {
-        return None;
-    }
-    Some(p)
-}
-
-// Of two powers of the root whose sum is power a and whose cubes have the sum `cubes`, one is power h + a, where h is the answer. It is 0
-// where there are no such two.
-fn root(m: usize, a: usize, cubes: usize, field: &[u16]) -> usize
-    requires { Field m field.now × (a < 2 ^ m - 1) × (cubes < 2 ^ m) }
-    ensures { (result < 2 ^ m - 1) × RootOf m a cubes result }
-{
-    let n = field.len() / 4 - 1;
-    let c = wrap(wrap(2 * a, n) + a, n);
-    let d = cubes ^ power_at(m, c, field);
-    if d == 0 {
-        return 0;
-    }
-    let v = wrap(log_of(m, d, field) + n - c, n);
-    solution_at(m, 1, v, field)
-}
-
-// The exponents of the two powers of the root whose sum is `sum` and whose cubes have the sum `cubes`.
-fn exponents(m: usize, sum: usize, cubes: usize, field: &[u16]) -> Option<(usize, usize)>
-    requires { Field m field.now × (sum < 2 ^ m) × (cubes < 2 ^ m) }
-    ensures { ExponentsAre m sum cubes result }
-{
-    if sum == 0 {
-        return None;
-    }
-    let a = log_of(m, sum, field);
-    let h = root(m, a, cubes, field);
-    if h == 0 {
-        return None;
-    }
-    let e = wrap(h + a, field.len() / 4 - 1);
-    let f = log_of(m, sum ^ power_at(m, e, field), field);
-    Some((e, f))
-}
-
-// The positions that carry x^e and x^f, where their entries have the sum x, which is not 0.
-fn pair_at(x: u32, e: usize, f: usize, positions: &[u32]) -> Option<(usize, usize)>
-    requires { x ≢ 0 }
-    ensures { CarryAre positions.now x e f result }
-{
-    let n = positions.len();
-    if n <= e {
-        return None;
-    }
-    if n <= f {
-        return None;
-    }
-    let p = n - 1 - e;
-    let q = n - 1 - f;
-    if positions[p] ^ positions[q] != x {
-        return None;
-    }
-    if p < q {
-        return Some((p, q));
-    }
-    Some((q, p))
-}
-
-// The two positions whose entries have the sum x. `s` has the values of x.
-fn two(
-    m: usize,
+// What is lent to `locate` for words with at most t errors: the entries of the positions, their values with those of
+// `fill_sums` behind them, and the tables of the field. Each table has its own lifetime, as in the call of `locate`.
+#[derive(Clone, Copy)]
+struct Locator<'p, 'v, 'f> {
     t: usize,
-    x: u32,
-    s: u32,
-    positions: &[u32],
-    field: &[u16],
-) -> Option<(usize, usize)>
-    requires { Words m t positions.now × FieldTables m field.now × (2 ≤ t) × (s ≡ syndromes m x) }
-    ensures { PairIs positions.now x result }
-{
-    let (e, f) = exponents(m, (s % 65536) as usize, (s / 65536) as usize, field)?;
-    pair_at(x, e, f, positions)
+    positions: &'p [u32],
+    values: &'v [u32],
+    tables: Tables<'f>,
+    ghost words: { Words tables.m t positions.now },
+    ghost as_long: { length values.now ≡ length positions.now + 128 },
+    ghost syndrome: { SyndromeTable tables.m (take (length positions.now) values.now) },
+    ghost sums: { SumTable tables.m (tables.m * t) (drop (length positions.now) values.now) },
 }
 
-// The three positions whose entries have the sum x, where j is one of them and the sum is no single entry. `s` has the values of x.
-fn three_with(
-    m: usize,
-    t: usize,
-    x: u32,
-    s: u32,
-    j: usize,
-    positions: &[u32],
-    values: &[u32],
-    field: &[u16],
-) -> Option<(usize, usize, usize)>
-    requires { LocatorTables m t positions.now values.now field.now × (2 ≤ t) × (s ≡ syndromes m x) × NotOne positions.now x
-        × (j < length positions.now) }
-    ensures { TripleWith positions.now x j result }
-{
-    let (p, q) = two(m, t, x ^ positions[j], s ^ values[j], positions, field)?;
-    if j < p {
-        return Some((j, p, q));
-    }
-    if j < q {
-        return Some((p, j, q));
-    }
-    Some((p, q, j))
-}
-
-// The three positions whose entries have the sum x, where it is no single entry: each position is tried as one of them. `s` has the values of x.
-// One step for each position.
-fn three_by_trial(
-    m: usize,
-    t: usize,
-    x: u32,
-    s: u32,
-    positions: &[u32],
-    values: &[u32],
-    field: &[u16],
-) -> Option<(usize, usize, usize)>
-    requires { LocatorTables m t positions.now values.now field.now × (2 ≤ t) × (s ≡ syndromes m x) × NotOne positions.now x }
-    ensures { TripleIs positions.now x result }
-{
-    for j in 0..positions.len() {
-        if let Some(found) = three_with(m, t, x, s, j, positions, values, field) {
-            return Some(found);
+impl Locator<'_, '_, '_> {
+    // The values of the polynomial x, of m t bits, at the root and at its cube: one entry of the sums for each four bits.
+    fn values_of(&self, x: u32) -> u32
+        requires { x < 2 ^ (self.now.tables.m * self.now.t) }
+        ensures { result ≡ syndromes self.now.tables.m x }
+    {
+        let sums = &self.values[self.positions.len()..];
+        let r = self.tables.m * self.t;
+        let mut acc: u32 = 0;
+        // kept as an index loop: four bits choose the entry, and chunks_exact(16) with take and enumerate says it no plainer
+        for k in 0..(r + 3) / 4 {
+            acc ^= sums[16 * k + ((x >> 4 * k) % 16) as usize];
         }
+        acc
     }
-    None
-}
 
-// The value of the polynomial x, of r bits, at the fifth power of the root: one power for each bit.
-fn fifth_of(m: usize, r: usize, x: usize, field: &[u16]) -> usize
-    requires { Field m field.now × (r ≤ 30) × (x < 2 ^ r) }
-    ensures { result ≡ value_at m 5 x }
-{
-    let n = field.len() / 4 - 1;
-    let mut acc: usize = 0;
-    let mut e: usize = 0;
-    for k in 0..r {
-        acc ^= (x >> k) % 2 * power_at(m, e, field);
-        e = wrap(e + 5, n);
+    // The position whose entry is x. `s` has the values of x.
+    fn one(&self, x: u32, s: u32) -> Option<usize>
+        requires { s ≡ syndromes self.now.tables.m x }
+        ensures { SingleIs self.now.positions.now x result }
+    {
+        let low = (s % 65536) as usize;
+        if low == 0 {
+            return None;
+        }
+        let n = self.positions.len();
+        let e = self.tables.log_of(low);
+        if n <= e {
+            return None;
+        }
+        let p = n - 1 - e;
+        if self.positions[p] != x {
+            return None;
+        }
+        Some(p)
     }
-    acc
-}
 
-// Power k of the field element x, where k is at most 5.
-fn power_of(m: usize, k: usize, x: usize, field: &[u16]) -> usize
-    requires { Field m field.now × (k ≤ 5) × (x < 2 ^ m) }
-    ensures { (result < 2 ^ m) × PowerIs m k x result }
-{
-    if x == 0 {
-        return 0;
+    // The positions that carry x^e and x^f, where their entries have the sum x, which is not 0.
+    fn pair_at(&self, x: u32, e: usize, f: usize) -> Option<(usize, usize)>
+        requires { x ≢ 0 }
+        ensures { CarryAre self.now.positions.now x e f result }
+    {
+        let n = self.positions.len();
+        if n <= e {
+            return None;
+        }
+        if n <= f {
+            return None;
+        }
+        let p = n - 1 - e;
+        let q = n - 1 - f;
+        if self.positions[p] ^ self.positions[q] != x {
+            return None;
+        }
+        if p < q {
+            return Some((p, q));
+        }
+        Some((q, p))
     }
-    power_at(m, k * log_of(m, x, field) % (field.len() / 4 - 1), field)
-}
 
-// The exponent of the square root of power w, where the powers come back after n, which is odd.
-fn half_exponent(w: usize, n: usize) -> usize
-    requires { (w < 2 * n) × (n < 1024) × (n % 2 ≡ 1) }
-    ensures { (result < 2 * n) × ((2 * result ≡ w) ⊎ (2 * result ≡ w + n)) }
-{
-    if w % 2 == 0 { w / 2 } else { (w + n) / 2 }
-}
+    // The two positions whose entries have the sum x. `s` has the values of x.
+    fn two(&self, x: u32, s: u32) -> Option<(usize, usize)>
+        requires { (2 ≤ self.now.t) × (s ≡ syndromes self.now.tables.m x) }
+        ensures { PairIs self.now.positions.now x result }
+    {
+        let (e, f) = self
+            .tables
+            .exponents((s % 65536) as usize, (s / 65536) as usize)?;
+        self.pair_at(x, e, f)
+    }
 
-// The exponent of one of three powers of the root. Their sum is `sum`, d is the sum of their cubes and the cube of `sum`, and e that of their
-// fifth powers and the fifth power of `sum`. Any exponent where there are no such three.
-fn cubic_root(m: usize, sum: usize, d: usize, e: usize, field: &[u16]) -> usize
-    requires { Field m field.now × (sum < 2 ^ m) × (d < 2 ^ m) × (d ≢ 0) × (e < 2 ^ m) × (e ≢ 0) }
-    ensures { CubicRootOf m sum d e result }
-{
-    let n = field.len() / 4 - 1;
-    let u = log_of(m, d, field);
-    let h = half_exponent(log_of(m, e, field) + n - u, n);
-    let g = solution_at(m, 2, (u + 6 * n - 3 * h) % n, field);
-    log_of(m, sum ^ power_at(m, (h + g) % n, field), field)
-}
+    // The three positions whose entries have the sum x, where j is one of them and the sum is no single entry. `s` has the values of x.
+    fn three_with(&self, x: u32, s: u32, j: usize) -> Option<(usize, usize, usize)>
+        requires { (2 ≤ self.now.t) × (s ≡ syndromes self.now.tables.m x) × NotOne self.now.positions.now x
+            × (j < length self.now.positions.now) }
+        ensures { TripleWith self.now.positions.now x j result }
+    {
+        let (p, q) = self.two(x ^ self.positions[j], s ^ self.values[j])?;
+        if j < p {
+            return Some((j, p, q));
+        }
+        if j < q {
+            return Some((p, j, q));
+        }
+        Some((p, q, j))
+    }
 
-// The three positions whose entries have the sum x, where it is no single entry. `s` has the values of x.
-fn three(
-    m: usize,
-    t: usize,
-    x: u32,
-    s: u32,
-    positions: &[u32],
-    values: &[u32],
-    field: &[u16],
-) -> Option<(usize, usize, usize)>
-    requires { LocatorTables m t positions.now values.now field.now × (t ≡ 3) × (s ≡ syndromes m x) × NotOne positions.now x
-        × (x < 2 ^ (m * t)) }
-    ensures { TripleIs positions.now x result }
-{
-    let sum = (s % 65536) as usize;
-    let d = power_of(m, 3, sum, field) ^ ((s / 65536) as usize);
-    if d == 0 {
-        return None;
+    // The three positions whose entries have the sum x, where it is no single entry: each position is tried as one of them. `s` has the values of x.
+    // One step for each position.
+    fn three_by_trial(&self, x: u32, s: u32) -> Option<(usize, usize, usize)>
+        requires { (2 ≤ self.now.t) × (s ≡ syndromes self.now.tables.m x) × NotOne self.now.positions.now x }
+        ensures { TripleIs self.now.positions.now x result }
+    {
+        for j in 0..self.positions.len() {
+            if let Some(found) = self.three_with(x, s, j) {
+                return Some(found);
+            }
+        }
+        None
     }
-    let e = power_of(m, 5, sum, field) ^ fifth_of(m, m * t, x as usize, field);
-    if e == 0 {
-        return three_by_trial(m, t, x, s, positions, values, field);
+
+    // The three positions whose entries have the sum x, where it is no single entry. `s` has the values of x.
+    fn three(&self, x: u32, s: u32) -> Option<(usize, usize, usize)>
+        requires { (self.now.t ≡ 3) × (s ≡ syndromes self.now.tables.m x) × NotOne self.now.positions.now x
+            × (x < 2 ^ (self.now.tables.m * self.now.t)) }
+        ensures { TripleIs self.now.positions.now x result }
+    {
+        let sum = (s % 65536) as usize;
+        let d = self.tables.power_of(3, sum) ^ ((s / 65536) as usize);
+        if d == 0 {
+            return None;
+        }
+        let e = self.tables.power_of(5, sum)
+            ^ self.tables.fifth_of(self.tables.m * self.t, x as usize);
+        if e == 0 {
+            return self.three_by_trial(x, s);
+        }
+        let k = self.tables.cubic_root(sum, d, e);
+        let n = self.positions.len();
+        if n <= k {
+            return None;
+        }
+        self.three_with(x, s, n - 1 - k)
     }
-    let k = cubic_root(m, sum, d, e, field);
-    let n = positions.len();
-    if n <= k {
-        return None;
-    }
-    three_with(m, t, x, s, n - 1 - k, positions, values, field)
 }
 
 // The positions, at most t, whose entries have the sum `remainder`; `Nowhere` where there are no such, and where the remainder is 0. The lent
@@ -345,20 +351,26 @@ pub fn locate(
     if remainder == 0 {
         return Located::Nowhere;
     }
-    let s = values_of(m, m * t, remainder, &syndromes[positions.len()..]);
-    if let Some(p) = one(m, t, remainder, s, positions, field) {
+    let locator = Locator {
+        t,
+        positions,
+        values: syndromes,
+        tables: Tables { m, field },
+    };
+    let s = locator.values_of(remainder);
+    if let Some(p) = locator.one(remainder, s) {
         return Located::One(p);
     }
     if t < 2 {
         return Located::Nowhere;
     }
-    if let Some((p, q)) = two(m, t, remainder, s, positions, field) {
+    if let Some((p, q)) = locator.two(remainder, s) {
         return Located::Two(p, q);
     }
     if t < 3 {
         return Located::Nowhere;
     }
-    match three(m, t, remainder, s, positions, syndromes, field) {
+    match locator.three(remainder, s) {
         None => Located::Nowhere,
         Some((j, p, q)) => Located::Three(j, p, q),
     }

@@ -1,19 +1,12 @@
 -- One position is looked for, then two, then three: each answer is what is located, and so is none where all have failed.
 use native.Mathlib.Omega.{arith}
 use Rattle.decoder_locator.specs.Steps.{SingleIs, PairIs, TripleIs}
-use Rattle.decoder_locator.proofs.Values.{degree_small}
-use Rattle.decoder_locator.proofs.Answers.{sums_of, answer_zero, answer_one, answer_two, answer_three, answer_none}
+use Rattle.decoder_locator.proofs.Answers.{answer_zero, answer_one, answer_two, answer_three, answer_none}
 use Rattle.decoder_locator.proofs.locate.Goals as goal
 
 pub returns-then-remainder-eq0 : goal.returns-then-remainder-eq0
 returns-then-remainder-eq0 c =
     answer_zero c.requires.0.words c.args.remainder c.if-remainder-eq0.true
-
-pub values_of-s-requires : goal.values_of-s-requires
-values_of-s-requires c =
-    let T = c.requires.0 in
-    let W = T.words in
-    (W.m-low, W.m-high, degree_small W, c.requires.1, (sums_of T).0, (sums_of T).1)
 
 pub returns-in-Some : goal.returns-in-Some
 returns-in-Some c = answer_one c.requires.0.words c.args.remainder _ c.in-Some.ensures
@@ -35,7 +28,7 @@ returns-then-t-lt3 c =
 pub three-requires : goal.three-requires
 unfolding SingleIs
 three-requires c =
-    (c.requires.0, omega (arith, c.requires.0.words.t-high), c.values_of-s.ensures, c.in_default.ensures, c.requires.1)
+    (omega (arith, c.requires.0.words.t-high), c.values_of-s.ensures, c.in_default.ensures, c.requires.1)
 
 pub returns-in-None : goal.returns-in-None
 unfolding SingleIs PairIs TripleIs
