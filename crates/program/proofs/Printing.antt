@@ -46,10 +46,10 @@ unfolding printed
 printed-refused r j t o new n e p = rw (refusal_judged r j e) p
 
 -- the same for the answer of a check
-pub refused-prints : (c : Result Unit Refusal) (r : Refusal) (j : Judged) → c ≡ Err r → j ≡ judged_of (refusal_verdict r) → (t o new : List ℕ) (n : ℕ)
-    → Printed (refusal_text j.rule j.place) n o new → Printed (printed (verdict_of c) t) n o new
+pub refused-prints : (c : Result Unit Refusal) (r : Refusal) → c ≡ Err r → (t o new : List ℕ) (n : ℕ)
+    → Printed (printed (refusal_verdict r) t) n o new → Printed (printed (verdict_of c) t) n o new
 unfolding verdict_of
-refused-prints c r j f e t o new n p = rw f (printed-refused r j t o new n e p)
+refused-prints c r f t o new n p = rw f p
 
 pub output-printed : (t : List ℕ) (n : ℕ) (old new : List ℕ) → most-output ≤ length old → Printed t n old new → Output t n old new
 unfolding output_in output_length

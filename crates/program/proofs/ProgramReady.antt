@@ -6,10 +6,9 @@
 --   few-blocks, red-short            a text has at most 4,096 blocks, and their redundancy at most 245,941 bits
 --   list-room .. red-room            the sizes have room in the arrays
 --   ready                            the arrays' parts are what readers and call want
---   room_for, sizes_are              arrays and sizes as the code has them
+--   room_for                         a new array has room
 -- Assumes nothing.
 use mathlib.Core.Path.{◌≡◌, sym, ap, ◌∙◌}
-use mathlib.Core.Bool.{Bool, true, false}
 use mathlib.Core.List.{List}
 use Prim.Native.Nat.{ℕ, ◌+◌, ◌*◌, ◌/◌, ◌≤◌}
 use native.Mathlib.Omega.{arith}
@@ -33,6 +32,8 @@ use Rattle.text_kit.specs.Answers.{kit_scan_verdict}
 use Rattle.text_kit.proofs.ScanLaws.{kit_accepted}
 use Rattle.program.specs.Steps.{text_rule, text_count, Started, Scanned, SizesAre, RoomFor, ProgramReady}
 use Rattle.program.specs.declared.Sizes.{Sizes}
+use Rattle.program.specs.declared.Text.{Text}
+use Rattle.program.specs.declared.Text.TheVariants.{Blocks, Frame}
 use Rattle.program.proofs.Bounds.{few-rows, few-red}
 
 -- ---- the kit
@@ -54,10 +55,10 @@ module _ (d : Design) (kit text : List ℕ) (S : Started d kit text) where
       in
       (k.1, k.2, k.3)
 
-pub kit_reads : (framed : Bool) (due : ℕ) (d : Design) (L : ℕ) (kit text own parity w : List ℕ) (info red work : ℕ)
-    → ProgramReady framed due d L kit text (length own) (length parity) (length w) info red work
+pub kit_reads : (kind : Text) (due : ℕ) (d : Design) (L : ℕ) (kit text own parity w : List ℕ) (info red work : ℕ)
+    → ProgramReady kind due d L kit text (length own) (length parity) (length w) info red work
     → (x : Result Design TextError) → kit_scan_verdict x ≡ (read_kit_call kit own parity w).verdict → IsOk x
-kit_reads framed due d L kit text own parity w info red work R x e =
+kit_reads kind due d L kit text own parity w info red work R x e =
     let S = R.scanned.started in
     let n = order_is d kit text S in
     let k =
@@ -68,34 +69,34 @@ kit_reads framed due d L kit text own parity w info red work R x e =
 
 -- ---- the text
 
-pub blocks-scanned : (d : Design) (L : ℕ) (kit text : List ℕ) → Scanned false d L kit text
+pub blocks-scanned : (d : Design) (L : ℕ) (kit text : List ℕ) → Scanned Blocks d L kit text
     → (block_rule d.size text ≡ accepted) × (L ≡ block_count d.size text)
 unfolding text_rule text_count
 blocks-scanned d L kit text B = (B.accepts, B.count)
 
-pub frame-scanned : (d : Design) (L : ℕ) (kit text : List ℕ) → Scanned true d L kit text
+pub frame-scanned : (d : Design) (L : ℕ) (kit text : List ℕ) → Scanned Frame d L kit text
     → (frame_rule d.size (d.m * d.t) text ≡ accepted) × (L ≡ frame_count d.size (d.m * d.t) text)
 unfolding text_rule text_count
 frame-scanned d L kit text B = (B.accepts, B.count)
 
 -- a line has a digit, a space, the block's bits and a line feed at least
-lines_fit : (framed : Bool) (d : Design) (L : ℕ) (kit text : List ℕ) → Scanned framed d L kit text
+lines_fit : (kind : Text) (d : Design) (L : ℕ) (kit text : List ℕ) → Scanned kind d L kit text
     → (L ≤ most-blocks) × (L * (d.size * d.size + 3) ≤ length text)
-lines_fit false d L kit text B =
+lines_fit Blocks d L kit text B =
     let (a, c) = blocks-scanned d L kit text B in
     let h = blocks_hold d.size text a in
     (rw c h.few, rw c h.text-length)
-lines_fit true d L kit text B =
+lines_fit Frame d L kit text B =
     let (a, c) = frame-scanned d L kit text B in
     let h = frame_holds d.size (d.m * d.t) text a in
     (rw c h.few, rw c (omega (arith, h.text-length)))
 
-module _ (framed : Bool) (d : Design) (L : ℕ) (kit text : List ℕ) (B : Scanned framed d L kit text) where
+module _ (kind : Text) (d : Design) (L : ℕ) (kit text : List ℕ) (B : Scanned kind d L kit text) where
   pub few-blocks : L ≤ most-blocks
-  few-blocks = (lines_fit framed d L kit text B).0
+  few-blocks = (lines_fit kind d L kit text B).0
 
   bytes : L * (d.size * d.size + 3) ≤ 32768
-  bytes = omega (arith, (lines_fit framed d L kit text B).1, B.started.text-short)
+  bytes = omega (arith, (lines_fit kind d L kit text B).1, B.started.text-short)
 
   -- the redundancy of a frame of so many blocks
   pub red-short : groups L * (2 * order_of d) ≤ 245941
@@ -104,9 +105,6 @@ module _ (framed : Bool) (d : Design) (L : ℕ) (kit text : List ℕ) (B : Scann
   -- ---- the arrays
 
   module _ (s : Sizes) (z : SizesAre s d L) where
-    pub order-room : s.order ≤ 181
-    order-room = omega (arith, z.order_is, few-entries d kit text B.started)
-
     pub list_room : s.list ≤ 362
     list_room = omega (arith, z.list_is, few-entries d kit text B.started)
 
@@ -124,7 +122,7 @@ module _ (framed : Bool) (d : Design) (L : ℕ) (kit text : List ℕ) (B : Scann
     red-room = omega (arith, z.red-is, red-short)
 
     pub ready : (due own parity inverse info red work : ℕ) → s.list ≡ own → s.list ≡ parity → s.inverse ≡ inverse → s.info ≡ info → s.red ≡ red
-        → work ≡ due → ProgramReady framed due d L kit text own parity inverse info red work
+        → work ≡ due → ProgramReady kind due d L kit text own parity inverse info red work
     ready due own parity inverse info red work eo ep ew ei er ek =
         record {
           scanned = B;
@@ -139,9 +137,3 @@ module _ (framed : Bool) (d : Design) (L : ℕ) (kit text : List ℕ) (B : Scann
 -- a new array
 pub room_for : (n N x : ℕ) → n ≤ N → RoomFor n (replicate N x)
 room_for n N x h = let l : n ≤ length (replicate N x) = omega (arith, length-replicate N x) in (l, sym (length-take-le n (replicate N x) l))
-
--- the sizes as the code has them
-pub sizes_are : (d : Design) (L n b a G : ℕ) → n ≡ order_of d → b ≡ row_bytes (order_of d) → a ≡ d.size * d.size → G ≡ groups L
-    → SizesAre (record { order = n; list = 2 * n; inverse = n * b; info = L * a; red = G * (2 * n) }) d L
-sizes_are d L n b a G en eb ea eg =
-    record { order_is = en; list_is = ap (λ (k : ℕ). 2 * k) en; inverse-is = rw (en, eb); info-is = ap (λ (k : ℕ). L * k) ea; red-is = rw (en, eg) }

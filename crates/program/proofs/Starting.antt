@@ -2,12 +2,10 @@
 --   long-kit_stops, long-text_stops             rule 13
 --   error_judged                                a text's error
 --   kit_starts, kit_stops                       the kit
---   told_framed, told_bare                      the scan of a text, framed or not
 --   text_goes, text_stops                       the text
 --   begun_goes, begun_stops                     what a start says, by its case
 -- Assumes nothing.
 use mathlib.Core.Path.{◌≡◌, sym, ap, ◌∙◌}
-use mathlib.Core.Bool.{Bool, true, false}
 use mathlib.Core.List.{List}
 use Prim.Native.Nat.{ℕ, ◌*◌, ◌≤◌, ◌<◌}
 use lib.ListN.{length}
@@ -24,14 +22,14 @@ use Rattle.rules_verdict.proofs.Refused.{refusal_judged}
 use Rattle.text_kit.specs.Answers.{kit_scan_verdict, KitDesign}
 use Rattle.text.specs.KitReader.{head_number, scan_kit}
 use Rattle.text_frame.specs.Answers.{blocks_verdict, CountIs}
-use Rattle.text.specs.FrameReader.{block_rule, block_count, frame_rule, frame_count}
 use Rattle.text.specs.Programs.{most-input, input_rule}
+use Rattle.program.specs.declared.Text.{Text}
 use Rattle.program.specs.Steps.{text_rule, text_count, start_rule, Started, Scanned, StartIs}
 use Rattle.text.proofs.Programs.{long-kit, long-text, short_inputs, then_refused, then_on}
 
 -- the rule for the text of a kit whose numbers are those of the design
-abbrev kit_rule : Bool → List ℕ → List ℕ → Verdict
-kit_rule framed kit text = text_rule framed (head_number kit 2) (head_number kit 0 * head_number kit 1) text
+abbrev kit_rule : Text → List ℕ → List ℕ → Verdict
+kit_rule kind kit text = text_rule kind (head_number kit 2) (head_number kit 0 * head_number kit 1) text
 
 -- the number and place of a text's error
 pub error_judged : (n : ℕ) (e : TextError) (j : Judged) → j ≡ judged_of (error_verdict n e) → error_verdict n e ≡ refused j.rule j.place
@@ -41,14 +39,14 @@ error_judged n (BrokenAt p) j g = rw g
 
 -- ---- rule 13
 
-module _ (framed : Bool) (kit text : List ℕ) where
-  pub long-kit_stops : most-input < length kit → StartIs (Err (record { rule = 13; place = 1 })) framed kit text
+module _ (kind : Text) (kit text : List ℕ) where
+  pub long-kit_stops : most-input < length kit → StartIs (Err (record { rule = 13; place = 1 })) kind kit text
   unfolding StartIs start_rule
-  long-kit_stops h = then_refused (input_rule kit text) (scan_kit kit then kit_rule framed kit text) 13 1 (long-kit kit text h)
+  long-kit_stops h = then_refused (input_rule kit text) (scan_kit kit then kit_rule kind kit text) 13 1 (long-kit kit text h)
 
-  pub long-text_stops : length kit ≤ most-input → most-input < length text → StartIs (Err (record { rule = 13; place = 2 })) framed kit text
+  pub long-text_stops : length kit ≤ most-input → most-input < length text → StartIs (Err (record { rule = 13; place = 2 })) kind kit text
   unfolding StartIs start_rule
-  long-text_stops a h = then_refused (input_rule kit text) (scan_kit kit then kit_rule framed kit text) 13 2 (long-text kit text a h)
+  long-text_stops a h = then_refused (input_rule kit text) (scan_kit kit then kit_rule kind kit text) 13 2 (long-text kit text a h)
 
 -- ---- the kit
 
@@ -68,55 +66,44 @@ module _ (kit text : List ℕ) (a : length kit ≤ most-input) (b : length text 
         allowed = g.4;
       }
 
-  module _ (framed : Bool) where
-    pub kit_stops : (e' : TextError) (j : Judged) → x ≡ Err e' → j ≡ judged_of (error_verdict 11 e') → StartIs (Err j) framed kit text
+  module _ (kind : Text) where
+    pub kit_stops : (e' : TextError) (j : Judged) → x ≡ Err e' → j ≡ judged_of (error_verdict 11 e') → StartIs (Err j) kind kit text
     unfolding kit_scan_verdict StartIs start_rule
     kit_stops e' j f g =
-        then_on (input_rule kit text) (scan_kit kit then kit_rule framed kit text) (refused j.rule j.place) (short_inputs kit text a b)
-        (then_refused (scan_kit kit) (kit_rule framed kit text) j.rule j.place (sym e ∙ ap kit_scan_verdict f ∙ error_judged 11 e' j g))
+        then_on (input_rule kit text) (scan_kit kit then kit_rule kind kit text) (refused j.rule j.place) (short_inputs kit text a b)
+        (then_refused (scan_kit kit) (kit_rule kind kit text) j.rule j.place (sym e ∙ ap kit_scan_verdict f ∙ error_judged 11 e' j g))
 
 -- ---- the text
 
-module _ (framed : Bool) (d : Design) (text : List ℕ) (x : Result ℕ TextError) where
-  pub told_framed : framed ≡ true → (blocks_verdict x ≡ frame_rule d.size (d.m * d.t) text) × CountIs x (frame_count d.size (d.m * d.t) text)
-      → (blocks_verdict x ≡ text_rule framed d.size (d.m * d.t) text) × CountIs x (text_count framed d.size (d.m * d.t) text)
-  unfolding text_rule text_count
-  told_framed e t = rw e t
-
-  pub told_bare : framed ≡ false → (blocks_verdict x ≡ block_rule d.size text) × CountIs x (block_count d.size text)
-      → (blocks_verdict x ≡ text_rule framed d.size (d.m * d.t) text) × CountIs x (text_count framed d.size (d.m * d.t) text)
-  unfolding text_rule text_count
-  told_bare e t = rw e t
-
 -- the design's numbers are the kit's
-same_rule : (framed : Bool) (d : Design) (kit text : List ℕ) → Started d kit text → text_rule framed d.size (d.m * d.t) text ≡ kit_rule framed kit text
-same_rule framed d kit text S = rw (S.m-is, S.t-is, S.M-is)
+same_rule : (kind : Text) (d : Design) (kit text : List ℕ) → Started d kit text → text_rule kind d.size (d.m * d.t) text ≡ kit_rule kind kit text
+same_rule kind d kit text S = rw (S.m-is, S.t-is, S.M-is)
 
 -- the rules before the call, behind a kit that was scanned
-pub behind-kit : (framed : Bool) (d : Design) (kit text : List ℕ) (v : Verdict) → Started d kit text → text_rule framed d.size (d.m * d.t) text ≡ v
-    → start_rule framed kit text ≡ v
+pub behind-kit : (kind : Text) (d : Design) (kit text : List ℕ) (v : Verdict) → Started d kit text → text_rule kind d.size (d.m * d.t) text ≡ v
+    → start_rule kind kit text ≡ v
 unfolding start_rule
-behind-kit framed d kit text v S e =
-    then_on (input_rule kit text) (scan_kit kit then kit_rule framed kit text) v (short_inputs kit text S.kit-short S.text-short)
-    (then_on (scan_kit kit) (kit_rule framed kit text) v S.read (sym (same_rule framed d kit text S) ∙ e))
+behind-kit kind d kit text v S e =
+    then_on (input_rule kit text) (scan_kit kit then kit_rule kind kit text) v (short_inputs kit text S.kit-short S.text-short)
+    (then_on (scan_kit kit) (kit_rule kind kit text) v S.read (sym (same_rule kind d kit text S) ∙ e))
 
-module _ (framed : Bool) (d : Design) (kit text : List ℕ) (S : Started d kit text) (x : Result ℕ TextError)
-    (e : blocks_verdict x ≡ text_rule framed d.size (d.m * d.t) text) where
-  pub text_goes : (L : ℕ) → x ≡ Ok L → CountIs x (text_count framed d.size (d.m * d.t) text) → StartIs (Ok (d, L)) framed kit text
+module _ (kind : Text) (d : Design) (kit text : List ℕ) (S : Started d kit text) (x : Result ℕ TextError)
+    (e : blocks_verdict x ≡ text_rule kind d.size (d.m * d.t) text) where
+  pub text_goes : (L : ℕ) → x ≡ Ok L → CountIs x (text_count kind d.size (d.m * d.t) text) → StartIs (Ok (d, L)) kind kit text
   unfolding StartIs blocks_verdict CountIs
   text_goes L f n = record { started = S; accepts = sym e ∙ ap blocks_verdict f; count = rw f at n }
 
-  pub text_stops : (e' : TextError) (j : Judged) → x ≡ Err e' → j ≡ judged_of (error_verdict 12 e') → StartIs (Err j) framed kit text
+  pub text_stops : (e' : TextError) (j : Judged) → x ≡ Err e' → j ≡ judged_of (error_verdict 12 e') → StartIs (Err j) kind kit text
   unfolding StartIs blocks_verdict
-  text_stops e' j f g = behind-kit framed d kit text (refused j.rule j.place) S (sym e ∙ ap blocks_verdict f ∙ error_judged 12 e' j g)
+  text_stops e' j f g = behind-kit kind d kit text (refused j.rule j.place) S (sym e ∙ ap blocks_verdict f ∙ error_judged 12 e' j g)
 
 -- ---- what a start says
 
-module _ (framed : Bool) (kit text : List ℕ) (x : Result (Design × ℕ) Judged) (s : StartIs x framed kit text) where
-  pub begun_goes : (d : Design) (L : ℕ) → x ≡ Ok (d, L) → Scanned framed d L kit text
+module _ (kind : Text) (kit text : List ℕ) (x : Result (Design × ℕ) Judged) (s : StartIs x kind kit text) where
+  pub begun_goes : (d : Design) (L : ℕ) → x ≡ Ok (d, L) → Scanned kind d L kit text
   unfolding StartIs
   begun_goes d L e = rw e at s
 
-  pub begun_stops : (j : Judged) → x ≡ Err j → start_rule framed kit text ≡ refused j.rule j.place
+  pub begun_stops : (j : Judged) → x ≡ Err j → start_rule kind kit text ≡ refused j.rule j.place
   unfolding StartIs
   begun_stops j e = rw e at s

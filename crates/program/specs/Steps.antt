@@ -1,6 +1,5 @@
--- What the steps of a program hand on. A text that is framed is frame text, block text followed by group text, which `mend` reads; one that is not
--- is block text, which `frame` reads.
---   text_rule, text_count       rule 12 and the number of blocks, of a text that is framed or not
+-- What the steps of a program hand on. `frame` reads block text, `mend` frame text, which is block text followed by group text.
+--   text_rule, text_count       rule 12 and the number of blocks, of the one text or the other
 --   start_rule                 the rules before a program's call
 --   Started                   both inputs are short enough and the kit text is accepted, with the design d
 --   Scanned                   and the text is accepted, with L blocks
@@ -11,7 +10,7 @@
 --   FrameReady, MendReady     the same for `frame` with the encoder and for `mend` with the decoder
 --   GroupsFit, FrameSized      a frame whose groups, or all, are printed: what is printed has room
 -- Assumes nothing.
-use Rattle.std.specs.Prelude.{◌≡◌, Bool, true, false, List, ℕ, ◌+◌, ◌*◌, ◌≤◌, length, take, Result, Ok, Err}
+use Rattle.std.specs.Prelude.{◌≡◌, List, ℕ, ◌+◌, ◌*◌, ◌≤◌, length, take, Result, Ok, Err}
 use Rattle.staircase.specs.Design.{most-blocks}
 use Rattle.staircase.specs.Frame.{groups}
 use Rattle.staircase.specs.System.{row_bytes}
@@ -24,23 +23,25 @@ use Rattle.text.specs.KitReader.{head_number, scan_kit}
 use Rattle.text.specs.FrameReader.{block_rule, block_count, frame_rule, frame_count}
 use Rattle.text.specs.Programs.{most-input, input_rule}
 use Rattle.program.specs.declared.Sizes.{Sizes}
+use Rattle.program.specs.declared.Text.{Text}
+use Rattle.program.specs.declared.Text.TheVariants.{Blocks, Frame}
 use Rattle.rules_verdict.specs.declared.Judged.{Judged}
 
 -- ---- the text
 
-unfoldable pub text_rule : Bool → ℕ → ℕ → List ℕ → Verdict
-text_rule true M r s = frame_rule M r s
-text_rule false M r s = block_rule M s
+unfoldable pub text_rule : Text → ℕ → ℕ → List ℕ → Verdict
+text_rule Blocks M r s = block_rule M s
+text_rule Frame M r s = frame_rule M r s
 
-unfoldable pub text_count : Bool → ℕ → ℕ → List ℕ → ℕ
-text_count true M r s = frame_count M r s
-text_count false M r s = block_count M s
+unfoldable pub text_count : Text → ℕ → ℕ → List ℕ → ℕ
+text_count Blocks M r s = block_count M s
+text_count Frame M r s = frame_count M r s
 
 -- ---- what is known before the call
 
-unfoldable pub start_rule : Bool → List ℕ → List ℕ → Verdict
-start_rule framed kit text =
-    input_rule kit text then scan_kit kit then text_rule framed (head_number kit 2) (head_number kit 0 * head_number kit 1) text
+unfoldable pub start_rule : Text → List ℕ → List ℕ → Verdict
+start_rule kind kit text =
+    input_rule kit text then scan_kit kit then text_rule kind (head_number kit 2) (head_number kit 0 * head_number kit 1) text
 
 pub record Started (d : Design) (kit text : List ℕ) : Type 0 where
   pub kit-short : length kit ≤ most-input
@@ -52,14 +53,14 @@ pub record Started (d : Design) (kit text : List ℕ) : Type 0 where
   pub col-is : d.col ≡ 0
   pub allowed : Allowed d
 
-pub record Scanned (framed : Bool) (d : Design) (L : ℕ) (kit text : List ℕ) : Type 0 where
+pub record Scanned (kind : Text) (d : Design) (L : ℕ) (kit text : List ℕ) : Type 0 where
   pub started : Started d kit text
-  pub accepts : text_rule framed d.size (d.m * d.t) text ≡ accepted
-  pub count : L ≡ text_count framed d.size (d.m * d.t) text
+  pub accepts : text_rule kind d.size (d.m * d.t) text ≡ accepted
+  pub count : L ≡ text_count kind d.size (d.m * d.t) text
 
-unfoldable pub StartIs : Result (Design × ℕ) Judged → Bool → List ℕ → List ℕ → Type 0
-StartIs (Ok (d, L)) framed kit text = Scanned framed d L kit text
-StartIs (Err j) framed kit text = start_rule framed kit text ≡ refused j.rule j.place
+unfoldable pub StartIs : Result (Design × ℕ) Judged → Text → List ℕ → List ℕ → Type 0
+StartIs (Ok (d, L)) kind kit text = Scanned kind d L kit text
+StartIs (Err j) kind kit text = start_rule kind kit text ≡ refused j.rule j.place
 
 -- ---- what is lent
 
@@ -74,8 +75,8 @@ pub record SizesAre (s : Sizes) (d : Design) (L : ℕ) : Type 0 where
 abbrev pub RoomFor : ℕ → List ℕ → Type 0
 RoomFor n a = (n ≤ length a) × (n ≡ length (take n a))
 
-pub record ProgramReady (framed : Bool) (due : ℕ) (d : Design) (L : ℕ) (kit text : List ℕ) (own parity inverse info red work : ℕ) : Type 0 where
-  pub scanned : Scanned framed d L kit text
+pub record ProgramReady (kind : Text) (due : ℕ) (d : Design) (L : ℕ) (kit text : List ℕ) (own parity inverse info red work : ℕ) : Type 0 where
+  pub scanned : Scanned kind d L kit text
   pub own-length : own ≡ 2 * order_of d
   pub parity-length : parity ≡ 2 * order_of d
   pub inverse-length : inverse ≡ order_of d * row_bytes (order_of d)
@@ -85,10 +86,10 @@ pub record ProgramReady (framed : Bool) (due : ℕ) (d : Design) (L : ℕ) (kit 
 
 abbrev pub FrameReady : Design → ℕ → List ℕ → List ℕ → ℕ → ℕ → ℕ → ℕ → ℕ → ℕ → Type 0
 FrameReady d L kit text own parity inverse info red work =
-    ProgramReady false (order_of d * row_bytes (order_of d)) d L kit text own parity inverse info red work
+    ProgramReady Blocks (order_of d * row_bytes (order_of d)) d L kit text own parity inverse info red work
 
 abbrev pub MendReady : Design → ℕ → List ℕ → List ℕ → ℕ → ℕ → ℕ → ℕ → ℕ → ℕ → Type 0
-MendReady d L kit text own parity inverse info red work = ProgramReady true (decoder_work (params_of d) L) d L kit text own parity inverse info red work
+MendReady d L kit text own parity inverse info red work = ProgramReady Frame (decoder_work (params_of d) L) d L kit text own parity inverse info red work
 
 -- ---- what is printed
 

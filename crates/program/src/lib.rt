@@ -1,11 +1,13 @@
 // What the programs share. What each prints is defined in Programs and MakeKit of the crate `text`, for every kit.txt and every standard input; the
 // crates `program_frame`, `program_mend` and `program_makekit` make it, and the programs themselves only read their inputs and write it.
 //   MOST_INPUT, MOST_OUTPUT                the bytes that an input and an output may have
-//   begin(kit, text, framed)               rule 13 for both inputs, then the kit, then the text: the design and the number of blocks, or a refusal
+//   Text                                   which text a program reads
+//   begin(kit, text, kind)                 rule 13 for both inputs, then the kit, then the text: the design and the number of blocks, or a refusal
 //   judge_error(rule, e)                   the number and place of a text's error
 //   sizes_of(d, blocks)                    the lengths that readers and calls are lent
 //   list_bytes, matrix_bytes, text_bits    arrays of fixed lengths, for so many bytes
 //   put_refusal(out, rule, place)          a refusal's two lines
+//   put_refused(out, r)                    those of what a call refused
 //
 // Kit and text are scanned before anything is lent, since the design and the number of blocks say how much to lend: a kit text of at most 32,768
 // bytes has at most 181 rows, though its design may name 4,090. Then the readers and the call are lent parts of fixed arrays that fit. So every refusal
@@ -14,14 +16,15 @@
 
 ghost use Rattle.std.specs.Prelude.{◌≡◌, List, ℕ, ◌*◌, ◌≤◌, length};
 ghost use Rattle.staircase.specs.Design.{most-blocks};
-ghost use Rattle.text.specs.Programs.{refusal_text, most-input};
+ghost use Rattle.answers.specs.Answers.{refusal_verdict};
+ghost use Rattle.text.specs.Programs.{refusal_text, printed, most-input};
 ghost use Rattle.rules_verdict.specs.Number.{judged_of};
 ghost use Rattle.text_items.specs.Answers.{error_verdict};
 ghost use Rattle.text_frame.specs.Answers.{blocks_verdict, CountIs};
 ghost use Rattle.program.specs.Output.{Printed, most-output};
 ghost use Rattle.program.specs.Steps.{text_rule, text_count, Started, StartIs, SizesAre, RoomFor};
 
-use answers::TextError;
+use answers::{Refusal, TextError};
 use design::Design;
 use rules_verdict::Judged;
 
@@ -31,8 +34,15 @@ pub const MOST_INPUT: usize = 32768;
 // No output of a program is longer.
 pub const MOST_OUTPUT: usize = 262144;
 
+// The text that a program reads: block text, or frame text, which is block text followed by group text.
+#[derive(Clone, Copy, Debug, PartialEq, Eq)]
+pub enum Text {
+    Blocks,
+    Frame,
+}
+
 // M × r, and the bytes of a list, of the inverse, of the information and of the redundancy.
-#[derive(Clone, Copy)]
+#[derive(Clone, Copy, Debug, PartialEq, Eq)]
 pub struct Sizes {
     pub order: usize,
     pub list: usize,
@@ -41,15 +51,16 @@ pub struct Sizes {
     pub red: usize,
 }
 
-// Rule 12 for a text: frame text where it is framed, else block text.
-fn scan_text(text: &[u8], d: Design, framed: bool) -> Result<u64, TextError>
-    ensures result_value { blocks_verdict result ≡ text_rule framed d.size (d.m * d.t) text.now }
-    ensures count_is { CountIs result (text_count framed d.size (d.m * d.t) text.now) }
+// Rule 12 for a text.
+#[tactic(auto, unfolding(crate::specs::Steps::text_rule, crate::specs::Steps::text_count))]
+fn scan_text(text: &[u8], d: Design, kind: Text) -> Result<u64, TextError>
+    ensures result_value { blocks_verdict result ≡ text_rule kind d.size (d.m * d.t) text.now }
+    ensures count_is { CountIs result (text_count kind d.size (d.m * d.t) text.now) }
 {
-    if framed {
-        return text_frame::scan_frame(text, d);
+    match kind {
+        Text::Blocks => text_frame::scan_blocks(text, d),
+        Text::Frame => text_frame::scan_frame(text, d),
     }
-    text_frame::scan_blocks(text, d)
 }
 
 // The number and place of a text's error, for the rule of the text's format.
@@ -63,19 +74,19 @@ pub fn judge_error(rule: u64, e: TextError) -> Judged
 }
 
 // The text, behind a kit that was scanned.
-fn begin_text(text: &[u8], d: Design, framed: bool) -> Result<(Design, u64), Judged>
-    ensures { (kit : List ℕ) → Started d kit text.now → StartIs result framed kit text.now }
+fn begin_text(text: &[u8], d: Design, kind: Text) -> Result<(Design, u64), Judged>
+    ensures { (kit : List ℕ) → Started d kit text.now → StartIs result kind kit text.now }
 {
     // kept as a match: behind map_err no answer could name what the closure gives
-    match scan_text(text, d, framed) {
+    match scan_text(text, d, kind) {
         Ok(blocks) => Ok((d, blocks)),
         Err(e) => Err(judge_error(12, e)),
     }
 }
 
 // Rule 13 for both inputs, then the kit, then the text: the design and the number of blocks, or the number and place of a refusal.
-pub fn begin(kit: &[u8], text: &[u8], framed: bool) -> Result<(Design, u64), Judged>
-    ensures { StartIs result framed kit.now text.now }
+pub fn begin(kit: &[u8], text: &[u8], kind: Text) -> Result<(Design, u64), Judged>
+    ensures { StartIs result kind kit.now text.now }
 {
     if MOST_INPUT < kit.len() {
         return Err(Judged { rule: 13, place: 1 });
@@ -84,7 +95,7 @@ pub fn begin(kit: &[u8], text: &[u8], framed: bool) -> Result<(Design, u64), Jud
         return Err(Judged { rule: 13, place: 2 });
     }
     match text_kit::scan_kit(kit) {
-        Ok(d) => begin_text(text, d, framed),
+        Ok(d) => begin_text(text, d, kind),
         Err(e) => Err(judge_error(11, e)),
     }
 }
@@ -137,4 +148,13 @@ pub fn put_refusal(out: &mut [u8], rule: u64, place: u64) -> usize
     ensures { Printed (refusal_text rule place) result out.old out.new }
 {
     text_write::refusal_lines(out, 0, rule, place)
+}
+
+// The same for what a call refused, in the place of any text.
+pub fn put_refused(out: &mut [u8], r: Refusal) -> usize
+    requires { most-output ≤ length out.old }
+    ensures { (t : List ℕ) → Printed (printed (refusal_verdict r) t) result out.old out.new }
+{
+    let judged = Judged::from(r);
+    put_refusal(out, judged.rule, judged.place)
 }

@@ -1,6 +1,6 @@
 -- What `frame` prints.
 --   frame_stopped                          the refusal of a rule before the call
---   group-bits .. passed-groups            the groups that are printed
+--   groups-room, passed-groups             the groups that are printed
 --   groups-fit                             they have room behind a text that was scanned
 --   blocks_read                            the blocks are read
 --   frame-printed                          what the encoder's answer prints is what `frame` prints
@@ -11,7 +11,6 @@ use Rattle.answers.specs.declared.TextError.{TextError}
 use Rattle.text_frame.specs.Answers.{blocks_verdict}
 use Rattle.text_frame.proofs.Answering.{blocks_accepted}
 use mathlib.Core.Path.{◌≡◌, refl, sym, ap, ap₂, ◌∙◌}
-use mathlib.Core.Bool.{false}
 use mathlib.Core.List.{List}
 use Prim.Native.Nat.{ℕ, ◌+◌, ◌*◌, ◌≤◌}
 use native.Mathlib.Omega.{arith}
@@ -33,6 +32,7 @@ use Rattle.text.specs.FrameReader.{block_rule, block_count, block_info, read_blo
 use Rattle.text.proofs.FramePromises.{blocks-left}
 use Rattle.staircase.proofs.Rules.{then_accepted, length-accepted}
 use Rattle.program.specs.Output.{most-output}
+use Rattle.program.specs.declared.Text.TheVariants.{Blocks}
 use Rattle.program.specs.Steps.{text_rule, start_rule, Started, Scanned, FrameReady, GroupsFit}
 use Rattle.text.proofs.Programs.{stopped, called}
 use Rattle.program.proofs.Starting.{behind-kit}
@@ -40,17 +40,17 @@ use Rattle.program.proofs.ProgramReady.{order_is, kit-left, blocks-scanned, few-
 
 -- ---- before the call
 
-pub frame_stopped : (kit text : List ℕ) (rule place : ℕ) → start_rule false kit text ≡ refused rule place → frame_output kit text ≡ refusal_text rule place
+pub frame_stopped : (kit text : List ℕ) (rule place : ℕ) → start_rule Blocks kit text ≡ refused rule place → frame_output kit text ≡ refusal_text rule place
 unfolding frame_output start_rule text_rule
 frame_stopped kit text rule place e = stopped kit text (block_rule (head_number kit 2) text) (frame_call kit text).verdict _ rule place e
 
 -- ---- the groups
 
 module _ (d : Design) (L : ℕ) (red : List ℕ) (F : GroupsFit d L (length red)) (G n : ℕ) (g : G ≡ groups L) (e : n ≡ d.size * (d.m * d.t)) where
-  pub group-bits : length red ≡ G * (2 * n)
+  group-bits : length red ≡ G * (2 * n)
   group-bits = F.red-length ∙ rw (g, e)
 
-  pub few-groups : G ≤ most-blocks
+  few-groups : G ≤ most-blocks
   few-groups = omega (arith, F.few)
 
   pub groups-room : (room : ℕ) → most-output ≤ room → 0 + length (group_text n G red) ≤ room
@@ -66,9 +66,9 @@ pub groups-fit : (d : Design) (L : ℕ) (kit text : List ℕ) (own parity invers
     → (q : ℕ) → q ≡ red → GroupsFit d L q
 groups-fit d L kit text own parity inverse info red work F q e =
     record {
-      few = few-blocks false d L kit text F.scanned;
+      few = few-blocks Blocks d L kit text F.scanned;
       red-length = e ∙ F.red-length;
-      short = omega (arith, F.red-length, red-short false d L kit text F.scanned);
+      short = omega (arith, F.red-length, red-short Blocks d L kit text F.scanned);
     }
 
 -- ---- the text is read
@@ -84,13 +84,13 @@ blocks_read d L kit text info own parity inverse red work F x e =
 
 -- ---- the call
 
-called_by : (d : Design) (L : ℕ) (kit text : List ℕ) → Scanned false d L kit text
+called_by : (d : Design) (L : ℕ) (kit text : List ℕ) → Scanned Blocks d L kit text
     → frame_output kit text ≡ printed (frame_call kit text).verdict (group_text (order_of d) (groups L) (frame_call kit text).red)
 unfolding frame_output start_rule text_rule
 called_by d L kit text B =
     let S = B.started in
     let c = (blocks-scanned d L kit text B).1 in
-    called kit text (block_rule (head_number kit 2) text) (frame_call kit text).verdict _ (behind-kit false d kit text accepted S B.accepts)
+    called kit text (block_rule (head_number kit 2) text) (frame_call kit text).verdict _ (behind-kit Blocks d kit text accepted S B.accepts)
     ∙ rw (order_is d kit text S, c, S.M-is)
 
 -- the old redundancy is measured and not looked at

@@ -2,18 +2,19 @@
 //   frame_output(kit, text, out)   for the bytes of kit.txt and a block text
 #![tactic(auto)]
 
-ghost use Rattle.std.specs.Prelude.{false, ◌≤◌, length};
+ghost use Rattle.std.specs.Prelude.{◌≤◌, length};
 ghost use Rattle.staircase.specs.Frame.{groups};
 ghost use Rattle.answers.specs.Answers.{verdict_of};
 ghost use Rattle.design.specs.Sizes.{order_of};
 ghost use Rattle.text.specs.FrameText.{group_text};
 ghost use Rattle.program.specs.Output.{Printed, most-output, Output};
 ghost use Rattle.text.specs.Programs.{printed, frame_output};
+ghost use Rattle.program.specs.declared.Text.TheVariants.{Blocks};
 ghost use Rattle.program.specs.Steps.{Scanned, RoomFor, FrameReady, GroupsFit};
 
 use answers::Refusal;
 use design::Design;
-use rules_verdict::Judged;
+use program::Text;
 
 // Redundancy of as many groups as the longest block text has. Only its room is told: at most 8,192 rows of blocks with r of at most 30 bits each, and
 // M × r, at most 181, more where the number of blocks is odd.
@@ -37,10 +38,7 @@ fn put_encoded(
     ensures { Printed (printed (verdict_of made) (group_text (order_of d) (groups blocks) red.now)) result out.old out.new }
 {
     match made {
-        Err(r) => {
-            let judged = Judged::from(r);
-            program::put_refusal(out, judged.rule, judged.place)
-        }
+        Err(r) => program::put_refused(out, r),
         Ok(()) => {
             let groups = design::group_count(blocks);
             text_lines::put_groups(out, 0, d.order(), groups as usize, red)
@@ -85,8 +83,9 @@ fn frame_call(
 }
 
 // The arrays that the call is lent.
+// kept beside that of `mend`: a closure lent the three arrays both share has a contract longer than they are
 fn frame_arrays(kit: &[u8], text: &[u8], d: Design, blocks: u64, out: &mut [u8]) -> usize
-    requires scanned { Scanned false d blocks kit.now text.now }
+    requires scanned { Scanned Blocks d blocks kit.now text.now }
     requires most_output_in_bounds { most-output ≤ length out.old }
     ensures { Printed (frame_output kit.now text.now) result out.old out.new }
 {
@@ -113,11 +112,12 @@ fn frame_arrays(kit: &[u8], text: &[u8], d: Design, blocks: u64, out: &mut [u8])
 }
 
 // Both inputs, and what `frame` prints of them, for which there is room.
+// kept beside that of `mend`: a closure for the call has a contract for every design and number of blocks
 fn frame_inputs(kit: &[u8], text: &[u8], out: &mut [u8]) -> usize
     requires { most-output ≤ length out.old }
     ensures { Printed (frame_output kit.now text.now) result out.old out.new }
 {
-    match program::begin(kit, text, false) {
+    match program::begin(kit, text, Text::Blocks) {
         Ok((d, blocks)) => frame_arrays(kit, text, d, blocks, out),
         Err(judged) => program::put_refusal(out, judged.rule, judged.place),
     }

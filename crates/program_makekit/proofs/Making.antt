@@ -1,10 +1,9 @@
 -- The steps of `makekit`, as the code has them.
 --   front_starts, front_error                 the two lines
 --   lists_broken, lists-read                  the lists' lines
---   lists-fit, fill_fits                      the lists' arrays have room
 --   kit_shown                                 what is printed for the lists that were filled
 --   long-prints                               rule 13 for the kit's text
---   inverse-room, work-room, make_ready       the arrays have room for the maker
+--   inverse-room, make_ready                  the arrays have room for the maker
 --   made-prints                               what the maker's answer prints is what is printed for the lists
 --   write-part .. kit-printed                 the text that is written
 -- Assumes nothing.
@@ -19,8 +18,7 @@ use lib.Dec.{ltb}
 use lib.ListN.{length, replicate, length-replicate, take, drop}
 use lib.Seq.{sets, sets-eq, length-take-le}
 use Rattle.text_formats.specs.Format as format
-use Rattle.text_formats.specs.Items.{walk, values, Passes, scan_at}
-use Rattle.staircase.specs.Design.{most-order}
+use Rattle.text_formats.specs.Items.{walk, values, scan_at}
 use Rattle.staircase.specs.System.{row_bytes}
 use Rattle.staircase.specs.Demand2.{FitsOrder}
 use Rattle.staircase.specs.Rules.{Verdict, refuse, kit_lengths}
@@ -48,7 +46,7 @@ use Rattle.program.specs.Output.{Printed, most-output}
 use Rattle.program.proofs.Bounds.{few-rows}
 use Rattle.program.proofs.Printing.{printed-text}
 use Rattle.program.proofs.Starting.{error_judged}
-use Rattle.program_makekit.specs.Steps.{kit_made, kit_output, Fronted, Listed, ListsFit, Measured, MakeReady, WriteReady}
+use Rattle.program_makekit.specs.Steps.{kit_made, kit_output, Fronted, Listed, Measured, MakeReady, WriteReady}
 use Rattle.text.proofs.MakeKitLaws.{front-refused, lists-refused, behind-lists, lists-accepted, self-values, parity-values, rows-below}
 use Rattle.answers.specs.Answers.{verdict_of}
 
@@ -102,19 +100,6 @@ module _ (d : Design) (i : ℕ) (s : List ℕ) (L : Listed d i s) where
       let b : parity ≡ parity_shown s = ep ∙ ap (λ (k : ℕ). packs (seconds (vs k))) en ∙ sym (parity-values s Shown L.shows) in
       output_shown ∙ rw (a, b, L.fronted.m-is, L.fronted.t-is, L.fronted.M-is)
 
-  -- the arrays have room for the lists
-  pub lists-fit : (n : ℕ) (own parity : List ℕ) → n ≡ order_of d → 2 * n ≡ length own → 2 * n ≡ length parity → ListsFit d own parity
-  lists-fit n own parity en eo ep =
-      record {
-        allowed = L.fronted.allowed;
-        own-length = sym eo ∙ ap (λ (k : ℕ). 2 * k) en;
-        parity-length = sym ep ∙ ap (λ (k : ℕ). 2 * k) en;
-      }
-
-pub fill_fits : (d : Design) (i : ℕ) (s own parity : List ℕ) → Listed d i s × ListsFit d own parity → (n : ℕ) → n ≡ order_of d
-    → (n ≤ most-order) × (Passes (walk (pair_lines 0 n) s i) × ((length own ≡ 2 * n) × (length parity ≡ 2 * n)))
-fill_fits d i s own parity (L, F) n en = rw en (F.allowed.order-high, (L.right, (F.own-length, F.parity-length)))
-
 -- ---- the length of the kit's text
 
 pub long-prints : (m t M : ℕ) (own parity : List ℕ) (long : ℕ) → long ≡ text_length m t M own parity → most-input < long
@@ -152,13 +137,6 @@ module _ (d : Design) (own parity : List ℕ) (long : ℕ) (S : Measured d own p
         let a : n ≤ 181 = omega (arith, few-entries, en) in
         let b : w ≤ 23 = few_bytes in
         let c : n * w ≤ 181 * 23 = mul-le-mul a b in
-        omega arith
-
-    pub work-room : (2 * n + 512) * w ≤ 20102
-    work-room =
-        let a : 2 * n + 512 ≤ 874 = omega (arith, few-entries, en) in
-        let b : w ≤ 23 = few_bytes in
-        let c : (2 * n + 512) * w ≤ 874 * 23 = mul-le-mul a b in
         omega arith
 
     pub make_ready : (inverse work : ℕ) → n * w ≡ inverse → (2 * n + 512) * w ≡ work → MakeReady d own parity long inverse work
@@ -216,7 +194,7 @@ module _ (d : Design) (own parity : List ℕ) (long : ℕ) (inverse : List ℕ) 
   write_room o h = omega (arith, R.measured.short)
 
   -- the first bytes of a buffer
-  pub write_part : (o : List ℕ) → most-output ≤ length o → long ≡ length (take long o)
+  write_part : (o : List ℕ) → most-output ≤ length o → long ≡ length (take long o)
   write_part o h = sym (length-take-le long o (write_room o h))
 
   pub write_fits : (o : List ℕ) → most-output ≤ length o

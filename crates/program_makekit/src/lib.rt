@@ -16,7 +16,6 @@ ghost use Rattle.program_makekit.specs.Steps.{kit_output, Fronted, Listed, Lists
 
 use answers::Refusal;
 use design::Design;
-use rules_verdict::Judged;
 
 // Two bytes for each of at most 4,096 entries of a list. Only their room is told.
 fn list_bytes(n: usize) -> [u8; 8192]
@@ -51,10 +50,7 @@ fn put_made(
         out.new }
 {
     match made {
-        Err(r) => {
-            let judged = Judged::from(r);
-            program::put_refusal(out, judged.rule, judged.place)
-        }
+        Err(r) => program::put_refused(out, r),
         Ok(()) => {
             text_kit_write::put_kit(d, own, parity, inverse, &mut out[..long]);
             long

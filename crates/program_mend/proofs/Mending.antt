@@ -1,6 +1,6 @@
 -- What `mend` prints.
 --   mend_stopped                   the refusal of a rule before the call
---   block-bits .. lines-printed    both texts of a corrected frame and the counts, one after the other
+--   block_room .. lines-printed    both texts of a corrected frame and the counts, one after the other
 --   frame-fits                     they have room behind a text that was scanned
 --   frame_read                     it is read
 --   red-room, work-room            the redundancy that such a text shows, and the decoder's working bytes
@@ -12,7 +12,6 @@ use Rattle.answers.specs.declared.TextError.{TextError}
 use Rattle.text_frame.specs.Answers.{blocks_verdict}
 use Rattle.text_frame.proofs.Answering.{blocks_accepted}
 use mathlib.Core.Path.{◌≡◌, sym, ap, ◌∙◌}
-use mathlib.Core.Bool.{true}
 use mathlib.Core.List.{List, ◌++◌}
 use Prim.Native.Nat.{ℕ, ◌+◌, ◌*◌, ◌≤◌}
 use native.Mathlib.Omega.{arith}
@@ -28,8 +27,6 @@ use Rattle.design.specs.declared.Design.{Design}
 use Rattle.answers.specs.declared.Refusal.{Refusal}
 use Rattle.answers.specs.Answers.{refusal_verdict, refused_frame, corrected_of}
 use Rattle.design.specs.Sizes.{params_of, order_of}
-use Rattle.rules_verdict.specs.declared.Judged.{Judged}
-use Rattle.rules_verdict.specs.Number.{judged_of}
 use Rattle.answers.specs.declared.Counts.{Counts}
 use Rattle.text.specs.FrameText.{block_text, group_text}
 use Rattle.text.specs.Programs.{refusal_text, counts_text, most-input, printed, mend_call, mend_text, mend_output}
@@ -44,22 +41,23 @@ use Rattle.text.specs.FrameReader.{frame_rule, frame_count, read_frame_call}
 use Rattle.text.proofs.FramePromises.{frame_holds, frame-left}
 use Rattle.staircase.proofs.Rules.{then_accepted, length-accepted}
 use Rattle.program.specs.Output.{Printed, most-output}
+use Rattle.program.specs.declared.Text.TheVariants.{Frame as Framed}
 use Rattle.program.specs.Steps.{text_rule, start_rule, Scanned, SizesAre, MendReady, FrameSized}
 use Rattle.program.specs.declared.Sizes.{Sizes}
 use Rattle.text.proofs.Programs.{stopped, called}
-use Rattle.program.proofs.Printing.{printed_as, printed-refused}
+use Rattle.program.proofs.Printing.{printed_as}
 use Rattle.program.proofs.Starting.{behind-kit}
 use Rattle.program.proofs.ProgramReady.{order_is, few-entries, kit-left, frame-scanned, few-blocks}
 
 -- ---- before the call
 
-pub mend_stopped : (kit text : List ℕ) (rule place : ℕ) → start_rule true kit text ≡ refused rule place → mend_output kit text ≡ refusal_text rule place
+pub mend_stopped : (kit text : List ℕ) (rule place : ℕ) → start_rule Framed kit text ≡ refused rule place → mend_output kit text ≡ refusal_text rule place
 unfolding mend_output start_rule text_rule
 mend_stopped kit text rule place e =
     stopped kit text (frame_rule (head_number kit 2) (head_number kit 0 * head_number kit 1) text) (mend_call kit text).verdict _ rule place e
 
 -- a frame's bits are no more than its text's bytes
-short : (d : Design) (L : ℕ) (kit text : List ℕ) → Scanned true d L kit text → L * (d.size * d.size) + groups L * (2 * order_of d) ≤ most-input
+short : (d : Design) (L : ℕ) (kit text : List ℕ) → Scanned Framed d L kit text → L * (d.size * d.size) + groups L * (2 * order_of d) ≤ most-input
 short d L kit text B =
     let (a, c) = frame-scanned d L kit text B in
     let r : ℕ = d.m * d.t in
@@ -68,10 +66,10 @@ short d L kit text B =
     rw (ap (λ (k : ℕ). k * (d.size * d.size + 3) + groups k * (2 * (d.size * r) + 4)) c) h.text-length in
     omega (arith, t, B.started.text-short, mul-add L (d.size * d.size) 3, mul-add (groups L) (2 * (d.size * r)) 4)
 
-pub red-room : (d : Design) (L : ℕ) (kit text : List ℕ) → Scanned true d L kit text → (s : Sizes) → SizesAre s d L → s.red ≤ most-input
+pub red-room : (d : Design) (L : ℕ) (kit text : List ℕ) → Scanned Framed d L kit text → (s : Sizes) → SizesAre s d L → s.red ≤ most-input
 red-room d L kit text B s z = omega (arith, z.red-is, short d L kit text B)
 
-pub work-room : (d : Design) (L : ℕ) (kit text : List ℕ) → Scanned true d L kit text → decoder_work (params_of d) L ≤ 37045
+pub work-room : (d : Design) (L : ℕ) (kit text : List ℕ) → Scanned Framed d L kit text → decoder_work (params_of d) L ≤ 37045
 unfolding decoder_work word_work kept_work
 work-room d L kit text B =
     let A = B.started.allowed in
@@ -87,7 +85,7 @@ pub frame-fits : (d : Design) (L : ℕ) (kit text : List ℕ) (own parity invers
     → (i q : ℕ) → i ≡ info → q ≡ red → FrameSized d L i q
 frame-fits d L kit text own parity inverse info red work F i q e f =
     record {
-      few = few-blocks true d L kit text F.scanned;
+      few = few-blocks Framed d L kit text F.scanned;
       info-length = e ∙ F.info-length;
       red-length = f ∙ F.red-length;
       short = omega (arith, F.info-length, F.red-length, short d L kit text F.scanned);
@@ -110,7 +108,7 @@ frame_read d L kit text info red own parity inverse work F x e =
 
 module _ (d : Design) (L : ℕ) (info red : List ℕ) (F : FrameSized d L (length info) (length red)) where
   module _ (area : ℕ) (ea : area ≡ d.size * d.size) where
-    pub block-bits : length info ≡ L * area
+    block-bits : length info ≡ L * area
     block-bits = F.info-length ∙ ap (λ (k : ℕ). L * k) (sym ea)
 
     blocks-long : length (block_text area L info) ≤ 57355
@@ -120,10 +118,10 @@ module _ (d : Design) (L : ℕ) (info red : List ℕ) (F : FrameSized d L (lengt
     block_room room h = omega (arith, blocks-long)
 
   module _ (G n : ℕ) (g : G ≡ groups L) (en : n ≡ d.size * (d.m * d.t)) where
-    pub group-bits : length red ≡ G * (2 * n)
+    group-bits : length red ≡ G * (2 * n)
     group-bits = F.red-length ∙ rw (g, en)
 
-    pub few-groups : G ≤ most-blocks
+    few-groups : G ≤ most-blocks
     few-groups = omega (arith, F.few)
 
     groups-long : length (group_text n G red) ≤ 61458
@@ -171,21 +169,20 @@ module _ (d : Design) (L : ℕ) (f : Frame) (x : Result Counts Refusal) (o new :
   unfolding printed corrected_of
   decoded-prints c e p = rw e p
 
-  pub refused-prints : (r : Refusal) (j : Judged) → x ≡ Err r → j ≡ judged_of (refusal_verdict r)
-      → Printed (refusal_text j.rule j.place) n o new
+  pub refused-prints : (r : Refusal) → x ≡ Err r → Printed (printed (refusal_verdict r) (mend_text d.size (order_of d) L (corrected_of x f))) n o new
       → Printed (printed (corrected_of x f).verdict (mend_text d.size (order_of d) L (corrected_of x f))) n o new
   unfolding corrected_of refused_frame
-  refused-prints r j e g p = rw e (printed-refused r j _ o new n g p)
+  refused-prints r e p = let q = rw e at p in rw e q
 
 -- ---- the call
 
-called_by : (d : Design) (L : ℕ) (kit text : List ℕ) → Scanned true d L kit text → mend_output kit text ≡ shown d L (mend_call kit text)
+called_by : (d : Design) (L : ℕ) (kit text : List ℕ) → Scanned Framed d L kit text → mend_output kit text ≡ shown d L (mend_call kit text)
 unfolding mend_output start_rule text_rule
 called_by d L kit text B =
     let S = B.started in
     let c = (frame-scanned d L kit text B).1 in
     called kit text (frame_rule (head_number kit 2) (head_number kit 0 * head_number kit 1) text) (mend_call kit text).verdict _
-    (behind-kit true d kit text accepted S B.accepts)
+    (behind-kit Framed d kit text accepted S B.accepts)
     ∙ rw (order_is d kit text S, c, S.m-is, S.t-is, S.M-is)
 
 module _ (d : Design) (L : ℕ) (kit text o₀ p₀ w₀ i₀ q₀ : List ℕ) (work : ℕ)

@@ -2,17 +2,18 @@
 //   mend_output(kit, text, out)   for the bytes of kit.txt and block text followed by group text
 #![tactic(auto)]
 
-ghost use Rattle.std.specs.Prelude.{true, ◌≤◌, length};
+ghost use Rattle.std.specs.Prelude.{◌≤◌, length};
 ghost use Rattle.staircase.specs.Frame.{frame_of};
 ghost use Rattle.design.specs.Sizes.{order_of};
 ghost use Rattle.answers.specs.Answers.{corrected_of};
 ghost use Rattle.program.specs.Output.{Printed, most-output, Output};
 ghost use Rattle.text.specs.Programs.{printed, mend_text, mend_output};
+ghost use Rattle.program.specs.declared.Text.TheVariants.{Frame};
 ghost use Rattle.program.specs.Steps.{Scanned, RoomFor, MendReady, FrameSized};
 
 use answers::{Counts, Refusal};
 use design::Design;
-use rules_verdict::Judged;
+use program::Text;
 
 // The decoder's working bytes. Only their room is told: a kit text of at most 32,768 bytes has at most 181 rows, and a frame text of as many shows at most
 // 32,768 bits, each of which has a mark, eight in a byte; a word has 2 r of those of redundancy, and so 8 at least, and four working bytes.
@@ -58,10 +59,7 @@ fn put_decoded(
         Printed (printed c.verdict (mend_text d.size (order_of d) blocks c)) result out.old out.new }
 {
     match made {
-        Err(r) => {
-            let judged = Judged::from(r);
-            program::put_refusal(out, judged.rule, judged.place)
-        }
+        Err(r) => program::put_refused(out, r),
         Ok(c) => put_corrected(out, d, blocks, info, red, c),
     }
 }
@@ -103,8 +101,9 @@ fn mend_call(
 }
 
 // The arrays that the call is lent.
+// kept beside that of `frame`: a closure lent the three arrays both share has a contract longer than they are
 fn mend_arrays(kit: &[u8], text: &[u8], d: Design, blocks: u64, out: &mut [u8]) -> usize
-    requires scanned { Scanned true d blocks kit.now text.now }
+    requires scanned { Scanned Frame d blocks kit.now text.now }
     requires most_output_in_bounds { most-output ≤ length out.old }
     ensures { Printed (mend_output kit.now text.now) result out.old out.new }
 {
@@ -132,11 +131,12 @@ fn mend_arrays(kit: &[u8], text: &[u8], d: Design, blocks: u64, out: &mut [u8]) 
 }
 
 // Both inputs, and what `mend` prints of them, for which there is room.
+// kept beside that of `frame`: a closure for the call has a contract for every design and number of blocks
 fn mend_inputs(kit: &[u8], text: &[u8], out: &mut [u8]) -> usize
     requires { most-output ≤ length out.old }
     ensures { Printed (mend_output kit.now text.now) result out.old out.new }
 {
-    match program::begin(kit, text, true) {
+    match program::begin(kit, text, Text::Frame) {
         Ok((d, blocks)) => mend_arrays(kit, text, d, blocks, out),
         Err(judged) => program::put_refusal(out, judged.rule, judged.place),
     }

@@ -1,10 +1,7 @@
 -- The lists that are filled are those that the text shows.
 use Rattle.program.proofs.Printing.{printed_as}
-use Rattle.program_makekit.proofs.Making.{fill_fits, kit_shown}
+use Rattle.program_makekit.proofs.Making.{kit_shown}
 use Rattle.program_makekit.proofs.filled_lists.Goals as goal
-
-pub fill_lists-requires : goal.fill_lists-requires
-fill_lists-requires c = let t = fill_fits _ _ _ _ _ c.requires.listed _ c.order.ensures.0 in record { n_le_most_order = t.0; passes = t.1.0; own_len = t.1.1.0; parity_len = t.1.1.1 }
 
 pub returns : goal.returns
 returns c =

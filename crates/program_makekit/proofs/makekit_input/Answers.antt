@@ -7,12 +7,10 @@ use Rattle.program_makekit.proofs.makekit_input.Goals as goal
 pub returns-then-text-gt-MOST_INPUT : goal.returns-then-text-gt-MOST_INPUT
 returns-then-text-gt-MOST_INPUT c = printed_as _ _ _ _ _ (long-input _ c.if-text-gt-MOST_INPUT.true) c.put_refusal.ensures
 
-pub judged_lists-requires : goal.judged_lists-requires
-judged_lists-requires c =
-    let e = c.read_front.ensures in record {
-      fronted = front_starts _ c.if-text-gt-MOST_INPUT.false _ e.result_value _ _ c.in-Ok.is e.front_is;
-      most_output_in_bounds = c.requires;
-    }
+pub judged_lists-requires-clause-fronted : goal.judged_lists-requires-clause-fronted
+judged_lists-requires-clause-fronted c =
+    let e = c.read_front.ensures in
+    front_starts _ c.if-text-gt-MOST_INPUT.false _ e.result_value _ _ c.in-Ok.is e.front_is
 
 pub returns-in-Err : goal.returns-in-Err
 returns-in-Err c =

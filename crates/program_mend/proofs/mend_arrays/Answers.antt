@@ -15,14 +15,8 @@ sizes_of-s-requires c = few-blocks _ _ _ _ _ c.requires.scanned
 pub list_bytes-own-requires : goal.list_bytes-own-requires
 list_bytes-own-requires c = list_room _ _ _ _ _ c.requires.scanned _ c.sizes_of-s.ensures
 
-pub list_bytes-parity-requires : goal.list_bytes-parity-requires
-list_bytes-parity-requires c = list_room _ _ _ _ _ c.requires.scanned _ c.sizes_of-s.ensures
-
 pub matrix_bytes-inverse-requires : goal.matrix_bytes-inverse-requires
 matrix_bytes-inverse-requires c = inverse-room _ _ _ _ _ c.requires.scanned _ c.sizes_of-s.ensures
-
-pub decoder_due-due-requires : goal.decoder_due-due-requires
-decoder_due-due-requires c = c.requires.scanned.started.allowed
 
 pub working_bytes-work-requires : goal.working_bytes-work-requires
 unfolding decoder_due
@@ -37,49 +31,11 @@ text_bits-info-requires c = info-room _ _ _ _ _ c.requires.scanned _ c.sizes_of-
 pub text_bits-red-requires : goal.text_bits-red-requires
 text_bits-red-requires c = red-room _ _ _ _ c.requires.scanned _ c.sizes_of-s.ensures
 
-pub slice_bounds-own-end : goal.slice_bounds-own-end
-slice_bounds-own-end c = c.list_bytes-own.ensures.0
-
-pub slice_bounds-mend_call-end : goal.slice_bounds-mend_call-end
-slice_bounds-mend_call-end c = c.list_bytes-own.ensures.1
-
-pub slice_bounds-parity-end : goal.slice_bounds-parity-end
-slice_bounds-parity-end c = c.list_bytes-parity.ensures.0
-
-pub slice_bounds-mend_call-end-2 : goal.slice_bounds-mend_call-end-2
-slice_bounds-mend_call-end-2 c = c.list_bytes-parity.ensures.1
-
-pub slice_bounds-inverse-end : goal.slice_bounds-inverse-end
-slice_bounds-inverse-end c = c.matrix_bytes-inverse.ensures.0
-
-pub slice_bounds-mend_call-end-3 : goal.slice_bounds-mend_call-end-3
-slice_bounds-mend_call-end-3 c = c.matrix_bytes-inverse.ensures.1
-
-pub slice_bounds-info-end : goal.slice_bounds-info-end
-slice_bounds-info-end c = c.text_bits-info.ensures.0
-
-pub slice_bounds-mend_call-end-4 : goal.slice_bounds-mend_call-end-4
-slice_bounds-mend_call-end-4 c = c.text_bits-info.ensures.1
-
-pub slice_bounds-red-end : goal.slice_bounds-red-end
-slice_bounds-red-end c = c.text_bits-red.ensures.0
-
-pub slice_bounds-mend_call-end-5 : goal.slice_bounds-mend_call-end-5
-slice_bounds-mend_call-end-5 c = c.text_bits-red.ensures.1
-
-pub slice_bounds-work-end : goal.slice_bounds-work-end
-slice_bounds-work-end c = c.working_bytes-work.ensures.0
-
-pub slice_bounds-mend_call-end-6 : goal.slice_bounds-mend_call-end-6
-slice_bounds-mend_call-end-6 c = c.working_bytes-work.ensures.1
-
-pub mend_call-requires : goal.mend_call-requires
+pub mend_call-requires-clause-mend_ready : goal.mend_call-requires-clause-mend_ready
 unfolding decoder_due
-mend_call-requires c =
+mend_call-requires-clause-mend_ready c =
     let a = c.args in
-    let z = c.sizes_of-s.ensures in
-    let e : c.decoder_due-due.result.work ≡ decoder_work (params_of a.d) a.blocks = ap (λ (x : Lengths). x.work) (c.decoder_due-due.ensures (few-blocks _ _ _ _ _ c.requires.scanned)) in record {
-      mend_ready = ready _ _ _ _ _ c.requires.scanned _ z _ _ _ _ _ _ _ c.list_bytes-own.ensures.1 c.list_bytes-parity.ensures.1 c.matrix_bytes-inverse.ensures.1 c.text_bits-info.ensures.1
-          c.text_bits-red.ensures.1 (sym c.working_bytes-work.ensures.1 ∙ e);
-      most_output_in_bounds = c.requires.most_output_in_bounds;
-    }
+    let e : c.decoder_due-due.result.work ≡ decoder_work (params_of a.d) a.blocks =
+    ap (λ (x : Lengths). x.work) (c.decoder_due-due.ensures (few-blocks _ _ _ _ _ c.requires.scanned)) in
+    ready _ _ _ _ _ c.requires.scanned _ c.sizes_of-s.ensures _ _ _ _ _ _ _ c.list_bytes-own.ensures.1 c.list_bytes-parity.ensures.1
+    c.matrix_bytes-inverse.ensures.1 c.text_bits-info.ensures.1 c.text_bits-red.ensures.1 (sym c.working_bytes-work.ensures.1 ∙ e)

@@ -1,6 +1,0 @@
--- The array is long enough.
-use Rattle.program.proofs.ProgramReady.{room_for}
-use Rattle.program.proofs.matrix_bytes.Goals as goal
-
-pub returns : goal.returns
-returns c = room_for _ 4163 0 c.requires

@@ -1,6 +1,0 @@
--- The array is long enough.
-use Rattle.program.proofs.ProgramReady.{room_for}
-use Rattle.program_makekit.proofs.list_bytes.Goals as goal
-
-pub returns : goal.returns
-returns c = room_for _ 8192 0 c.requires
