@@ -107,8 +107,8 @@ pub fn dot(bits: &[u8], part: &[u32]) -> Reading
 {
     let mut acc: u32 = 0;
     let mut reads: usize = 0;
-    for (&bit, &power) in bits.iter().zip(part) {
-        acc ^= masked(bit, power);
+    for (j, &bit) in bits.iter().enumerate() {
+        acc ^= masked(bit, part[j]);
         reads += 1;
     }
     Reading { sum: acc, reads }

@@ -1,5 +1,4 @@
 -- The search for one of three exponents, from the sums of the powers of the root, of their cubes and of their fifth powers.
---   within                             an exponent reduced by the number of powers
 --   fifth_next                         the exponents of `fifth_of`
 --   power_of_zero, power_of_is         what `power_of` answers
 --   cubic_root_is                      what `cubic_root` answers
@@ -8,9 +7,8 @@ use mathlib.Core.Path.{◌≡◌, refl, sym, ap, ◌∙◌}
 use mathlib.Core.Logic.{◌≢◌, ◌⊎◌, inl, inr, ⊎_map}
 use mathlib.Core.List.{List}
 use Prim.Native.Nat.{ℕ, ◌+◌, ◌-◌, ◌*◌, ◌%◌, ◌^◌, ◌≤◌, ◌<◌}
-use native.Mathlib.Nat.{mod-lt}
 use native.Mathlib.Omega.{arith}
-use lib.Pow.{pow_pos, pow_mono}
+use lib.Pow.{pow_pos}
 use Rattle.bch.specs.Polynomial.{◌⊕◌}
 use Rattle.bch.specs.Field.{field_poly, power}
 use Rattle.bch.specs.Locator.{Solution, PowerIs}
@@ -30,12 +28,6 @@ module _ {m : ℕ} {field : List ℕ} (F : Field m field) {n : ℕ} (count : n �
 
   high : m ≤ 10
   high = F.m-high
-
-  pub within : (x : ℕ) → x % n < 2 ^ m - 1
-  within x =
-      let a : 16 ≤ 2 ^ m = pow_mono {i = 4} {j = m} low in
-      let p : 0 < n = omega (arith, count) in
-      omega (arith, mod-lt x p, count)
 
   -- five more
   pub fifth_next : (e k a : ℕ) → Wrapped n (e + 5) a → power m e ≡ power m (5 * k) → power m a ≡ power m (5 * (k + 1))

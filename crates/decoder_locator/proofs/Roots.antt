@@ -1,6 +1,5 @@
 -- Powers of the root by their exponents, and the search for two exponents from the sum of the powers and that of their cubes.
 --   count-is, count-size             how many powers there are
---   quarter_fits                     where a quarter of the tables ends
 --   power-read, log-read, solution_read   what an entry of a table of the field is
 --   log-only                         a power has one logarithm
 --   Wrapped, wrapped_same            an exponent that may be less by the number of powers
@@ -11,7 +10,6 @@ use mathlib.Core.Path.{◌≡◌, sym, ap, ap₂, ◌∙◌, subst, subst⁻¹}
 use mathlib.Core.Logic.{◌≢◌, ◌⊎◌, inl, inr}
 use mathlib.Core.List.{List}
 use Prim.Native.Nat.{ℕ, zero, suc, ◌+◌, ◌-◌, ◌*◌, ◌/◌, ◌%◌, ◌^◌, ◌≤◌, ◌<◌}
-use native.Mathlib.Nat.{mul-le-mul, le_refl}
 use native.Mathlib.Decide.{ℕ_discrete}
 use native.Mathlib.Omega.{arith}
 use lib.Pow.{pow_pos, pow_mono}
@@ -63,12 +61,6 @@ module _ {m : ℕ} {field : List ℕ} (F : Field m field) where
       let n : 4 * q - 1 - 3 * q ≡ 3 * q + q - 1 - 3 * q = omega arith in
       subst⁻¹ (λ (i : ℕ). SolutionTable m i (take ((i + 1) * q + q - 1 - (i + 1) * q) (drop ((i + 1) * q) field))) e
       (subst (λ (i : ℕ). SolutionTable m 2 (take i (drop (3 * q) field))) n (quarter_cubics F.tables))
-
-  -- a quarter stands behind each of the first three
-  pub quarter_fits : {k : ℕ} → k ≤ 2 → ((k + 1) * (length field / 4) + length field / 4 ≤ length field) × (length field ≤ 4096) × (64 ≤ length field)
-  quarter_fits {k} l =
-      let b : k + 1 ≤ 3 = omega arith in
-      (omega (arith, mul-le-mul b (le_refl (length field / 4))), omega (arith, count-size), omega (arith, count-size))
 
   pub solution_read : (k : ℕ) {v a : ℕ} → 1 ≤ k → k ≤ 2 → v < 2 ^ m - 1
       → a ≡ get_or (take ((k + 1) * (length field / 4) + length field / 4 - 1 - (k + 1) * (length field / 4)) (drop ((k + 1) * (length field / 4)) field)) v 0

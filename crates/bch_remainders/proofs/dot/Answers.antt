@@ -1,22 +1,27 @@
-use mathlib.Core.Path.{refl, ap₂, ◌∙◌}
-use Prim.Native.Nat.{◌*◌}
+use mathlib.Core.Path.{◌≡◌, refl, ap, ◌∙◌}
+use Prim.Native.Nat.{ℕ, ◌*◌}
 use native.Mathlib.Omega.{arith}
-use lib.ListN.{get_or, length-append}
-use Rattle.std.proofs.lemmas.Slice.Zip.{zip_turn}
+use lib.Bits.{bit_xor}
+use lib.ListN.{length, get_or}
 use Rattle.bch.specs.Powers.{xor_sum}
-use Rattle.bch_remainders.proofs.Powers.{xor_sum-push}
+use Rattle.bch_remainders.proofs.Powers.{xor_sum-more}
 use Rattle.bch_remainders.proofs.dot.Goals as goal
 
-pub loop-bit-init : goal.loop-bit-init
+pub loop-j-init : goal.loop-j-init
 unfolding xor_sum
-loop-bit-init c = (refl, refl)
+loop-j-init c = (refl, refl)
 
-pub loop-bit-preserved : goal.loop-bit-preserved
-loop-bit-preserved c =
+pub loop-j-preserved : goal.loop-j-preserved
+loop-j-preserved c =
     let a = c.args in
-    let l = c.loop-bit in
-    let t = zip_turn a.bits.now a.part.now l.yielded _ _ c.next.new.self _ (cc) (cc) l.yielded_by _ c.in-Some.is c.next.ensures.steps in (
-      omega (arith, length-append l.yielded),
-      xor_sum-push l.yielded _ l.acc _ (λ k. get_or a.bits.now k 0 * get_or a.part.now k 0) l.invariant.1
-          (c.masked-acc.ensures ∙ ap₂ ◌*◌ (t.2 0) (t.3 0)),
+    let l = c.loop-j in (
+      omega arith,
+      ap (bit_xor l.acc) c.masked-acc.ensures ∙ xor_sum-more l.j l.acc (λ k. get_or a.bits.now k 0 * get_or a.part.now k 0) l.invariant.1,
     )
+
+pub returns : goal.returns
+returns c =
+    let a = c.args in
+    let l = c.loop-j in
+    let e : l.j ≡ length a.bits.now = omega arith in
+    (l.invariant.1 ∙ ap (λ (n : ℕ). xor_sum n (λ k. get_or a.bits.now k 0 * get_or a.part.now k 0)) e, omega arith)

@@ -1,16 +1,9 @@
 -- The exponents are those of the coefficients of the cubic, of the square root, of the solution and of the root.
-use Prim.Native.Nat.{◌+◌, ◌-◌, ◌*◌}
-use native.Mathlib.Omega.{arith}
 use Rattle.bch.specs.Polynomial.{◌⊕◌}
 use Rattle.bch.proofs.Sum.{⊕-below}
 use Rattle.decoder_locator.proofs.Fields.{field_is}
-use Rattle.decoder_locator.proofs.Cubics.{within, cubic_root_is}
+use Rattle.decoder_locator.proofs.Cubics.{cubic_root_is}
 use Rattle.decoder_locator.proofs.Tables.cubic_root.Goals as goal
-
-pub solution_at-g-requires : goal.solution_at-g-requires
-solution_at-g-requires c =
-    let F = field_is c.args.self.now.filled in
-    (omega arith, omega arith, within F c.count-n.ensures.0 (c.log_of-u.result + 6 * c.count-n.result - 3 * c.half_exponent-h.result))
 
 pub log_of-requires-2 : goal.log_of-requires-2
 unfolding ◌⊕◌

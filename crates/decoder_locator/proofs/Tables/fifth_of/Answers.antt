@@ -1,6 +1,5 @@
 use mathlib.Core.Path.{◌≡◌, refl, sym, ap, ap₂, ◌∙◌}
-use Prim.Native.Nat.{ℕ, ◌*◌, ◌/◌, ◌%◌, ◌^◌, ◌≤◌}
-use native.Mathlib.Nat.{mul-le-mul, le_refl}
+use Prim.Native.Nat.{ℕ, ◌*◌, ◌/◌, ◌%◌, ◌^◌}
 use native.Mathlib.Numerals.{add-one}
 use native.Mathlib.Omega.{arith}
 use Rattle.bch.specs.Polynomial.{◌⊕◌}
@@ -15,13 +14,6 @@ pub loop-k-init : goal.loop-k-init
 unfolding xor_sum
 loop-k-init c =
     (omega arith, omega (arith, c.count-n.ensures), refl, refl)
-
-pub overflow_mul-acc : goal.overflow_mul-acc
-overflow_mul-acc c =
-    let F = field_is c.args.self.now.filled in
-    let b : c.args.x / 2 ^ c.loop-k.k % 2 ≤ 1 = omega arith in
-    let v = c.power_at.result in
-    omega (arith, mul-le-mul b (le_refl v), c.power_at.ensures.1, c.count-n.ensures)
 
 pub loop-k-preserved : goal.loop-k-preserved
 unfolding xor_sum ◌⊕◌
