@@ -32,12 +32,22 @@ fn part_of(kind: u64, which: u64) -> Part
     Part::Group(which)
 }
 
+// Copies bits, one a byte. A loop, since copy_from_slice wants a `memmove` from the host's C library, which the archive does without.
+fn copy(bits: &[u8], out: &mut [u8])
+    requires { length out.old ≡ length bits.now }
+    ensures { out.new ≡ bits.now }
+{
+    for (k, bit) in out.iter_mut().enumerate() {
+        *bit = bits[k];
+    }
+}
+
 // Copies a stretch to the start of `out`, where it fits.
 pub fn paste(stretch: &[u8], out: &mut [u8])
     ensures { out.new ≡ pasted stretch.now out.old }
 {
     if stretch.len() <= out.len() {
-        out[..stretch.len()].copy_from_slice(stretch);
+        copy(stretch, &mut out[..stretch.len()]);
     }
 }
 

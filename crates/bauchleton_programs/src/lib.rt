@@ -104,8 +104,8 @@ fn with_text<R: io::Input + Env + Files + Eprint, P: FnOnce(&[u8]) -> Exit>(
         None => program_io::read_text(rt, &mut text),
     };
     match read {
-        Some(n) => print(&text[..n]),
-        None => Exit::Failed,
+        Ok(n) => print(&text[..n]),
+        Err(_) => Exit::Failed,
     }
 }
 
@@ -124,8 +124,8 @@ fn with_kit<R: Env + Files + Eprint, P: FnOnce(&[u8]) -> Exit>(
         None => program_io::read_kit(rt, &mut kit),
     };
     match read {
-        Some(n) => print(&kit[..n]),
-        None => Exit::Failed,
+        Ok(n) => print(&kit[..n]),
+        Err(_) => Exit::Failed,
     }
 }
 

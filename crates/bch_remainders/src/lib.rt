@@ -65,8 +65,10 @@ pub fn fill_backwards(table: &[u32], out: &mut [u32])
     ensures { (length out.new ≡ length table.now)
         × ((j : ℕ) → j < length table.now → get_or out.new j 0 ≡ get_or table.now (length table.now - 1 - j) 0) }
 {
-    out.copy_from_slice(table);
-    out.reverse();
+    let n = table.len();
+    for (j, entry) in out.iter_mut().enumerate() {
+        *entry = table[n - 1 - j];
+    }
 }
 
 // x times v modulo g, of degree r. `top` is 2^r.

@@ -4,11 +4,13 @@
 --   kept_at-take   a number is the same where what follows the numbers is left out
 --   kept_at-front  and where something follows them
 --   nonzero_none, nonzero_more, nonzero_same   numbers counted
+--   put-more      one number more
 -- Assumes nothing.
 use mathlib.Core.Path.{◌≡◌, refl, sym, ap, ap₂, ◌∙◌}
 use mathlib.Core.Logic.{◌≢◌}
 use mathlib.Core.List.{List, ◌++◌}
 use Prim.Native.Nat.{ℕ, ◌+◌, ◌-◌, ◌*◌, ◌≤◌, ◌<◌}
+use native.Mathlib.Decide.{ℕ_discrete}
 use native.Mathlib.Nat.{add-zero}
 use native.Mathlib.Numerals.{add-one}
 use borrow.Author.Tests.{eq-eqb, ne_eqb}
@@ -117,3 +119,17 @@ module _ (b : List ℕ) (k : ℕ) where
   pub nonzero_same : number_at b k ≡ 0 → nonzero_numbers b (k + 1) ≡ nonzero_numbers b k
   unfolding nonzero_numbers
   nonzero_same e = rw (add-one, eq-eqb (number_at b k) 0 e) (add-zero (nonzero_numbers b k))
+
+-- ---- numbers stored one after the other
+
+pub put-more : (sums : List ℕ) (from n : ℕ) (b m a : List ℕ) → ((k : ℕ) → k < n → kept_at m (from + k) ≡ get_or sums k 0) → ((w : ℕ) → w < from → kept_at m w ≡ kept_at b w)
+    → OnlyAt m a (from + n) (get_or sums n 0)
+    → ((k : ℕ) → k < n + 1 → kept_at a (from + k) ≡ get_or sums k 0) × ((w : ℕ) → w < from → kept_at a w ≡ kept_at b w)
+put-more sums from n b m a here before O = (more, λ w h. O.others w (λ e. omega (arith, e, h)) ∙ before w h)
+  where
+    more : (k : ℕ) → k < n + 1 → kept_at a (from + k) ≡ get_or sums k 0
+    more k h = go (ℕ_discrete k n)
+      where
+        go : Dec (k ≡ n) → kept_at a (from + k) ≡ get_or sums k 0
+        go (yes e) = ap (λ (j : ℕ). kept_at a (from + j)) e ∙ O.here ∙ ap (λ (j : ℕ). get_or sums j 0) (sym e)
+        go (no e) = O.others (from + k) (λ d. e (omega (arith, d))) ∙ here k (omega arith)

@@ -102,10 +102,10 @@ module _ (m t M col L n : ℕ) (own parity w info red : List ℕ) (work : ℕ) w
     verdict-is : (x : Result Unit Refusal) → verdict_of x ≡ frames_rules (params_of d) L n own parity w info red work → verdict_of x ≡ call
     verdict-is x e = made-design m t M col rules (Ok d) j x i refl e ∙ whole
 
-    pub batch-frames : (x : Result Unit Refusal) (r : Refusal) → verdict_of {A = Unit} (Err r) ≡ frames_rules (params_of d) L n own parity w info red work
-        → IsErr x × IsErrAnd x (λ (e : Refusal). e ≡ r) → Calls (verdict_of x) red
+    pub batch-frames : (x : Result Unit Refusal) (r : Refusal) → verdict_of x ≡ frames_rules (params_of d) L n own parity w info red work → x ≡ Err r
+        → Calls (verdict_of x) red
     unfolding batch_call
-    batch-frames x r e h = let g = handed_on x h.1 in left-refused call red new x (verdict-is x (ap verdict_of g ∙ e)) g
+    batch-frames x r e g = left-refused call red new x (verdict-is x e) g
 
     pub batch-made : (after : List ℕ) → accepted ≡ frames_rules (params_of d) L n own parity w info red work
         → after ≡ batch_redundancy (params_of d) (lists_of d own parity) w L n info → Calls accepted after

@@ -69,7 +69,10 @@ pub fn encode_batch_col(
         red.old (length work.old)).red) }
 {
     let d = Design::new_col(m, t, size, col)?;
-    check_frames(d, blocks, frames, own, parity, inverse, info, red, work)?;
+    let checked = check_frames(d, blocks, frames, own, parity, inverse, info, red, work);
+    let Ok(()) = checked else {
+        return checked;
+    };
     let count = frames as usize;
     encoder_frame::make_redundancy(d, blocks as usize, count, parity, inverse, info, red);
     Ok(())

@@ -7,13 +7,15 @@
 // waits for the one before it.
 #![tactic(auto)]
 
-ghost use Rattle.std.specs.Prelude.{◌≡◌, ◌*◌, ◌<◌};
+ghost use Rattle.std.specs.Prelude.{◌≡◌, ◌*◌, ◌%◌, ◌^◌, ◌<◌};
 ghost use Rattle.staircase.specs.Load.{next_state, output, state_after, drawn};
 
 // "s × 1664525 + 1013904223 modulo 2^32"
 const MULTIPLIER: u32 = 1664525;
 
 const INCREMENT: u32 = 1013904223;
+
+const MODULUS: u64 = 4294967296;
 
 // The value of a state's highest bit.
 const HIGHEST: u32 = 2147483648;
@@ -28,11 +30,18 @@ pub struct Drawing {
     pub state: u32,
 }
 
+// a × b, modulo 2^32.
+fn wrapping_mul_u32(a: u32, b: u32) -> u32
+    ensures { result ≡ (a * b) % 2 ^ 32 }
+{
+    ((a as u64) * (b as u64) % MODULUS) as u32
+}
+
 // The state after s.
 pub fn next_state(s: u32) -> u32
     ensures { result ≡ next_state s }
 {
-    s.wrapping_mul(MULTIPLIER).wrapping_add(INCREMENT)
+    wrapping_mul_u32(s, MULTIPLIER).wrapping_add(INCREMENT)
 }
 
 // The highest bit of a state.

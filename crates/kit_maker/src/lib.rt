@@ -75,6 +75,16 @@ fn fill_system(d: Design, own: &[u8], parity: &[u8], work: &mut [u8])
     fill_left(d, own, parity, &columns[0..r], &powers[0..r], work);
 }
 
+// Copies a row. A loop, since copy_from_slice wants a `memmove` from the host's C library, which the archive does without.
+fn copy_row(row: &[u8], out: &mut [u8])
+    requires { length out.old ≡ length row.now }
+    ensures { out.new ≡ row.now }
+{
+    for (k, byte) in out.iter_mut().enumerate() {
+        *byte = row[k];
+    }
+}
+
 // Copies the right halves of the first n rows of m, row after row.
 fn copy_right(m: &[u8], n: usize, out: &mut [u8])
     requires { (0 < n) × (n ≤ most-order) × (length m.now ≡ (n + 256) * row_width n) × (length out.old ≡ n * row_bytes n) }
@@ -85,7 +95,7 @@ fn copy_right(m: &[u8], n: usize, out: &mut [u8])
     for e in 0..n {
         let to = e * half;
         let from = e * (2 * half) + half;
-        out[to..to + half].copy_from_slice(&m[from..from + half]);
+        copy_row(&m[from..from + half], &mut out[to..to + half]);
     }
 }
 

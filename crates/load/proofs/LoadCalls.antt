@@ -49,10 +49,10 @@ fill_by accepted old new s h = absurd (h refl)
 fill_by (refused n p) old new s h = refl
 
 module _ (old new : List ℕ) (s : ℕ) {w : Verdict} where
-  filled-refused : (v : Verdict) → v ≡ w → v ≢ accepted → record { verdict = v; info = old; state = 0 } ≡ filled_by w old new s
+  pub filled-refused : (v : Verdict) → v ≡ w → v ≢ accepted → record { verdict = v; info = old; state = 0 } ≡ filled_by w old new s
   filled-refused v e h = sym (fill_by v old new s h) ∙ ap (λ (z : Verdict). filled_by z old new s) e
 
-  filled-done : accepted ≡ w → record { verdict = accepted; info = new; state = s } ≡ filled_by w old new s
+  pub filled-done : accepted ≡ w → record { verdict = accepted; info = new; state = s } ≡ filled_by w old new s
   filled-done e = ap (λ (z : Verdict). filled_by z old new s) e
 
 module _ (m t M col L seed : ℕ) (info : List ℕ) where

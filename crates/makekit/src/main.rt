@@ -5,7 +5,7 @@
 
 fn main(rt: HostRuntime) {
     let mut text = program_io::input_bytes();
-    let Some(n) = program_io::read_text(&rt, &mut text) else {
+    let Ok(n) = program_io::read_text(&rt, &mut text) else {
         return;
     };
     let mut out = program_io::output_bytes();

@@ -5,11 +5,11 @@
 
 fn main(rt: HostRuntime) {
     let mut kit = program_io::input_bytes();
-    let Some(k) = program_io::read_kit(&rt, &mut kit) else {
+    let Ok(k) = program_io::read_kit(&rt, &mut kit) else {
         return;
     };
     let mut text = program_io::input_bytes();
-    let Some(n) = program_io::read_text(&rt, &mut text) else {
+    let Ok(n) = program_io::read_text(&rt, &mut text) else {
         return;
     };
     let mut out = program_io::output_bytes();

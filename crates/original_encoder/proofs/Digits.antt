@@ -1,5 +1,6 @@
 -- Digits written into a buffer, and rule 10 over the first columns of rows.
---   Last, last_more       the last digits are written; one more
+--   digits_none, digits_more           no digit, and one more
+--   Last, last_none, last_more, last_all   the last digits are written: none, one more, all
 --   rows_more             the digits of one more row
 --   Good, good_next       the information of the first rows is bits
 --   good_all, row_refused   the rule accepts, or refuses at a row
@@ -9,7 +10,7 @@ use mathlib.Core.Bool.{Bool, true, false, cond}
 use mathlib.Core.Logic.{◌≢◌}
 use mathlib.Core.List.{List}
 use Prim.Native.Nat.{ℕ, suc, ◌+◌, ◌-◌, ◌*◌, ◌/◌, ◌%◌, ◌^◌, ◌≤◌, ◌<◌}
-use native.Mathlib.Nat.{add-mul, zero-add, div-div-eq-div-mul, pow-suc}
+use native.Mathlib.Nat.{add-mul, zero-add, sub_self, div-one, div-div-eq-div-mul, pow-suc}
 use native.Mathlib.Decide.{dec_lt, ℕ_discrete}
 use native.Mathlib.Omega.{arith}
 use lib.Arith.{digits_mod}
@@ -29,6 +30,23 @@ use Rattle.original_encoder.specs.Written.{digit, DigitsAt, RowsAt, width_bits}
 
 -- ---- digits
 
+pub digits_none : (r from x : ℕ) (l : List ℕ) → DigitsAt 0 r from x l l
+digits_none r from x l = record { long = refl; before = λ k h. refl; behind = λ k h. refl; digits = λ j h. absurd (omega (arith, h)) }
+
+pub digits_more : (n r from x : ℕ) (l cur : List ℕ) → DigitsAt n r from x l cur → from + n < length cur → DigitsAt (n + 1) r from x l (set cur (from + n) (x / 2 ^ (r - 1 - n) % 2))
+digits_more n r from x l cur D h =
+    record {
+      long = length-set cur (from + n) (digit r x n) ∙ D.long;
+      before = λ k hk. get_or-set_other cur (from + n) k (digit r x n) 0 (λ e. omega (arith, hk, e)) ∙ D.before k hk;
+      behind = λ k hk. get_or-set_other cur (from + n) k (digit r x n) 0 (λ e. omega (arith, hk, e)) ∙ D.behind k (omega (arith, hk));
+      digits = λ j hj. at j hj (ℕ_discrete j n);
+    }
+  where
+    at : (j : ℕ) → j < n + 1 → Dec (j ≡ n) → get_or (set cur (from + n) (digit r x n)) (from + j) 0 ≡ digit r x j
+    at j hj (yes e) =
+        ap (λ (i : ℕ). get_or (set cur (from + n) (digit r x n)) (from + i) 0) e ∙ get_or-set_same cur (from + n) (digit r x n) 0 h ∙ ap (digit r x) (sym e)
+    at j hj (no e) = get_or-set_other cur (from + n) (from + j) (digit r x n) 0 (λ q. e (omega (arith, q))) ∙ D.digits j (omega (arith, hj, e))
+
 -- those from digit j on, and nothing else; x is `rest` without them
 pub record Last (j r from x rest : ℕ) (old new : List ℕ) : Type 0 where
   pub rest-is : rest ≡ x / 2 ^ (r - j)
@@ -36,6 +54,16 @@ pub record Last (j r from x rest : ℕ) (old new : List ℕ) : Type 0 where
   pub before : (k : ℕ) → k < from + j → get_or new k 0 ≡ get_or old k 0
   pub behind : (k : ℕ) → from + r ≤ k → get_or new k 0 ≡ get_or old k 0
   pub digits : (i : ℕ) → j ≤ i → i < r → get_or new (from + i) 0 ≡ digit r x i
+
+pub last_none : (r from x : ℕ) (l : List ℕ) → Last r r from x x l l
+last_none r from x l =
+    record {
+      rest-is = sym (ap (λ (n : ℕ). x / 2 ^ n) (sub_self r) ∙ div-one x);
+      long = refl;
+      before = λ k h. refl;
+      behind = λ k h. refl;
+      digits = λ i h g. absurd (omega (arith, h, g));
+    }
 
 pub last_more : (j r from x rest : ℕ) (l cur : List ℕ) → Last (suc j) r from x rest l cur → j < r → from + j < length cur
     → Last j r from x (rest / 2) l (set cur (from + j) (rest % 2))
@@ -63,6 +91,10 @@ last_more j r from x rest l cur D hr h =
     at i hi g (yes e) =
         ap (λ (n : ℕ). get_or (set cur (from + j) (rest % 2)) (from + n) 0) e ∙ get_or-set_same cur (from + j) (rest % 2) 0 h ∙ here ∙ ap (digit r x) (sym e)
     at i hi g (no e) = get_or-set_other cur (from + j) (from + i) (rest % 2) 0 (λ q. e (omega (arith, q))) ∙ D.digits i (omega (arith, hi, e)) g
+
+pub last_all : (r from x rest : ℕ) (l cur : List ℕ) → Last 0 r from x rest l cur → DigitsAt r r from x l cur
+last_all r from x rest l cur D =
+    record { long = D.long; before = λ k h. D.before k (omega (arith, h)); behind = D.behind; digits = λ j h. D.digits j (omega arith) h }
 
 module _ (size r at : ℕ) (fits : r ≤ size) (x : ℕ → ℕ) (l : List ℕ) where
   pub rows_more : (n : ℕ) (cur new : List ℕ) → RowsAt n size r at x l cur → DigitsAt r r (at + n * size + (size - r)) (x n) cur new → RowsAt (n + 1) size r at x l new

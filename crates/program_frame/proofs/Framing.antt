@@ -47,10 +47,10 @@ frame_stopped kit text rule place e = stopped kit text (block_rule (head_number 
 -- ---- the groups
 
 module _ (d : Design) (L : ℕ) (red : List ℕ) (F : GroupsFit d L (length red)) (G n : ℕ) (g : G ≡ groups L) (e : n ≡ d.size * (d.m * d.t)) where
-  group-bits : length red ≡ G * (2 * n)
+  pub group-bits : length red ≡ G * (2 * n)
   group-bits = F.red-length ∙ rw (g, e)
 
-  few-groups : G ≤ most-blocks
+  pub few-groups : G ≤ most-blocks
   few-groups = omega (arith, F.few)
 
   pub groups-room : (room : ℕ) → most-output ≤ room → 0 + length (group_text n G red) ≤ room

@@ -3,6 +3,7 @@
 //   read_kit                    kit.txt in the folder in which the program runs
 //   read_text                   standard input
 //   read_named                  the file that a word after the program's name names
+//   Unread                      what these three answer where they could not
 //   write_output                standard output
 //
 // An input is read to its end, or up to one byte more than rule 13 lets through and no further. An input that cannot be opened or read, and an output
@@ -11,7 +12,7 @@
 // read and written no contract can say.
 #![tactic(auto)]
 
-ghost use Rattle.std.specs.Prelude.{◌≡◌, length, IfOk, IfSome};
+ghost use Rattle.std.specs.Prelude.{◌≡◌, length, IfOk, IfErr};
 ghost use Rattle.std.specs.Result.{result_ok};
 ghost use Rattle.std.specs.Io.{ReadsAtMost, WritesAtMost};
 ghost use Rattle.io.specs.Counts.{IsPrefixLen};
@@ -22,6 +23,12 @@ use std::fs::{File, OpenFile};
 use std::io::{ErrorKind, Read};
 use std::rt::{Env, Files};
 use std::{fs, io, str};
+
+// An input that could not be opened, or read to its end, which has been told: how many bytes of it were read.
+#[derive(Clone, Copy, Debug, PartialEq, Eq)]
+pub struct Unread {
+    pub count: usize,
+}
 
 // Arrays for an input and for what is printed. Only their lengths are told.
 pub fn input_bytes() -> [u8; 32769]
@@ -80,27 +87,32 @@ fn read_once<F: Read>(from: &mut F, bytes: &mut [u8]) -> io::Result<usize>
     from.read(bytes)
 }
 
-// Reads an input into the start of `bytes`, to its end or until they are full, and answers how many bytes were read.
-fn read_input<F: Read>(from: &mut F, bytes: &mut [u8]) -> io::Result<usize>
-    ensures { IfOk result (λ n. IsPrefixLen n bytes.new) }
+// Reads an input into the start of `bytes`, to its end or until they are full, and answers how many bytes were read and whether a read failed.
+fn read_input<F: Read>(from: &mut F, bytes: &mut [u8]) -> (usize, io::Result<()>)
+    ensures { IsPrefixLen result.0 bytes.new }
 {
     let mut count = 0;
     while count < bytes.len() {
-        let more = read_once(from, &mut bytes[count..])?;
+        let more = match read_once(from, &mut bytes[count..]) {
+            Ok(more) => more,
+            Err(e) => return (count, Err(e)),
+        };
         if more == 0 {
             break;
         }
         count += more;
     }
-    Ok(count)
+    (count, Ok(()))
 }
 
 // Reads the file at `path`, likewise.
-fn read_file<R: Files>(rt: &R, path: &str, bytes: &mut [u8]) -> io::Result<usize>
-    ensures { IfOk result (λ n. IsPrefixLen n bytes.new) }
+fn read_file<R: Files>(rt: &R, path: &str, bytes: &mut [u8]) -> (usize, io::Result<()>)
+    ensures { IsPrefixLen result.0 bytes.new }
 {
-    let mut file = fs::open(rt, path)?;
-    read_input(&mut file, bytes)
+    match fs::open(rt, path) {
+        Ok(mut file) => read_input(&mut file, bytes),
+        Err(e) => (0, Err(e)),
+    }
 }
 
 // What was answered; a failure is told on standard error, with the name.
@@ -116,13 +128,28 @@ fn or_tell<R: Eprint, T: Drop>(rt: &R, name: &str, answer: io::Result<T>) -> Opt
     }
 }
 
-// Reads kit.txt into the start of `bytes`, and answers how many bytes were read, or None where it could not be read.
-pub fn read_kit<R: Files + Eprint>(rt: &R, bytes: &mut [u8]) -> Option<usize>
-    ensures { IfSome result (λ n. IsPrefixLen n bytes.new) }
+// The number of bytes of an input that was read to its end; a failure is told on standard error, with the name.
+fn all_read<R: Eprint>(
+    rt: &R,
+    name: &str,
+    count: usize,
+    ended: io::Result<()>,
+) -> Result<usize, Unread>
+    ensures { IfOk result (λ n. n ≡ count) × IfErr result (λ e. e.count ≡ count) }
+{
+    match or_tell(rt, name, ended) {
+        Some(()) => Ok(count),
+        None => Err(Unread { count }),
+    }
+}
+
+// Reads kit.txt into the start of `bytes`, and answers how many bytes were read, in either case.
+pub fn read_kit<R: Files + Eprint>(rt: &R, bytes: &mut [u8]) -> Result<usize, Unread>
+    ensures { IfOk result (λ n. IsPrefixLen n bytes.new) × IfErr result (λ e. IsPrefixLen e.count bytes.new) }
 {
     let path = "kit.txt";
-    let answer = read_file(rt, path, bytes);
-    or_tell(rt, path, answer)
+    let (count, ended) = read_file(rt, path, bytes);
+    all_read(rt, path, count, ended)
 }
 
 // The text of the word of number `word`, at the start of `name`, or the number of what is wrong with it.
@@ -137,29 +164,33 @@ fn name_of<'a, R: Env>(rt: &R, word: usize, name: &'a mut [u8]) -> Result<&'a st
 // Reads the file that the word of number `word` names, the first after the program's name being 1, likewise. A word that is missing, or longer than a
 // path can be, is told as a failure: what is there of it must not pass for a shorter name, or for an empty one. So is one that is no text: the library
 // opens no file of such a name.
-pub fn read_named<R: Env + Files + Eprint>(rt: &R, word: usize, bytes: &mut [u8]) -> Option<usize>
-    ensures { IfSome result (λ n. IsPrefixLen n bytes.new) }
+pub fn read_named<R: Env + Files + Eprint>(
+    rt: &R,
+    word: usize,
+    bytes: &mut [u8],
+) -> Result<usize, Unread>
+    ensures { IfOk result (λ n. IsPrefixLen n bytes.new) × IfErr result (λ e. IsPrefixLen e.count bytes.new) }
 {
     let mut name = [0; 4096];
     match name_of(rt, word, &mut name) {
         Ok(path) => {
-            let answer = read_file(rt, path, bytes);
-            or_tell(rt, path, answer)
+            let (count, ended) = read_file(rt, path, bytes);
+            all_read(rt, path, count, ended)
         }
         Err(number) => {
             tell(rt, "name of a file", io::Error::from_raw_os_error(number));
-            None
+            Err(Unread { count: 0 })
         }
     }
 }
 
 // Reads standard input, likewise.
-pub fn read_text<R: io::Input + Eprint>(rt: &R, bytes: &mut [u8]) -> Option<usize>
-    ensures { IfSome result (λ n. IsPrefixLen n bytes.new) }
+pub fn read_text<R: io::Input + Eprint>(rt: &R, bytes: &mut [u8]) -> Result<usize, Unread>
+    ensures { IfOk result (λ n. IsPrefixLen n bytes.new) × IfErr result (λ e. IsPrefixLen e.count bytes.new) }
 {
     let mut from = rt.reader();
-    let answer = read_input(&mut from, bytes);
-    or_tell(rt, "standard input", answer)
+    let (count, ended) = read_input(&mut from, bytes);
+    all_read(rt, "standard input", count, ended)
 }
 
 // What one write of `bytes` to standard output answers; it is made again where a signal interrupts it.

@@ -194,7 +194,7 @@ module _ (d : Design) (own parity : List ℕ) (long : ℕ) (inverse : List ℕ) 
   write_room o h = omega (arith, R.measured.short)
 
   -- the first bytes of a buffer
-  write_part : (o : List ℕ) → most-output ≤ length o → long ≡ length (take long o)
+  pub write_part : (o : List ℕ) → most-output ≤ length o → long ≡ length (take long o)
   write_part o h = sym (length-take-le long o (write_room o h))
 
   pub write_fits : (o : List ℕ) → most-output ≤ length o

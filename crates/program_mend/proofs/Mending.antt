@@ -108,7 +108,7 @@ frame_read d L kit text info red own parity inverse work F x e =
 
 module _ (d : Design) (L : ℕ) (info red : List ℕ) (F : FrameSized d L (length info) (length red)) where
   module _ (area : ℕ) (ea : area ≡ d.size * d.size) where
-    block-bits : length info ≡ L * area
+    pub block-bits : length info ≡ L * area
     block-bits = F.info-length ∙ ap (λ (k : ℕ). L * k) (sym ea)
 
     blocks-long : length (block_text area L info) ≤ 57355
@@ -118,10 +118,10 @@ module _ (d : Design) (L : ℕ) (info red : List ℕ) (F : FrameSized d L (lengt
     block_room room h = omega (arith, blocks-long)
 
   module _ (G n : ℕ) (g : G ≡ groups L) (en : n ≡ d.size * (d.m * d.t)) where
-    group-bits : length red ≡ G * (2 * n)
+    pub group-bits : length red ≡ G * (2 * n)
     group-bits = F.red-length ∙ rw (g, en)
 
-    few-groups : G ≤ most-blocks
+    pub few-groups : G ≤ most-blocks
     few-groups = omega (arith, F.few)
 
     groups-long : length (group_text n G red) ≤ 61458

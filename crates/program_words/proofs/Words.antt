@@ -1,4 +1,5 @@
 -- The words after a program's name, by the tests that code makes.
+--   same_lengths                                     texts of different lengths
 --   slices_same                                      `==` compares two texts
 --   first_dash                                       a word's first letter
 --   word-help .. word-file                           one word
@@ -21,6 +22,17 @@ use Rattle.program_words.specs.declared.Request.TheVariants.{Run, Help, Version,
 use Rattle.program_words.specs.Words.{help_word, version_word, kit_word, same_text, is_option, one_word, kit_words, request_of, Shows}
 
 -- ---- two texts
+
+pub same_lengths : (a b : List ℕ) → (length a ≡ length b → ⊥) → same_text a b ≡ false
+unfolding same_text
+same_lengths [] [] h = absurd (h refl)
+same_lengths [] (y ∷ ys) h = refl
+same_lengths (x ∷ xs) [] h = refl
+same_lengths (x ∷ xs) (y ∷ ys) h = unequal (eqb x y) (same_text xs ys) (same_lengths xs ys (λ e. h (ap suc e)))
+  where
+    unequal : (c d : Bool) → d ≡ false → cond c d false ≡ false
+    unequal true d e = e
+    unequal false d e = refl
 
 pointwise_same : (a b : List ℕ) → pointwise eqb a b ≡ same_text a b
 unfolding same_text

@@ -114,7 +114,7 @@ module _ (m t M : ℕ) (own parity w text : List ℕ) where
 
 -- ---- the length
 
-measured-refused : (v : Verdict) → record { verdict = v; length = 0 } ≡ measured_by v 0
+pub measured-refused : (v : Verdict) → record { verdict = v; length = 0 } ≡ measured_by v 0
 measured-refused accepted = refl
 measured-refused (refused n p) = refl
 

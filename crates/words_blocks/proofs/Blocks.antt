@@ -1,5 +1,5 @@
 -- Laws of the blocks of a frame as parts of the information.
---   sent-none, sent-some, sent-at             when a block is sent
+--   sent-none, sent-some, sent-at, sent_odd   when a block is sent
 --   block_none, block-some                    its bytes
 --   block-fits, block_lent                    a block that is sent has M × M bits
 --   block-bit, block-is                       its bits are those of the frame's definition
@@ -13,10 +13,10 @@ use native.Mathlib.Omega.{arith}
 use lib.Dec.{ltb}
 use lib.ListN.{length, get_or, take, drop, length-drop}
 use lib.Seq.{length-take-le, get_or-take, get_or-drop}
-use borrow.Author.Tests.{ltb-true}
+use borrow.Author.Tests.{ltb-true, lt-ltb}
 use Rattle.bch.specs.Polynomial.{Bits}
 use Rattle.staircase.specs.Design.{Params}
-use Rattle.staircase.specs.Frame.{block_at, bit_at, block_contents, frame_of}
+use Rattle.staircase.specs.Frame.{groups, block_at, bit_at, block_contents, frame_of}
 use Rattle.staircase.specs.Frame.Site.{unsent, in_info}
 use Rattle.staircase.proofs.Bounds.{stretch-end}
 use Rattle.bch_remainders.proofs.Rows.{row-bits}
@@ -36,6 +36,9 @@ pub sent-at : (L b : ℕ) → sent L b ≡ true → (1 ≤ b) × (b - 1 < L)
 unfolding sent
 sent-at L zero e = absurd (true≢false (sym e))
 sent-at L (suc b) e = let l : b < L = ltb-true b L e in (omega arith, omega arith)
+
+pub sent_odd : (L i : ℕ) → i < groups L → sent L (2 * i + 1) ≡ true
+sent_odd L i h = sym (sent-some L (2 * i + 1) (omega arith)) ∙ lt-ltb (2 * i + 1 - 1) L (omega arith)
 
 module _ (L area : ℕ) (info : List ℕ) (b : ℕ) where
   pub block_none : sent L b ≡ false → [] ≡ block_bytes L area info b

@@ -4,28 +4,31 @@
 --   table_is                              an entry of one of several tables
 --   sum_of_eights                         a sum of sums of eight terms
 --   byte-sum                              the entry of a table that a byte names
---   rest-long                             the tables of two parts, one after the other: the second half as it is lent
+--   rest-long, halves-made                the tables of two parts, one after the other: the second half as it is lent; both are made
 --   no_halves                             no tables
---   parts_rest                            the tables of four parts, one after the other: the rest as it is lent
---   no_parts                              no tables, as for the halves
+--   halves_lent                           tables that are lent again
+--   no_part                               a part of an empty list
+--   parts_rest, parts_made                the tables of four parts, one after the other: the rest as it is lent; all are made
+--   no_parts, parts_lent                  no tables, and tables that are lent again, as for the halves
 -- Assumes nothing.
-use mathlib.Core.Path.{◌≡◌, refl, sym, ap, ap₂, ◌∙◌}
-use mathlib.Core.List.{List, ◌++◌}
+use mathlib.Core.Path.{◌≡◌, refl, sym, ap, ap₂, ◌∙◌, subst, subst⁻¹, subst₂}
+use mathlib.Core.List.{List, [], ◌++◌}
 use Prim.Native.Nat.{ℕ, zero, suc, ◌+◌, ◌-◌, ◌*◌, ◌/◌, ◌%◌, ◌^◌, ◌≤◌, ◌<◌}
 use native.Mathlib.Nat.{zero-mul, one-mul}
 use native.Mathlib.Numerals.{add-one}
 use native.Mathlib.Decide.{dec_lt}
 use native.Mathlib.Omega.{arith}
-use borrow.Rule.Slice.PartMut.{mid_len}
+use borrow.Rule.Slice.PartMut.{put_mid, mid_len}
 use lib.Bits.{bit_xor}
 use lib.Pow.{low, high}
-use lib.ListN.{length, get_or, set, take, drop, length-append, length-take, length-drop}
-use lib.Seq.{length-take-le}
+use lib.ListN.{length, get_or, set, take, drop, length-append, length-take, length-drop, drop_of_length-le}
+use lib.Seq.{length-take-le, take_all, take-length, take-nil, take-append_seam, drop-append_seam, take_at, drop_at}
 use Rattle.bch.specs.Polynomial.{◌⊕◌}
 use Rattle.bch.specs.Powers.{xor_sum}
 use Rattle.bch.proofs.Sum.{⊕-zero-right}
 use Rattle.bch.proofs.Store.{set_each}
 use Rattle.bch.proofs.PowerSum.{xor_sum-same, xor_sum-append}
+use Rattle.staircase.proofs.Fill.{front_last}
 use Rattle.matrix.proofs.Bits.{bit, bit_above, bit-low}
 use Rattle.words_tables.specs.Tables.{sum_at, table_entry, Sums, part_of, MayHalves, table_length, MayParts}
 
@@ -108,6 +111,17 @@ byte-sum part tables S j x h l = S.sums (256 * j + x) (omega arith) ∙ sym (tab
 
 -- ---- the tables of two parts
 
+-- one after the other, of equal length
+halves_of : (positions : List ℕ) (size : ℕ) (one two : List ℕ) → length one ≡ length two → Sums (part_of positions 0 size) one
+    → Sums (part_of positions size size) two → MayHalves positions size (one ++ two)
+halves_of positions size one two same S T =
+    let h : length (one ++ two) / 2 ≡ length one = omega (arith, length-append one two) in record {
+      first = λ l. subst⁻¹ (Sums (part_of positions 0 size)) (ap (λ (k : ℕ). take k (one ++ two)) h ∙ take-append_seam one two) S;
+      second =
+          λ l. subst⁻¹ (Sums (part_of positions size size))
+          (ap (λ (k : ℕ). take k (drop k (one ++ two))) h ∙ ap₂ take same (drop-append_seam one two) ∙ take-length two) T;
+    }
+
 -- the first half came back as `one`, and the second is lent next
 module _ (positions tables one : List ℕ) (size : ℕ) (fits : 2 * size ≤ length positions) (long : length tables ≡ 2 * (256 * ((size + 7) / 8)))
     (S : Sums (take (size - 0) positions) one) where
@@ -126,12 +140,36 @@ module _ (positions tables one : List ℕ) (size : ℕ) (fits : 2 * size ≤ len
   pub rest-long : length (take (2 * half - half) (drop half (one ++ rest))) ≡ 256 * ((size + 7) / 8)
   rest-long = mid_len half (2 * half) (one ++ rest) (omega (arith, length-append one rest, one_long, rest-is)) ∙ omega (arith, long)
 
+  pub halves-made : (two : List ℕ) → Sums (take (2 * size - size) (drop size positions)) two
+      → MayHalves positions size (put_mid half (2 * half - half) (one ++ rest) two) × (length (put_mid half (2 * half - half) (one ++ rest) two) ≡ length tables)
+  halves-made two T =
+      let d : size - 0 ≡ size = omega arith in
+      let e : 2 * size - size ≡ size = omega arith in
+      let two-long : length two ≡ half = omega (arith, T.long, mid_len size (2 * size) positions fits, long) in
+      let whole : put_mid half (2 * half - half) (one ++ rest) two ≡ one ++ two =
+      front_last one rest two half (2 * half - half) one_long (omega (arith, rest-is)) in (
+        subst⁻¹ (MayHalves positions size) whole
+            (halves_of positions size one two (omega (arith, one_long, two-long)) (subst (λ (n : ℕ). Sums (take n positions) one) d S)
+            (subst (λ (n : ℕ). Sums (take n (drop size positions)) two) e T)),
+        ap length whole ∙ omega (arith, length-append one two, one_long, two-long, long),
+      )
+
 pub no_halves : (positions : List ℕ) (size : ℕ) (tables : List ℕ) → length tables ≡ 0 → MayHalves positions size tables
 no_halves positions size tables none =
     let few : (k from : ℕ) → length (take k (drop from tables)) ≤ 0 = λ k from. omega (arith, length-take k (drop from tables), length-drop from tables) in
     record { first = λ h. absurd (omega (arith, h, few (length tables / 2) 0)); second = λ h. absurd (omega (arith, h, few (length tables / 2) (length tables / 2))) }
 
+-- made in a part of an array, and lent again
+pub halves_lent : (positions made rest : List ℕ) (n size due : ℕ) → MayHalves positions n made → n ≡ size → length made ≡ due
+    → MayHalves positions size (take (due - 0) (drop 0 (made ++ rest)))
+halves_lent positions made rest n size due H e long =
+    let d : length made ≡ due - 0 = omega arith in
+    subst⁻¹ (MayHalves positions size) (take_at made rest (due - 0) d) (subst (λ (k : ℕ). MayHalves positions k made) e H)
+
 -- ---- the tables of four parts
+
+pub no_part : (l : List ℕ) (from n : ℕ) → length l ≡ 0 → [] ≡ part_of l from n
+no_part l from n e = sym (ap (take n) (drop_of_length-le l {i = from} (omega arith)) ∙ take-nil n)
 
 -- the tables of the blocks came back as `one`, and those of the redundancy are lent next; b and e entries
 module _ (positions tables one : List ℕ) (size r b e : ℕ) (long : length tables ≡ 2 * table_length size + 2 * table_length r) (eb : b ≡ 2 * table_length size)
@@ -148,6 +186,28 @@ module _ (positions tables one : List ℕ) (size r b e : ℕ) (long : length tab
   pub parts_rest : length (take (b + e - b) (drop b (one ++ drop (b - 0) tables))) ≡ e
   parts_rest = mid_len b (b + e) (one ++ others) (omega (arith, length-append one others, one_is, others-long)) ∙ omega arith
 
+  pub parts_made : (two : List ℕ) → MayHalves positions size one → MayHalves (take (2 * size + 2 * r - 2 * size) (drop (2 * size) positions)) r two
+      → length two ≡ length (take (b + e - b) (drop b (one ++ drop (b - 0) tables)))
+      → MayParts positions size r (put_mid b (b + e - b) (one ++ drop (b - 0) tables) two)
+      × (length (put_mid b (b + e - b) (one ++ drop (b - 0) tables) two) ≡ length tables)
+  parts_made two H K back =
+      let n : 2 * size + 2 * r - 2 * size ≡ 2 * r = omega arith in
+      let two_is : length two ≡ e = back ∙ parts_rest in
+      let first : length one ≡ 2 * table_length size = one_is ∙ eb in
+      let whole : put_mid b (b + e - b) (one ++ others) two ≡ one ++ two = front_last one others two b (b + e - b) one_is (omega (arith, others-long)) in
+      let all : length (one ++ two) ≡ length tables = omega (arith, length-append one two, one_is, two_is) in (
+        subst⁻¹ (MayParts positions size r) whole
+            (record {
+              long = λ h. all ∙ long;
+              blocks = subst⁻¹ (MayHalves positions size) (take_at one two (2 * table_length size) first) H;
+              ends =
+                  subst₂ (λ (k : ℕ) (t : List ℕ). MayHalves (take k (drop (2 * size) positions)) r t) n
+                  (sym (ap (take (2 * table_length r)) (drop_at one two (2 * table_length size) first)
+                  ∙ take_all (2 * table_length r) two (omega (arith, two_is)))) K;
+            }),
+        ap length whole ∙ all,
+      )
+
 pub no_parts : (positions : List ℕ) (size r : ℕ) (tables : List ℕ) → length tables ≡ 0 → MayParts positions size r tables
 no_parts positions size r tables none =
     let few : (k from : ℕ) → length (part_of tables from k) ≡ 0 = λ k from. omega (arith, length-take k (drop from tables), length-drop from tables) in
@@ -158,3 +218,9 @@ no_parts positions size r tables none =
           no_halves (part_of positions (2 * size) (2 * r)) r (part_of tables (2 * table_length size) (2 * table_length r))
           (few (2 * table_length r) (2 * table_length size));
     }
+
+pub parts_lent : (positions made rest : List ℕ) (n k size r due : ℕ) → MayParts positions n k made → n ≡ size → k ≡ r → length made ≡ due
+    → MayParts positions size r (take (due - 0) (drop 0 (made ++ rest)))
+parts_lent positions made rest n k size r due P e f long =
+    let d : length made ≡ due - 0 = omega arith in
+    subst⁻¹ (MayParts positions size r) (take_at made rest (due - 0) d) (subst₂ (λ (a b : ℕ). MayParts positions a b made) e f P)

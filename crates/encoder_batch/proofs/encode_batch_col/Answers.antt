@@ -13,21 +13,21 @@ returns-in_err-d c =
     batch-design a.m a.t a.size a.col a.blocks a.frames a.own.now a.parity.now a.inverse.now a.info.now a.red.now (length a.work.now) _ _
     c.in_err-d.ensures.0 c.from_residual.ensures
 
-pub check_frames-requires : goal.check_frames-requires
-check_frames-requires c = made-allowed refl c.in_ok-d.ensures.2
+pub check_frames-checked-requires : goal.check_frames-checked-requires
+check_frames-checked-requires c = made-allowed refl c.in_ok-d.ensures.2
 
-pub returns-in_err-check_frames : goal.returns-in_err-check_frames
-returns-in_err-check_frames c =
+pub returns-in_default : goal.returns-in_default
+returns-in_default c =
     let a = c.args in
     let w = c.in_ok-d.ensures in
     batch-frames a.m a.t a.size a.col a.blocks a.frames a.own.now a.parity.now a.inverse.now a.info.now a.red.now (length a.work.now) _ w.0 w.1
-    _ _ c.in_err-check_frames.ensures c.from_residual-in_err-check_frames.ensures
+    _ _ c.check_frames-checked.ensures c.in_default.is
 
 pub make_redundancy-requires : goal.make_redundancy-requires
 make_redundancy-requires c =
     let a = c.args in
     encodable _ a.blocks a.frames a.own.now a.parity.now a.inverse.now a.info.now a.red.now (length a.work.now) (made-allowed refl c.in_ok-d.ensures.2)
-    (sym c.in_ok-check_frames.ensures ∙ check_passed refl)
+    (sym c.check_frames-checked.ensures ∙ check_passed c.in-Ok.is)
 
 pub returns : goal.returns
 unfolding verdict_of
@@ -35,4 +35,4 @@ returns c =
     let a = c.args in
     let w = c.in_ok-d.ensures in
     batch-made a.m a.t a.size a.col a.blocks a.frames a.own.now a.parity.now a.inverse.now a.info.now a.red.now (length a.work.now) _ w.0 w.1
-    _ c.in_ok-check_frames.ensures (c.make_redundancy.ensures a.own.now)
+    _ (sym (check_passed c.in-Ok.is) ∙ c.check_frames-checked.ensures) (c.make_redundancy.ensures a.own.now)

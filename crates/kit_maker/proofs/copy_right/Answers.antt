@@ -18,13 +18,13 @@ pub loop-e-preserved : goal.loop-e-preserved
 loop-e-preserved c =
     let a = c.args in
     let l = c.loop-e in
-    let s = c.copy_from_slice in
+    let s = c.copy_row in
     let w : ℕ = row_bytes a.n in
     let from : ℕ = l.e * row_width a.n + w in
     let row = right_row a.n a.m.now l.e from w (omega arith) c.requires.2 refl refl in
     rw (add-one l.e, suc-mul l.e w)
-    (filled-stretch (right_byte a.m.now a.n) a.out.now l.out s.new.self (l.e * w) w l.invariant
-    (s.ensures.after ∙ ap (λ (k : ℕ). take k (drop from a.m.now)) (add-sub_cancel_left from w) ∙ row))
+    (filled-stretch (right_byte a.m.now a.n) a.out.now l.out s.new.out (l.e * w) w l.invariant
+    (s.ensures ∙ ap (λ (k : ℕ). take k (drop from a.m.now)) (add-sub_cancel_left from w) ∙ row))
 
 pub returns : goal.returns
 returns c =
